@@ -1,0 +1,4 @@
+pub mod Counts
+pub mod Keeper
+pub mod Outside
+pub mod Shelf

@@ -1,0 +1,16 @@
+//! Texts, bytes and the outside world of a session: files, the output, and the stores of databases.
+#![tactic(auto)]
+
+mod bytes;
+mod fault;
+mod files;
+mod keeper;
+mod sink;
+mod text;
+
+pub use bytes::Bytes;
+pub use fault::{Halt, KeepFault, OutFault, RowFault};
+pub use files::Files;
+pub use keeper::{Keeper, Shelf};
+pub use sink::Sink;
+pub use text::{Text, TextList};
