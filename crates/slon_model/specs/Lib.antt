@@ -1,0 +1,5 @@
+pub mod Forms
+pub mod Lines
+pub mod Printed
+pub mod Rows
+pub mod World

@@ -1,0 +1,97 @@
+ghost use Rattle.std.specs.Prelude.{◌≡◌, ◌++◌, [], ◌∷◌, length, OnOk, OnErr};
+
+use slon_base::{Text, TextList};
+use std::alloc::{AllocError, Global};
+use std::marker::Model;
+
+/// The rows of a table: each key with the values after it, ascending by the bytes of the keys.
+/// Contracts see them as a list of pairs.
+#[derive(Debug, Drop)]
+pub struct TableRows {
+    inner: Vec<(Text, TextList)>,
+}
+
+impl Model for TableRows {
+    ghost use Rattle.std.specs.Prelude.{List, ℕ};
+
+    ghost Value = { List (List ℕ × List (List ℕ)) };
+
+    ghost view = { λ r. r.inner.items };
+}
+
+impl TableRows {
+    /// No rows.
+    pub fn new(alloc: Global) -> TableRows
+        ensures { result ≡ [] }
+    {
+        TableRows {
+            inner: Vec::new(alloc),
+        }
+    }
+
+    /// The rows in order.
+    pub fn as_slice(&self) -> &[(Text, TextList)]
+        ensures { result.now ≡ self.now }
+    {
+        self.inner.as_slice()
+    }
+
+    /// How many rows there are.
+    pub fn len(&self) -> usize
+        ensures { result ≡ length self.now }
+    {
+        self.inner.len()
+    }
+
+    /// Adds a row at the end, or leaves the rows as they were.
+    pub fn push(&mut self, key: Text, values: TextList) -> Result<(), AllocError>
+        ensures ok { OnOk result (self.new ≡ self.old ++ (key, values) ∷ []) }
+        ensures err { OnErr result (self.new ≡ self.old) }
+    {
+        self.inner.push((key, values))?;
+        Ok(())
+    }
+}
+
+/// What an accepted command answers.
+#[derive(Debug, Drop)]
+pub enum Answer {
+    /// It was done.
+    Done,
+    /// The id of the transaction that was opened.
+    Opened { xid: u64 },
+    /// The number of the action that was taken.
+    Acted { number: u64 },
+    /// How many actions the commit made stand.
+    Committed { actions: u64 },
+    /// The rows of a table.
+    Listed { rows: TableRows },
+}
+
+/// Why a command was not accepted. The number of each refusal is printed before its name.
+#[derive(Debug, Drop)]
+pub enum Refusal {
+    /// 10: the store of this database failed; its count of faults.
+    Fault { database: Text, count: u64 },
+    /// 14: a row of this space is not in its form.
+    BadRow { space: u8 },
+    /// 15: the store of a new database holds a row.
+    NotEmpty { database: Text },
+    /// 16: the database is down.
+    Down { database: Text },
+    /// 21: a number above the limit would be stored in this space.
+    TooBig { space: u8 },
+    /// 97: what is asked for is not built yet.
+    NotYet,
+}
+
+/// The reply to a command.
+#[derive(Debug, Drop)]
+pub enum Reply {
+    /// The command was accepted.
+    Accepted(Answer),
+    /// The command was refused.
+    Refused(Refusal),
+    /// The commit of this database failed, so it stands or not; what it answers if it stands.
+    InDoubt { database: Text, answer: Answer },
+}
