@@ -1,3 +1,4 @@
+pub mod Codec
 pub mod Counts
 pub mod Keeper
 pub mod Outside

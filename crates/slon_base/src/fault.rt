@@ -36,6 +36,9 @@ pub enum RowFault {
     /// The part is there and not in its one form.
     #[error("a part is not canonical")]
     NotCanonical = 3,
+    /// There was no memory for the part.
+    #[error("out of memory")]
+    NoMemory = 11,
 }
 
 /// Why a step over a store stopped.

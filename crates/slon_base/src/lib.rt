@@ -5,6 +5,7 @@ mod bytes;
 mod fault;
 mod files;
 mod keeper;
+mod row;
 mod sink;
 mod text;
 
@@ -12,5 +13,6 @@ pub use bytes::Bytes;
 pub use fault::{Halt, KeepFault, OutFault, RowFault};
 pub use files::Files;
 pub use keeper::{Keeper, Shelf};
+pub use row::{RowIn, RowOut, STORED_LIMIT};
 pub use sink::Sink;
 pub use text::{Text, TextList};
