@@ -1,3 +1,4 @@
+pub mod ByteMap
 pub mod Codec
 pub mod Counts
 pub mod Keeper

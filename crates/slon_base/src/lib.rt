@@ -1,6 +1,7 @@
 //! Texts, bytes and the outside world of a session: files, the output, and the stores of databases.
 #![tactic(auto)]
 
+mod byte_map;
 mod bytes;
 mod fault;
 mod files;
@@ -9,6 +10,7 @@ mod row;
 mod sink;
 mod text;
 
+pub use byte_map::ByteMap;
 pub use bytes::Bytes;
 pub use fault::{Halt, KeepFault, OutFault, RowFault};
 pub use files::Files;
