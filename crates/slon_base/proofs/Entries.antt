@@ -1,5 +1,5 @@
 -- A tree's entries, with their keys as bytes, are a finite map's.
-use Rattle.std.proofs.Common.{◌≡◌, ℕ, suc, ◌+◌, Bool, true, false, cond, List, [], ◌∷◌, length, T, refl, sym, ap, subst, ◌∙◌}
+use Rattle.std.proofs.Common.{◌≡◌, ℕ, suc, Bool, true, false, cond, List, [], ◌∷◌, length, T, refl, sym, ap, subst, ◌∙◌}
 use Rattle.std.specs.Global.{Vec}
 use Rattle.std.specs.declared.cmp.Ordering.{Ordering}
 use Rattle.std.specs.declared.cmp.Ordering.TheVariants.{Less, Equal, Greater}
@@ -7,7 +7,7 @@ use Rattle.std.specs.Ordering.{nat_cmp, is_eq, match_ordering}
 use Rattle.std.specs.Cmp.Lexicographic.{slice_cmp, nat_list_cmp_total}
 use Rattle.std.specs.Map.{lookup}
 use Rattle.std.specs.BTreeMap.{insert_entry}
-use Rattle.std.specs.FinMap.{FinMap, get, insert, empty, entries, entries_sorted, len, len-entries, empty_of_len, from_sorted, get-from_sorted, entries-from_sorted, entries-insert, same_entries_map}
+use Rattle.std.specs.FinMap.{get, insert, empty, entries, len, len-entries, empty_of_len, from_sorted, get-from_sorted, entries-from_sorted, entries-insert, same_entries_map}
 use Rattle.std.specs.FinMap.Entries.{find, put, is_sorted, by_order, is_sorted-put}
 use Rattle.slon_base.specs.Keeper.{key_cmp}
 use Rattle.slon_base.specs.ByteMap.{pairs}
@@ -26,7 +26,7 @@ pub put-pairs : {V : Type 0} (k : Vec ℕ) (v : V) (es : List (Vec ℕ × V)) �
 put-pairs k v [] = refl
 put-pairs {V} k v (e ∷ es) =
     elim (slice_cmp nat_cmp k.items e.0.items) as (λ o. pairs (match_ordering o ((k, v) ∷ e ∷ es) ((e.0, v) ∷ es) (e ∷ insert_entry order_of es k v))
-        ≡ by_order o ((k.items, v) ∷ (e.0.items, e.1) ∷ pairs es) ((e.0.items, v) ∷ pairs es) ((e.0.items, e.1) ∷ put key_cmp k.items v (pairs es))) [
+    ≡ by_order o ((k.items, v) ∷ (e.0.items, e.1) ∷ pairs es) ((e.0.items, v) ∷ pairs es) ((e.0.items, e.1) ∷ put key_cmp k.items v (pairs es))) [
       | Less ↦ refl
       | Equal ↦ refl
       | Greater ↦ ap (λ (rest : List (List ℕ × V)). (e.0.items, e.1) ∷ rest) (put-pairs k v es)
@@ -45,9 +45,9 @@ in_order-insert k v es sorted = ap (is_sorted key_cmp) (put-pairs k v es) ∙ tr
 pub from_sorted-insert : {V : Type 0} (k : Vec ℕ) (v : V) (es : List (Vec ℕ × V)) → IsInOrder es → from_sorted {R = key_cmp} (pairs (insert_entry order_of es k v)) ≡ insert (from_sorted (pairs es)) k.items v
 from_sorted-insert k v es sorted =
     same_entries_map _ _ (entries-from_sorted key_cmp _ (subst T (sym (in_order-insert k v es sorted)) tt)
-      ∙ put-pairs k v es
-      ∙ ap (put key_cmp k.items v) (sym (entries-from_sorted key_cmp (pairs es) (subst T (sym sorted) tt)))
-      ∙ sym (entries-insert nat_list_cmp_total (from_sorted (pairs es)) k.items v))
+    ∙ put-pairs k v es
+    ∙ ap (put key_cmp k.items v) (sym (entries-from_sorted key_cmp (pairs es) (subst T (sym sorted) tt)))
+    ∙ sym (entries-insert nat_list_cmp_total (from_sorted (pairs es)) k.items v))
 
 pub entries-pairs : {V : Type 0} (es : List (Vec ℕ × V)) → IsInOrder es → pairs es ≡ entries (from_sorted {R = key_cmp} (pairs es))
 entries-pairs es sorted = sym (entries-from_sorted key_cmp (pairs es) (subst T (sym sorted) tt))

@@ -1,8 +1,8 @@
 -- No spelling begins another, so what is spelled is read back, whatever follows it.
-use Rattle.std.proofs.Common.{◌≡◌, ℕ, ◌+◌, ◌^◌, ◌<◌, ◌≤◌, List, [], ◌∷◌, ◌++◌, length, get_or, take, drop, refl, sym, ap, subst, ◌∙◌, append_assoc, arith, inl, inr}
-use Rattle.std.specs.Int.{w32, w64, from_be_bytes, to_be_bytes}
+use Rattle.std.proofs.Common.{◌≡◌, ℕ, ◌+◌, ◌^◌, ◌<◌, ◌≤◌, List, ◌++◌, length, get_or, take, drop, refl, sym, ap, ◌∙◌, append_assoc, arith, inl, inr}
+use Rattle.std.specs.Int.{w32, w64, from_be_bytes}
 use Rattle.std.proofs.lemmas.Bool.{cases_lt}
-use Rattle.std.proofs.lemmas.List.{take_at, drop_at, take-append-drop, length-append, length-take, get_or-drop, get_or-take, get_or_past}
+use Rattle.std.proofs.lemmas.List.{take_at, drop_at, take-append-drop, length-append, length-take, get_or-take, get_or_past}
 use Rattle.std.proofs.lemmas.Nat.{be_bytes_4, be_bytes_8, from_be_bytes-to_be_bytes_4, from_be_bytes-to_be_bytes_8}
 use Rattle.slon_base.specs.Codec.{number_bytes, count_bytes, text_bytes, IsShortText}
 
@@ -18,9 +18,10 @@ IsBytes-take n bytes h i =
 
 -- two fronts of one length
 pub same_front : (a b x y : List ℕ) → length a ≡ length b → a ++ x ≡ b ++ y → (a ≡ b) × (x ≡ y)
-same_front a b x y len e =
-    (sym (take_at a x (length a) refl) ∙ ap (take (length a)) e ∙ take_at b y (length a) (sym len),
-     sym (drop_at a x (length a) refl) ∙ ap (drop (length a)) e ∙ drop_at b y (length a) (sym len))
+same_front a b x y len e = (
+  sym (take_at a x (length a) refl) ∙ ap (take (length a)) e ∙ take_at b y (length a) (sym len),
+  sym (drop_at a x (length a) refl) ∙ ap (drop (length a)) e ∙ drop_at b y (length a) (sym len),
+)
 
 pub length-number_bytes : (n : ℕ) → length (number_bytes n) ≡ 8
 unfolding number_bytes
@@ -95,3 +96,7 @@ number_not_short n rest bytes is few = omega (arith, ap length is, length-append
 
 pub count_not_short : (n : ℕ) (rest bytes : List ℕ) → bytes ≡ count_bytes n ++ rest → length bytes < 4 → ⊥
 count_not_short n rest bytes is few = omega (arith, ap length is, length-append (count_bytes n) rest, length-count_bytes n)
+
+pub text_bytes-same : (a b : List ℕ) → text_bytes a ≡ text_bytes b → a ≡ b
+unfolding text_bytes
+text_bytes-same a b e = (same_front (count_bytes (length a)) (count_bytes (length b)) a b (length-count_bytes (length a) ∙ sym (length-count_bytes (length b))) e).1

@@ -26,6 +26,20 @@ all_bytes (text ∷ texts) = text_bytes text ++ all_bytes texts
 unfoldable pub list_bytes : List (List ℕ) → List ℕ
 list_bytes texts = count_bytes (length texts) ++ all_bytes texts
 
+-- a text that can be spelled
+pub record IsText (text : List ℕ) : Type 0 where
+  pub short : length text < 2 ^ 32
+  pub utf8 : IsUtf8 text
+
+-- texts that can be spelled as a list
+abbrev pub AllTexts : List (List ℕ) → Type 0
+AllTexts [] = Unit {0}
+AllTexts (t ∷ ts) = IsText t × AllTexts ts
+
+pub record AreTexts (texts : List (List ℕ)) : Type 0 where
+  pub few : length texts < 2 ^ 32
+  pub each : AllTexts texts
+
 -- why a byte is not read
 abbrev pub IsNoByte : List ℕ → RowFault → Type 0
 IsNoByte bytes Short = bytes ≡ []

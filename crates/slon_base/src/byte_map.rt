@@ -6,7 +6,7 @@ ghost use Rattle.slon_base.specs.ByteMap.{pairs};
 
 use std::alloc::{AllocError, Global};
 use std::collections::BTreeMap;
-use std::collections::btree_map::Iter;
+use std::collections::btree_map::{IntoIter, Iter};
 use std::marker::Model;
 
 /// A map with keys of bytes. Contracts see it as a finite map in the order of the bytes.
@@ -76,5 +76,13 @@ impl<V: Drop> ByteMap<V> {
         ensures { pairs result ≡ entries self.now }
     {
         self.inner.iter()
+    }
+
+    /// The entries in the order of their keys, as values.
+    pub fn into_entries(self) -> IntoIter<Vec<u8>, V, Global>
+        ensures { pairs result ≡ entries self }
+    {
+        let ByteMap { inner } = self;
+        inner.into_iter()
     }
 }

@@ -99,3 +99,14 @@ impl<T: Drop> From<AllocFailed<T>> for OutFault {
         OutFault::NoMemory
     }
 }
+
+impl From<AllocError> for RowFault {
+    ghost use Rattle.std.specs.Prelude.{◌≡◌};
+    ghost use Rattle.slon_base.specs.declared.fault.RowFault.TheVariants.{NoMemory};
+
+    ghost from_gives = { λ _ e. e ≡ NoMemory };
+
+    fn from(_: AllocError) -> Self {
+        RowFault::NoMemory
+    }
+}

@@ -1,5 +1,5 @@
 -- What the rules know after a history, the one reply that they give to a command, and the histories that they allow.
-use Rattle.std.specs.Prelude.{◌≡◌, ℕ, ◌+◌, ◌==◌, ◌&&◌, ◌||◌, if◌then◌else◌, not, nat_lt, is_some, Bool, true, false, List, [], ◌∷◌, ◌++◌, length, count_by, filter, Option, Some, None, Result, Ok, Err}
+use Rattle.std.specs.Prelude.{◌≡◌, ℕ, ◌+◌, ◌==◌, ◌&&◌, if◌then◌else◌, not, nat_lt, is_some, Bool, true, false, List, [], ◌∷◌, ◌++◌, length, filter, Option, Some, None, Result, Ok, Err}
 use Rattle.std.specs.Str.{bytes_eq}
 use Rattle.std.specs.FinMap.{contains_key, entries}
 use Rattle.slon_base.specs.declared.fault.Halt.TheVariants.{Doubt, NoMemory, Fault as HaltFault, BadRow as HaltBadRow, TooBig as HaltTooBig}
@@ -42,9 +42,9 @@ new_place = record { tables = []; actions = []; commits = []; opens = []; next_x
 abbrev pub standing_rows : Place → List ℕ → TableOf
 standing_rows p table = rows_by (λ a. member a.xid p.commits) table p.actions
 
--- the rows that a transaction sees: those that stand under its own
+-- the rows that a transaction sees: its own and those that stand
 abbrev pub seen_rows : ℕ → Place → List ℕ → TableOf
-seen_rows xid p table = rows_by (λ a. member a.xid p.commits || xid == a.xid) table p.actions
+seen_rows xid p table = rows_by (λ a. member a.xid (xid ∷ p.commits)) table p.actions
 
 -- the number of the first refusal to draw an id or a number
 abbrev pub draw_limit : ℕ
@@ -93,7 +93,7 @@ insert_after name table values p = inserted_by (find_named name p.opens) table v
 
 -- COMMIT: refused where no such transaction is open
 abbrev pub own_count : ℕ → Place → ℕ
-own_count xid p = count_by (λ a. xid == a.xid) p.actions
+own_count xid p = length (filter (λ a. a.xid == xid) p.actions)
 
 abbrev pub commit_by : Place → Option ℕ → Result ℕ DbFault
 commit_by p None = Err NotYet

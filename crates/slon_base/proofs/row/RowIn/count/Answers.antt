@@ -1,4 +1,4 @@
-use Rattle.std.proofs.Common.{◌∙◌, ap, sym, arith, Ok}
+use Rattle.std.proofs.Common.{◌∙◌, ap, sym, Ok}
 use Rattle.slon_base.proofs.Spelled.{count_front, count_not_short}
 use Rattle.slon_base.proofs.row.RowIn.count.Goals as goal
 

@@ -1,4 +1,4 @@
-use Rattle.std.proofs.Common.{◌∙◌, ap, sym, append_assoc, ◌++◌}
+use Rattle.std.proofs.Common.{append_assoc}
 use Rattle.slon_base.specs.Codec.{text_bytes}
 use Rattle.slon_base.proofs.row.RowOut.text.Goals as goal
 
