@@ -1,0 +1,5 @@
+pub mod Kepts
+pub mod Plans
+pub mod Promises
+pub mod SlotPairs
+pub mod Undoing

@@ -1,0 +1,9 @@
+pub mod FilesTold
+pub mod Journal
+pub mod MemKept
+pub mod MemShelved
+pub mod NamedFiles
+pub mod Plan
+pub mod SinkTold
+pub mod Slots
+pub mod Told

@@ -1,0 +1,50 @@
+-- What a store in memory tells.
+use Rattle.std.specs.Prelude.{◌≡◌, ℕ, Bool, true, false, List, Option, Some, None, slice_index_or, if◌then◌else◌}
+use Rattle.std.specs.FinMap.{empty, entries}
+use Rattle.slon_base.specs.Keeper.{Space, Store, Kept}
+use Rattle.node_keeper.specs.declared.fault_plan.FaultPlan.{FaultPlan}
+use Rattle.node_keeper.specs.declared.mem_keeper.Phase.{Phase}
+use Rattle.node_keeper.specs.declared.mem_keeper.Phase.TheVariants.{Idle, Open, Torn}
+use Rattle.node_keeper.specs.Plan.{left}
+
+-- of each space what is held, and what is pending
+abbrev pub held_store : List (Space × Space) → Store
+held_store spaces space = (slice_index_or spaces space (empty, empty)).0
+
+abbrev pub pending_store : List (Space × Space) → Store
+pending_store spaces space = (slice_index_or spaces space (empty, empty)).1
+
+-- what is pending, by the phase of the transaction
+abbrev pub pending_in : Phase → Store → Option (Option Store)
+pending_in Idle store = None
+pending_in Open store = Some (Some store)
+pending_in Torn store = Some None
+
+-- with no transaction, what is pending is what is held
+abbrev pub IsSettled : Phase → List (Space × Space) → Type 0
+IsSettled phase spaces = phase ≡ Idle → (space : ℕ) → entries (pending_store spaces space) ≡ entries (held_store spaces space)
+
+-- the phase after a call that failed
+abbrev pub torn : Phase → Phase
+torn Idle = Idle
+torn Open = Torn
+torn Torn = Torn
+
+abbrev pub is_open : Phase → Bool
+is_open Idle = false
+is_open Open = true
+is_open Torn = false
+
+-- a space after a transaction that holds what was pending, or does not
+abbrev pub ended : Bool → Space × Space → Space × Space
+ended commits p = if commits then (p.1, p.1) else (p.0, p.0)
+
+-- the store as it is told
+abbrev pub mem_kept : List (Space × Space) → FaultPlan → Phase → ℕ → Kept
+mem_kept spaces plan phase doubts = record {
+  held = Some (held_store spaces);
+  pending = pending_in phase (pending_store spaces);
+  can_fail = Some (left plan.fails.items plan.calls);
+  faults = plan.faults;
+  doubts = doubts;
+}

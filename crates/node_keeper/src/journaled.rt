@@ -1,0 +1,143 @@
+// The pairs of one space in a transaction: what is held, and what is pending.
+ghost use Rattle.std.specs.Prelude.{◌≡◌, OnOk, OnErr, IfOk, Some, None, [], length, if◌then◌else◌};
+ghost use Rattle.std.specs.Option.{option_map};
+ghost use Rattle.std.specs.FinMap.{empty, get, insert, remove, len, entries};
+ghost use Rattle.slon_base.specs.Keeper.{after, first};
+ghost use Rattle.node_keeper.specs.Slots.{pairs};
+ghost use Rattle.node_keeper.specs.Journal.{undone, HaveSlots};
+
+use crate::slots::Slots;
+use slon_base::Bytes;
+use std::alloc::{AllocError, Global};
+use std::marker::Model;
+
+/// A key that the open transaction changed, and the value that it had before.
+#[derive(Drop)]
+pub struct Change {
+    key: Vec<u8>,
+    old: Option<Bytes>,
+}
+
+/// One space: the pairs that are pending, and the changes since what is held.
+#[derive(Drop)]
+pub struct Journaled {
+    slots: Slots,
+    changes: Vec<Change>,
+}
+
+impl Model for Journaled {
+    ghost use Rattle.std.specs.Prelude.{ℕ, List, length};
+    ghost use Rattle.std.specs.Coded.{coded×, coded_list, coded_ℕ};
+    ghost use Rattle.std.specs.FinMap.{code};
+    ghost use Rattle.slon_base.specs.Keeper.{Space};
+
+    ghost Value = { Space × Space };
+
+    ghost coded = { coded× (code (coded_list coded_ℕ) (coded_list coded_ℕ)) (code (coded_list coded_ℕ) (coded_list coded_ℕ)) };
+
+    ghost use Rattle.node_keeper.specs.Slots.{pairs};
+    ghost use Rattle.node_keeper.specs.Journal.{undone, HaveSlots};
+
+    ghost view = { λ j. (undone j.changes.items (pairs j.slots.map), pairs j.slots.map) };
+
+    ghost invariant = { λ j. HaveSlots j.slots.map j.changes.items (length j.changes.items) };
+}
+
+impl Journaled {
+    /// A space with no pairs.
+    pub(crate) fn new(alloc: Global) -> Journaled
+        ensures { result ≡ (empty, empty) }
+    {
+        Journaled {
+            slots: Slots::new(alloc),
+            changes: Vec::new(alloc),
+        }
+    }
+
+    /// The pending value at a key.
+    pub(crate) fn get(&self, key: &[u8]) -> Option<&Bytes>
+        ensures { option_map (λ v. v.now) result ≡ get self.now.1 key.now }
+    {
+        self.slots.get(key)
+    }
+
+    /// How many pairs are pending.
+    pub(crate) fn count(&self) -> u64
+        ensures { result ≡ len self.now.1 }
+    {
+        self.slots.count()
+    }
+
+    /// Copies the first pending pair with a greater key.
+    pub(crate) fn next_after(
+        &self,
+        alloc: Global,
+        key: &[u8],
+    ) -> Result<Option<(Bytes, Bytes)>, AllocError>
+        ensures { IfOk result (λ found. found ≡ first (after key.now (entries self.now.1))) }
+    {
+        self.slots.next_after(alloc, key)
+    }
+
+    /// Puts a value at a key. Without memory nothing is changed.
+    pub(crate) fn put(&mut self, alloc: Global, key: &[u8], value: &[u8]) -> Result<(), AllocError>
+        ensures ok { OnOk result (self.new ≡ (self.old.0, insert self.old.1 key.now value.now)) }
+        ensures err { OnErr result (self.new ≡ self.old) }
+    {
+        let value = Bytes::from_slice(alloc, value)?;
+        let slot = Vec::from_slice(alloc, key)?;
+        let key = Vec::from_slice(alloc, key)?;
+        self.changes.reserve(1)?;
+        let old = self.slots.put(slot, value)?;
+        self.changes.push(Change { key, old }).unwrap();
+        Ok(())
+    }
+
+    /// Takes the pair of a key away, if it is there. Without memory nothing is changed.
+    pub(crate) fn del(&mut self, alloc: Global, key: &[u8]) -> Result<(), AllocError>
+        ensures ok { OnOk result (self.new ≡ (self.old.0, remove self.old.1 key.now)) }
+        ensures err { OnErr result (self.new ≡ self.old) }
+    {
+        if self.slots.get(key).is_none() {
+            return Ok(());
+        }
+        let copy = Vec::from_slice(alloc, key)?;
+        self.changes.reserve(1)?;
+        let old = self.slots.set(key, None);
+        self.changes.push(Change { key: copy, old }).unwrap();
+        Ok(())
+    }
+
+    /// Ends the transaction: what is pending is held, or else what is held is pending again.
+    pub(crate) fn end(&mut self, commits: bool)
+        ensures { self.new ≡ (if commits then (self.old.1, self.old.1) else (self.old.0, self.old.0)) }
+    {
+        if !commits {
+            undo(&mut self.slots, &mut self.changes);
+        }
+        settle(&mut self.slots, &mut self.changes);
+    }
+}
+
+// Takes away the slots that the changes left with no value, and forgets the changes.
+fn settle(slots: &mut Slots, changes: &mut Vec<Change>)
+    ensures pairs { pairs slots.new.map ≡ pairs slots.old.map }
+    ensures none { changes.new.items ≡ [] }
+{
+    for change in changes.as_slice() {
+        slots.sweep(change.key.as_slice());
+    }
+    changes.clear();
+}
+
+// Undoes the changes, the newest first. Each slot stays, since an older change may need it.
+fn undo(slots: &mut Slots, changes: &mut Vec<Change>)
+    requires { HaveSlots slots.old.map changes.old.items (length changes.old.items) }
+    ensures { pairs slots.new.map ≡ undone changes.old.items (pairs slots.old.map) }
+{
+    for index in (0..changes.len()).rev() {
+        let change = &mut changes[index];
+        let old = change.old.take();
+        let _ = slots.set(change.key.as_slice(), old);
+    }
+}

@@ -1,0 +1,21 @@
+//! Stores in memory, and a store that passes on what another one does.
+#![tactic(auto)]
+
+mod fault_plan;
+mod fuse;
+mod journaled;
+mod mem_files;
+mod mem_keeper;
+mod mem_shelf;
+mod mem_sink;
+mod slots;
+
+pub use fuse::Fuse;
+pub use mem_files::MemFiles;
+pub use mem_keeper::MemKeeper;
+pub use mem_shelf::MemShelf;
+pub use mem_sink::MemSink;
+pub use slon_base::{Files, Keeper, Shelf, Sink};
+
+#[cfg(test)]
+mod tests;
