@@ -1,0 +1,8 @@
+pub mod Joins
+pub mod Lines
+pub mod Moving
+pub mod Numbers
+pub mod Said
+pub mod Splitting
+pub mod Unprinting
+pub mod WordForms

@@ -1,0 +1,6 @@
+use Rattle.std.proofs.Common.{sym}
+use Rattle.session_text.proofs.WordForms.{name_text}
+use Rattle.session_text.proofs.words.name_of.Goals as goal
+
+pub text_of-requires : goal.text_of-requires
+text_of-requires c = name_text _ (sym c.if-not-is_name.ensures)

@@ -1,0 +1,5 @@
+pub mod Commands
+pub mod Handing
+pub mod Joining
+pub mod Reading
+pub mod Replies

@@ -1,0 +1,15 @@
+-- What is seen of a reader of lines.
+use Rattle.std.specs.Prelude.{ℕ, List}
+
+-- A reader of lines: the bytes that were read and are not handed over yet, and how many were handed over.
+pub record Reading : Type 0 where
+  pub unread : List ℕ
+  pub taken : ℕ
+
+-- a line has at most so many bytes
+abbrev pub line_limit : ℕ
+line_limit = 8192
+
+-- a session has at most so many bytes
+abbrev pub session_limit : ℕ
+session_limit = 16777216

@@ -1,0 +1,41 @@
+-- The forms of what replies hold, and a whole output.
+use Rattle.std.specs.Prelude.{◌≡◌, ℕ, ◌^◌, ◌<◌, true, List, [], ◌∷◌, ◌++◌, length}
+use Rattle.std.specs.List.{list_all, AllByRecursion}
+use Rattle.slon_model.specs.declared.reply.Answer.{Answer}
+use Rattle.slon_model.specs.declared.reply.Answer.TheVariants.{Done, Opened, Acted, Committed, Listed}
+use Rattle.slon_model.specs.declared.reply.Refusal.{Refusal}
+use Rattle.slon_model.specs.declared.reply.Refusal.TheVariants.{Fault, BadRow, NotEmpty, Down, TooBig, NotYet}
+use Rattle.slon_model.specs.declared.reply.Reply.{Reply}
+use Rattle.slon_model.specs.declared.reply.Reply.TheVariants.{Accepted, Refused, InDoubt}
+use Rattle.slon_model.specs.Forms.{is_name, is_value}
+use Rattle.slon_model.specs.Printed.{reply_line}
+
+-- the key and the values of a row are of the form of values
+abbrev pub RowHasForm : List ℕ × List (List ℕ) → Type 0
+RowHasForm row = (is_value row.0 ≡ true) × (list_all is_value row.1 ≡ true)
+
+abbrev pub AnswerHasForm : Answer → Type 0
+AnswerHasForm Done = Unit {0}
+AnswerHasForm (Opened xid) = xid < 2 ^ 64
+AnswerHasForm (Acted number) = number < 2 ^ 64
+AnswerHasForm (Committed actions) = actions < 2 ^ 64
+AnswerHasForm (Listed rows) = (length rows < 2 ^ 64) × AllByRecursion RowHasForm rows
+
+abbrev pub RefusalHasForm : Refusal → Type 0
+RefusalHasForm (Fault database count) = (is_name database ≡ true) × (count < 2 ^ 64)
+RefusalHasForm (BadRow space) = space < 256
+RefusalHasForm (NotEmpty database) = is_name database ≡ true
+RefusalHasForm (Down database) = is_name database ≡ true
+RefusalHasForm (TooBig space) = space < 256
+RefusalHasForm NotYet = Unit {0}
+
+-- The names, keys, values and numbers of a reply are of their forms.
+abbrev pub HasForm : Reply → Type 0
+HasForm (Accepted answer) = AnswerHasForm answer
+HasForm (Refused refusal) = RefusalHasForm refusal
+HasForm (InDoubt database answer) = (is_name database ≡ true) × AnswerHasForm answer
+
+-- the lines of replies, one behind the other
+abbrev pub lines_text : List Reply → List ℕ
+lines_text [] = []
+lines_text (reply ∷ more) = reply_line reply ++ lines_text more

@@ -1,0 +1,20 @@
+//! The text of a session: its lines are read, its commands are understood, and its replies are printed.
+#![tactic(auto)]
+
+mod forms;
+mod laws;
+mod line_reader;
+mod print;
+#[cfg(test)]
+mod print_tests;
+mod read;
+#[cfg(test)]
+mod read_tests;
+#[cfg(test)]
+mod reader_tests;
+mod words;
+
+pub use laws::{outputs_are_injective, printing_is_injective};
+pub use line_reader::{LineReader, NextLine, ReadStop};
+pub use print::{print_line, print_reply};
+pub use read::{LineFault, read_command};

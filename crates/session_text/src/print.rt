@@ -1,0 +1,127 @@
+// The printed form of a reply.
+ghost use Rattle.std.specs.Prelude.{◌≡◌, ◌++◌, List, ℕ, IfOk, OnOk, string_bytes, codes};
+ghost use Rattle.slon_model.specs.Printed.{joined, row_text, rows_text, answer_text, refusal_text, reply_text, reply_line};
+ghost use Rattle.session_text.specs.Joining.{behind_commas};
+
+use slon_base::{Text, TextList};
+use slon_model::{Answer, Refusal, Reply};
+use std::alloc::{AllocError, Global};
+
+/// Adds each value behind a comma.
+fn push_behind_commas(line: &mut String, values: &[Text]) -> Result<(), AllocError>
+    ensures { OnOk result (string_bytes line.new ≡ string_bytes line.old ++ behind_commas values.now) }
+{
+    for value in values {
+        line.push_str(",")?;
+        line.push_str(value.as_str())?;
+    }
+    Ok(())
+}
+
+/// Adds the values joined by commas.
+fn push_joined(line: &mut String, values: &[Text]) -> Result<(), AllocError>
+    ensures { OnOk result (string_bytes line.new ≡ string_bytes line.old ++ joined values.now) }
+{
+    match values.split_first() {
+        None => Ok(()),
+        Some((first, rest)) => {
+            line.push_str(first.as_str())?;
+            push_behind_commas(line, rest)
+        }
+    }
+}
+
+/// Adds each row: its key and its values.
+fn push_rows(line: &mut String, rows: &[(Text, TextList)]) -> Result<(), AllocError>
+    ensures { OnOk result (string_bytes line.new ≡ string_bytes line.old ++ rows_text rows.now) }
+{
+    for (key, values) in rows {
+        line.push_str(" ")?;
+        line.push_str(key.as_str())?;
+        line.push_str("=")?;
+        push_joined(line, values.as_slice())?;
+    }
+    Ok(())
+}
+
+/// Adds what an accepted command answers.
+fn push_answer(line: &mut String, answer: &Answer) -> Result<(), AllocError>
+    ensures { OnOk result (string_bytes line.new ≡ string_bytes line.old ++ answer_text answer.now) }
+{
+    match answer {
+        Answer::Done => write!(line, "ok"),
+        Answer::Opened { xid } => write!(line, "ok xid {xid}"),
+        Answer::Acted { number } => write!(line, "ok action {number}"),
+        Answer::Committed { actions } => write!(line, "ok actions {actions}"),
+        Answer::Listed { rows } => {
+            let count = rows.len();
+            write!(line, "ok rows {count}")?;
+            push_rows(line, rows.as_slice())
+        }
+    }
+}
+
+/// Adds why a command was not accepted.
+fn push_refusal(line: &mut String, refusal: &Refusal) -> Result<(), AllocError>
+    ensures { OnOk result (string_bytes line.new ≡ string_bytes line.old ++ refusal_text refusal.now) }
+{
+    match refusal {
+        Refusal::Fault { database, count } => {
+            let name = database.as_str();
+            write!(line, "no 10 fault {name} {count}")
+        }
+        Refusal::BadRow { space } => write!(line, "no 14 badrow {space}"),
+        Refusal::NotEmpty { database } => {
+            let name = database.as_str();
+            write!(line, "no 15 notempty {name}")
+        }
+        Refusal::Down { database } => {
+            let name = database.as_str();
+            write!(line, "no 16 down {name}")
+        }
+        Refusal::TooBig { space } => write!(line, "no 21 toobig {space}"),
+        Refusal::NotYet => write!(line, "no 97 notyet"),
+    }
+}
+
+/// Adds the line of a reply, without its newline.
+fn push_reply(line: &mut String, reply: &Reply) -> Result<(), AllocError>
+    ensures { OnOk result (string_bytes line.new ≡ string_bytes line.old ++ reply_text reply.now) }
+{
+    match reply {
+        Reply::Accepted(answer) => push_answer(line, answer),
+        Reply::Refused(refusal) => push_refusal(line, refusal),
+        Reply::InDoubt { database, answer } => {
+            let name = database.as_str();
+            write!(line, "doubt {name} ")?;
+            push_answer(line, answer)
+        }
+    }
+}
+
+/// The line of a reply, without its newline.
+///
+/// # Errors
+///
+/// `AllocError` where there is no memory.
+pub fn print_reply(alloc: Global, reply: &Reply) -> Result<Text, AllocError>
+    ensures { IfOk result (λ text. text ≡ reply_text reply.now) }
+{
+    let mut line = String::new(alloc);
+    push_reply(&mut line, reply)?;
+    Text::from_str(alloc, line.as_str())
+}
+
+/// The line of a reply, with its newline.
+///
+/// # Errors
+///
+/// `AllocError` where there is no memory.
+pub fn print_line(alloc: Global, reply: &Reply) -> Result<Text, AllocError>
+    ensures { IfOk result (λ text. text ≡ reply_line reply.now) }
+{
+    let mut line = String::new(alloc);
+    push_reply(&mut line, reply)?;
+    line.push_str("\n")?;
+    Text::from_str(alloc, line.as_str())
+}

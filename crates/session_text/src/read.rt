@@ -1,0 +1,183 @@
+// The command that a line is.
+ghost use Rattle.std.specs.Prelude.{◌≡◌, map, Some, None, Ok, Err};
+ghost use Rattle.std.specs.Str.{is_utf8};
+ghost use Rattle.slon_model.specs.Lines as lines;
+ghost use Rattle.session_text.specs.Commands.{Gives, IsSaid, Reads};
+
+use crate::line_reader::LINE_LIMIT;
+use crate::words::{Misread, name_of, number_of, table_name_of, values_of, words_of};
+use slon_model::Command;
+use std::alloc::Global;
+use thiserror::Error;
+
+/// A table has at most so many columns.
+const COLUMN_LIMIT: u32 = 16;
+
+/// Why a line was not read.
+#[derive(Clone, Copy, Debug, Drop, Error, PartialEq, Eq)]
+pub enum LineFault {
+    /// The line of this number, from 1 on, is no command and no comment.
+    #[error("line {number} is bad")]
+    BadLine { number: u64 },
+    /// There was no memory.
+    #[error("out of memory")]
+    NoMemory,
+}
+
+/// `database DB`
+fn database_of(alloc: Global, words: &[&[u8]]) -> Result<Command, Misread>
+    ensures { Gives (lines.database_of (map (λ word. word.now) words.now)) result }
+{
+    let [name] = words else {
+        return Err(Misread::BadForm);
+    };
+    Ok(Command::Database {
+        name: name_of(alloc, name)?,
+    })
+}
+
+/// `table DB TABLE COLS`
+fn table_of(alloc: Global, words: &[&[u8]]) -> Result<Command, Misread>
+    ensures { Gives (lines.table_of (map (λ word. word.now) words.now)) result }
+{
+    let [database, table, columns] = words else {
+        return Err(Misread::BadForm);
+    };
+    Ok(Command::Table {
+        database: name_of(alloc, database)?,
+        table: table_name_of(alloc, table)?,
+        columns: number_of(columns, 1, COLUMN_LIMIT)?,
+    })
+}
+
+/// `begin DB NAME`
+fn begin_of(alloc: Global, words: &[&[u8]]) -> Result<Command, Misread>
+    ensures { Gives (lines.begin_of (map (λ word. word.now) words.now)) result }
+{
+    let [database, transaction] = words else {
+        return Err(Misread::BadForm);
+    };
+    Ok(Command::Begin {
+        database: name_of(alloc, database)?,
+        transaction: name_of(alloc, transaction)?,
+    })
+}
+
+/// `insert DB NAME TABLE VALUE VALUE..`
+fn insert_of(alloc: Global, words: &[&[u8]]) -> Result<Command, Misread>
+    ensures { Gives (lines.insert_of (map (λ word. word.now) words.now)) result }
+{
+    if words.len() < 4 {
+        return Err(Misread::BadForm);
+    }
+    Ok(Command::Insert {
+        database: name_of(alloc, words[0])?,
+        transaction: name_of(alloc, words[1])?,
+        table: table_name_of(alloc, words[2])?,
+        values: values_of(alloc, &words[3..])?,
+    })
+}
+
+/// `commit DB NAME`
+fn commit_of(alloc: Global, words: &[&[u8]]) -> Result<Command, Misread>
+    ensures { Gives (lines.commit_of (map (λ word. word.now) words.now)) result }
+{
+    let [database, transaction] = words else {
+        return Err(Misread::BadForm);
+    };
+    Ok(Command::Commit {
+        database: name_of(alloc, database)?,
+        transaction: name_of(alloc, transaction)?,
+    })
+}
+
+/// `rows DB TABLE`
+fn rows_of(alloc: Global, words: &[&[u8]]) -> Result<Command, Misread>
+    ensures { Gives (lines.rows_of (map (λ word. word.now) words.now)) result }
+{
+    let [database, table] = words else {
+        return Err(Misread::BadForm);
+    };
+    Ok(Command::Rows {
+        database: name_of(alloc, database)?,
+        table: table_name_of(alloc, table)?,
+    })
+}
+
+/// The command that the first word names, of the words behind it.
+fn command_of(alloc: Global, verb: &[u8], rest: &[&[u8]]) -> Result<Command, Misread>
+    ensures { Gives (lines.command_of verb.now (map (λ word. word.now) rest.now)) result }
+{
+    if verb == b"database".as_slice() {
+        database_of(alloc, rest)
+    } else if verb == b"table".as_slice() {
+        table_of(alloc, rest)
+    } else if verb == b"begin".as_slice() {
+        begin_of(alloc, rest)
+    } else if verb == b"insert".as_slice() {
+        insert_of(alloc, rest)
+    } else if verb == b"commit".as_slice() {
+        commit_of(alloc, rest)
+    } else if verb == b"rows".as_slice() {
+        rows_of(alloc, rest)
+    } else {
+        Err(Misread::BadForm)
+    }
+}
+
+/// Whether the word begins a comment.
+fn is_comment(word: &[u8]) -> bool
+    ensures { result ≡ lines.is_comment word.now }
+{
+    match word.first() {
+        None => false,
+        Some(first) => *first == b'#',
+    }
+}
+
+/// What the words of a line say: a command, or nothing.
+fn said_by_words(alloc: Global, words: &[&[u8]]) -> Result<Option<Command>, Misread>
+    ensures { IsSaid (lines.meaning_of_words (map (λ word. word.now) words.now)) result }
+{
+    let Some((verb, rest)) = words.split_first() else {
+        return Ok(None);
+    };
+    if is_comment(verb) {
+        return Ok(None);
+    }
+    Ok(Some(command_of(alloc, verb, rest)?))
+}
+
+/// Whether the bytes are a text.
+fn is_text(line: &[u8]) -> bool
+    ensures { result ≡ is_utf8 line.now }
+{
+    str::from_utf8(line).is_ok()
+}
+
+/// What a line says: a command, or nothing.
+fn said(alloc: Global, line: &[u8]) -> Result<Option<Command>, Misread>
+    ensures { IsSaid (lines.meaning line.now) result }
+{
+    if line.len() > LINE_LIMIT || !is_text(line) {
+        return Err(Misread::BadForm);
+    }
+    let words = words_of(alloc, line)?;
+    said_by_words(alloc, &words)
+}
+
+/// Reads the line of this number: the command that it says, or `None` where it says nothing, as an empty line and a
+/// comment do.
+///
+/// # Errors
+///
+/// `BadLine` exactly where the line is no command and says something, `NoMemory` where there is none.
+pub fn read_command(alloc: Global, line: &[u8], number: u64) -> Result<Option<Command>, LineFault>
+    ensures { Reads number (lines.meaning line.now) result }
+{
+    match said(alloc, line) {
+        Ok(command) => Ok(command),
+        Err(Misread::BadForm) => Err(LineFault::BadLine { number }),
+        Err(Misread::OutOfMemory) => Err(LineFault::NoMemory),
+    }
+}
