@@ -1,0 +1,200 @@
+-- A transaction call by call: what is pending so far, and what its end makes of it.
+use Rattle.std.proofs.Common.{◌≡◌, ℕ, ◌≤◌, false, Option, Some, None, Result, Ok, Err, refl, sym, ap, subst, ◌∙◌, inl, inr, arith, is_some}
+use Rattle.std.proofs.lemmas.Bool.{false≢true}
+use Rattle.std.specs.Option.{option_map, unwrap_or}
+use Rattle.slon_base.specs.Counts.{Rose, Within}
+use Rattle.slon_base.specs.Keeper.{Kept, Store, Begins, Changes, Reads, HasCause, one_more, sight}
+use Rattle.slon_base.specs.declared.fault.KeepFault.{KeepFault}
+use Rattle.slon_base.specs.declared.fault.KeepFault.TheVariants.{Failed, NoMemory}
+use Rattle.app_store.specs.declared.stop.Stop.{Stop}
+use Rattle.app_store.specs.declared.stop.Stop.TheVariants.{Failed as StopFailed, NoMemory as StopNoMemory, BadRow as StopBadRow}
+use Rattle.app_store.specs.declared.transact.Made.{Made}
+use Rattle.app_store.specs.declared.transact.Made.TheVariants.{Refused, Done, InDoubt}
+use Rattle.app_store.specs.Steps.{Transacts, Finishes, Puts, EndsAs, Leaves, Makes, IsMade, IsCounted, Looks, Says, is_failed}
+
+-- what stands between the calls of a transaction
+pub record Pends (change : Store → Store) (old mid : Kept) : Type 0 where
+  pub still : old.can_fail ≡ Some 0 → mid.can_fail ≡ Some 0
+  pub later : old.faults ≤ mid.faults
+  pub held : mid.held ≡ old.held
+  pub pending : mid.pending ≡ Some (option_map change old.held)
+
+pub rose_later : {a b c : ℕ} → a ≤ b → Rose b c → Rose a c
+rose_later le (inl lt) = inl (omega arith)
+rose_later le (inr last) = inr last
+
+-- no failure is to come, and so none came
+no_more : {T : Type 0} (result : Result T KeepFault) (left : Option ℕ) → Within (Some 0) (one_more result left) → left ≡ Some 0
+no_more (Ok x) None w = absurd w
+no_more (Ok x) (Some n) w = ap (λ k. Some k) (omega arith)
+no_more (Err Failed) None w = absurd w
+no_more (Err Failed) (Some n) w = absurd (omega arith)
+no_more (Err NoMemory) None w = absurd w
+no_more (Err NoMemory) (Some n) w = ap (λ k. Some k) (omega arith)
+
+pub still_sure : {T : Type 0} {old new : Kept} {result : Result T KeepFault} → HasCause old new result → old.can_fail ≡ Some 0 → new.can_fail ≡ Some 0
+still_sure {T} {old} {new} {result} cause sure = no_more result new.can_fail (subst (λ o. Within o (one_more result new.can_fail)) sure cause.left)
+
+pub begun : {T : Type 0} {old new : Kept} {x : T} → Begins old new (Ok x) → Pends (λ m. m) old new
+begun {T} {old} {new} b = record { still = still_sure b.cause; later = b.cause.later; held = b.held; pending = b.ok ∙ ap (λ o. Some o) (sym (same old.held)) }
+  where
+    same : (o : Option Store) → option_map (λ m. m) o ≡ o
+    same None = refl
+    same (Some m) = refl
+
+map_twice : (f g : Store → Store) (o : Option Store) → option_map g (option_map f o) ≡ option_map (λ m. g (f m)) o
+map_twice f g None = refl
+map_twice f g (Some m) = refl
+
+pub changed : {T : Type 0} {change more : Store → Store} {old mid new : Kept} {x : T} → Pends change old mid → Changes more mid new (Ok x) → Pends (λ m. more (change m)) old new
+changed {T} {change} {more} {old} {mid} {new} p c = record {
+  still = λ sure. still_sure c.cause (p.still sure);
+  later = omega (arith, p.later, c.cause.later);
+  held = c.held ∙ p.held;
+  pending = c.ok ∙ ap (option_map (option_map more)) p.pending ∙ ap (λ o. Some o) (map_twice change more old.held);
+}
+
+pub put_in : {change more : Store → Store} {old mid new : Kept} {x : Unit {0}} → Pends change old mid → Puts more mid new (Ok x) → Pends (λ m. more (change m)) old new
+put_in {change} {more} {old} {mid} {new} p c = record {
+  still = λ sure. c.still (p.still sure);
+  later = omega (arith, p.later, c.counted.later);
+  held = c.held ∙ p.held;
+  pending = c.put ∙ ap (option_map (option_map more)) p.pending ∙ ap (λ o. Some o) (map_twice change more old.held);
+}
+
+some_same : {A : Type 0} (x y : A) → Some x ≡ Some y → x ≡ y
+some_same x y e = ap (λ o. unwrap_or o x) e
+
+-- what is held after a commit that stands
+stands : {change : Store → Store} {old mid : Kept} → Pends change old mid → (held : Option Store) → mid.pending ≡ Some held → (m : Store) → old.held ≡ Some m → held ≡ Some (change m)
+stands {change} p held is m was = some_same held _ (sym is ∙ p.pending) ∙ ap (option_map change) was
+
+counted_later : {T : Type 0} {old mid new : Kept} {result : Result T Stop} → old.faults ≤ mid.faults → IsCounted mid new result → IsCounted old new result
+counted_later later c = record { later = omega (arith, later, c.later); failed = λ failed. rose_later later (c.failed failed) }
+
+leaves_as : {change : Store → Store} {old mid : Kept} (new : Kept) (result : Result Made Stop) → Pends change old mid → EndsAs mid new result → (m : Store) → old.held ≡ Some m → Leaves change m old new result
+leaves_as new (Ok Refused) p e m was = e
+leaves_as new (Ok Done) p e m was = stands p new.held e m was
+leaves_as new (Ok InDoubt) p e m was = (rose_later p.later e.0, elim e.1 [ inl before ↦ inl (before ∙ p.held ∙ was) | inr after ↦ inr (stands p new.held after m was) ])
+leaves_as new (Err stop) p e m was = e ∙ p.held ∙ was
+
+pub ended : {change : Store → Store} {old mid new : Kept} (result : Result Made Stop) → Pends change old mid → Finishes mid new result → Transacts change old new result
+ended {new = new} result p f = record {
+  still = λ sure. f.still (p.still sure);
+  sure = λ sure. f.sure (p.still sure);
+  counted = counted_later p.later f.counted;
+  closed = f.closed;
+  leaves = leaves_as new result p f.ends;
+}
+
+-- what a transaction comes to over a store that can fail no more
+pub made_as : (change : Store → Store) (m : Store) (old new : Kept) (result : Result Made Stop) → IsMade result → Leaves change m old new result → Makes false change m new result
+made_as change m old new (Ok Refused) made leaves = absurd made
+made_as change m old new (Ok Done) made leaves = (refl, leaves)
+made_as change m old new (Ok InDoubt) made leaves = absurd made
+made_as change m old new (Err stop) made leaves = made
+
+-- reads so far, which changed nothing
+pub record Looked (old mid : Kept) : Type 0 where
+  pub still : old.can_fail ≡ Some 0 → mid.can_fail ≡ Some 0
+  pub later : old.faults ≤ mid.faults
+  pub held : mid.held ≡ old.held
+  pub pending : mid.pending ≡ old.pending
+
+pub looked_first : {T : Type 0} {P : Store → T → Type 0} {old new : Kept} {x : T} → Reads P old new (Ok x) → Looked old new
+looked_first r = record { still = still_sure r.cause; later = r.cause.later; held = r.held; pending = r.ok }
+
+pub looked_on : {T : Type 0} {P : Store → T → Type 0} {old mid new : Kept} {x : T} → Looked old mid → Reads P mid new (Ok x) → Looked old new
+looked_on l r = record {
+  still = λ sure. still_sure r.cause (l.still sure);
+  later = omega (arith, l.later, r.cause.later);
+  held = r.held ∙ l.held;
+  pending = r.ok ∙ l.pending;
+}
+
+pub sight-looked : {old mid : Kept} → Looked old mid → sight mid ≡ sight old
+sight-looked {old} {mid} l = ap (λ p. unwrap_or p mid.held) l.pending ∙ ap (λ h. unwrap_or old.pending h) l.held
+
+pub looks : {T : Type 0} {says : Store → Result T Stop → Type 0} {old new : Kept} (result : Result T Stop) → is_failed result ≡ false → Looked old new → ((m : Store) → sight old ≡ Some m → says m result) → Looks says old new result
+looks result sure l gives = record {
+  sure = record { still = l.still; never = λ none. sure };
+  counted = record { later = l.later; failed = λ failed. absurd (false≢true (sym sure ∙ failed)) };
+  held = l.held;
+  opened = ap is_some l.pending;
+  gives = gives;
+}
+
+pub memory_says : {T : Type 0} (right : T) (stop : Stop) → stop ≡ StopNoMemory → Says right (Err stop)
+memory_says right stop is = subst (λ s. Says right (Err s)) (sym is) tt
+
+-- ---- pieces of work, one after another
+
+-- with no transaction, reads see what is held
+pub sight-idle : (k : Kept) → is_some k.pending ≡ false → sight k ≡ k.held
+sight-idle k idle = seen k.pending idle
+  where
+    seen : (p : Option (Option Store)) → is_some p ≡ false → unwrap_or p k.held ≡ k.held
+    seen None is = refl
+    seen (Some o) is = absurd (false≢true (sym is))
+
+-- a transaction alone
+pub makes : {change : Store → Store} {old new : Kept} (result : Result Made Stop) → Transacts change old new result → (m : Store) → old.held ≡ Some m → old.can_fail ≡ Some 0 →
+    (new.can_fail ≡ Some 0) × Makes false change m new result
+makes {change} {old} {new} result t m held sure = (t.still sure, made_as change m old new result (t.sure sure) (t.leaves m held))
+
+-- a transaction after a look
+pub then_makes : {T : Type 0} {says : Store → Result T Stop → Type 0} {x : T} {change : Store → Store} {old mid new : Kept} (result : Result Made Stop) → Looks says old mid (Ok x) → Transacts change mid new result →
+    (m : Store) → old.held ≡ Some m → old.can_fail ≡ Some 0 → (new.can_fail ≡ Some 0) × Makes false change m new result
+then_makes result l t m held sure = makes result t m (l.held ∙ held) (l.sure.still sure)
+
+-- one look after another
+pub looks_twice : {T U : Type 0} {says : Store → Result T Stop → Type 0} {more all : Store → Result U Stop → Type 0} {x : T} {old mid new : Kept} (result : Result U Stop) → is_some old.pending ≡ false →
+    Looks says old mid (Ok x) → Looks more mid new result → ((m : Store) → sight old ≡ Some m → more m result → all m result) → Looks all old new result
+looks_twice {old = old} {mid = mid} result idle a b gives = record {
+  sure = record { still = λ sure. b.sure.still (a.sure.still sure); never = λ sure. b.sure.never (a.sure.still sure) };
+  counted = counted_later a.counted.later b.counted;
+  held = b.held ∙ a.held;
+  opened = b.opened ∙ a.opened;
+  gives = λ m seen. gives m seen (b.gives m (sight-idle mid (a.opened ∙ idle) ∙ a.held ∙ sym (sight-idle old idle) ∙ seen));
+}
+
+-- the exit of a step that passes its stop on
+pub exit_as : {T : Type 0} (P : Result T Stop → Type 0) {stop : Stop} (result : Result T Stop) → (y : Stop) × (result ≡ Err y) × (y ≡ stop) → P (Err stop) → P result
+exit_as P result (y, is, same) holds = subst P (sym is) (subst (λ s. P (Err s)) (sym same) holds)
+
+-- a transaction that stopped while it was pending
+pub put_stops : {change more all : Store → Store} {old mid new : Kept} {stop : Stop} → Pends change old mid → Puts more mid new (Err stop) → Transacts all old new (Err stop)
+put_stops p put = record {
+  still = λ sure. put.still (p.still sure);
+  sure = λ sure. put.sure (p.still sure);
+  counted = record { later = omega (arith, p.later, put.counted.later); failed = λ failed. rose_later p.later (put.counted.failed failed) };
+  closed = tt;
+  leaves = λ m was. put.held ∙ p.held ∙ was;
+}
+
+-- what is made of what a look found
+pub look_ends : {T U : Type 0} {says : Store → Result T Stop → Type 0} {all : Store → Result U Stop → Type 0} {x : T} {old new : Kept} (result : Result U Stop) → is_failed result ≡ false → Looks says old new (Ok x) →
+    ((m : Store) → sight old ≡ Some m → says m (Ok x) → all m result) → Looks all old new result
+look_ends result never l gives = record {
+  sure = record { still = l.sure.still; never = λ sure. never };
+  counted = record { later = l.counted.later; failed = λ failed. absurd (false≢true (sym never ∙ failed)) };
+  held = l.held;
+  opened = l.opened;
+  gives = λ m seen. gives m seen (l.gives m seen);
+}
+
+pub says_stopped : {T U : Type 0} (a : T) (b : U) (stop : Stop) → Says a (Err stop) → Says b (Err stop)
+says_stopped a b StopFailed says = says
+says_stopped a b StopNoMemory says = says
+says_stopped a b (StopBadRow space) says = says
+
+-- a look that stopped
+pub looks_stopped : {T U : Type 0} {more : Store → Result T Stop → Type 0} {all : Store → Result U Stop → Type 0} {old new : Kept} (stop : Stop) → Looks more old new (Err stop) →
+    ((m : Store) → sight old ≡ Some m → more m (Err stop) → all m (Err stop)) → Looks all old new (Err stop)
+looks_stopped stop l gives = record {
+  sure = record { still = l.sure.still; never = l.sure.never };
+  counted = record { later = l.counted.later; failed = l.counted.failed };
+  held = l.held;
+  opened = l.opened;
+  gives = λ m seen. gives m seen (l.gives m seen);
+}

@@ -1,0 +1,7 @@
+pub mod Base
+pub mod Fits
+pub mod Scan
+pub mod Spelled
+pub mod Steps
+pub mod Stops
+pub mod Works

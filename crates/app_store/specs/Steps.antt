@@ -1,0 +1,114 @@
+-- What the reads and the transactions of a step do to the store, and why they stop.
+use Rattle.std.specs.Prelude.{◌≡◌, ◌⊎◌, ◌≤◌, Bool, true, false, Some, Result, Ok, Err, OnOk, is_some}
+use Rattle.std.specs.Option.{option_map}
+use Rattle.slon_base.specs.Keeper.{Kept, Store, sight}
+use Rattle.slon_base.specs.Counts.{Rose}
+use Rattle.app_store.specs.declared.stop.Stop.{Stop}
+use Rattle.app_store.specs.declared.stop.Stop.TheVariants.{Failed, NoMemory, BadRow}
+use Rattle.app_store.specs.declared.transact.Made.{Made}
+use Rattle.app_store.specs.declared.transact.Made.TheVariants.{Refused, Done, InDoubt}
+
+-- the store failed
+abbrev pub is_stop_failed : Stop → Bool
+is_stop_failed Failed = true
+is_stop_failed NoMemory = false
+is_stop_failed (BadRow space) = false
+
+abbrev pub is_failed : {T : Type 0} → Result T Stop → Bool
+is_failed (Ok x) = false
+is_failed (Err stop) = is_stop_failed stop
+
+-- over a store that can fail no more nothing fails
+pub record IsSure {T : Type 0} (old new : Kept) (result : Result T Stop) : Type 0 where
+  pub still : old.can_fail ≡ Some 0 → new.can_fail ≡ Some 0
+  pub never : old.can_fail ≡ Some 0 → is_failed result ≡ false
+
+-- faults are told where the count rose
+pub record IsCounted {T : Type 0} (old new : Kept) (result : Result T Stop) : Type 0 where
+  pub later : old.faults ≤ new.faults
+  pub failed : is_failed result ≡ true → Rose old.faults new.faults
+
+-- a look at the store, which changes nothing
+pub record Looks {T : Type 0} (says : Store → Result T Stop → Type 0) (old new : Kept) (result : Result T Stop) : Type 0 where
+  pub sure : IsSure old new result
+  pub counted : IsCounted old new result
+  pub held : new.held ≡ old.held
+  pub opened : is_some new.pending ≡ is_some old.pending
+  pub gives : (m : Store) → sight old ≡ Some m → says m result
+
+-- the result is this one, or there was no memory, or the store failed
+abbrev pub Says : {T : Type 0} → T → Result T Stop → Type 0
+Says right (Ok x) = x ≡ right
+Says right (Err Failed) = Unit {0}
+Says right (Err NoMemory) = Unit {0}
+Says right (Err (BadRow space)) = ⊥
+
+-- it stopped for want of memory
+abbrev pub OnlyMemory : Stop → Type 0
+OnlyMemory Failed = ⊥
+OnlyMemory NoMemory = Unit {0}
+OnlyMemory (BadRow space) = ⊥
+
+-- no transaction is left pending, but where its commit is in doubt
+abbrev pub Closes : Kept → Result Made Stop → Type 0
+Closes new (Ok Refused) = is_some new.pending ≡ false
+Closes new (Ok Done) = is_some new.pending ≡ false
+Closes new (Ok InDoubt) = Unit {0}
+Closes new (Err stop) = Unit {0}
+
+-- refused where the test holds, and else the store is changed
+abbrev pub Makes : Bool → (Store → Store) → Store → Kept → Result Made Stop → Type 0
+Makes refused change m new (Ok Refused) = (refused ≡ true) × (new.held ≡ Some m)
+Makes refused change m new (Ok Done) = (refused ≡ false) × (new.held ≡ Some (change m))
+Makes refused change m new (Ok InDoubt) = ⊥
+Makes refused change m new (Err stop) = OnlyMemory stop
+
+-- over a store that can fail no more a transaction is done, or there is no memory
+abbrev pub IsMade : Result Made Stop → Type 0
+IsMade (Ok Refused) = ⊥
+IsMade (Ok Done) = Unit {0}
+IsMade (Ok InDoubt) = ⊥
+IsMade (Err stop) = OnlyMemory stop
+
+-- what the end of a transaction leaves
+abbrev pub EndsAs : Kept → Kept → Result Made Stop → Type 0
+EndsAs old new (Ok Refused) = ⊥
+EndsAs old new (Ok Done) = old.pending ≡ Some new.held
+EndsAs old new (Ok InDoubt) = Rose old.faults new.faults × ((new.held ≡ old.held) ⊎ (old.pending ≡ Some new.held))
+EndsAs old new (Err stop) = new.held ≡ old.held
+
+pub record Finishes (old new : Kept) (result : Result Made Stop) : Type 0 where
+  pub still : old.can_fail ≡ Some 0 → new.can_fail ≡ Some 0
+  pub sure : old.can_fail ≡ Some 0 → IsMade result
+  pub counted : IsCounted old new result
+  pub closed : Closes new result
+  pub ends : EndsAs old new result
+
+-- what a transaction leaves of what was held: with its change, and where its commit failed with the change or without
+abbrev pub Leaves : (Store → Store) → Store → Kept → Kept → Result Made Stop → Type 0
+Leaves change m old new (Ok Refused) = ⊥
+Leaves change m old new (Ok Done) = new.held ≡ Some (change m)
+Leaves change m old new (Ok InDoubt) = Rose old.faults new.faults × ((new.held ≡ Some m) ⊎ (new.held ≡ Some (change m)))
+Leaves change m old new (Err stop) = new.held ≡ Some m
+
+-- a transaction
+pub record Transacts (change : Store → Store) (old new : Kept) (result : Result Made Stop) : Type 0 where
+  pub still : old.can_fail ≡ Some 0 → new.can_fail ≡ Some 0
+  pub sure : old.can_fail ≡ Some 0 → IsMade result
+  pub counted : IsCounted old new result
+  pub closed : Closes new result
+  pub leaves : (m : Store) → old.held ≡ Some m → Leaves change m old new result
+
+-- it was done, or there was no memory
+abbrev pub IsPut : Result (Unit {0}) Stop → Type 0
+IsPut (Ok u) = Unit {0}
+IsPut (Err stop) = OnlyMemory stop
+
+-- a part of a transaction that is pending
+pub record Puts (change : Store → Store) (old new : Kept) (result : Result (Unit {0}) Stop) : Type 0 where
+  pub still : old.can_fail ≡ Some 0 → new.can_fail ≡ Some 0
+  pub sure : old.can_fail ≡ Some 0 → IsPut result
+  pub counted : IsCounted old new result
+  pub held : new.held ≡ old.held
+  pub opened : is_some new.pending ≡ true
+  pub put : OnOk result (new.pending ≡ option_map (option_map change) old.pending)

@@ -1,0 +1,15 @@
+//! One database over a store: its tables, its transactions and its rows.
+#![tactic(auto)]
+
+mod database;
+mod look;
+mod scan;
+mod spelling;
+mod stop;
+mod transact;
+mod work;
+
+pub use database::Database;
+pub use node_keeper::{Fuse, Keeper};
+pub use slon_model::DbFault;
+pub use stop::Stop;

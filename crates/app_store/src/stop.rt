@@ -1,0 +1,37 @@
+use slon_base::KeepFault;
+use std::alloc::AllocError;
+
+/// Why work on a store stopped.
+#[derive(Clone, Copy, Debug, PartialEq, Eq)]
+pub enum Stop {
+    /// The store failed.
+    Failed,
+    /// There was no memory.
+    NoMemory,
+    /// A row of this space is not in its form.
+    BadRow { space: u8 },
+}
+
+impl From<KeepFault> for Stop {
+    ghost use Rattle.app_store.specs.Stops.{StopOf};
+
+    ghost from_gives = { StopOf };
+
+    fn from(fault: KeepFault) -> Self {
+        match fault {
+            KeepFault::Failed => Stop::Failed,
+            KeepFault::NoMemory => Stop::NoMemory,
+        }
+    }
+}
+
+impl From<AllocError> for Stop {
+    ghost use Rattle.std.specs.Prelude.{◌≡◌};
+    ghost use Rattle.app_store.specs.declared.stop.Stop.TheVariants.{NoMemory};
+
+    ghost from_gives = { λ _ e. e ≡ NoMemory };
+
+    fn from(_: AllocError) -> Self {
+        Stop::NoMemory
+    }
+}
