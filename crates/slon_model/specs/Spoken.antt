@@ -1,0 +1,14 @@
+-- What the parts of a command are like that a line says.
+use Rattle.std.specs.Prelude.{◌<◌, ◌≤◌, length}
+use Rattle.slon_base.specs.Codec.{IsText, AllTexts}
+use Rattle.slon_model.specs.declared.command.Command.{Command}
+use Rattle.slon_model.specs.declared.command.Command.TheVariants.{Database, Table, Begin, Insert, Commit, Rows}
+
+-- Its tables and values can be spelled in a store, a table has at most 16 columns, and a row has a key.
+abbrev pub IsSpoken : Command → Type 0
+IsSpoken (Database name) = Unit {0}
+IsSpoken (Table database table columns) = IsText table × (columns ≤ 16)
+IsSpoken (Begin database name) = Unit {0}
+IsSpoken (Insert database name table values) = IsText table × AllTexts values × (0 < length values)
+IsSpoken (Commit database name) = Unit {0}
+IsSpoken (Rows database table) = IsText table
