@@ -114,6 +114,7 @@ fn drop_carriage_return(line: &mut Vec<u8>)
 fn keep(line: &mut Vec<u8>, piece: &[u8]) -> Result<(), AllocError>
     requires { length line.old.items ≤ KEPT_LEN }
     ensures room { length line.new.items ≤ KEPT_LEN }
+    ensures grows { length line.new.items ≤ length line.old.items + length piece.now }
     ensures kept { IfOk result (λ _. line.new.items ≡ take KEPT_LEN (line.old.items ++ piece.now)) }
 {
     let room = KEPT_LEN - line.len();
@@ -167,6 +168,7 @@ impl LineReader {
         ensures open { IfOk result (λ ended. ended ≡ false → self.new.unread ≡ []) }
         ensures taken { IfOk result (λ _. self.new.taken + length self.new.unread ≡ self.old.taken + length self.old.unread) }
         ensures limit { self.new.taken ≤ session_limit }
+        ensures moves { IfOk result (λ ended. length line.new.items + self.old.taken + (if ended then 1 else 0) ≤ length line.old.items + self.new.taken) }
     {
         let unread = &self.buffer[self.start..self.end];
         let newline = newline_at(unread);
@@ -200,6 +202,7 @@ impl LineReader {
         ensures hands { (bytes : List ℕ) → Comes self.old (F.filed files.old) bytes → IfOk result (Hands line.new.items bytes self.old self.new (F.filed files.new)) }
         ensures past { (bytes : List ℕ) → Comes self.old (F.filed files.old) bytes → IsErrOf result ReadStop.PastLimit → session_limit < self.old.taken + length bytes }
         ensures limit { IfOk result (λ _. self.new.taken ≤ session_limit) }
+        ensures moves { IfOk result (λ next. next ≡ NextLine.Line → self.old.taken < self.new.taken) }
         ensures short { IfOk result (λ next. next ≡ NextLine.Line → length line.new.items ≤ line_limit) }
         ensures room { length line.new.items ≤ line_limit + 2 }
     {

@@ -29,6 +29,7 @@ pub loop-self-preserved : goal.loop-self-preserved
 loop-self-preserved g c = record {
   files = stays_on _ _ _ c.loop-self.invariant.files c.in_ok-fill.ensures.files;
   room = omega (arith, ap length c.in_ok-take_into.ensures.line, length-take {A = ℕ});
+  moves = omega (arith, rw c.if-branch-2.false at c.in_ok-take_into.ensures.moves, c.in_ok-fill.ensures.taken, c.loop-self.invariant.moves);
   moved = λ bytes comes.
       let m = c.loop-self.invariant.moved bytes comes in
       let f = moved_filled _ _ _ _ _ _ _ _ m (c.in_ok-fill.ensures.bytes m.rest m.comes).0 c.in_ok-fill.ensures.taken in

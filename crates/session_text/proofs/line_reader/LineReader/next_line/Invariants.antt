@@ -1,4 +1,4 @@
-use Rattle.std.proofs.Common.{◌-◌, ◌≤◌, ℕ, List, length}
+use Rattle.std.proofs.Common.{◌-◌, ◌+◌, ◌≤◌, ℕ, List, length}
 use Rattle.session_text.specs.Reading.{session_limit}
 use Rattle.session_text.specs.Handing.{Stays, Comes}
 use Rattle.session_text.proofs.Moving.{Moved}
@@ -8,6 +8,7 @@ abbrev pub invariant-loop-self : goal.invariant-loop-self
 invariant-loop-self g l = record {
   files : Stays (g.F.Files.filed l.fn.files) (g.F.Files.filed l.files);
   room : length l.line.items ≤ 8194;
+  moves : length l.line.items + l.fn.self.taken ≤ l.self.taken;
   moved : (bytes : List ℕ) → Comes l.fn.self (g.F.Files.filed l.fn.files) bytes → Moved 8194 l.line.items bytes l.fn.self l.self (g.F.Files.filed l.files);
 }
 

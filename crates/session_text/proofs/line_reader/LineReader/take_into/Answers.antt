@@ -1,5 +1,6 @@
-use Rattle.std.proofs.Common.{◌≡◌, ◌+◌, ◌++◌, cond, length, take, sym, ap, ◌∙◌, eqb, unwrap_or}
+use Rattle.std.proofs.Common.{◌≡◌, ◌+◌, ◌++◌, cond, length, take, sym, ap, ◌∙◌, eqb, unwrap_or, ℕ, arith}
 use Rattle.std.specs.List.{slice_range, position}
+use Rattle.std.proofs.lemmas.List.{length-take}
 use Rattle.session_text.proofs.Lines.{front_found, behind_found}
 use Rattle.session_text.proofs.line_reader.LineReader.take_into.Goals as goal
 use Rattle.session_text.proofs.line_reader.LineReader.take_into.Goals.{then-is_some, else-is_some}
@@ -24,3 +25,8 @@ returns-clause-rest c =
     let found : c.newline_at-newline.result ≡ position (λ c. eqb c 10) all = rw (unread, ← c.deref.ensures.value) c.newline_at-newline.ensures in
     let len : c.unwrap_or-len.result ≡ unwrap_or c.newline_at-newline.result (length all) = rw (unread, ← c.deref.ensures.value) c.unwrap_or-len.ensures in
     behind_found _ inside.buffer.items inside.start inside.end _ _ c.newline_at-newline.result _ unread found len c.is_some-2.ensures count
+
+pub returns-clause-moves : goal.returns-clause-moves
+returns-clause-moves c =
+    let same = c.is_some-2.ensures ∙ sym c.is_some.ensures in
+    elim c.if-is_some.branch [ then-is_some w ↦ rw (same, w.if-is_some.true) (omega (arith, c.in_ok-keep.ensures.grows, w.count-is, length-take {A = ℕ}, ap (λ r. r.taken) c.self.view_is)) | else-is_some w ↦ rw (same, w.if-is_some.false) (omega (arith, c.in_ok-keep.ensures.grows, w.count-is, length-take {A = ℕ}, ap (λ r. r.taken) c.self.view_is)) ]
