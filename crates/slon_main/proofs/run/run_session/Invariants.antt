@@ -1,0 +1,24 @@
+use Rattle.std.proofs.Common.{◌≡◌, ◌+◌, ◌-◌, ◌≤◌, ℕ, List, [], Some}
+use Rattle.slon_base.specs.Outside.{top}
+use Rattle.slon_model.specs.World.{start}
+use Rattle.session_text.specs.Reading.{session_limit}
+use Rattle.session_text.specs.Handing.{Stays}
+use Rattle.slon_main.specs.Agreed.{Agrees}
+use Rattle.slon_main.specs.Clustered.{cluster_of}
+use Rattle.slon_main.specs.Running.{NeverFails, Shelves}
+use Rattle.slon_main.proofs.Runs.{Came, Running}
+use Rattle.slon_main.proofs.run.run_session.Given as goal
+
+abbrev pub invariant-loop-line : goal.invariant-loop-line
+invariant-loop-line g l = record {
+  files : Stays (g.F.Files.filed l.fn.files) (g.F.Files.filed l.files);
+  shelf : Shelves (g.S.Shelf.shelved l.fn.shelf) (g.S.Shelf.shelved l.shelf);
+  later : (g.O.Sink.poured l.fn.out).faults ≤ (g.O.Sink.poured l.out).faults;
+  count : l.number ≤ l.reader.taken + 1;
+  limit : l.reader.taken ≤ session_limit;
+  came : (bytes : List ℕ) → top (g.F.Files.filed l.fn.files).stack ≡ Some bytes → Came bytes l.reader (g.F.Files.filed l.files);
+  runs : (bytes : List ℕ) (limit : ℕ) → top (g.F.Files.filed l.fn.files).stack ≡ Some bytes → NeverFails (g.S.Shelf.shelved l.fn.shelf) → (g.O.Sink.poured l.fn.out).written ≡ Some [] → Agrees (start limit) (cluster_of g.S.Store.Keeper.kept l.fn.cluster) → Running limit bytes l.number l.reader (g.F.Files.filed l.files) (g.O.Sink.poured l.out).written (cluster_of g.S.Store.Keeper.kept l.cluster);
+}
+
+abbrev pub decreases-loop-line : goal.decreases-loop-line
+decreases-loop-line g l = session_limit - l.reader.taken

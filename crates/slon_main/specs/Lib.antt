@@ -1,0 +1,4 @@
+pub mod Agreed
+pub mod Clustered
+pub mod Ending
+pub mod Running

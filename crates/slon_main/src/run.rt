@@ -1,0 +1,220 @@
+// The run of a session: its lines are read, obeyed and answered one by one.
+ghost use Rattle.std.specs.Prelude.{◌≡◌, ℕ, ◌<◌, ◌≤◌, ◌++◌, List, length, true, false, Some, [], IfOk, IfErr, OnOk};
+ghost use Rattle.slon_base.specs.Outside.{top};
+ghost use Rattle.slon_model.specs.Lines.{meaning, session_of, Says};
+ghost use Rattle.slon_model.specs.Spoken.{IsSpoken};
+ghost use Rattle.std.specs.Option.{option_map};
+ghost use Rattle.slon_model.specs.Printed.{reply_line};
+ghost use Rattle.slon_model.specs.World as world;
+ghost use Rattle.slon_model.specs.World.{World, start};
+ghost use Rattle.session_text.specs.Reading.{session_limit};
+ghost use Rattle.session_text.specs.Handing.{Stays, Comes};
+ghost use Rattle.slon_main.specs.Agreed.{Agrees, HasRoom};
+ghost use Rattle.slon_main.specs.Clustered.{cluster_of};
+ghost use Rattle.slon_main.specs.Running.{NeverFails, Shelves, HasCause, ReadsLine, Obeys, Makes, RunsLine, RunsSession, LongOnly, is_of_store, is_of_output, is_of_command, is_of_line, Means};
+
+use crate::cluster::Cluster;
+use crate::status::NoMemory;
+use session_text::{LineFault, LineReader, NextLine, ReadStop, print_line, read_command};
+use slon_base::{Files, OutFault, Shelf, Sink, Text};
+use slon_model::{Command, Reply};
+use std::alloc::Global;
+
+/// Why a run stopped before the session's end.
+#[derive(Drop)]
+pub enum Stop {
+    /// The line of this number is no command.
+    BadLine { number: u64 },
+    /// The file failed.
+    Read,
+    /// The output failed.
+    Write,
+    /// There was no memory.
+    NoMemory,
+    /// The shelf gave no store for the database of this name.
+    NoStore { name: Text },
+    /// The session has too many bytes.
+    TooLong,
+}
+
+/// Reads the next line, which has this number, and says whether there was one.
+fn read_line<F: Files>(
+    reader: &mut LineReader,
+    files: &mut F,
+    line: &mut Vec<u8>,
+    number: u64,
+) -> Result<bool, Stop>
+    requires { 0 < length (F.filed files.old).stack }
+    ensures files { Stays (F.filed files.old) (F.filed files.new) }
+    ensures cause { (shelf out : ℕ) → HasCause (record { files = (F.filed files.old).faults; shelf = shelf; out = out }) (record { files = (F.filed files.new).faults; shelf = shelf; out = out }) result }
+    ensures limit { IfOk result (λ _. reader.new.taken ≤ session_limit) }
+    ensures moves { IfOk result (λ more. more ≡ true → reader.old.taken < reader.new.taken) }
+    ensures reads { (bytes : List ℕ) → Comes reader.old (F.filed files.old) bytes → ReadsLine number line.new.items bytes reader.old reader.new (F.filed files.new) result }
+{
+    match reader.next_line(files, line) {
+        Ok(next) => match next {
+            NextLine::Line => Ok(true),
+            NextLine::End => Ok(false),
+            NextLine::TooLong => Err(Stop::BadLine { number }),
+        },
+        Err(stop) => Err(match stop {
+            ReadStop::Failed => Stop::Read,
+            ReadStop::NoMemory => Stop::NoMemory,
+            ReadStop::PastLimit => Stop::TooLong,
+        }),
+    }
+}
+
+/// Makes a database over the next store of the shelf.
+fn make<S: Shelf>(cluster: &mut Cluster<S::Store>, shelf: &mut S, name: Text) -> Result<Reply, Stop>
+    ensures shelf { Shelves (S.shelved shelf.old) (S.shelved shelf.new) }
+    ensures cause { (files out : ℕ) → HasCause (record { files = files; shelf = (S.shelved shelf.old).faults; out = out }) (record { files = files; shelf = (S.shelved shelf.new).faults; out = out }) result }
+    ensures made { NeverFails (S.shelved shelf.old) → IfOk result (Makes name (cluster_of S.Store.kept cluster.old) (cluster_of S.Store.kept cluster.new)) }
+    ensures stop { IfErr result (λ stop. is_of_store stop ≡ true) }
+{
+    let Ok(place) = u32::try_from(cluster.len()) else {
+        return Err(Stop::NoMemory);
+    };
+    match shelf.give(None, place) {
+        Ok(keeper) => match cluster.adopt(name, keeper) {
+            Ok(reply) => Ok(reply),
+            Err(NoMemory) => Err(Stop::NoMemory),
+        },
+        Err(fault) => match fault {
+            OutFault::Failed => Err(Stop::NoStore { name }),
+            OutFault::NoMemory => Err(Stop::NoMemory),
+        },
+    }
+}
+
+/// Runs a command that a line can say, and replies.
+fn obey<S: Shelf>(
+    alloc: Global,
+    cluster: &mut Cluster<S::Store>,
+    shelf: &mut S,
+    command: &Command,
+) -> Result<Reply, Stop>
+    requires { IsSpoken command.now }
+    ensures shelf { Shelves (S.shelved shelf.old) (S.shelved shelf.new) }
+    ensures cause { (files out : ℕ) → HasCause (record { files = files; shelf = (S.shelved shelf.old).faults; out = out }) (record { files = files; shelf = (S.shelved shelf.new).faults; out = out }) result }
+    ensures obeys { NeverFails (S.shelved shelf.old) → IfOk result (Obeys command.now (cluster_of S.Store.kept cluster.old) (cluster_of S.Store.kept cluster.new)) }
+    ensures stop { IfErr result (λ stop. is_of_store stop ≡ true) }
+{
+    let Ok(reply) = cluster.step(command) else {
+        return Err(Stop::NoMemory);
+    };
+    match command {
+        Command::Database { name } => {
+            if !is_accepted(&reply) {
+                return Ok(reply);
+            }
+            let Ok(name) = name.copy(alloc) else {
+                return Err(Stop::NoMemory);
+            };
+            make(cluster, shelf, name)
+        }
+        _ => Ok(reply),
+    }
+}
+
+fn is_accepted(reply: &Reply) -> bool
+    ensures { result ≡ world.is_accepted reply.now }
+{
+    match reply {
+        Reply::Accepted(_) => true,
+        Reply::Refused(_) => false,
+        Reply::InDoubt { .. } => false,
+    }
+}
+
+/// Writes a reply with its newline, in one piece.
+fn answer<O: Sink>(alloc: Global, reply: &Reply, out: &mut O) -> Result<(), Stop>
+    ensures cause { (files shelf : ℕ) → HasCause (record { files = files; shelf = shelf; out = (O.poured out.old).faults }) (record { files = files; shelf = shelf; out = (O.poured out.new).faults }) result }
+    ensures later { (O.poured out.old).faults ≤ (O.poured out.new).faults }
+    ensures written { OnOk result ((O.poured out.new).written ≡ option_map (λ bytes. bytes ++ reply_line reply.now) (O.poured out.old).written) }
+    ensures stop { IfErr result (λ stop. is_of_output stop ≡ true) }
+{
+    let Ok(line) = print_line(alloc, reply) else {
+        return Err(Stop::NoMemory);
+    };
+    match out.write(line.as_slice()) {
+        Ok(()) => Ok(()),
+        Err(fault) => Err(match fault {
+            OutFault::Failed => Stop::Write,
+            OutFault::NoMemory => Stop::NoMemory,
+        }),
+    }
+}
+
+/// Obeys a command that a line can say, and writes the reply.
+fn run_command<S: Shelf, O: Sink>(
+    alloc: Global,
+    command: &Command,
+    cluster: &mut Cluster<S::Store>,
+    shelf: &mut S,
+    out: &mut O,
+) -> Result<(), Stop>
+    requires { IsSpoken command.now }
+    ensures shelf { Shelves (S.shelved shelf.old) (S.shelved shelf.new) }
+    ensures later { (O.poured out.old).faults ≤ (O.poured out.new).faults }
+    ensures cause { (files : ℕ) → HasCause (record { files = files; shelf = (S.shelved shelf.old).faults; out = (O.poured out.old).faults }) (record { files = files; shelf = (S.shelved shelf.new).faults; out = (O.poured out.new).faults }) result }
+    ensures stop { IfErr result (λ stop. is_of_command stop ≡ true) }
+    ensures runs { NeverFails (S.shelved shelf.old) → OnOk result ((w : World) → Agrees w (cluster_of S.Store.kept cluster.old) → HasRoom w → Means (Says command.now) w (O.poured out.old).written (O.poured out.new).written (cluster_of S.Store.kept cluster.new)) }
+{
+    let reply = obey(alloc, cluster, shelf, command)?;
+    answer(alloc, &reply, out)
+}
+
+/// Runs the line of this number: what it says is obeyed, and the reply is written.
+fn run_line<S: Shelf, O: Sink>(
+    alloc: Global,
+    line: &[u8],
+    number: u64,
+    cluster: &mut Cluster<S::Store>,
+    shelf: &mut S,
+    out: &mut O,
+) -> Result<(), Stop>
+    ensures shelf { Shelves (S.shelved shelf.old) (S.shelved shelf.new) }
+    ensures later { (O.poured out.old).faults ≤ (O.poured out.new).faults }
+    ensures cause { (files : ℕ) → HasCause (record { files = files; shelf = (S.shelved shelf.old).faults; out = (O.poured out.old).faults }) (record { files = files; shelf = (S.shelved shelf.new).faults; out = (O.poured out.new).faults }) result }
+    ensures stop { IfErr result (λ stop. is_of_line stop ≡ true) }
+    ensures runs { NeverFails (S.shelved shelf.old) → RunsLine number (meaning line.now) (cluster_of S.Store.kept cluster.old) (cluster_of S.Store.kept cluster.new) (O.poured out.old).written (O.poured out.new).written result }
+{
+    match read_command(alloc, line, number) {
+        Ok(said) => match said {
+            None => Ok(()),
+            Some(command) => run_command(alloc, &command, cluster, shelf, out),
+        },
+        Err(fault) => Err(match fault {
+            LineFault::BadLine { number } => Stop::BadLine { number },
+            LineFault::NoMemory => Stop::NoMemory,
+        }),
+    }
+}
+
+/// Runs the session that was entered last, from its first line to its end or to a stop.
+pub fn run_session<F: Files, S: Shelf, O: Sink>(
+    alloc: Global,
+    cluster: &mut Cluster<S::Store>,
+    files: &mut F,
+    shelf: &mut S,
+    out: &mut O,
+) -> Result<(), Stop>
+    requires { 0 < length (F.filed files.old).stack }
+    ensures files { Stays (F.filed files.old) (F.filed files.new) }
+    ensures later { (O.poured out.old).faults ≤ (O.poured out.new).faults }
+    ensures cause { HasCause (record { files = (F.filed files.old).faults; shelf = (S.shelved shelf.old).faults; out = (O.poured out.old).faults }) (record { files = (F.filed files.new).faults; shelf = (S.shelved shelf.new).faults; out = (O.poured out.new).faults }) result }
+    ensures long { (bytes : List ℕ) → top (F.filed files.old).stack ≡ Some bytes → LongOnly (length bytes) result }
+    ensures runs { (bytes : List ℕ) (limit : ℕ) → top (F.filed files.old).stack ≡ Some bytes → NeverFails (S.shelved shelf.old) → (O.poured out.old).written ≡ Some [] → Agrees (start limit) (cluster_of S.Store.kept cluster.old) → RunsSession limit (session_of bytes) (O.poured out.new).written (cluster_of S.Store.kept cluster.new) result }
+{
+    let Ok(mut reader) = LineReader::new(alloc) else {
+        return Err(Stop::NoMemory);
+    };
+    let mut line = Vec::new(alloc);
+    let mut number: u64 = 1;
+    while read_line(&mut reader, files, &mut line, number)? {
+        run_line(alloc, &line, number, cluster, shelf, out)?;
+        number += 1;
+    }
+    Ok(())
+}

@@ -1,0 +1,37 @@
+// How a session ends.
+use std::alloc::AllocError;
+use thiserror::Error;
+
+/// There was no memory.
+#[derive(Clone, Copy, Debug, Drop, Error, PartialEq, Eq)]
+#[error("out of memory")]
+pub struct NoMemory;
+
+impl From<AllocError> for NoMemory {
+    fn from(_: AllocError) -> Self {
+        NoMemory
+    }
+}
+
+/// How a session ended. The numbers are the exit statuses of the program.
+#[derive(Clone, Copy, Debug, PartialEq, Eq)]
+pub enum Status {
+    /// The session was read to its end.
+    Done = 0,
+    /// The words are not one name of a session.
+    Usage = 2,
+    /// A line is no command.
+    BadLine = 3,
+    /// A file failed.
+    ReadFault = 4,
+    /// The output failed.
+    WriteFault = 5,
+    /// There was no memory.
+    NoMemory = 6,
+    /// The shelf gave no store.
+    NoStore = 7,
+    /// There is no such session.
+    Missing = 8,
+    /// The session has more than 16,777,216 bytes.
+    TooLong = 9,
+}
