@@ -1,0 +1,43 @@
+// The standard output of the program.
+use crate::fault_count::FaultCount;
+use slon_base::{OutFault, Sink};
+use std::io::Write;
+
+/// An output of the system. It tells nothing of what was written.
+#[derive(Drop)]
+pub(crate) struct RealSink<W: Write + Drop> {
+    writer: W,
+    faults: FaultCount,
+}
+
+impl<W: Write + Drop> RealSink<W> {
+    ghost use Rattle.std.specs.Prelude.{◌≡◌, None};
+    ghost use Rattle.slonrun.specs.Told.{untold_output};
+
+    /// An output that writes on this writer.
+    pub(crate) fn new(writer: W) -> RealSink<W>
+        ensures { untold_output result.faults ≡ record { written = None; faults = 0 } }
+    {
+        RealSink {
+            writer,
+            faults: FaultCount::new(),
+        }
+    }
+}
+
+impl<W: Write + Drop> Sink for RealSink<W> {
+    ghost use Rattle.slonrun.specs.Told.{untold_output};
+
+    ghost poured = { λ s. untold_output s.faults };
+
+    fn write(&mut self, piece: &[u8]) -> Result<(), OutFault> {
+        match self.writer.write_all(piece) {
+            Ok(()) => Ok(()),
+            Err(error) => Err(self.faults.of(&error)),
+        }
+    }
+
+    fn faults(&self) -> u64 {
+        self.faults.count()
+    }
+}
