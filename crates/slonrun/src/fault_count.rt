@@ -1,5 +1,6 @@
 // How often a call failed.
-ghost use Rattle.std.specs.Prelude.{◌≡◌, ◌+◌, ◌-◌, ◌^◌, ◌≤◌, min};
+ghost use Rattle.std.specs.Prelude.{◌≡◌, ◌+◌, ◌-◌, ◌^◌, ◌≤◌, ◌↔◌, min};
+ghost use Rattle.std.specs.IoError.{error_kind};
 ghost use Rattle.slon_base.specs.Counts.{Rose};
 
 use slon_base::OutFault;
@@ -45,6 +46,7 @@ impl FaultCount {
         ensures later { faults_of self.old ≤ faults_of self.new }
         ensures rose { result ≡ Failed → Rose (faults_of self.old) (faults_of self.new) }
         ensures no_memory { result ≡ NoMemory → faults_of self.new ≡ faults_of self.old }
+        ensures kind { result ≡ NoMemory ↔ (error_kind error.now ≡ ErrorKind.OutOfMemory) }
     {
         if error.kind() == ErrorKind::OutOfMemory {
             OutFault::NoMemory

@@ -1,5 +1,6 @@
 // The files of the system.
 ghost use Rattle.std.specs.Prelude.{◌≤◌, IfOk, length};
+ghost use Rattle.std.specs.Io.KnownBytes.{ReadConsumes};
 
 use crate::fault_count::FaultCount;
 use slon_base::{Files, OutFault};
@@ -69,7 +70,8 @@ impl<R: rt::Files + Drop> Files for RealFiles<R> {
 
 // Reads on, again where a signal came in between.
 fn read_on<F: Read>(file: &mut F, into: &mut [u8]) -> io::Result<usize>
-    ensures { IfOk result (λ n. n ≤ length into.new) }
+    ensures count { IfOk result (λ n. n ≤ length into.new) }
+    ensures bytes { ReadConsumes (F.remaining file.old) (F.remaining file.new) result into.new }
 {
     for _ in 0..u64::MAX {
         match file.read(into) {

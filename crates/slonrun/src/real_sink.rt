@@ -26,11 +26,17 @@ impl<W: Write + Drop> RealSink<W> {
 }
 
 impl<W: Write + Drop> Sink for RealSink<W> {
+    ghost use Rattle.std.specs.Prelude.{OnOk};
+    ghost use Rattle.std.specs.Io.KnownBytes.{Appends};
+    ghost use Rattle.slon_base.specs.Outside.{Writes};
     ghost use Rattle.slonrun.specs.Told.{untold_output};
 
     ghost poured = { λ s. untold_output s.faults };
 
-    fn write(&mut self, piece: &[u8]) -> Result<(), OutFault> {
+    fn write(&mut self, piece: &[u8]) -> Result<(), OutFault>
+        ensures writes { Writes piece.now (untold_output self.old.faults) (untold_output self.new.faults) result }
+        ensures written { OnOk result (Appends (W.contents self.old.writer) (W.contents self.new.writer) piece.now) }
+    {
         match self.writer.write_all(piece) {
             Ok(()) => Ok(()),
             Err(error) => Err(self.faults.of(&error)),
