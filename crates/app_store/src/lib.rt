@@ -13,3 +13,6 @@ pub use database::Database;
 pub use node_keeper::{Fuse, Keeper};
 pub use slon_model::DbFault;
 pub use stop::Stop;
+
+#[cfg(test)]
+mod tests;
