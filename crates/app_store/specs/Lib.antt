@@ -1,4 +1,5 @@
 pub mod Base
+pub mod Downs
 pub mod Fits
 pub mod Scan
 pub mod Spelled

@@ -34,18 +34,20 @@ pub struct Database<K: Keeper> {
 }
 
 impl<K: Keeper> Database<K> {
-    ghost use Rattle.std.specs.Prelude.{[], ◌∷◌, ℕ, List, IfOk, IfErr, Some, Ok};
+    ghost use Rattle.std.specs.Prelude.{[], ◌∷◌, ℕ, List, IfOk, IfErr, OnErr, Some, None, Ok};
     ghost use Rattle.slon_base.specs.Keeper.{nothing};
     ghost use Rattle.slon_base.specs.Codec.{IsText, AllTexts};
     ghost use Rattle.slon_model.specs.World.{new_place, table_due, table_after, begin_due, begin_after, insert_due, insert_after, commit_due, commit_after, rows_due};
     ghost use Rattle.app_store.specs.Fits.{Fits, Answers, is_out_of_memory, sure_count};
+    ghost use Rattle.app_store.specs.Downs.{StaysDown, GoesDown};
     ghost use Rattle.app_store.specs.Base.{base_of, opened_of, is_open_named, fresh_base};
 
     /// The database of a store that holds no row yet: its first rows are written. Where the store holds a row, or
     /// stops, the database is down.
     pub fn create(alloc: Global, keeper: Fuse<K>) -> (Database<K>, Result<(), DbFault>)
-        ensures { (K.kept keeper.keeper).held ≡ Some nothing → (K.kept keeper.keeper).can_fail ≡ Some 0 → is_out_of_memory result.1 ≡ false →
+        ensures made { (K.kept keeper.keeper).held ≡ Some nothing → (K.kept keeper.keeper).can_fail ≡ Some 0 → is_out_of_memory result.1 ≡ false →
             (result.1 ≡ Ok tt) × Fits new_place (base_of K.kept result.0) }
+        ensures down { OnErr result.1 ((base_of K.kept result.0).up ≡ false) }
     {
         let mut keeper = keeper;
         let _ = keeper.rollback();
@@ -96,7 +98,11 @@ impl<K: Keeper> Database<K> {
 
     /// Why the database went down, as its caller is told.
     fn stopped(&mut self, stop: Stop) -> DbFault
-        ensures { stop ≡ Stop.NoMemory → result ≡ DbFault.Halt Halt.NoMemory }
+        ensures failed { stop ≡ Stop.Failed → result ≡ DbFault.Halt (Halt.Fault (K.kept self.old.keeper.keeper).faults) }
+        ensures memory { stop ≡ Stop.NoMemory → result ≡ DbFault.Halt Halt.NoMemory }
+        ensures row { (space : ℕ) → stop ≡ Stop.BadRow space → result ≡ DbFault.Halt (Halt.BadRow space) }
+        ensures up { self.new.up ≡ self.old.up }
+        ensures closed { self.new.opened ≡ None }
     {
         self.opened = None;
         DbFault::Halt(match stop {
@@ -112,7 +118,9 @@ impl<K: Keeper> Database<K> {
     pub fn table(&mut self, table: &Text, columns: u32) -> Result<(), DbFault>
         requires text { IsText table.now }
         requires narrow { columns ≤ 16 }
-        ensures { Answers (table_due table.now) (table_after table.now columns) (base_of K.kept self.old) result (base_of K.kept self.new) }
+        ensures answers { Answers (table_due table.now) (table_after table.now columns) (base_of K.kept self.old) result (base_of K.kept self.new) }
+        ensures down { StaysDown (base_of K.kept self.old) result (base_of K.kept self.new) }
+        ensures halted { GoesDown result (base_of K.kept self.new) }
     {
         if !self.up {
             return Err(DbFault::Down);
@@ -144,7 +152,8 @@ impl<K: Keeper> Database<K> {
 
     /// Opens a transaction and answers its id. Refused while one is open, and where the ids are used up.
     pub fn begin(&mut self, name: &Text) -> Result<u64, DbFault>
-        ensures { Answers begin_due (begin_after name.now) (base_of K.kept self.old) result (base_of K.kept self.new) }
+        ensures answers { Answers begin_due (begin_after name.now) (base_of K.kept self.old) result (base_of K.kept self.new) }
+        ensures down { StaysDown (base_of K.kept self.old) result (base_of K.kept self.new) }
     {
         if !self.up {
             return Err(DbFault::Down);
@@ -175,7 +184,9 @@ impl<K: Keeper> Database<K> {
         requires text { IsText table.now }
         requires texts { AllTexts values.now }
         requires some { 0 < length values.now }
-        ensures { Answers (insert_due name.now table.now values.now) (insert_after name.now table.now values.now) (base_of K.kept self.old) result (base_of K.kept self.new) }
+        ensures answers { Answers (insert_due name.now table.now values.now) (insert_after name.now table.now values.now) (base_of K.kept self.old) result (base_of K.kept self.new) }
+        ensures down { StaysDown (base_of K.kept self.old) result (base_of K.kept self.new) }
+        ensures halted { GoesDown result (base_of K.kept self.new) }
     {
         if !self.up {
             return Err(DbFault::Down);
@@ -220,7 +231,10 @@ impl<K: Keeper> Database<K> {
     /// Makes what a transaction wrote stand, and answers how many actions that were, and whether the commit is in
     /// doubt. Refused where no such transaction is open.
     pub fn commit(&mut self, name: &Text) -> Result<(u64, bool), DbFault>
-        ensures { Answers (λ p. sure_count (commit_due name.now p)) (commit_after name.now) (base_of K.kept self.old) result (base_of K.kept self.new) }
+        ensures answers { Answers (λ p. sure_count (commit_due name.now p)) (commit_after name.now) (base_of K.kept self.old) result (base_of K.kept self.new) }
+        ensures down { StaysDown (base_of K.kept self.old) result (base_of K.kept self.new) }
+        ensures halted { GoesDown result (base_of K.kept self.new) }
+        ensures doubt { IfOk result (λ r. r.1 ≡ true → (base_of K.kept self.new).up ≡ false) }
     {
         if !self.up {
             return Err(DbFault::Down);
@@ -261,7 +275,9 @@ impl<K: Keeper> Database<K> {
     /// The rows of a table that stand, ascending by key. Refused where there is no such table.
     pub fn rows(&mut self, table: &Text) -> Result<TableRows, DbFault>
         requires { IsText table.now }
-        ensures { Answers (rows_due table.now) (λ p. p) (base_of K.kept self.old) result (base_of K.kept self.new) }
+        ensures answers { Answers (rows_due table.now) (λ p. p) (base_of K.kept self.old) result (base_of K.kept self.new) }
+        ensures down { StaysDown (base_of K.kept self.old) result (base_of K.kept self.new) }
+        ensures halted { GoesDown result (base_of K.kept self.new) }
     {
         if !self.up {
             return Err(DbFault::Down);

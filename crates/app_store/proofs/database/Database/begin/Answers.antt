@@ -9,7 +9,7 @@ none_of : (o : Option Transaction) → is_some o ≡ false → opened_of o ≡ N
 none_of None is = refl
 none_of (Some t) is = absurd (false≢true (sym is))
 
-pub returns : goal.returns
-returns g c p fits room memory =
+pub returns-clause-answers : goal.returns-clause-answers
+returns-clause-answers g c p fits room memory =
     let due = begun_due p _ fits (none_of _ (sym c.is_some.ensures ∙ c.if-is_some.false)) c.if-self-ge-FIRST_CEILING.false in
     (due.1, rw (c.in-Ok.ensures, c.new.ensures) (began p _ c.args.name.now fits due.0))

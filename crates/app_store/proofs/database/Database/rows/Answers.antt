@@ -22,8 +22,8 @@ some_due {A} true x y is = let same : y ≡ x = cc in ap (λ v. ok v) same
     ok v = Ok v
 some_due false x y is = absurd cc
 
-pub returns-in-None : goal.returns-in-None
-returns-in-None g c p fits room memory =
+pub returns-in-None-clause-answers : goal.returns-in-None-clause-answers
+returns-in-None-clause-answers g c p fits room memory =
     let m = fits.held.0 in
     let listed = c.in-Ok.ensures.gives m (sight-idle (g.K.Keeper.kept c.args.self.now.keeper.keeper) (c.args.self.now.idle fits.up) ∙ fits.held.1) (find_named c.args.table.now p.tables) (standing_rows p c.args.table.now)
     (columns_small c.args.table.now p.tables fits.sound.narrow) (columns_of p m c.args.table.now fits.held.2)
@@ -32,8 +32,8 @@ returns-in-None g c p fits room memory =
       refit p _ (g.K.Keeper.kept c.list_rows.new.keeper.keeper) fits (c.in-Ok.ensures.sure.still fits.sure) (c.in-Ok.ensures.held ∙ fits.held.1),
     )
 
-pub returns-in-Some : goal.returns-in-Some
-returns-in-Some g c p fits room memory =
+pub returns-in-Some-clause-answers : goal.returns-in-Some-clause-answers
+returns-in-Some-clause-answers g c p fits room memory =
     let m = fits.held.0 in
     let listed = c.in-Ok.ensures.gives m (sight-idle (g.K.Keeper.kept c.args.self.now.keeper.keeper) (c.args.self.now.idle fits.up) ∙ fits.held.1) (find_named c.args.table.now p.tables) (standing_rows p c.args.table.now)
     (columns_small c.args.table.now p.tables fits.sound.narrow) (columns_of p m c.args.table.now fits.held.2)
@@ -42,10 +42,10 @@ returns-in-Some g c p fits room memory =
       refit p _ (g.K.Keeper.kept c.list_rows.new.keeper.keeper) fits (c.in-Ok.ensures.sure.still fits.sure) (c.in-Ok.ensures.held ∙ fits.held.1),
     )
 
-pub returns-in-Err : goal.returns-in-Err
-returns-in-Err g c p fits room memory =
+pub returns-in-Err-clause-answers : goal.returns-in-Err-clause-answers
+returns-in-Err-clause-answers g c p fits room memory =
     let m = fits.held.0 in
     let listed = c.in-Err.ensures.gives m (sight-idle (g.K.Keeper.kept c.args.self.now.keeper.keeper) (c.args.self.now.idle fits.up) ∙ fits.held.1) (find_named c.args.table.now p.tables) (standing_rows p c.args.table.now)
     (columns_small c.args.table.now p.tables fits.sound.narrow) (columns_of p m c.args.table.now fits.held.2)
     (subst (IsTableOf (text_bytes c.args.table.now) (standing_rows p c.args.table.now)) (sym fits.held.2.rows_held) (is_table (λ a. member a.xid p.commits) p.next_xid c.args.table.now p.actions c.requires fits.sound.written)) in
-    absurd (only_memory c.in-Err.stop c.stopped.result (says_only (cond (is_some (find_named c.args.table.now p.tables)) (Some (entries (standing_rows p c.args.table.now))) None) c.in-Err.stop listed (c.in-Err.ensures.sure.never fits.sure)) c.stopped.ensures memory)
+    absurd (only_memory c.in-Err.stop c.stopped.result (says_only (cond (is_some (find_named c.args.table.now p.tables)) (Some (entries (standing_rows p c.args.table.now))) None) c.in-Err.stop listed (c.in-Err.ensures.sure.never fits.sure)) c.stopped.ensures.memory memory)
