@@ -18,3 +18,6 @@ pub use keeper::{Keeper, Shelf};
 pub use row::{RowIn, RowOut, STORED_LIMIT};
 pub use sink::Sink;
 pub use text::{Text, TextList};
+
+#[cfg(test)]
+mod tests;
