@@ -1,14 +1,18 @@
 use slon_base::KeepFault;
 use std::alloc::AllocError;
+use thiserror::Error;
 
 /// Why work on a store stopped.
-#[derive(Clone, Copy, Debug, PartialEq, Eq)]
+#[derive(Clone, Copy, Debug, Drop, Error, PartialEq, Eq)]
 pub enum Stop {
     /// The store failed.
+    #[error("the store failed")]
     Failed,
     /// There was no memory.
+    #[error("out of memory")]
     NoMemory,
     /// A row of this space is not in its form.
+    #[error("a row of space {space} is not in its form")]
     BadRow { space: u8 },
 }
 

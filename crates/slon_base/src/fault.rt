@@ -42,17 +42,22 @@ pub enum RowFault {
 }
 
 /// Why a step over a store stopped.
-#[derive(Clone, Copy, Debug, PartialEq, Eq)]
+#[derive(Clone, Copy, Debug, Drop, Error, PartialEq, Eq)]
 pub enum Halt {
     /// The store failed; its count of faults.
+    #[error("the store failed, {count} times by now")]
     Fault { count: u64 },
     /// The commit of the step's effect failed, so it stands or not.
+    #[error("the commit is in doubt")]
     Doubt,
     /// A row of this space is not in its form.
+    #[error("a row of space {space} is not in its form")]
     BadRow { space: u8 },
     /// A number above the limit would be stored in this space.
+    #[error("a number is too big for space {space}")]
     TooBig { space: u8 },
     /// There was no memory.
+    #[error("out of memory")]
     NoMemory,
 }
 
