@@ -1,0 +1,10 @@
+use Rattle.std.proofs.Common.{◌≡◌, ◌+◌, drop}
+use Rattle.std.specs.List.{prefix_len}
+use Rattle.std.specs.Char.{is_ascii_digit}
+use Rattle.slonik_tokens.proofs.scan.digits_len.Given as goal
+
+abbrev pub invariant-loop-byte : goal.invariant-loop-byte
+invariant-loop-byte l = record {
+  run : l.len + prefix_len is_ascii_digit (drop l.byte-index l.bytes) ≡ prefix_len is_ascii_digit l.bytes;
+  place : l.len ≡ l.byte-index;
+}

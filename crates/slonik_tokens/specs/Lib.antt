@@ -1,0 +1,4 @@
+pub mod Cut
+pub mod Faults
+pub mod Spelling
+pub mod Tokens
