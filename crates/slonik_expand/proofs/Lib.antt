@@ -1,0 +1,7 @@
+mod Faults
+mod Going
+mod Keeping
+mod Putting
+mod ReadingOn
+mod Semicolons
+mod Uses

@@ -1,0 +1,5 @@
+pub mod Ends
+pub mod Expansion
+pub mod Reading
+pub mod Steps
+pub mod Uses

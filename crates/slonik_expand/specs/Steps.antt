@@ -1,0 +1,89 @@
+-- What the steps of an expansion do.
+use Rattle.std.specs.Prelude.{◌≡◌, ℕ, ◌+◌, ◌<◌, ◌≤◌, List, ◌++◌, length, take, drop, Option, Some, None, Result, Ok, Err}
+use Rattle.std.specs.Option.{option_map}
+use Rattle.std.specs.Borrow.{Bor}
+use Rattle.indexmap.specs.IndexMap.{get_by_text}
+use Rattle.slonik_tokens.specs.declared.fault.ScriptRefusal.{ScriptRefusal}
+use Rattle.slonik_tokens.specs.declared.fault.ScriptRefusal.TheVariants.{Undefined, TooMany}
+use Rattle.slonik_tokens.specs.declared.fault.ParseFault.{ParseFault}
+use Rattle.slonik_tokens.specs.declared.fault.ParseFault.TheVariants.{Refused, ReadFault, TooLong, NoMemory}
+use Rattle.slonik_tokens.specs.declared.token.Token.{Token}
+use Rattle.slonik_expand.specs.declared.definitions.Definitions.{Definitions}
+use Rattle.slonik_expand.specs.declared.forms.Form as code
+use Rattle.slonik_expand.specs.declared.forms.Form.TheVariants as seen
+use Rattle.slonik_expand.specs.declared.output.Output.{Output}
+use Rattle.slonik_expand.specs.declared.progress.Progress.{Progress}
+use Rattle.slonik_expand.specs.Ends.{EndsSo}
+use Rattle.slonik_expand.specs.Expansion.{Making, Ending, Made, Wrong, and_then, expand_from, place_behind, token_limit, Form, Itself, Use, Definition, Inclusion}
+
+-- what a name stands for
+abbrev pub names_of : Definitions → List ℕ → Option (List Token)
+names_of definitions name = option_map (λ v. v.items) (get_by_text definitions.map name)
+
+-- what was made
+abbrev pub making_of : Progress → Making
+making_of p = record { out = p.output.tokens.items; place = p.output.place; names = names_of p.definitions; left = p.left }
+
+-- a form, with what its references point to
+abbrev pub form_seen : code.Form → Form
+form_seen seen.Itself = Itself
+form_seen (seen.Use name) = Use name.now
+form_seen (seen.Definition name tokens) = Definition name.now tokens.now
+form_seen (seen.Inclusion path) = Inclusion path.now
+
+-- the tokens came out, or there would be too many, or memory ran out
+abbrev pub Puts : Output → List Token → Output → Result (Unit {0}) ParseFault → Type 0
+Puts old tokens new (Ok x) = (new.tokens.items ≡ old.tokens.items ++ tokens) × (new.place ≡ place_behind tokens old.place) × (length new.tokens.items ≤ token_limit)
+Puts old tokens new (Err (Refused refusal)) = (refusal ≡ TooMany) × (token_limit < length (old.tokens.items ++ tokens))
+Puts old tokens new (Err ReadFault) = ⊥
+Puts old tokens new (Err TooLong) = ⊥
+Puts old tokens new (Err NoMemory) = Unit {0}
+
+-- a name stands for nothing
+abbrev pub IsMissing : Result (List Token) (List ℕ) → ScriptRefusal → Type 0
+IsMissing replaced refusal = (name : List ℕ) × (refusal ≡ Undefined name) × (replaced ≡ Err name)
+
+-- what was found is kept too, or a name stands for nothing, or memory ran out
+abbrev pub Keeps : Result (List Token) (List ℕ) → List Token → List Token → Result (Unit {0}) ParseFault → Type 0
+Keeps found old new (Ok x) = (tokens : List Token) × (found ≡ Ok tokens) × (new ≡ take (token_limit + 1) (old ++ tokens))
+Keeps found old new (Err (Refused refusal)) = IsMissing found refusal
+Keeps found old new (Err ReadFault) = ⊥
+Keeps found old new (Err TooLong) = ⊥
+Keeps found old new (Err NoMemory) = Unit {0}
+
+-- what was answered, seen by `view`, is the kept front of the tokens with their names replaced, unless memory runs out
+abbrev pub Replaces : {X : Type 0} → (X → List Token) → Result (List Token) (List ℕ) → Result X ParseFault → Type 0
+Replaces view replaced (Ok x) = (whole : List Token) × (replaced ≡ Ok whole) × (view x ≡ take (token_limit + 1) whole)
+Replaces view replaced (Err (Refused refusal)) = IsMissing replaced refusal
+Replaces view replaced (Err ReadFault) = ⊥
+Replaces view replaced (Err TooLong) = ⊥
+Replaces view replaced (Err NoMemory) = Unit {0}
+
+-- the ending is this fault, unless memory runs out, where no file is read
+abbrev pub HaltsSo : Ending → ℕ → ParseFault → Type 0
+HaltsSo ending left (Refused refusal) = ending ≡ Wrong refusal left
+HaltsSo ending left ReadFault = ⊥
+HaltsSo ending left TooLong = ⊥
+HaltsSo ending left NoMemory = Unit {0}
+
+-- the ending is what was made, or this fault, where no file is read
+abbrev pub Goes : Ending → Making → Result (Unit {0}) ParseFault → Type 0
+Goes ending making (Ok x) = ending ≡ Made making
+Goes ending making (Err fault) = HaltsSo ending making.left fault
+
+-- the ending is what was made, or this fault
+abbrev pub Expands : Ending → Making → Result (Unit {0}) ParseFault → Type 0
+Expands ending making (Ok x) = ending ≡ Made making
+Expands ending making (Err fault) = EndsSo ending making.left fault
+
+-- the ending is what is made up to the end, or is made behind the next INCLUDE and behind its file
+abbrev pub Runs : (List ℕ → Making → Ending) → List Token → Ending → Making → Result (Option (ℕ × Bor (List ℕ))) ParseFault → Type 0
+Runs include tokens ending making (Ok None) = ending ≡ Made making
+Runs include tokens ending making (Ok (Some found)) =
+    ending ≡ and_then (include found.1.now making) (expand_from include 0 (drop found.0 tokens))
+Runs include tokens ending making (Err fault) = HaltsSo ending making.left fault
+
+-- the ending is the expansion of the tokens of a file, which are seen by `view`, or this fault
+abbrev pub Includes : {X : Type 0} → (X → List Token) → (List Token → Making → Ending) → Ending → Making → Result X ParseFault → Type 0
+Includes view expand ending making (Ok x) = ending ≡ expand (view x) making
+Includes view expand ending making (Err fault) = EndsSo ending making.left fault
