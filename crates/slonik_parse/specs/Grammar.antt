@@ -1,0 +1,106 @@
+-- What a script is: which tokens spell which script.
+use Rattle.std.specs.Prelude.{◌≡◌, ℕ, Bool, true, false, List, [], ◌∷◌, ◌++◌, codes, Some, Ok}
+use Rattle.slonik_tokens.specs.declared.token.Sign.TheVariants.{Semicolon, Comma, Equals, OpenBracket, CloseBracket, OpenBrace, CloseBrace}
+use Rattle.slonik_tokens.specs.declared.token.Token.{Token}
+use Rattle.slonik_tokens.specs.Tokens.{is_word, is_sign}
+use Rattle.slonik_parse.specs.declared.form.Verb.{Verb}
+use Rattle.slonik_parse.specs.declared.form.Verb.TheVariants.{Failover, WaitForEvent, Sleep}
+use Rattle.slonik_parse.specs.declared.form.OptionName.{OptionName}
+use Rattle.slonik_parse.specs.declared.given.Given.{Given}
+use Rattle.slonik_parse.specs.declared.script.Command.{Command}
+use Rattle.slonik_parse.specs.declared.script.Command.TheVariants.{Echo, Exit}
+use Rattle.slonik_parse.specs.declared.script.Script.{Script}
+use Rattle.slonik_parse.specs.declared.script.Statement.TheVariants.{Single, Try as Tried}
+use Rattle.slonik_parse.specs.declared.script.TryBlock.{TryBlock}
+use Rattle.slonik_parse.specs.declared.state.Handler.{Handler}
+use Rattle.slonik_parse.specs.declared.state.Handler.TheVariants.{Error, Success}
+use Rattle.slonik_parse.specs.Choices.{option_at}
+use Rattle.slonik_parse.specs.Forms.{verb_words, option_words}
+use Rattle.slonik_parse.specs.Given.{nothing_given, set_option, made}
+use Rattle.slonik_parse.specs.Scripts.{with_statement, with_node, empty_script, try_of, with_handler, lacks}
+use Rattle.slonik_parse.specs.Values.{name_in, string_in, id_in, status_in}
+
+-- the tokens are these words, in whatever case
+abbrev pub AreWords : List (List ℕ) → List Token → Type 0
+AreWords [] [] = Unit {0}
+AreWords [] (token ∷ tokens) = ⊥
+AreWords (word ∷ words) [] = ⊥
+AreWords (word ∷ words) (token ∷ tokens) = (is_word word token ≡ true) × AreWords words tokens
+
+-- An option of a command: its words, `=` and its value. It is given beside those before it; more are all of them.
+pub data IsOption (verb : Verb) (given : Given) : List Token → Given → Type 0 where
+  is_option : (name : OptionName) (first equals value : Token) (words : List Token) (more : Given)
+      → option_at verb first ≡ Some name → AreWords (option_words name) (first ∷ words) → is_sign Equals equals ≡ true
+      → set_option name value given ≡ Ok more → IsOption verb given (first ∷ words ++ equals ∷ value ∷ []) more
+
+-- options with commas between them; of one that comes more than once the last counts
+pub data AreOptions (verb : Verb) : List Token → Given → Type 0 where
+  one_option : (tokens : List Token) (given : Given) → IsOption verb nothing_given tokens given → AreOptions verb tokens given
+  more_options : (front tokens : List Token) (given all : Given) (comma : Token) → AreOptions verb front given
+      → is_sign Comma comma ≡ true → IsOption verb given tokens all → AreOptions verb (front ++ comma ∷ tokens) all
+
+-- the command may stand in a try block
+abbrev pub may_be_tried : Verb → Bool
+may_be_tried WaitForEvent = false
+may_be_tried Sleep = false
+may_be_tried Failover = false
+may_be_tried _ = true
+
+-- the command may stand in a block, which is a try block or not
+abbrev pub may_stand : Bool → Verb → Bool
+may_stand true verb = may_be_tried verb
+may_stand false verb = true
+
+-- a command without the semicolon behind it, in a try block or not
+pub data IsCommand (tried : Bool) : List Token → Command → Type 0 where
+  of_verb : (verb : Verb) (first opens closes : Token) (words options : List Token) (given : Given) (command : Command)
+      → may_stand tried verb ≡ true → AreWords (verb_words verb) (first ∷ words) → is_sign OpenBracket opens ≡ true
+      → AreOptions verb options given → is_sign CloseBracket closes ≡ true → made verb given ≡ Ok command
+      → IsCommand tried (first ∷ words ++ opens ∷ options ++ closes ∷ []) command
+  of_echo : (word token : Token) (text : List ℕ) → tried ≡ false → is_word (codes "echo") word ≡ true
+      → string_in token ≡ Some text → IsCommand tried (word ∷ token ∷ []) (Echo text)
+  of_exit : (word token : Token) (status : ℕ) → tried ≡ false → is_word (codes "exit") word ≡ true
+      → status_in token ≡ Some status → IsCommand tried (word ∷ token ∷ []) (Exit status)
+
+-- commands, each with a semicolon behind it
+pub data AreCommands (tried : Bool) : List Token → List Command → Type 0 where
+  no_commands : AreCommands tried [] []
+  more_commands : (front tokens : List Token) (commands : List Command) (command : Command) (end : Token)
+      → AreCommands tried front commands → IsCommand tried tokens command → is_sign Semicolon end ≡ true
+      → AreCommands tried (front ++ tokens ++ end ∷ []) (commands ++ command ∷ [])
+
+-- the word behind ON
+abbrev pub handler_word : Handler → List ℕ
+handler_word Error = codes "error"
+handler_word Success = codes "success"
+
+-- a try block with the blocks behind it, each at most once
+pub data IsTry : List Token → TryBlock → Type 0 where
+  tried_block : (word opens closes : Token) (tokens : List Token) (commands : List Command)
+      → is_word (codes "try") word ≡ true → is_sign OpenBrace opens ≡ true → AreCommands true tokens commands
+      → is_sign CloseBrace closes ≡ true → IsTry (word ∷ opens ∷ tokens ++ closes ∷ []) (try_of commands)
+  handled_block : (front tokens : List Token) (block : TryBlock) (handler : Handler) (on word opens closes : Token) (commands : List Command)
+      → IsTry front block → lacks handler block ≡ true → is_word (codes "on") on ≡ true
+      → is_word (handler_word handler) word ≡ true → is_sign OpenBrace opens ≡ true → AreCommands false tokens commands
+      → is_sign CloseBrace closes ≡ true
+      → IsTry (front ++ on ∷ word ∷ opens ∷ tokens ++ closes ∷ []) (with_handler handler commands block)
+
+-- A script: its head, then NODE lines, then statements.
+pub data IsScript : List Token → Script → Type 0 where
+  script_head : (first second equals value end : Token) (name : List ℕ)
+      → is_word (codes "cluster") first ≡ true → is_word (codes "name") second ≡ true → is_sign Equals equals ≡ true
+      → name_in value ≡ Some name → is_sign Semicolon end ≡ true
+      → IsScript (first ∷ second ∷ equals ∷ value ∷ end ∷ []) (empty_script name)
+  script_node : (front : List Token) (script : Script) (word number admin conninfo equals value end : Token) (id : ℕ) (text : List ℕ)
+      → IsScript front script → script.statements ≡ [] → is_word (codes "node") word ≡ true → id_in number ≡ Some id
+      → AreWords (codes "admin" ∷ codes "conninfo" ∷ []) (admin ∷ conninfo ∷ []) → is_sign Equals equals ≡ true
+      → string_in value ≡ Some text → is_sign Semicolon end ≡ true
+      → IsScript (front ++ word ∷ number ∷ admin ∷ conninfo ∷ equals ∷ value ∷ end ∷ []) (with_node id text script)
+  script_command : (front tokens : List Token) (script : Script) (command : Command) (end : Token)
+      → IsScript front script → IsCommand false tokens command → is_sign Semicolon end ≡ true
+      → IsScript (front ++ tokens ++ end ∷ []) (with_statement (Single command) script)
+  script_try : (front tokens : List Token) (script : Script) (block : TryBlock)
+      → IsScript front script → IsTry tokens block → IsScript (front ++ tokens) (with_statement (Tried block) script)
+  script_closed_try : (front tokens : List Token) (script : Script) (block : TryBlock) (end : Token)
+      → IsScript front script → IsTry tokens block → is_sign Semicolon end ≡ true
+      → IsScript (front ++ tokens ++ end ∷ []) (with_statement (Tried block) script)

@@ -1,0 +1,12 @@
+pub mod Answered
+pub mod Choices
+pub mod Forms
+pub mod Given
+pub mod Grammar
+pub mod Machine
+pub mod Outcomes
+pub mod Places
+pub mod Refusals
+pub mod Said
+pub mod Scripts
+pub mod Values

@@ -1,0 +1,26 @@
+//! The slonik reader: what a script says, and where it goes wrong.
+#![tactic(auto)]
+
+mod choose;
+mod form;
+mod given;
+mod goals;
+mod laws;
+mod machine;
+mod misparse;
+mod parsing;
+mod script;
+mod state;
+mod values;
+
+pub use laws::one_reading;
+pub use parsing::parse;
+pub use script::{
+    Command, CommandList, NodeChoice, NodeLines, Script, Statement, StatementList, TryBlock,
+};
+pub use slonik_tokens::{ParseFault, ScriptRefusal, Sign, Token, tokens};
+
+#[cfg(test)]
+mod parsing_tests;
+#[cfg(test)]
+mod tests;
