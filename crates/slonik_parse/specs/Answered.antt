@@ -26,3 +26,8 @@ fit (Some x) = Ok x
 abbrev pub and_then : {S T : Type 0} → Result S Misparse → (S → Result T Misparse) → Result T Misparse
 and_then (Ok x) more = more x
 and_then (Err e) more = Err e
+
+-- What was changed in place is what reading gives, unless memory runs out.
+abbrev pub Sets : {T : Type 0} → Result T Misparse → T → Result (Unit {0}) Misparse → Type 0
+Sets read new (Ok _) = read ≡ Ok new
+Sets read new (Err e) = FailsSo read e

@@ -140,11 +140,19 @@ option_step block verb given (Mark sign) tokens = if same_sign sign CloseBracket
 option_step block verb given (NameUse name) tokens = Err Misfit
 option_step block verb given (Path path) tokens = Err Misfit
 
+-- an option has its value
+abbrev pub valued : Block → Verb → Result Given Misparse → Result State Misparse
+valued block verb made = and_then made (λ given. Ok (At (goal.AfterOption block verb given)))
+
+-- the command that the options make, and the semicolon behind it
+abbrev pub closed : Block → Result Command Misparse → Result State Misparse
+closed block made = and_then made (λ command. Ok (after_command block command))
+
 -- a comma, or the closing bracket and with it the command
 unfoldable pub after_option : Block → Verb → Given → Token → Result State Misparse
 after_option block verb given token =
     if is_sign Comma token then Ok (At (goal.Option block verb given))
-    else (if is_sign CloseBracket token then and_then (made verb given) (λ command. Ok (after_command block command)) else Err Misfit)
+    else (if is_sign CloseBracket token then closed block (made verb given) else Err Misfit)
 
 -- a semicolon, ON, or the next statement behind a try block
 unfoldable pub after_try : Script → TryBlock → Token → List Token → Result State Misparse
@@ -184,8 +192,7 @@ goal_step (goal.NodeId script) token tokens =
 goal_step (goal.NodeText script id) token tokens = node_text script id token
 goal_step (goal.Command block) token tokens = command_step block token tokens
 goal_step (goal.Option block verb given) token tokens = option_step block verb given token tokens
-goal_step (goal.Value block verb given option) token tokens =
-    and_then (set_option option token given) (λ more. Ok (At (goal.AfterOption block verb more)))
+goal_step (goal.Value block verb given option) token tokens = valued block verb (set_option option token given)
 goal_step (goal.AfterOption block verb given) token tokens = after_option block verb given token
 goal_step (goal.EchoText block) token tokens =
     and_then (fit (string_in token)) (λ text. Ok (after_command block (Echo text)))

@@ -1,28 +1,20 @@
 -- What a token is as a value: a name, a string, a number in its range, a word that answers.
-use Rattle.std.specs.Prelude.{ℕ, ◌+◌, ◌-◌, ◌*◌, ◌%◌, ◌==◌, ◌&&◌, ◌||◌, if◌then◌else◌, not, nat_le, Bool, true, false, List, [], ◌∷◌, length, codes, Option, Some, None}
+use Rattle.std.specs.Prelude.{ℕ, ◌+◌, ◌-◌, ◌*◌, ◌%◌, ◌==◌, ◌&&◌, if◌then◌else◌, not, nat_le, Bool, true, false, List, [], ◌∷◌, length, codes, Option, Some, None}
 use Rattle.std.specs.Option.{option_map}
 use Rattle.std.specs.List.{list_all}
-use Rattle.std.specs.Char.{is_ascii_alphabetic, is_ascii_alphanumeric, is_ascii_digit}
+use Rattle.std.specs.Char.{is_ascii_digit}
 use Rattle.slonik_tokens.specs.declared.token.Token.{Token}
 use Rattle.slonik_tokens.specs.declared.token.Token.TheVariants.{Word, Number, Quoted, Mark, NameUse, Path}
+use Rattle.slonik_tokens.specs.Spelling.{is_identifier}
 use Rattle.slonik_tokens.specs.Tokens.{is_word}
 use Rattle.slonik_parse.specs.declared.script.NodeChoice.{NodeChoice}
 use Rattle.slonik_parse.specs.declared.script.NodeChoice.TheVariants.{All, Node}
-
--- letters, digits and `_`
-abbrev pub are_word_bytes : List ℕ → Bool
-are_word_bytes bytes = list_all (λ c. is_ascii_alphanumeric c || c == 95) bytes
-
--- a letter or `_`, and then letters, digits and `_`
-abbrev pub is_name : List ℕ → Bool
-is_name [] = false
-is_name (c ∷ cs) = (is_ascii_alphabetic c || c == 95) && are_word_bytes cs
 
 -- a word, or a string that is one
 abbrev pub name_in : Token → Option (List ℕ)
 name_in (Word text) = Some text
 name_in (Number text) = None
-name_in (Quoted text) = if is_name text then Some text else None
+name_in (Quoted text) = if is_identifier text then Some text else None
 name_in (Mark sign) = None
 name_in (NameUse name) = None
 name_in (Path path) = None

@@ -1,6 +1,6 @@
 // The options that were given to a command so far, and the command that they make.
 ghost use Rattle.std.specs.Prelude.{◌≡◌};
-ghost use Rattle.slonik_parse.specs.Answered.{Answers};
+ghost use Rattle.slonik_parse.specs.Answered.{Answers, Sets};
 ghost use Rattle.slonik_parse.specs.Given.{nothing_given, needed, set_option, made};
 
 use crate::form::{OptionName, Verb};
@@ -12,7 +12,7 @@ use slonik_tokens::Token;
 use std::alloc::Global;
 
 /// The last value of each option that was given.
-#[derive(Debug, Drop)]
+#[derive(Drop)]
 pub struct Given {
     pub id: Option<u32>,
     pub comment: Option<Text>,
@@ -38,14 +38,12 @@ pub struct Given {
     pub seconds: Option<u32>,
 }
 
-/// The options with another value of one, if it was read.
-macro_rules! with {
-    ($given:expr, $field:ident, $read:expr) => {
-        Ok(Given {
-            $field: Some($read?),
-            ..$given
-        })
-    };
+/// Sets an option to a value, if it was read.
+macro_rules! set {
+    ($field:expr, $read:expr) => {{
+        $field = Some($read?);
+        Ok(())
+    }};
 }
 
 impl Given {
@@ -80,36 +78,37 @@ impl Given {
         }
     }
 
-    /// The options with the value that the token is for one of them. An earlier value of the option is forgotten.
+    /// Sets an option to the value that the token is for it, or leaves the options as they were. An earlier value of the
+    /// option is forgotten.
     #[tactic(auto, unfolding(crate::specs::Given::set_option))]
-    pub fn with(self, alloc: Global, option: OptionName, token: &Token) -> Result<Given, Misparse>
-        ensures { Answers (set_option option token.now self) result }
+    pub fn set(&mut self, alloc: Global, option: OptionName, token: &Token) -> Result<(), Misparse>
+        ensures { Sets (set_option option token.now self.old) self.new result }
     {
         match option {
-            OptionName::Id => with!(self, id, id_value(token)),
-            OptionName::Comment => with!(self, comment, string_value(alloc, token)),
-            OptionName::EventNode => with!(self, event_node, id_value(token)),
-            OptionName::Server => with!(self, server, id_value(token)),
-            OptionName::Client => with!(self, client, id_value(token)),
-            OptionName::Conninfo => with!(self, conninfo, string_value(alloc, token)),
-            OptionName::Connretry => with!(self, connretry, seconds_value(token)),
-            OptionName::Origin => with!(self, origin, id_value(token)),
-            OptionName::SetId => with!(self, set_id, id_value(token)),
+            OptionName::Id => set!(self.id, id_value(token)),
+            OptionName::Comment => set!(self.comment, string_value(alloc, token)),
+            OptionName::EventNode => set!(self.event_node, id_value(token)),
+            OptionName::Server => set!(self.server, id_value(token)),
+            OptionName::Client => set!(self.client, id_value(token)),
+            OptionName::Conninfo => set!(self.conninfo, string_value(alloc, token)),
+            OptionName::Connretry => set!(self.connretry, seconds_value(token)),
+            OptionName::Origin => set!(self.origin, id_value(token)),
+            OptionName::SetId => set!(self.set_id, id_value(token)),
             OptionName::FullyQualifiedName => {
-                with!(self, fully_qualified_name, string_value(alloc, token))
+                set!(self.fully_qualified_name, string_value(alloc, token))
             }
-            OptionName::Key => with!(self, key, string_value(alloc, token)),
-            OptionName::Provider => with!(self, provider, id_value(token)),
-            OptionName::Receiver => with!(self, receiver, id_value(token)),
-            OptionName::Forward => with!(self, forward, answer_value(token)),
-            OptionName::OldOrigin => with!(self, old_origin, id_value(token)),
-            OptionName::NewOrigin => with!(self, new_origin, id_value(token)),
-            OptionName::BackupNode => with!(self, backup_node, id_value(token)),
-            OptionName::AwaitedOrigin => with!(self, awaited_origin, choice_value(token)),
-            OptionName::Confirmed => with!(self, confirmed, choice_value(token)),
-            OptionName::WaitOn => with!(self, wait_on, id_value(token)),
-            OptionName::Timeout => with!(self, timeout, seconds_value(token)),
-            OptionName::Seconds => with!(self, seconds, seconds_value(token)),
+            OptionName::Key => set!(self.key, string_value(alloc, token)),
+            OptionName::Provider => set!(self.provider, id_value(token)),
+            OptionName::Receiver => set!(self.receiver, id_value(token)),
+            OptionName::Forward => set!(self.forward, answer_value(token)),
+            OptionName::OldOrigin => set!(self.old_origin, id_value(token)),
+            OptionName::NewOrigin => set!(self.new_origin, id_value(token)),
+            OptionName::BackupNode => set!(self.backup_node, id_value(token)),
+            OptionName::AwaitedOrigin => set!(self.awaited_origin, choice_value(token)),
+            OptionName::Confirmed => set!(self.confirmed, choice_value(token)),
+            OptionName::WaitOn => set!(self.wait_on, id_value(token)),
+            OptionName::Timeout => set!(self.timeout, seconds_value(token)),
+            OptionName::Seconds => set!(self.seconds, seconds_value(token)),
         }
     }
 }
@@ -125,9 +124,9 @@ fn need<T>(value: Option<T>, option: OptionName) -> Result<T, Misparse>
 }
 
 impl Given {
-    /// The command that the options make, or the first one that is missing.
-    pub fn command(self, verb: Verb) -> Result<Command, Misparse>
-        ensures { Answers (made verb self) result }
+    /// The command that the options make, or the first one that is missing. The options are used up.
+    pub fn command(&mut self, verb: Verb) -> Result<Command, Misparse>
+        ensures { Answers (made verb self.old) result }
     {
         match verb {
             Verb::InitCluster => self.init_cluster(),
@@ -151,8 +150,8 @@ impl Given {
     }
 
     #[tactic(auto, unfolding(crate::specs::Given::made))]
-    fn init_cluster(mut self) -> Result<Command, Misparse>
-        ensures { Answers (made Verb.InitCluster self) result }
+    fn init_cluster(&mut self) -> Result<Command, Misparse>
+        ensures { Answers (made Verb.InitCluster self.old) result }
     {
         Ok(Command::InitCluster {
             id: need(self.id, OptionName::Id)?,
@@ -161,8 +160,8 @@ impl Given {
     }
 
     #[tactic(auto, unfolding(crate::specs::Given::made))]
-    fn store_node(mut self) -> Result<Command, Misparse>
-        ensures { Answers (made Verb.StoreNode self) result }
+    fn store_node(&mut self) -> Result<Command, Misparse>
+        ensures { Answers (made Verb.StoreNode self.old) result }
     {
         Ok(Command::StoreNode {
             id: need(self.id, OptionName::Id)?,
@@ -172,8 +171,8 @@ impl Given {
     }
 
     #[tactic(auto, unfolding(crate::specs::Given::made))]
-    fn drop_node(self) -> Result<Command, Misparse>
-        ensures { Answers (made Verb.DropNode self) result }
+    fn drop_node(&mut self) -> Result<Command, Misparse>
+        ensures { Answers (made Verb.DropNode self.old) result }
     {
         Ok(Command::DropNode {
             id: need(self.id, OptionName::Id)?,
@@ -182,8 +181,8 @@ impl Given {
     }
 
     #[tactic(auto, unfolding(crate::specs::Given::made))]
-    fn store_path(mut self) -> Result<Command, Misparse>
-        ensures { Answers (made Verb.StorePath self) result }
+    fn store_path(&mut self) -> Result<Command, Misparse>
+        ensures { Answers (made Verb.StorePath self.old) result }
     {
         Ok(Command::StorePath {
             server: need(self.server, OptionName::Server)?,
@@ -194,8 +193,8 @@ impl Given {
     }
 
     #[tactic(auto, unfolding(crate::specs::Given::made))]
-    fn drop_path(self) -> Result<Command, Misparse>
-        ensures { Answers (made Verb.DropPath self) result }
+    fn drop_path(&mut self) -> Result<Command, Misparse>
+        ensures { Answers (made Verb.DropPath self.old) result }
     {
         Ok(Command::DropPath {
             server: need(self.server, OptionName::Server)?,
@@ -204,8 +203,8 @@ impl Given {
     }
 
     #[tactic(auto, unfolding(crate::specs::Given::made))]
-    fn create_set(mut self) -> Result<Command, Misparse>
-        ensures { Answers (made Verb.CreateSet self) result }
+    fn create_set(&mut self) -> Result<Command, Misparse>
+        ensures { Answers (made Verb.CreateSet self.old) result }
     {
         Ok(Command::CreateSet {
             id: need(self.id, OptionName::Id)?,
@@ -215,8 +214,8 @@ impl Given {
     }
 
     #[tactic(auto, unfolding(crate::specs::Given::made))]
-    fn drop_set(self) -> Result<Command, Misparse>
-        ensures { Answers (made Verb.DropSet self) result }
+    fn drop_set(&mut self) -> Result<Command, Misparse>
+        ensures { Answers (made Verb.DropSet self.old) result }
     {
         Ok(Command::DropSet {
             id: need(self.id, OptionName::Id)?,
@@ -225,8 +224,8 @@ impl Given {
     }
 
     #[tactic(auto, unfolding(crate::specs::Given::made))]
-    fn set_add_table(mut self) -> Result<Command, Misparse>
-        ensures { Answers (made Verb.SetAddTable self) result }
+    fn set_add_table(&mut self) -> Result<Command, Misparse>
+        ensures { Answers (made Verb.SetAddTable self.old) result }
     {
         Ok(Command::SetAddTable {
             set_id: need(self.set_id, OptionName::SetId)?,
@@ -242,8 +241,8 @@ impl Given {
     }
 
     #[tactic(auto, unfolding(crate::specs::Given::made))]
-    fn subscribe_set(self) -> Result<Command, Misparse>
-        ensures { Answers (made Verb.SubscribeSet self) result }
+    fn subscribe_set(&mut self) -> Result<Command, Misparse>
+        ensures { Answers (made Verb.SubscribeSet self.old) result }
     {
         Ok(Command::SubscribeSet {
             id: need(self.id, OptionName::Id)?,
@@ -254,8 +253,8 @@ impl Given {
     }
 
     #[tactic(auto, unfolding(crate::specs::Given::made))]
-    fn unsubscribe_set(self) -> Result<Command, Misparse>
-        ensures { Answers (made Verb.UnsubscribeSet self) result }
+    fn unsubscribe_set(&mut self) -> Result<Command, Misparse>
+        ensures { Answers (made Verb.UnsubscribeSet self.old) result }
     {
         Ok(Command::UnsubscribeSet {
             id: need(self.id, OptionName::Id)?,
@@ -264,8 +263,8 @@ impl Given {
     }
 
     #[tactic(auto, unfolding(crate::specs::Given::made))]
-    fn lock_set(self) -> Result<Command, Misparse>
-        ensures { Answers (made Verb.LockSet self) result }
+    fn lock_set(&mut self) -> Result<Command, Misparse>
+        ensures { Answers (made Verb.LockSet self.old) result }
     {
         Ok(Command::LockSet {
             id: need(self.id, OptionName::Id)?,
@@ -274,8 +273,8 @@ impl Given {
     }
 
     #[tactic(auto, unfolding(crate::specs::Given::made))]
-    fn unlock_set(self) -> Result<Command, Misparse>
-        ensures { Answers (made Verb.UnlockSet self) result }
+    fn unlock_set(&mut self) -> Result<Command, Misparse>
+        ensures { Answers (made Verb.UnlockSet self.old) result }
     {
         Ok(Command::UnlockSet {
             id: need(self.id, OptionName::Id)?,
@@ -284,8 +283,8 @@ impl Given {
     }
 
     #[tactic(auto, unfolding(crate::specs::Given::made))]
-    fn move_set(self) -> Result<Command, Misparse>
-        ensures { Answers (made Verb.MoveSet self) result }
+    fn move_set(&mut self) -> Result<Command, Misparse>
+        ensures { Answers (made Verb.MoveSet self.old) result }
     {
         Ok(Command::MoveSet {
             id: need(self.id, OptionName::Id)?,
@@ -295,8 +294,8 @@ impl Given {
     }
 
     #[tactic(auto, unfolding(crate::specs::Given::made))]
-    fn failover(self) -> Result<Command, Misparse>
-        ensures { Answers (made Verb.Failover self) result }
+    fn failover(&mut self) -> Result<Command, Misparse>
+        ensures { Answers (made Verb.Failover self.old) result }
     {
         Ok(Command::Failover {
             id: need(self.id, OptionName::Id)?,
@@ -305,8 +304,8 @@ impl Given {
     }
 
     #[tactic(auto, unfolding(crate::specs::Given::made))]
-    fn sync(self) -> Result<Command, Misparse>
-        ensures { Answers (made Verb.Sync self) result }
+    fn sync(&mut self) -> Result<Command, Misparse>
+        ensures { Answers (made Verb.Sync self.old) result }
     {
         Ok(Command::Sync {
             id: need(self.id, OptionName::Id)?,
@@ -314,8 +313,8 @@ impl Given {
     }
 
     #[tactic(auto, unfolding(crate::specs::Given::made))]
-    fn wait_for_event(self) -> Result<Command, Misparse>
-        ensures { Answers (made Verb.WaitForEvent self) result }
+    fn wait_for_event(&mut self) -> Result<Command, Misparse>
+        ensures { Answers (made Verb.WaitForEvent self.old) result }
     {
         Ok(Command::WaitForEvent {
             origin: need(self.awaited_origin, OptionName::AwaitedOrigin)?,
@@ -326,8 +325,8 @@ impl Given {
     }
 
     #[tactic(auto, unfolding(crate::specs::Given::made))]
-    fn sleep(self) -> Result<Command, Misparse>
-        ensures { Answers (made Verb.Sleep self) result }
+    fn sleep(&mut self) -> Result<Command, Misparse>
+        ensures { Answers (made Verb.Sleep self.old) result }
     {
         Ok(Command::Sleep {
             seconds: need(self.seconds, OptionName::Seconds)?,

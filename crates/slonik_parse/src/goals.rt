@@ -1,7 +1,7 @@
 // What a token does where something is read next.
 ghost use Rattle.std.specs.Prelude.{◌≡◌, Ok};
 ghost use Rattle.slonik_parse.specs.Answered.{Answers};
-ghost use Rattle.slonik_parse.specs.Given.{made};
+ghost use Rattle.slonik_parse.specs.Given.{made, set_option};
 ghost use Rattle.slonik_parse.specs.Machine as machine;
 ghost use Rattle.slonik_parse.specs.Scripts as grown;
 
@@ -107,19 +107,22 @@ fn node_text(alloc: Global, mut script: Script, id: u32, token: &Token) -> Resul
 fn begin_verb(block: Block, verb: Option<Verb>) -> Result<State, Misparse>
     ensures { Answers (machine.begin_verb block verb) result }
 {
-    let Some(verb) = verb else {
-        return Err(Misparse::Misfit);
-    };
-    Ok(State::Awaits {
-        phrase: Phrase::Verb(verb),
-        at: 1,
-        sign: Sign::OpenBracket,
-        goal: Goal::Option {
-            block,
-            verb,
-            given: Given::nothing(),
-        },
-    })
+    match verb {
+        None => {
+            drop(block);
+            Err(Misparse::Misfit)
+        }
+        Some(verb) => Ok(State::Awaits {
+            phrase: Phrase::Verb(verb),
+            at: 1,
+            sign: Sign::OpenBracket,
+            goal: Goal::Option {
+                block,
+                verb,
+                given: Given::nothing(),
+            },
+        }),
+    }
 }
 
 /// A command begins, in a block where all may stand.
@@ -134,6 +137,7 @@ fn any_command(
     ensures { Answers (machine.any_command block text.now token.now tokens.now) result }
 {
     if is_left_out(tokens) {
+        drop(block);
         let word = lower_text(alloc, text)?;
         Err(Misparse::NotInProfile { word })
     } else if token.is_word(b"echo") {
@@ -188,12 +192,15 @@ fn begin_tried(
     ensures { Answers (machine.begin_tried script commands text.now token.now tokens.now) result }
 {
     if is_left_out(tokens) {
+        drop((script, commands));
         let word = lower_text(alloc, text)?;
         Err(Misparse::NotInProfile { word })
     } else if is_not_in_try(tokens) {
+        drop((script, commands));
         let word = lower_text(alloc, text)?;
         Err(Misparse::NotInTry { word })
     } else if token.is_word(b"wait") {
+        drop((script, commands));
         Err(Misparse::Misfit)
     } else {
         begin_verb(Block::Try { script, commands }, verb_at(token, tokens))
@@ -297,10 +304,14 @@ fn command_step(
             if *sign == Sign::CloseBrace {
                 close(block)
             } else {
+                drop(block);
                 Err(Misparse::Misfit)
             }
         }
-        _ => Err(Misparse::Misfit),
+        _ => {
+            drop(block);
+            Err(Misparse::Misfit)
+        }
     }
 }
 
@@ -341,12 +352,15 @@ fn begin_option(
                 option,
             },
         }),
-        None => no_option(alloc, verb, text, tokens),
+        None => {
+            drop((block, given));
+            no_option(alloc, verb, text, tokens)
+        }
     }
 }
 
 /// The first option that is missing, else no fit.
-fn missing(verb: Verb, given: Given) -> Result<State, Misparse>
+fn missing(verb: Verb, mut given: Given) -> Result<State, Misparse>
     ensures { Answers (machine.missing (made verb given)) result }
 {
     match given.command(verb) {
@@ -374,12 +388,52 @@ fn option_step(
         }
         Token::Mark(sign) => {
             if *sign == Sign::CloseBracket {
+                drop(block);
                 missing(verb, given)
             } else {
+                drop((block, given));
                 Err(Misparse::Misfit)
             }
         }
-        _ => Err(Misparse::Misfit),
+        _ => {
+            drop((block, given));
+            Err(Misparse::Misfit)
+        }
+    }
+}
+
+/// The value of an option.
+fn option_value(
+    alloc: Global,
+    block: Block,
+    verb: Verb,
+    mut given: Given,
+    option: OptionName,
+    token: &Token,
+) -> Result<State, Misparse>
+    ensures { Answers (machine.valued block verb (set_option option token.now given)) result }
+{
+    match given.set(alloc, option, token) {
+        Ok(()) => Ok(State::At {
+            goal: Goal::AfterOption { block, verb, given },
+        }),
+        Err(misparse) => {
+            drop((block, given));
+            Err(misparse)
+        }
+    }
+}
+
+/// The command that the options make, and the semicolon behind it.
+fn close_options(block: Block, verb: Verb, mut given: Given) -> Result<State, Misparse>
+    ensures { Answers (machine.closed block (made verb given)) result }
+{
+    match given.command(verb) {
+        Ok(command) => after_command(block, command),
+        Err(misparse) => {
+            drop(block);
+            Err(misparse)
+        }
     }
 }
 
@@ -393,8 +447,9 @@ fn after_option(block: Block, verb: Verb, given: Given, token: &Token) -> Result
             goal: Goal::Option { block, verb, given },
         })
     } else if token.is_sign(Sign::CloseBracket) {
-        after_command(block, given.command(verb)?)
+        close_options(block, verb, given)
     } else {
+        drop((block, given));
         Err(Misparse::Misfit)
     }
 }
@@ -495,12 +550,7 @@ pub fn goal_step(
             verb,
             given,
             option,
-        } => {
-            let given = given.with(alloc, option, token)?;
-            Ok(State::At {
-                goal: Goal::AfterOption { block, verb, given },
-            })
-        }
+        } => option_value(alloc, block, verb, given, option, token),
         Goal::AfterOption { block, verb, given } => after_option(block, verb, given, token),
         Goal::EchoText { block } => {
             let text = string_value(alloc, token)?;

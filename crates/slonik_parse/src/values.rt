@@ -1,7 +1,9 @@
 // Tokens as values.
 ghost use Rattle.std.specs.Prelude.{◌≡◌, ◌<◌, ◌^◌, IfOk, map};
-ghost use Rattle.std.specs.Char.{is_ascii_alphanumeric, to_ascii_lowercase};
+ghost use Rattle.std.specs.Char.{to_ascii_lowercase};
+ghost use Rattle.std.specs.List.{list_all};
 ghost use Rattle.slonik_parse.specs.Answered.{Answers, fit};
+ghost use Rattle.slonik_tokens.specs.Spelling.{is_identifier, is_word_byte};
 ghost use Rattle.slonik_parse.specs.Values as value;
 
 use crate::misparse::Misparse;
@@ -18,16 +20,16 @@ const SECONDS_LIMIT: u64 = 1_000_000_000;
 
 /// Whether these are bytes of a word.
 fn are_word_bytes(bytes: &[u8]) -> bool
-    ensures { result ≡ value.are_word_bytes bytes.now }
+    ensures { result ≡ list_all is_word_byte bytes.now }
 {
     bytes
         .iter()
         .all(|byte| byte.is_ascii_alphanumeric() || *byte == b'_')
 }
 
-/// Whether the bytes are a letter or `_`, and then letters, digits and `_`.
-fn is_name(bytes: &[u8]) -> bool
-    ensures { result ≡ value.is_name bytes.now }
+/// Whether the bytes are an identifier: a letter or `_`, and then letters, digits and `_`.
+fn is_identifier(bytes: &[u8]) -> bool
+    ensures { result ≡ is_identifier bytes.now }
 {
     match bytes.split_first() {
         None => false,
@@ -44,7 +46,7 @@ pub fn name_value(alloc: Global, token: &Token) -> Result<Text, Misparse>
     match token {
         Token::Word(text) => Ok(text.copy(alloc)?),
         Token::Quoted(text) => {
-            if is_name(text.as_slice()) {
+            if is_identifier(text.as_slice()) {
                 Ok(text.copy(alloc)?)
             } else {
                 Err(Misparse::Misfit)
