@@ -179,25 +179,33 @@ after_on script tried token = begin_handler script tried (handler_at tried token
 unfoldable pub cluster_name : Token → Result State Misparse
 cluster_name token = and_then (fit (name_in token)) (λ name. Ok (sign_then Semicolon (goal.Command (Outside (empty_script name)))))
 
+-- the id of a NODE line
+abbrev pub node_id : Script → Token → Result State Misparse
+node_id script token = and_then (fit (id_in token)) (λ id. Ok (Awaits phrase.Node 0 Equals (goal.NodeText script id)))
+
 -- the conninfo of a NODE line
 unfoldable pub node_text : Script → ℕ → Token → Result State Misparse
 node_text script id token =
     and_then (fit (string_in token)) (λ conninfo. Ok (sign_then Semicolon (goal.Command (Outside (with_node id conninfo script)))))
 
+-- the string of an ECHO, the number of an EXIT
+abbrev pub echo_text : Block → Token → Result State Misparse
+echo_text block token = and_then (fit (string_in token)) (λ text. Ok (after_command block (Echo text)))
+
+abbrev pub exit_status : Block → Token → Result State Misparse
+exit_status block token = and_then (fit (status_in token)) (λ status. Ok (after_command block (Exit status)))
+
 -- what a token does at a goal; the tokens are those from it on
 unfoldable pub goal_step : Goal → Token → List Token → Result State Misparse
 goal_step goal.ClusterName token tokens = cluster_name token
-goal_step (goal.NodeId script) token tokens =
-    and_then (fit (id_in token)) (λ id. Ok (Awaits phrase.Node 0 Equals (goal.NodeText script id)))
+goal_step (goal.NodeId script) token tokens = node_id script token
 goal_step (goal.NodeText script id) token tokens = node_text script id token
 goal_step (goal.Command block) token tokens = command_step block token tokens
 goal_step (goal.Option block verb given) token tokens = option_step block verb given token tokens
 goal_step (goal.Value block verb given option) token tokens = valued block verb (set_option option token given)
 goal_step (goal.AfterOption block verb given) token tokens = after_option block verb given token
-goal_step (goal.EchoText block) token tokens =
-    and_then (fit (string_in token)) (λ text. Ok (after_command block (Echo text)))
-goal_step (goal.ExitStatus block) token tokens =
-    and_then (fit (status_in token)) (λ status. Ok (after_command block (Exit status)))
+goal_step (goal.EchoText block) token tokens = echo_text block token
+goal_step (goal.ExitStatus block) token tokens = exit_status block token
 goal_step (goal.AfterTry script tried) token tokens = after_try script tried token tokens
 goal_step (goal.AfterOn script tried) token tokens = after_on script tried token
 

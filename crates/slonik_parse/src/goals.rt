@@ -91,6 +91,24 @@ fn cluster_name(alloc: Global, token: &Token) -> Result<State, Misparse>
     Ok(sign_then(Sign::Semicolon, Goal::Command { block }))
 }
 
+/// The id of a NODE line.
+fn node_id(script: Script, token: &Token) -> Result<State, Misparse>
+    ensures { Answers (machine.node_id script token.now) result }
+{
+    match id_value(token) {
+        Ok(id) => Ok(State::Awaits {
+            phrase: Phrase::Node,
+            at: 0,
+            sign: Sign::Equals,
+            goal: Goal::NodeText { script, id },
+        }),
+        Err(misparse) => {
+            drop(script);
+            Err(misparse)
+        }
+    }
+}
+
 /// The conninfo of a NODE line.
 #[tactic(auto, unfolding(crate::specs::Machine::node_text))]
 fn node_text(alloc: Global, mut script: Script, id: u32, token: &Token) -> Result<State, Misparse>
@@ -402,6 +420,32 @@ fn option_step(
     }
 }
 
+/// The string of an ECHO.
+fn echo_text(alloc: Global, block: Block, token: &Token) -> Result<State, Misparse>
+    ensures { Answers (machine.echo_text block token.now) result }
+{
+    match string_value(alloc, token) {
+        Ok(text) => after_command(block, Command::Echo { text }),
+        Err(misparse) => {
+            drop(block);
+            Err(misparse)
+        }
+    }
+}
+
+/// The number of an EXIT.
+fn exit_status(block: Block, token: &Token) -> Result<State, Misparse>
+    ensures { Answers (machine.exit_status block token.now) result }
+{
+    match status_value(token) {
+        Ok(status) => after_command(block, Command::Exit { status }),
+        Err(misparse) => {
+            drop(block);
+            Err(misparse)
+        }
+    }
+}
+
 /// The value of an option.
 fn option_value(
     alloc: Global,
@@ -531,15 +575,7 @@ pub fn goal_step(
 {
     match goal {
         Goal::ClusterName => cluster_name(alloc, token),
-        Goal::NodeId { script } => {
-            let id = id_value(token)?;
-            Ok(State::Awaits {
-                phrase: Phrase::Node,
-                at: 0,
-                sign: Sign::Equals,
-                goal: Goal::NodeText { script, id },
-            })
-        }
+        Goal::NodeId { script } => node_id(script, token),
         Goal::NodeText { script, id } => node_text(alloc, script, id, token),
         Goal::Command { block } => command_step(alloc, block, token, tokens),
         Goal::Option { block, verb, given } => {
@@ -552,14 +588,8 @@ pub fn goal_step(
             option,
         } => option_value(alloc, block, verb, given, option, token),
         Goal::AfterOption { block, verb, given } => after_option(block, verb, given, token),
-        Goal::EchoText { block } => {
-            let text = string_value(alloc, token)?;
-            after_command(block, Command::Echo { text })
-        }
-        Goal::ExitStatus { block } => {
-            let status = status_value(token)?;
-            after_command(block, Command::Exit { status })
-        }
+        Goal::EchoText { block } => echo_text(alloc, block, token),
+        Goal::ExitStatus { block } => exit_status(block, token),
         Goal::AfterTry { script, tried } => after_try(alloc, script, tried, token, tokens),
         Goal::AfterOn { script, tried } => after_on(alloc, script, tried, token),
     }
