@@ -2,6 +2,12 @@
 ghost use Rattle.std.specs.Prelude.{◌≡◌, map};
 ghost use Rattle.slonik_parse.specs.Forms.{verb_words, option_words, option_text, options_of};
 
+use OptionName::{
+    AwaitedOrigin, BackupNode, Client, Comment, Confirmed, Conninfo, Connretry, EventNode, Forward,
+    FullyQualifiedName, Id, Key, NewOrigin, OldOrigin, Origin, Provider, Receiver, Seconds, Server,
+    SetId, Timeout, WaitOn,
+};
+
 /// A command that has options.
 #[derive(Clone, Copy, Debug, PartialEq, Eq)]
 pub enum Verb {
@@ -85,45 +91,21 @@ impl Verb {
         ensures { result.now ≡ options_of self }
     {
         match self {
-            Verb::InitCluster => &[OptionName::Id, OptionName::Comment],
-            Verb::StoreNode => &[OptionName::Id, OptionName::EventNode, OptionName::Comment],
-            Verb::DropNode => &[OptionName::Id, OptionName::EventNode],
-            Verb::StorePath => &[
-                OptionName::Server,
-                OptionName::Client,
-                OptionName::Conninfo,
-                OptionName::Connretry,
-            ],
-            Verb::DropPath => &[OptionName::Server, OptionName::Client],
-            Verb::CreateSet => &[OptionName::Id, OptionName::Origin, OptionName::Comment],
-            Verb::DropSet | Verb::LockSet | Verb::UnlockSet => {
-                &[OptionName::Id, OptionName::Origin]
-            }
-            Verb::SetAddTable => &[
-                OptionName::SetId,
-                OptionName::Origin,
-                OptionName::Id,
-                OptionName::FullyQualifiedName,
-                OptionName::Key,
-                OptionName::Comment,
-            ],
-            Verb::SubscribeSet => &[
-                OptionName::Id,
-                OptionName::Provider,
-                OptionName::Receiver,
-                OptionName::Forward,
-            ],
-            Verb::UnsubscribeSet => &[OptionName::Id, OptionName::Receiver],
-            Verb::MoveSet => &[OptionName::Id, OptionName::OldOrigin, OptionName::NewOrigin],
-            Verb::Failover => &[OptionName::Id, OptionName::BackupNode],
-            Verb::Sync => &[OptionName::Id],
-            Verb::WaitForEvent => &[
-                OptionName::AwaitedOrigin,
-                OptionName::Confirmed,
-                OptionName::WaitOn,
-                OptionName::Timeout,
-            ],
-            Verb::Sleep => &[OptionName::Seconds],
+            Verb::InitCluster => &[Id, Comment],
+            Verb::StoreNode => &[Id, EventNode, Comment],
+            Verb::DropNode => &[Id, EventNode],
+            Verb::StorePath => &[Server, Client, Conninfo, Connretry],
+            Verb::DropPath => &[Server, Client],
+            Verb::CreateSet => &[Id, Origin, Comment],
+            Verb::DropSet | Verb::LockSet | Verb::UnlockSet => &[Id, Origin],
+            Verb::SetAddTable => &[SetId, Origin, Id, FullyQualifiedName, Key, Comment],
+            Verb::SubscribeSet => &[Id, Provider, Receiver, Forward],
+            Verb::UnsubscribeSet => &[Id, Receiver],
+            Verb::MoveSet => &[Id, OldOrigin, NewOrigin],
+            Verb::Failover => &[Id, BackupNode],
+            Verb::Sync => &[Id],
+            Verb::WaitForEvent => &[AwaitedOrigin, Confirmed, WaitOn, Timeout],
+            Verb::Sleep => &[Seconds],
         }
     }
 }

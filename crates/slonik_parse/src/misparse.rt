@@ -4,7 +4,7 @@ use slon_base::Text;
 use std::alloc::{AllocError, AllocFailed};
 
 /// Why a token does not go on with a script.
-#[derive(Debug, Drop)]
+#[derive(Drop)]
 pub enum Misparse {
     /// No script goes on with it.
     Misfit,

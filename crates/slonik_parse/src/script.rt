@@ -19,7 +19,7 @@ pub enum NodeChoice {
 }
 
 /// A command of a script, with its options. Ids are 1 to 2,147,483,647, times are in seconds.
-#[derive(Debug, Drop)]
+#[derive(Drop)]
 pub enum Command {
     /// `INIT CLUSTER`
     InitCluster {
@@ -128,7 +128,7 @@ pub enum Command {
 }
 
 /// Commands in order. Contracts see them as their list.
-#[derive(Debug, Drop)]
+#[derive(Drop)]
 pub struct CommandList {
     inner: Vec<Command>,
 }
@@ -170,7 +170,7 @@ impl CommandList {
 }
 
 /// `TRY { .. } ON ERROR { .. } ON SUCCESS { .. }`
-#[derive(Debug, Drop)]
+#[derive(Drop)]
 pub struct TryBlock {
     /// The commands that are tried.
     pub commands: CommandList,
@@ -181,7 +181,7 @@ pub struct TryBlock {
 }
 
 /// A statement of a script.
-#[derive(Debug, Drop)]
+#[derive(Drop)]
 pub enum Statement {
     /// A command of its own.
     Single(Command),
@@ -190,7 +190,7 @@ pub enum Statement {
 }
 
 /// Statements in order. Contracts see them as their list.
-#[derive(Debug, Drop)]
+#[derive(Drop)]
 pub struct StatementList {
     inner: Vec<Statement>,
 }
