@@ -1,7 +1,7 @@
 // A map with keys of bytes, in the order of the bytes.
 ghost use Rattle.std.specs.Prelude.{◌≡◌, OnOk, OnErr};
 ghost use Rattle.std.specs.Option.{option_copied};
-ghost use Rattle.std.specs.FinMap.{get, insert, contains_key, len, entries, empty};
+ghost use Rattle.std.specs.FinMap.{get, insert, remove, contains_key, len, entries, empty};
 ghost use Rattle.slon_base.specs.ByteMap.{pairs};
 
 use std::alloc::{AllocError, Global};
@@ -69,6 +69,14 @@ impl<V: Drop> ByteMap<V> {
     {
         self.inner.insert(key, value)?;
         Ok(())
+    }
+
+    /// Takes the pair of a key away and answers its value, if it is there.
+    pub fn remove(&mut self, key: &[u8]) -> Option<V>
+        ensures value { result ≡ get self.old key.now }
+        ensures map { self.new ≡ remove self.old key.now }
+    {
+        self.inner.remove(key)
     }
 
     /// The entries in the order of their keys.
