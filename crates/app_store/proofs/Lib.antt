@@ -2,5 +2,12 @@ pub mod Pending
 pub mod Reading
 pub mod Order
 pub mod Scanning
-pub mod Standing
-pub mod Fitting
+pub mod MetaNumbers
+pub mod Holding
+pub mod Places
+pub mod Openings
+pub mod Running
+pub mod Transacting
+pub mod Listing
+pub mod Rising
+pub mod Writing

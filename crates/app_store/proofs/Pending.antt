@@ -1,22 +1,25 @@
 -- A transaction call by call: what is pending so far, and what its end makes of it.
-use Rattle.std.proofs.Common.{◌≡◌, ℕ, ◌≤◌, false, Option, Some, None, Result, Ok, Err, refl, sym, ap, subst, ◌∙◌, inl, inr, arith, is_some}
+use Rattle.std.proofs.Common.{◌≡◌, ℕ, ◌≤◌, suc, Bool, false, Option, Some, None, Result, Ok, Err, refl, sym, ap, subst, ◌∙◌, inl, inr, arith, is_some}
 use Rattle.std.proofs.lemmas.Bool.{false≢true}
 use Rattle.std.specs.Option.{option_map, unwrap_or}
 use Rattle.slon_base.specs.Counts.{Rose, Within}
 use Rattle.slon_base.specs.Keeper.{Kept, Store, Begins, Changes, Reads, HasCause, one_more, sight}
 use Rattle.slon_base.specs.declared.fault.KeepFault.{KeepFault}
 use Rattle.slon_base.specs.declared.fault.KeepFault.TheVariants.{Failed, NoMemory}
+use Rattle.app_store.specs.Stops.{stop_of}
+use Rattle.app_store.specs.Works.{TellsEmpty}
 use Rattle.app_store.specs.declared.stop.Stop.{Stop}
 use Rattle.app_store.specs.declared.stop.Stop.TheVariants.{Failed as StopFailed, NoMemory as StopNoMemory, BadRow as StopBadRow}
 use Rattle.app_store.specs.declared.transact.Made.{Made}
-use Rattle.app_store.specs.declared.transact.Made.TheVariants.{Refused, Done, InDoubt}
-use Rattle.app_store.specs.Steps.{Transacts, Finishes, Puts, EndsAs, Leaves, Makes, IsMade, IsCounted, Looks, Says, is_failed}
+use Rattle.app_store.specs.declared.transact.Made.TheVariants.{Done, InDoubt}
+use Rattle.app_store.specs.Steps.{Transacts, Finishes, Puts, EndsAs, Leaves, Doubts, LeavesOr, Tries, TriesOr, IsCounted, Looks, Says, is_failed}
 
 -- what stands between the calls of a transaction
 pub record Pends (change : Store → Store) (old mid : Kept) : Type 0 where
   pub still : old.can_fail ≡ Some 0 → mid.can_fail ≡ Some 0
   pub later : old.faults ≤ mid.faults
   pub held : mid.held ≡ old.held
+  pub doubts : mid.doubts ≡ old.doubts
   pub pending : mid.pending ≡ Some (option_map change old.held)
 
 pub rose_later : {a b c : ℕ} → a ≤ b → Rose b c → Rose a c
@@ -36,7 +39,7 @@ pub still_sure : {T : Type 0} {old new : Kept} {result : Result T KeepFault} →
 still_sure {T} {old} {new} {result} cause sure = no_more result new.can_fail (subst (λ o. Within o (one_more result new.can_fail)) sure cause.left)
 
 pub begun : {T : Type 0} {old new : Kept} {x : T} → Begins old new (Ok x) → Pends (λ m. m) old new
-begun {T} {old} {new} b = record { still = still_sure b.cause; later = b.cause.later; held = b.held; pending = b.ok ∙ ap (λ o. Some o) (sym (same old.held)) }
+begun {T} {old} {new} b = record { still = still_sure b.cause; later = b.cause.later; held = b.held; doubts = b.doubts; pending = b.ok ∙ ap (λ o. Some o) (sym (same old.held)) }
   where
     same : (o : Option Store) → option_map (λ m. m) o ≡ o
     same None = refl
@@ -51,6 +54,7 @@ changed {T} {change} {more} {old} {mid} {new} p c = record {
   still = λ sure. still_sure c.cause (p.still sure);
   later = omega (arith, p.later, c.cause.later);
   held = c.held ∙ p.held;
+  doubts = c.doubts ∙ p.doubts;
   pending = c.ok ∙ ap (option_map (option_map more)) p.pending ∙ ap (λ o. Some o) (map_twice change more old.held);
 }
 
@@ -59,6 +63,7 @@ put_in {change} {more} {old} {mid} {new} p c = record {
   still = λ sure. c.still (p.still sure);
   later = omega (arith, p.later, c.counted.later);
   held = c.held ∙ p.held;
+  doubts = c.doubts ∙ p.doubts;
   pending = c.put ∙ ap (option_map (option_map more)) p.pending ∙ ap (λ o. Some o) (map_twice change more old.held);
 }
 
@@ -72,43 +77,48 @@ stands {change} p held is m was = some_same held _ (sym is ∙ p.pending) ∙ ap
 counted_later : {T : Type 0} {old mid new : Kept} {result : Result T Stop} → old.faults ≤ mid.faults → IsCounted mid new result → IsCounted old new result
 counted_later later c = record { later = omega (arith, later, c.later); failed = λ failed. rose_later later (c.failed failed) }
 
-leaves_as : {change : Store → Store} {old mid : Kept} (new : Kept) (result : Result Made Stop) → Pends change old mid → EndsAs mid new result → (m : Store) → old.held ≡ Some m → Leaves change m old new result
-leaves_as new (Ok Refused) p e m was = e
+leaves_as : {change : Store → Store} {old mid : Kept} (new : Kept) (result : Result Made Stop) → Pends change old mid → EndsAs mid new result → (m : Store) → old.held ≡ Some m → Leaves change m result new
 leaves_as new (Ok Done) p e m was = stands p new.held e m was
-leaves_as new (Ok InDoubt) p e m was = (rose_later p.later e.0, elim e.1 [ inl before ↦ inl (before ∙ p.held ∙ was) | inr after ↦ inr (stands p new.held after m was) ])
-leaves_as new (Err stop) p e m was = e ∙ p.held ∙ was
+leaves_as new (Ok InDoubt) p e m was = elim e [ inl before ↦ inl (before ∙ p.held ∙ was) | inr after ↦ inr (stands p new.held after m was) ]
+leaves_as new (Err stop) p e m was = (e.0 ∙ p.held ∙ was, e.1)
+
+-- a transaction counts its doubts from where it began
+doubts_since : (old mid new : Kept) (result : Result Made Stop) → old.faults ≤ mid.faults → mid.doubts ≡ old.doubts → Doubts mid new result → Doubts old new result
+doubts_since old mid new (Ok Done) later same d = d ∙ same
+doubts_since old mid new (Ok InDoubt) later same d = (rose_later later d.0, subst (λ n. Rose n new.doubts) same d.1)
+doubts_since old mid new (Err stop) later same d = d ∙ same
 
 pub ended : {change : Store → Store} {old mid new : Kept} (result : Result Made Stop) → Pends change old mid → Finishes mid new result → Transacts change old new result
-ended {new = new} result p f = record {
+ended {old = old} {mid = mid} {new = new} result p f = record {
   still = λ sure. f.still (p.still sure);
   sure = λ sure. f.sure (p.still sure);
   counted = counted_later p.later f.counted;
   closed = f.closed;
+  doubts = doubts_since old mid new result p.later p.doubts f.doubts;
   leaves = leaves_as new result p f.ends;
 }
 
--- what a transaction comes to over a store that can fail no more
-pub made_as : (change : Store → Store) (m : Store) (old new : Kept) (result : Result Made Stop) → IsMade result → Leaves change m old new result → Makes false change m new result
-made_as change m old new (Ok Refused) made leaves = absurd made
-made_as change m old new (Ok Done) made leaves = (refl, leaves)
-made_as change m old new (Ok InDoubt) made leaves = absurd made
-made_as change m old new (Err stop) made leaves = made
+-- a transaction, as it is promised over every store
+pub tries_as : {change : Store → Store} {old new : Kept} {result : Result Made Stop} → Transacts change old new result → Tries old new result
+tries_as t = record { still = t.still; sure = t.sure; counted = t.counted; closed = t.closed; doubts = t.doubts }
 
 -- reads so far, which changed nothing
 pub record Looked (old mid : Kept) : Type 0 where
   pub still : old.can_fail ≡ Some 0 → mid.can_fail ≡ Some 0
   pub later : old.faults ≤ mid.faults
   pub held : mid.held ≡ old.held
+  pub doubts : mid.doubts ≡ old.doubts
   pub pending : mid.pending ≡ old.pending
 
 pub looked_first : {T : Type 0} {P : Store → T → Type 0} {old new : Kept} {x : T} → Reads P old new (Ok x) → Looked old new
-looked_first r = record { still = still_sure r.cause; later = r.cause.later; held = r.held; pending = r.ok }
+looked_first r = record { still = still_sure r.cause; later = r.cause.later; held = r.held; doubts = r.doubts; pending = r.ok }
 
 pub looked_on : {T : Type 0} {P : Store → T → Type 0} {old mid new : Kept} {x : T} → Looked old mid → Reads P mid new (Ok x) → Looked old new
 looked_on l r = record {
   still = λ sure. still_sure r.cause (l.still sure);
   later = omega (arith, l.later, r.cause.later);
   held = r.held ∙ l.held;
+  doubts = r.doubts ∙ l.doubts;
   pending = r.ok ∙ l.pending;
 }
 
@@ -120,6 +130,7 @@ looks result sure l gives = record {
   sure = record { still = l.still; never = λ none. sure };
   counted = record { later = l.later; failed = λ failed. absurd (false≢true (sym sure ∙ failed)) };
   held = l.held;
+  doubts = l.doubts;
   opened = ap is_some l.pending;
   gives = gives;
 }
@@ -137,15 +148,25 @@ sight-idle k idle = seen k.pending idle
     seen None is = refl
     seen (Some o) is = absurd (false≢true (sym is))
 
--- a transaction alone
-pub makes : {change : Store → Store} {old new : Kept} (result : Result Made Stop) → Transacts change old new result → (m : Store) → old.held ≡ Some m → old.can_fail ≡ Some 0 →
-    (new.can_fail ≡ Some 0) × Makes false change m new result
-makes {change} {old} {new} result t m held sure = (t.still sure, made_as change m old new result (t.sure sure) (t.leaves m held))
+-- a transaction that is not refused, after a look
+pub then_tries : {T : Type 0} {says : Store → Result T Stop → Type 0} {x : T} {old mid new : Kept} {made : Made} → Looks says old mid (Ok x) → Tries mid new (Ok made) → TriesOr old new (Ok (Some made))
+then_tries {old = old} {mid = mid} {new = new} {made = made} l t = record {
+  still = λ sure. t.still (l.sure.still sure);
+  sure = λ sure. t.sure (l.sure.still sure);
+  counted = record { later = omega (arith, l.counted.later, t.counted.later); failed = λ failed. absurd (false≢true failed) };
+  closed = t.closed;
+  doubts = doubts_since old mid new (Ok made) l.counted.later l.doubts t.doubts;
+}
 
--- a transaction after a look
-pub then_makes : {T : Type 0} {says : Store → Result T Stop → Type 0} {x : T} {change : Store → Store} {old mid new : Kept} (result : Result Made Stop) → Looks says old mid (Ok x) → Transacts change mid new result →
-    (m : Store) → old.held ≡ Some m → old.can_fail ≡ Some 0 → (new.can_fail ≡ Some 0) × Makes false change m new result
-then_makes result l t m held sure = makes result t m (l.held ∙ held) (l.sure.still sure)
+-- a transaction that stopped, after a look
+pub then_stops : {T : Type 0} {says : Store → Result T Stop → Type 0} {x : T} {old mid new : Kept} {stop : Stop} → Looks says old mid (Ok x) → Tries mid new (Err stop) → TriesOr old new (Err stop)
+then_stops {old = old} {mid = mid} {new = new} {stop = stop} l t = record {
+  still = λ sure. t.still (l.sure.still sure);
+  sure = λ sure. t.sure (l.sure.still sure);
+  counted = record { later = omega (arith, l.counted.later, t.counted.later); failed = λ failed. rose_later l.counted.later (t.counted.failed failed) };
+  closed = tt;
+  doubts = t.doubts ∙ l.doubts;
+}
 
 -- one look after another
 pub looks_twice : {T U : Type 0} {says : Store → Result T Stop → Type 0} {more all : Store → Result U Stop → Type 0} {x : T} {old mid new : Kept} (result : Result U Stop) → is_some old.pending ≡ false →
@@ -154,6 +175,7 @@ looks_twice {old = old} {mid = mid} result idle a b gives = record {
   sure = record { still = λ sure. b.sure.still (a.sure.still sure); never = λ sure. b.sure.never (a.sure.still sure) };
   counted = counted_later a.counted.later b.counted;
   held = b.held ∙ a.held;
+  doubts = b.doubts ∙ a.doubts;
   opened = b.opened ∙ a.opened;
   gives = λ m seen. gives m seen (b.gives m (sight-idle mid (a.opened ∙ idle) ∙ a.held ∙ sym (sight-idle old idle) ∙ seen));
 }
@@ -169,7 +191,8 @@ put_stops p put = record {
   sure = λ sure. put.sure (p.still sure);
   counted = record { later = omega (arith, p.later, put.counted.later); failed = λ failed. rose_later p.later (put.counted.failed failed) };
   closed = tt;
-  leaves = λ m was. put.held ∙ p.held ∙ was;
+  doubts = put.doubts ∙ p.doubts;
+  leaves = λ m was. (put.held ∙ p.held ∙ was, put.only);
 }
 
 -- what is made of what a look found
@@ -179,6 +202,7 @@ look_ends result never l gives = record {
   sure = record { still = l.sure.still; never = λ sure. never };
   counted = record { later = l.counted.later; failed = λ failed. absurd (false≢true (sym never ∙ failed)) };
   held = l.held;
+  doubts = l.doubts;
   opened = l.opened;
   gives = λ m seen. gives m seen (l.gives m seen);
 }
@@ -195,6 +219,49 @@ looks_stopped stop l gives = record {
   sure = record { still = l.sure.still; never = l.sure.never };
   counted = record { later = l.counted.later; failed = l.counted.failed };
   held = l.held;
+  doubts = l.doubts;
   opened = l.opened;
   gives = λ m seen. gives m seen (l.gives m seen);
 }
+
+-- a read that stopped, after others
+pub looked_stops : {T U : Type 0} {P : Store → U → Type 0} {says : Store → Result T Stop → Type 0} {old mid new : Kept} (fault : KeepFault) → Looked old mid → Reads P mid new (Err fault) → ((m : Store) → sight old ≡ Some m → says m (Err (stop_of fault))) → Looks says old new (Err (stop_of fault))
+looked_stops {new = new} Failed l r gives = record {
+  sure = record { still = λ sure. still_sure r.cause (l.still sure); never = λ sure. absurd (none_left new.can_fail (subst (λ o. Within o (option_map suc new.can_fail)) (l.still sure) r.cause.left)) };
+  counted = record { later = omega (arith, l.later, r.cause.later); failed = λ failed. rose_later l.later (r.cause.failed refl) };
+  held = r.held ∙ l.held;
+  doubts = r.doubts ∙ l.doubts;
+  opened = r.opened ∙ ap is_some l.pending;
+  gives = gives;
+}
+  where
+    none_left : (o : Option ℕ) → Within (Some 0) (option_map suc o) → ⊥
+    none_left None w = w
+    none_left (Some n) w = omega arith
+looked_stops NoMemory l r gives = record {
+  sure = record { still = λ sure. still_sure r.cause (l.still sure); never = λ sure. refl };
+  counted = record { later = omega (arith, l.later, r.cause.later); failed = λ failed. absurd (false≢true failed) };
+  held = r.held ∙ l.held;
+  doubts = r.doubts ∙ l.doubts;
+  opened = r.opened ∙ ap is_some l.pending;
+  gives = gives;
+}
+
+pub stops_say : {T : Type 0} (right : T) (fault : KeepFault) → Says right (Err (stop_of fault))
+stops_say right Failed = tt
+stops_say right NoMemory = tt
+
+pub stops_tell : (m : Store) (fault : KeepFault) → TellsEmpty m (Err (stop_of fault))
+stops_tell m Failed = tt
+stops_tell m NoMemory = tt
+
+-- what a transaction leaves, after a look that does not refuse it
+pub leaves_after : {T : Type 0} {says : Store → Result T Stop → Type 0} {x : T} {change : Store → Store} {old mid new : Kept} {made : Made} (refused : Bool) → refused ≡ false → Looks says old mid (Ok x) → Transacts change mid new (Ok made) → (m : Store) → old.held ≡ Some m → LeavesOr refused change m (Ok (Some made)) new
+leaves_after refused is l t m held = (is, t.leaves m (l.held ∙ held))
+
+pub stops_after : {T : Type 0} {says : Store → Result T Stop → Type 0} {x : T} {change : Store → Store} {old mid new : Kept} {stop : Stop} (refused : Bool) → Looks says old mid (Ok x) → Transacts change mid new (Err stop) → (m : Store) → old.held ≡ Some m → LeavesOr refused change m (Err stop) new
+stops_after refused l t m held = t.leaves m (l.held ∙ held)
+
+-- the reading of what is held, with no transaction
+pub held_gives : {T : Type 0} {says : Store → Result T Stop → Type 0} {result : Result T Stop} {old new : Kept} → is_some old.pending ≡ false → Looks says old new result → (m : Store) → old.held ≡ Some m → says m result
+held_gives {old = old} idle l m held = l.gives m (sight-idle old idle ∙ held)

@@ -1,7 +1,9 @@
 -- Reading the parts of a row that was spelled.
-use Rattle.std.proofs.Common.{◌≡◌, ℕ, zero, suc, ◌+◌, ◌^◌, get_or, drop, ◌<◌, ◌≤◌, List, [], ◌∷◌, ◌++◌, length, Result, Err, sym, subst, ◌∙◌, append_assoc, arith}
+use Rattle.std.specs.Prelude.{◌==◌}
+use Rattle.slon_model.specs.Rows.{column_value, with_columns, updated}
+use Rattle.std.proofs.Common.{true, false, cond, map, ◌≡◌, ℕ, zero, suc, ◌+◌, ◌^◌, get_or, drop, ◌<◌, ◌≤◌, List, [], ◌∷◌, ◌++◌, length, Result, Err, refl, ap, sym, subst, ◌∙◌, append_assoc, arith}
 use Rattle.std.proofs.lemmas.List.{append-nil}
-use Rattle.slon_base.specs.Codec.{text_bytes, all_bytes, IsText, AllTexts}
+use Rattle.slon_base.specs.Codec.{text_bytes, all_bytes, IsText, AllTexts, AreTexts}
 use Rattle.slon_base.specs.declared.fault.RowFault.{RowFault}
 use Rattle.slon_base.specs.declared.fault.RowFault.TheVariants.{NoMemory}
 use Rattle.app_store.specs.Scan.{ReadsAs, ReadsAll}
@@ -34,3 +36,29 @@ pub AllTexts-drop : (n : ℕ) (texts : List (List ℕ)) → AllTexts texts → A
 AllTexts-drop zero texts all = all
 AllTexts-drop (suc n) [] all = tt
 AllTexts-drop (suc n) (t ∷ ts) all = AllTexts-drop n ts all.1
+
+-- a text behind others
+pub AllTexts-snoc : (texts : List (List ℕ)) (t : List ℕ) → AllTexts texts → IsText t → AllTexts (texts ++ t ∷ [])
+AllTexts-snoc [] t all text = (text, tt)
+AllTexts-snoc (u ∷ us) t all text = (all.0, AllTexts-snoc us t all.1 text)
+
+pub length-snoc : (texts : List (List ℕ)) (t : List ℕ) → length (texts ++ t ∷ []) ≡ length texts + 1
+length-snoc [] t = refl
+length-snoc (u ∷ us) t = omega (arith, length-snoc us t)
+
+-- ---- new values for columns
+
+pub length-with_columns : (columns : List (ℕ × List ℕ)) (n : ℕ) (row : List (List ℕ)) → length (with_columns columns n row) ≡ length row
+length-with_columns columns n [] = refl
+length-with_columns columns n (v ∷ vs) = ap suc (length-with_columns columns (n + 1) vs)
+
+column_text : (columns : List (ℕ × List ℕ)) (n : ℕ) (old : List ℕ) → AllTexts (map (λ c. c.1) columns) → IsText old → IsText (column_value columns n old)
+column_text [] n old all text = text
+column_text (c ∷ cs) n old all text = elim (c.0 == n) as (λ b. IsText (cond b c.1 (column_value cs n old))) [ true ↦ all.0 | false ↦ column_text cs n old all.1 text ]
+
+pub AllTexts-with_columns : (columns : List (ℕ × List ℕ)) (n : ℕ) (row : List (List ℕ)) → AllTexts (map (λ c. c.1) columns) → AllTexts row → AllTexts (with_columns columns n row)
+AllTexts-with_columns columns n [] all texts = tt
+AllTexts-with_columns columns n (v ∷ vs) all texts = (column_text columns n v all texts.0, AllTexts-with_columns columns (n + 1) vs all texts.1)
+
+pub AreTexts-updated : (columns : List (ℕ × List ℕ)) (row : List (List ℕ)) → AllTexts (map (λ c. c.1) columns) → AreTexts row → AreTexts (updated columns row)
+AreTexts-updated columns row all texts = record { few = omega (arith, length-with_columns columns 2 row, texts.few); each = AllTexts-with_columns columns 2 row all texts.each }

@@ -1,25 +1,55 @@
 -- What the code keeps of a database, read off it.
-use Rattle.std.specs.Prelude.{ℕ, List, Bool, false, Option, Some, None}
-use Rattle.std.specs.Str.{bytes_eq}
-use Rattle.slon_base.specs.Keeper.{Kept}
+use Rattle.std.specs.Prelude.{◌≡◌, ℕ, List, Bool, Option, None}
+use Rattle.std.specs.FinMap.{FinMap, empty}
+use Rattle.slon_base.specs.Keeper.{Kept, key_cmp}
 use Rattle.slon_base.specs.declared.keeper.Keeper.{Ghosts}
-use Rattle.app_store.specs.Fits.{Base, Opened}
+use Rattle.node_keeper.specs.Fused.{fuse_kept}
+use Rattle.txn_core.specs.Locks.{Locks, holder_of}
 use Rattle.app_store.specs.declared.database.Database.{Database}
-use Rattle.app_store.specs.declared.database.Transaction.{Transaction}
+use Rattle.app_store.specs.declared.opens.Transaction.{Transaction}
 
-abbrev pub opened_of : Option Transaction → Option Opened
-opened_of None = None
-opened_of (Some t) = Some (record { name = t.name; xid = t.xid; writes = t.writes })
+-- the open transactions by their names
+abbrev pub Opens : Type 0
+Opens = FinMap key_cmp Transaction
+
+-- What the code keeps of a database.
+pub record Base : Type 0 where
+  pub kept : Kept
+  pub up : Bool
+  -- the stamp of the commit that is in doubt
+  pub doubt : Option ℕ
+  pub stamp : ℕ
+  pub next_xid : ℕ
+  pub xid_ceiling : ℕ
+  pub next_number : ℕ
+  pub number_ceiling : ℕ
+  pub opens : Opens
+  pub locks : Locks
 
 abbrev pub base_of : {K : Type 0} {g : Ghosts K} → (K → Kept) → Database K g → Base
 base_of kept d =
-    record { kept = kept d.keeper.keeper; up = d.up; stamp = d.stamp; next_xid = d.next_xid; next_number = d.next_number; opened = opened_of d.opened }
+    record {
+      kept = fuse_kept kept d.keeper;
+      up = d.up;
+      doubt = d.doubt;
+      stamp = d.stamp;
+      next_xid = d.xids.next;
+      xid_ceiling = d.xids.ceiling;
+      next_number = d.numbers.next;
+      number_ceiling = d.numbers.ceiling;
+      opens = d.opens;
+      locks = d.locks;
+    }
 
--- the open transaction has this name
-abbrev pub is_open_named : List ℕ → Option Opened → Bool
-is_open_named name None = false
-is_open_named name (Some o) = bytes_eq name o.name
-
--- a database that was just made
-abbrev pub fresh_base : Kept → Bool → Base
-fresh_base kept up = record { kept = kept; up = up; stamp = 1; next_xid = 1; next_number = 1; opened = None }
+-- a database that was just made, with its first numbers
+pub record IsFresh (kept : Kept) (up : Bool) (doubt : Option ℕ) (b : Base) : Type 0 where
+  pub kept_is : b.kept ≡ kept
+  pub up_is : b.up ≡ up
+  pub doubt_is : b.doubt ≡ doubt
+  pub stamp : b.stamp ≡ 1
+  pub next_xid : b.next_xid ≡ 1
+  pub xid_ceiling : b.xid_ceiling ≡ 65
+  pub next_number : b.next_number ≡ 1
+  pub number_ceiling : b.number_ceiling ≡ 65
+  pub opens : b.opens ≡ empty
+  pub locks : (table key : List ℕ) → holder_of table key b.locks ≡ None

@@ -1,8 +1,11 @@
-pub mod Base
-pub mod Downs
-pub mod Fits
 pub mod Scan
 pub mod Spelled
 pub mod Steps
 pub mod Stops
 pub mod Works
+pub mod Written
+pub mod Base
+pub mod Fits
+pub mod Goes
+pub mod Parts
+pub mod Targets

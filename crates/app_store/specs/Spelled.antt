@@ -1,10 +1,11 @@
 -- How a database stands in its store, space by space.
-use Rattle.std.specs.Prelude.{◌≡◌, ℕ, ◌==◌, ◌||◌, not, ◌<◌, ◌^◌, Bool, true, List, [], ◌∷◌, ◌++◌, length, slice_index_or, Option, Some, None}
-use Rattle.std.specs.FinMap.{insert, empty, entries}
-use Rattle.slon_base.specs.Keeper.{Space, Store, put_at}
-use Rattle.slon_base.specs.Codec.{number_bytes, text_bytes, list_bytes}
-use Rattle.slon_model.specs.Rows.{Action, Change, Put, play, member}
-use Rattle.slon_model.specs.World.{Place}
+use Rattle.std.specs.Prelude.{◌≡◌, ℕ, ◌==◌, ◌||◌, if◌then◌else◌, not, ◌<◌, ◌^◌, Bool, true, List, [], ◌∷◌, ◌++◌, length, slice_index_or, Option, Some, None}
+use Rattle.std.specs.Option.{option_map}
+use Rattle.std.specs.FinMap.{FinMap, get, insert, empty, entries}
+use Rattle.slon_base.specs.Keeper.{Space, Store, put_at, del_at, key_cmp}
+use Rattle.slon_base.specs.Codec.{number_bytes, text_bytes, list_bytes, IsText}
+use Rattle.slon_model.specs.Rows.{Rows}
+use Rattle.slon_model.specs.Place.{Place, standing_rows}
 
 -- a text whose length can be spelled
 abbrev pub IsShort : List ℕ → Type 0
@@ -41,14 +42,13 @@ action_ceiling_key = 3 ∷ []
 abbrev pub log_status_key : List ℕ
 log_status_key = 6 ∷ []
 
--- numbers below the ceilings may be drawn
-abbrev pub first_ceiling : ℕ
-first_ceiling = 65
+-- the meta numbers of a database with this stamp and these ceilings; without a stamp there are none
+abbrev pub numbers_space : ℕ → ℕ → ℕ → Space
+numbers_space stamp xids numbers =
+    insert (insert (insert (insert empty log_status_key (0 ∷ [])) action_ceiling_key (number_bytes numbers)) xid_ceiling_key (number_bytes xids)) stamp_key (number_bytes stamp)
 
--- the meta numbers of a database with this stamp
-abbrev pub meta_space : ℕ → Space
-meta_space stamp =
-    insert (insert (insert (insert empty log_status_key (0 ∷ [])) action_ceiling_key (number_bytes first_ceiling)) xid_ceiling_key (number_bytes first_ceiling)) stamp_key (number_bytes stamp)
+abbrev pub meta_space : ℕ → ℕ → ℕ → Space
+meta_space stamp xids numbers = if stamp == 0 then empty else numbers_space stamp xids numbers
 
 -- each table under its name, with its number of columns
 abbrev pub table_space : List (List ℕ × ℕ) → Space
@@ -59,13 +59,14 @@ table_space (t ∷ ts) = insert (table_space ts) (text_bytes t.0) (number_bytes 
 abbrev pub row_key : List ℕ → List ℕ → List ℕ
 row_key table key = text_bytes table ++ text_bytes key
 
--- what a write does to the space of the rows
-abbrev pub put_change : List ℕ → Change → Space → Space
-put_change table (Put key row) space = insert space (row_key table key) (list_bytes row)
+-- a key of a row of some table
+abbrev pub IsRowKey : List ℕ → Type 0
+IsRowKey q = (table : List ℕ) × (key : List ℕ) × (q ≡ row_key table key) × IsText table × IsText key
 
--- the rows of the actions that pass a test
-abbrev pub row_space : (Action → Bool) → List Action → Space
-row_space test actions = play (λ a space. put_change a.table a.change space) test actions empty
+-- the space of the rows holds exactly these rows of each table
+pub record AreRows (standing : List ℕ → Rows) (space : Space) : Type 0 where
+  pub lookups : (table key : List ℕ) → IsText table → get space (row_key table key) ≡ option_map list_bytes (get (standing table) key)
+  pub keys : (q value : List ℕ) → get space q ≡ Some value → IsRowKey q
 
 -- the spaces not in use
 abbrev pub is_unused : ℕ → Bool
@@ -73,15 +74,28 @@ is_unused space = not (space == meta || space == tables || space == rows)
 
 -- What a store holds of a database, and it holds nothing else.
 pub record Holds (p : Place) (m : Store) : Type 0 where
-  pub meta_numbers : m meta ≡ meta_space p.stamp
+  pub meta_numbers : m meta ≡ meta_space p.stamp p.xid_ceiling p.number_ceiling
   pub table_rows : m tables ≡ table_space p.tables
-  pub rows_held : m rows ≡ row_space (λ a. member a.xid p.commits) p.actions
+  pub rows_held : AreRows (standing_rows p) (m rows)
   pub others : (space : ℕ) → is_unused space ≡ true → m space ≡ empty
 
--- the rows of a map put into the space of the rows
-abbrev pub put_all : List (List ℕ × List ℕ) → Store → Store
-put_all [] m = m
-put_all (e ∷ es) m = put_all es (put_at rows e.0 e.1 m)
+-- the rows that a transaction puts, and those that it takes away
+abbrev pub Writes : Type 0
+Writes = FinMap key_cmp (Option (List ℕ))
+
+-- what was written at a key, or else what is there
+abbrev pub over : {A : Type 0} → Option (Option A) → Option A → Option A
+over None there = there
+over (Some written) there = written
+
+-- one row written into the space of the rows
+abbrev pub write_at : List ℕ → Option (List ℕ) → Store → Store
+write_at key None m = del_at rows key m
+write_at key (Some value) m = put_at rows key value m
+
+abbrev pub write_all : List (List ℕ × Option (List ℕ)) → Store → Store
+write_all [] m = m
+write_all (e ∷ es) m = write_all es (write_at e.0 e.1 m)
 
 -- the first rows of a database, with its stamp and its ceilings
 abbrev pub first_rows : List ℕ → List ℕ → Store → Store
@@ -92,6 +106,10 @@ first_rows stamp ceiling m =
 abbrev pub new_table : List ℕ → List ℕ → List ℕ → Store → Store
 new_table table columns stamp m = put_at meta stamp_key stamp (put_at tables table columns m)
 
+-- a ceiling that rises, with the stamp of its transaction
+abbrev pub new_ceiling : List ℕ → List ℕ → List ℕ → Store → Store
+new_ceiling key ceiling stamp m = put_at meta stamp_key stamp (put_at meta key ceiling m)
+
 -- the writes of a transaction, with its stamp
-abbrev pub new_rows : Space → List ℕ → Store → Store
-new_rows writes stamp m = put_at meta stamp_key stamp (put_all (entries writes) m)
+abbrev pub new_rows : Writes → List ℕ → Store → Store
+new_rows writes stamp m = put_at meta stamp_key stamp (write_all (entries writes) m)

@@ -1,12 +1,12 @@
 -- What the reads and the transactions of a step do to the store, and why they stop.
-use Rattle.std.specs.Prelude.{◌≡◌, ◌⊎◌, ◌≤◌, Bool, true, false, Some, Result, Ok, Err, OnOk, is_some}
+use Rattle.std.specs.Prelude.{◌≡◌, ◌⊎◌, ◌≤◌, Bool, true, false, Option, Some, None, Result, Ok, Err, OnOk, is_some}
 use Rattle.std.specs.Option.{option_map}
 use Rattle.slon_base.specs.Keeper.{Kept, Store, sight}
 use Rattle.slon_base.specs.Counts.{Rose}
 use Rattle.app_store.specs.declared.stop.Stop.{Stop}
 use Rattle.app_store.specs.declared.stop.Stop.TheVariants.{Failed, NoMemory, BadRow}
 use Rattle.app_store.specs.declared.transact.Made.{Made}
-use Rattle.app_store.specs.declared.transact.Made.TheVariants.{Refused, Done, InDoubt}
+use Rattle.app_store.specs.declared.transact.Made.TheVariants.{Done, InDoubt}
 
 -- the store failed
 abbrev pub is_stop_failed : Stop → Bool
@@ -33,6 +33,7 @@ pub record Looks {T : Type 0} (says : Store → Result T Stop → Type 0) (old n
   pub sure : IsSure old new result
   pub counted : IsCounted old new result
   pub held : new.held ≡ old.held
+  pub doubts : new.doubts ≡ old.doubts
   pub opened : is_some new.pending ≡ is_some old.pending
   pub gives : (m : Store) → sight old ≡ Some m → says m result
 
@@ -43,53 +44,49 @@ Says right (Err Failed) = Unit {0}
 Says right (Err NoMemory) = Unit {0}
 Says right (Err (BadRow space)) = ⊥
 
--- it stopped for want of memory
-abbrev pub OnlyMemory : Stop → Type 0
-OnlyMemory Failed = ⊥
-OnlyMemory NoMemory = Unit {0}
-OnlyMemory (BadRow space) = ⊥
-
 -- no transaction is left pending, but where its commit is in doubt
 abbrev pub Closes : Kept → Result Made Stop → Type 0
-Closes new (Ok Refused) = is_some new.pending ≡ false
 Closes new (Ok Done) = is_some new.pending ≡ false
 Closes new (Ok InDoubt) = Unit {0}
 Closes new (Err stop) = Unit {0}
 
--- refused where the test holds, and else the store is changed
-abbrev pub Makes : Bool → (Store → Store) → Store → Kept → Result Made Stop → Type 0
-Makes refused change m new (Ok Refused) = (refused ≡ true) × (new.held ≡ Some m)
-Makes refused change m new (Ok Done) = (refused ≡ false) × (new.held ≡ Some (change m))
-Makes refused change m new (Ok InDoubt) = ⊥
-Makes refused change m new (Err stop) = OnlyMemory stop
-
 -- over a store that can fail no more a transaction is done, or there is no memory
 abbrev pub IsMade : Result Made Stop → Type 0
-IsMade (Ok Refused) = ⊥
 IsMade (Ok Done) = Unit {0}
 IsMade (Ok InDoubt) = ⊥
-IsMade (Err stop) = OnlyMemory stop
+IsMade (Err stop) = is_stop_failed stop ≡ false
+
+-- the count of doubts rises exactly where a commit is in doubt
+abbrev pub Doubts : Kept → Kept → Result Made Stop → Type 0
+Doubts old new (Ok Done) = new.doubts ≡ old.doubts
+Doubts old new (Ok InDoubt) = Rose old.faults new.faults × Rose old.doubts new.doubts
+Doubts old new (Err stop) = new.doubts ≡ old.doubts
+
+-- no row was out of its form
+abbrev pub IsStopOfStore : Stop → Type 0
+IsStopOfStore Failed = Unit {0}
+IsStopOfStore NoMemory = Unit {0}
+IsStopOfStore (BadRow space) = ⊥
 
 -- what the end of a transaction leaves
 abbrev pub EndsAs : Kept → Kept → Result Made Stop → Type 0
-EndsAs old new (Ok Refused) = ⊥
 EndsAs old new (Ok Done) = old.pending ≡ Some new.held
-EndsAs old new (Ok InDoubt) = Rose old.faults new.faults × ((new.held ≡ old.held) ⊎ (old.pending ≡ Some new.held))
-EndsAs old new (Err stop) = new.held ≡ old.held
+EndsAs old new (Ok InDoubt) = (new.held ≡ old.held) ⊎ (old.pending ≡ Some new.held)
+EndsAs old new (Err stop) = (new.held ≡ old.held) × IsStopOfStore stop
 
 pub record Finishes (old new : Kept) (result : Result Made Stop) : Type 0 where
   pub still : old.can_fail ≡ Some 0 → new.can_fail ≡ Some 0
   pub sure : old.can_fail ≡ Some 0 → IsMade result
   pub counted : IsCounted old new result
   pub closed : Closes new result
+  pub doubts : Doubts old new result
   pub ends : EndsAs old new result
 
 -- what a transaction leaves of what was held: with its change, and where its commit failed with the change or without
-abbrev pub Leaves : (Store → Store) → Store → Kept → Kept → Result Made Stop → Type 0
-Leaves change m old new (Ok Refused) = ⊥
-Leaves change m old new (Ok Done) = new.held ≡ Some (change m)
-Leaves change m old new (Ok InDoubt) = Rose old.faults new.faults × ((new.held ≡ Some m) ⊎ (new.held ≡ Some (change m)))
-Leaves change m old new (Err stop) = new.held ≡ Some m
+abbrev pub Leaves : (Store → Store) → Store → Result Made Stop → Kept → Type 0
+Leaves change m (Ok Done) new = new.held ≡ Some (change m)
+Leaves change m (Ok InDoubt) new = (new.held ≡ Some m) ⊎ (new.held ≡ Some (change m))
+Leaves change m (Err stop) new = (new.held ≡ Some m) × IsStopOfStore stop
 
 -- a transaction
 pub record Transacts (change : Store → Store) (old new : Kept) (result : Result Made Stop) : Type 0 where
@@ -97,12 +94,18 @@ pub record Transacts (change : Store → Store) (old new : Kept) (result : Resul
   pub sure : old.can_fail ≡ Some 0 → IsMade result
   pub counted : IsCounted old new result
   pub closed : Closes new result
-  pub leaves : (m : Store) → old.held ≡ Some m → Leaves change m old new result
+  pub doubts : Doubts old new result
+  pub leaves : (m : Store) → old.held ≡ Some m → Leaves change m result new
 
 -- it was done, or there was no memory
 abbrev pub IsPut : Result (Unit {0}) Stop → Type 0
 IsPut (Ok u) = Unit {0}
-IsPut (Err stop) = OnlyMemory stop
+IsPut (Err stop) = is_stop_failed stop ≡ false
+
+-- where it stopped, no row was out of its form
+abbrev pub OnlyStore : {T : Type 0} → Result T Stop → Type 0
+OnlyStore (Ok x) = Unit {0}
+OnlyStore (Err stop) = IsStopOfStore stop
 
 -- a part of a transaction that is pending
 pub record Puts (change : Store → Store) (old new : Kept) (result : Result (Unit {0}) Stop) : Type 0 where
@@ -110,5 +113,43 @@ pub record Puts (change : Store → Store) (old new : Kept) (result : Result (Un
   pub sure : old.can_fail ≡ Some 0 → IsPut result
   pub counted : IsCounted old new result
   pub held : new.held ≡ old.held
+  pub doubts : new.doubts ≡ old.doubts
   pub opened : is_some new.pending ≡ true
+  pub only : OnlyStore result
   pub put : OnOk result (new.pending ≡ option_map (option_map change) old.pending)
+
+-- what is promised of a transaction over every store
+pub record Tries (old new : Kept) (result : Result Made Stop) : Type 0 where
+  pub still : old.can_fail ≡ Some 0 → new.can_fail ≡ Some 0
+  pub sure : old.can_fail ≡ Some 0 → IsMade result
+  pub counted : IsCounted old new result
+  pub closed : Closes new result
+  pub doubts : Doubts old new result
+
+-- a transaction that may be refused before it begins
+abbrev pub ClosesOr : Kept → Result (Option Made) Stop → Type 0
+ClosesOr new (Ok None) = is_some new.pending ≡ false
+ClosesOr new (Ok (Some made)) = Closes new (Ok made)
+ClosesOr new (Err stop) = Unit {0}
+
+abbrev pub IsMadeOr : Result (Option Made) Stop → Type 0
+IsMadeOr (Ok None) = Unit {0}
+IsMadeOr (Ok (Some made)) = IsMade (Ok made)
+IsMadeOr (Err stop) = is_stop_failed stop ≡ false
+
+abbrev pub DoubtsOr : Kept → Kept → Result (Option Made) Stop → Type 0
+DoubtsOr old new (Ok None) = new.doubts ≡ old.doubts
+DoubtsOr old new (Ok (Some made)) = Doubts old new (Ok made)
+DoubtsOr old new (Err stop) = new.doubts ≡ old.doubts
+
+abbrev pub LeavesOr : Bool → (Store → Store) → Store → Result (Option Made) Stop → Kept → Type 0
+LeavesOr refused change m (Ok None) new = (refused ≡ true) × (new.held ≡ Some m)
+LeavesOr refused change m (Ok (Some made)) new = (refused ≡ false) × Leaves change m (Ok made) new
+LeavesOr refused change m (Err stop) new = (new.held ≡ Some m) × IsStopOfStore stop
+
+pub record TriesOr (old new : Kept) (result : Result (Option Made) Stop) : Type 0 where
+  pub still : old.can_fail ≡ Some 0 → new.can_fail ≡ Some 0
+  pub sure : old.can_fail ≡ Some 0 → IsMadeOr result
+  pub counted : IsCounted old new result
+  pub closed : ClosesOr new result
+  pub doubts : DoubtsOr old new result

@@ -1,32 +1,16 @@
 -- What each piece of work on a store comes to, over a store that tells what it holds and can fail no more.
-use Rattle.std.specs.Prelude.{◌≡◌, ℕ, ◌<◌, ◌==◌, ◌&&◌, ◌||◌, not, Bool, true, false, List, length, Option, Some, None, Result, Ok, Err, is_some, if◌then◌else◌}
+use Rattle.std.specs.Prelude.{◌≡◌, ◌⊎◌, ℕ, ◌<◌, ◌^◌, ◌==◌, Bool, true, false, List, Option, Some, None, Result, Ok, Err, is_some, if◌then◌else◌}
 use Rattle.std.specs.Option.{option_map}
-use Rattle.std.specs.FinMap.{get, contains_key, len, empty, entries}
-use Rattle.slon_base.specs.Keeper.{Store, Space}
+use Rattle.std.specs.FinMap.{get, len, empty, entries}
+use Rattle.slon_base.specs.Keeper.{Kept, Store}
 use Rattle.slon_base.specs.Codec.{number_bytes, text_bytes}
 use Rattle.slon_model.specs.Rows.{Row, Rows}
-use Rattle.app_store.specs.Spelled.{tables, rows, IsSmall}
+use Rattle.app_store.specs.Spelled.{meta, tables, rows, meta_space, first_rows, IsSmall}
 use Rattle.app_store.specs.Scan.{IsTableOf}
 use Rattle.app_store.specs.declared.stop.Stop.{Stop}
 use Rattle.app_store.specs.declared.stop.Stop.TheVariants.{Failed, NoMemory, BadRow}
-use Rattle.app_store.specs.Steps.{OnlyMemory, Says}
-use Rattle.app_store.specs.declared.work.Placed.{Placed}
-use Rattle.app_store.specs.declared.work.Placed.TheVariants.{Refused as NotPlaced, Done as IsPlaced}
-
--- the table is there and has so many columns
-abbrev pub has_columns : Option ℕ → ℕ → Bool
-has_columns None n = false
-has_columns (Some columns) n = n == columns
-
--- a row is placed among the writes where the test holds
-abbrev pub Places : Bool → Space → Space → Space → Result Placed Stop → Type 0
-Places fits before placed after (Ok NotPlaced) = (fits ≡ false) × (after ≡ before)
-Places fits before placed after (Ok IsPlaced) = (fits ≡ true) × (after ≡ placed)
-Places fits before placed after (Err stop) = OnlyMemory stop
-
--- the row can be put: the table has so many columns, and neither the writes nor the store have its key
-abbrev pub can_place : Option ℕ → List (List ℕ) → List ℕ → Space → Store → Bool
-can_place columns values key writes m = has_columns columns (length values) && not (contains_key writes key || contains_key (m rows) key)
+use Rattle.app_store.specs.Steps.{IsStopOfStore, Says}
+use Rattle.app_store.specs.declared.look.Numbers.{Numbers}
 
 -- no space has a pair, or some space has one
 abbrev pub TellsEmpty : Store → Result Bool Stop → Type 0
@@ -36,7 +20,38 @@ TellsEmpty m (Err Failed) = Unit {0}
 TellsEmpty m (Err NoMemory) = Unit {0}
 TellsEmpty m (Err (BadRow space)) = ⊥
 
+-- some space has a pair
+abbrev pub HasPair : Store → Type 0
+HasPair m = (space : ℕ) × (space < 256) × (0 < len (m space))
+
 -- the rows of the table of this name, if there is one
 abbrev pub ListsRows : List ℕ → Store → Result (Option (List (List ℕ × Row))) Stop → Type 0
 ListsRows table m result = (columns : Option ℕ) (held : Rows) → IsSmall columns → get (m tables) (text_bytes table) ≡ option_map number_bytes columns → IsTableOf (text_bytes table) held (m rows) →
     Says (if is_some columns then Some (entries held) else None) result
+
+-- the meta numbers were read, or there are none
+abbrev pub NumbersAre : ℕ → ℕ → ℕ → Result (Option Numbers) Stop → Type 0
+NumbersAre stamp xids numbers (Ok None) = stamp ≡ 0
+NumbersAre stamp xids numbers (Ok (Some n)) = (n.stamp ≡ stamp) × (n.xid_ceiling ≡ xids) × (n.number_ceiling ≡ numbers) × ((stamp == 0) ≡ false)
+NumbersAre stamp xids numbers (Err stop) = IsStopOfStore stop
+
+abbrev pub FindsNumbers : Store → Result (Option Numbers) Stop → Type 0
+FindsNumbers m result = (stamp xids numbers : ℕ) → stamp < 2 ^ 63 → xids < 2 ^ 63 → numbers < 2 ^ 63 → m meta ≡ meta_space stamp xids numbers → NumbersAre stamp xids numbers result
+
+abbrev pub AreSmall : Option Numbers → Type 0
+AreSmall None = Unit {0}
+AreSmall (Some n) = (n.stamp < 2 ^ 63) × (n.xid_ceiling < 2 ^ 63) × (n.number_ceiling < 2 ^ 63)
+
+-- what a ceiling that rises leaves
+abbrev pub RaisesTo : (Store → Store) → Store → Result (Unit {0}) Stop → Kept → Type 0
+RaisesTo change m (Ok u) new = new.held ≡ Some (change m)
+RaisesTo change m (Err stop) new = ((new.held ≡ Some m) ⊎ (new.held ≡ Some (change m))) × IsStopOfStore stop
+
+-- the store of a database that comes up had its first rows, or they are written now
+pub data Recovered (m : Store) (stamp xids numbers : ℕ) (found : Option ℕ) (n : Numbers) (held : Option Store) : Type 0 where
+  Was : (stamp == 0) ≡ false → found ≡ Some stamp → n ≡ record { stamp = stamp; xid_ceiling = xids; number_ceiling = numbers } → held ≡ Some m → Recovered m stamp xids numbers found n held
+  Founded : stamp ≡ 0 → found ≡ None → n ≡ record { stamp = 1; xid_ceiling = 65; number_ceiling = 65 } → held ≡ Some (first_rows (number_bytes 1) (number_bytes 65) m) → Recovered m stamp xids numbers found n held
+
+abbrev pub RecoversTo : Store → ℕ → ℕ → ℕ → Result (Option ℕ × Numbers) Stop → Kept → Type 0
+RecoversTo m stamp xids numbers (Ok r) new = Recovered m stamp xids numbers r.0 r.1 new.held
+RecoversTo m stamp xids numbers (Err stop) new = ((new.held ≡ Some m) ⊎ ((stamp ≡ 0) × (new.held ≡ Some (first_rows (number_bytes 1) (number_bytes 65) m)))) × IsStopOfStore stop

@@ -1,110 +1,123 @@
-// One database: its store, its numbers and its open transaction.
-ghost use Rattle.std.specs.Prelude.{◌≡◌, ◌≤◌, ◌<◌, ◌^◌, ◌+◌, length, false, is_some, true};
+// One database: its store, its numbers, and its open transactions with their locks.
+ghost use Rattle.std.specs.Prelude.{◌≡◌, ◌≢◌, ◌≤◌, ◌<◌, ◌^◌, ◌+◌, ℕ, List, IfOk, OnOk, OnErr, Ok, Err, Some, None, false, is_some, true};
+ghost use Rattle.node_keeper.specs.Fused.{fuse_kept};
+ghost use Rattle.app_store.specs.Works.{AreSmall};
 
 use crate::Stop;
-use crate::transact::Made;
-use crate::work::{
-    FIRST_CEILING, MOST_COLUMNS, Placed, list_rows, make_database, make_rows, make_table, place_row,
-};
+use crate::look::Numbers;
+use crate::numbers::{FIRST_CEILING, raise, recover};
+use crate::opens::Opens;
+use crate::transact::{ACTION_CEILING, Made, XID_CEILING};
+use crate::work::make_database;
 use node_keeper::{Fuse, Keeper};
-use slon_base::{ByteMap, Bytes, Halt, STORED_LIMIT, Text, TextList};
-use slon_model::{DbFault, TableRows};
+use slon_base::{ByteMap, Halt, STORED_LIMIT};
+use slon_model::{Answer, Answered, Crash, DbFault};
 use std::alloc::Global;
-
-/// An open transaction with the rows that its commit will put.
-#[derive(Drop)]
-struct Transaction {
-    name: Text,
-    xid: u64,
-    writes: ByteMap<Bytes>,
-}
+use txn_core::{BLOCK, Counters, LockTable};
 
 /// One database over a store behind a fuse.
+///
+/// While it is up it keeps its numbers, its open transactions and their locks in memory. A step that stops at the store
+/// takes it down, and then it makes no call on its store until it comes up again.
 #[derive(Drop)]
 pub struct Database<K: Keeper> {
-    alloc: Global,
-    keeper: Fuse<K>,
-    up: bool,
-    stamp: u64,
-    next_xid: u64,
-    next_number: u64,
-    opened: Option<Transaction>,
-    ghost idle: { up ≡ true → is_some (K.kept keeper.keeper).pending ≡ false },
+    pub(crate) alloc: Global,
+    pub(crate) keeper: Fuse<K>,
+    pub(crate) up: bool,
+    // The stamp of the commit that is in doubt.
+    pub(crate) doubt: Option<u64>,
+    pub(crate) stamp: u64,
+    pub(crate) xids: Counters,
+    pub(crate) numbers: Counters,
+    pub(crate) opens: Opens,
+    pub(crate) locks: LockTable,
+    ghost idle: { up ≡ true → is_some (fuse_kept K.kept keeper).pending ≡ false },
     ghost small: { stamp < 2 ^ 63 },
 }
 
 impl<K: Keeper> Database<K> {
-    ghost use Rattle.std.specs.Prelude.{[], ◌∷◌, ℕ, List, IfOk, IfErr, OnErr, Some, None, Ok};
+    ghost use Rattle.std.specs.Prelude.{[], ◌∷◌};
     ghost use Rattle.slon_base.specs.Keeper.{nothing};
-    ghost use Rattle.slon_base.specs.Codec.{IsText, AllTexts};
-    ghost use Rattle.slon_model.specs.World.{new_place, table_due, table_after, begin_due, begin_after, insert_due, insert_after, commit_due, commit_after, rows_due};
-    ghost use Rattle.app_store.specs.Fits.{Fits, Answers, is_out_of_memory, sure_count};
-    ghost use Rattle.app_store.specs.Downs.{StaysDown, GoesDown};
-    ghost use Rattle.app_store.specs.Base.{base_of, opened_of, is_open_named, fresh_base};
+    ghost use Rattle.slon_model.specs.declared.command.Command.TheVariants.{Crash as CrashCommand, Up as UpCommand};
+    ghost use Rattle.slon_model.specs.Place.{xid_raised, number_raised};
+    ghost use Rattle.app_store.specs.Base.{base_of, IsFresh};
+    ghost use Rattle.app_store.specs.Goes.{Begins, Refuses, Goes, Caused, IsCertain, StaysDown, MakingCaused, is_made};
+    ghost use Rattle.app_store.specs.Parts.{GoesDown, Raises, Part, StartsWith, halt_of, settled, without_doubt, is_ready_xid, is_ready_number};
 
-    /// The database of a store that holds no row yet: its first rows are written. Where the store holds a row, or
-    /// stops, the database is down.
+    /// The database of a store that holds no row yet: its first rows are written.
+    ///
+    /// # Errors
+    ///
+    /// `NotEmpty` where the store holds a row, `Fault` and `Doubt` where it failed; the database is down then.
     pub fn create(alloc: Global, keeper: Fuse<K>) -> (Database<K>, Result<(), DbFault>)
-        ensures made { (K.kept keeper.keeper).held ≡ Some nothing → (K.kept keeper.keeper).can_fail ≡ Some 0 → is_out_of_memory result.1 ≡ false →
-            (result.1 ≡ Ok tt) × Fits new_place (base_of K.kept result.0) }
+        ensures begins { Begins (fuse_kept K.kept keeper) result.1 (base_of K.kept result.0) }
+        ensures later { (fuse_kept K.kept keeper).faults ≤ (base_of K.kept result.0).kept.faults }
+        ensures caused { MakingCaused (fuse_kept K.kept keeper) result.1 (base_of K.kept result.0).kept }
+        ensures still { (fuse_kept K.kept keeper).can_fail ≡ Some 0 → (base_of K.kept result.0).kept.can_fail ≡ Some 0 }
+        ensures never { (fuse_kept K.kept keeper).can_fail ≡ Some 0 → is_made result.1 ≡ true }
+        ensures full { Refuses (fuse_kept K.kept keeper) result.1 (base_of K.kept result.0) }
         ensures down { OnErr result.1 ((base_of K.kept result.0).up ≡ false) }
     {
         let mut keeper = keeper;
         let _ = keeper.rollback();
         match make_database(alloc, &mut keeper) {
             Ok(made) => match made {
-                Made::Done => (Database::fresh(alloc, keeper, true), Ok(())),
-                Made::Refused => {
-                    let database = Database::fresh(alloc, keeper, false);
+                None => {
+                    let database = Database::fresh(alloc, keeper, false, None);
                     (database, Err(DbFault::NotEmpty))
                 }
-                Made::InDoubt => {
-                    let database = Database::fresh(alloc, keeper, false);
-                    (database, Err(DbFault::Halt(Halt::Doubt)))
-                }
+                Some(made) => match made {
+                    Made::Done => (Database::fresh(alloc, keeper, true, None), Ok(())),
+                    Made::InDoubt => {
+                        let database = Database::fresh(alloc, keeper, false, Some(1));
+                        (database, Err(DbFault::Halt(Halt::Doubt)))
+                    }
+                },
             },
             Err(stop) => {
-                let mut database = Database::fresh(alloc, keeper, false);
-                let fault = database.stopped(stop);
+                let mut database = Database::fresh(alloc, keeper, false, None);
+                let fault = database.fall(stop);
                 (database, Err(fault))
             }
         }
     }
 
-    fn fresh(alloc: Global, keeper: Fuse<K>, up: bool) -> Database<K>
-        requires { up ≡ true → is_some (K.kept keeper.keeper).pending ≡ false }
-        ensures { base_of K.kept result ≡ fresh_base (K.kept keeper.keeper) up }
+    fn fresh(alloc: Global, keeper: Fuse<K>, up: bool, doubt: Option<u64>) -> Database<K>
+        requires { up ≡ true → is_some (fuse_kept K.kept keeper).pending ≡ false }
+        ensures { IsFresh (fuse_kept K.kept keeper) up doubt (base_of K.kept result) }
     {
+        let mut xids = Counters::resume(FIRST_CEILING);
+        let mut numbers = Counters::resume(FIRST_CEILING);
+        xids.raise();
+        numbers.raise();
         Database {
             alloc,
             keeper,
             up,
+            doubt,
             stamp: 1,
-            next_xid: 1,
-            next_number: 1,
-            opened: None,
+            xids,
+            numbers,
+            opens: ByteMap::new(alloc),
+            locks: LockTable::new(alloc),
         }
     }
 
-    /// Whether the open transaction has this name.
-    fn is_open(&self, name: &Text) -> bool
-        ensures { result ≡ is_open_named name.now (opened_of self.now.opened) }
+    /// Takes the database down: what was open is forgotten.
+    pub(crate) fn take_down(&mut self)
+        ensures { GoesDown (base_of K.kept self.old) (base_of K.kept self.new) }
     {
-        match &self.opened {
-            Some(transaction) => name.as_slice() == transaction.name.as_slice(),
-            None => false,
-        }
+        self.up = false;
+        self.opens = ByteMap::new(self.alloc);
+        self.locks = LockTable::new(self.alloc);
     }
 
-    /// Why the database went down, as its caller is told.
-    fn stopped(&mut self, stop: Stop) -> DbFault
-        ensures failed { stop ≡ Stop.Failed → result ≡ DbFault.Halt (Halt.Fault (K.kept self.old.keeper.keeper).faults) }
-        ensures memory { stop ≡ Stop.NoMemory → result ≡ DbFault.Halt Halt.NoMemory }
-        ensures row { (space : ℕ) → stop ≡ Stop.BadRow space → result ≡ DbFault.Halt (Halt.BadRow space) }
-        ensures up { self.new.up ≡ self.old.up }
-        ensures closed { self.new.opened ≡ None }
+    /// Takes the database down for a stop, and says why, as its caller is told.
+    pub(crate) fn fall(&mut self, stop: Stop) -> DbFault
+        ensures down { GoesDown (base_of K.kept self.old) (base_of K.kept self.new) }
+        ensures fault { result ≡ halt_of stop (base_of K.kept self.old).kept.faults }
     {
-        self.opened = None;
+        self.take_down();
         DbFault::Halt(match stop {
             Stop::Failed => Halt::Fault {
                 count: self.keeper.faults(),
@@ -114,183 +127,144 @@ impl<K: Keeper> Database<K> {
         })
     }
 
-    /// Makes a table with so many columns. Refused where a table has the name.
-    pub fn table(&mut self, table: &Text, columns: u32) -> Result<(), DbFault>
-        requires text { IsText table.now }
-        requires narrow { columns ≤ 16 }
-        ensures answers { Answers (table_due table.now) (table_after table.now columns) (base_of K.kept self.old) result (base_of K.kept self.new) }
-        ensures down { StaysDown (base_of K.kept self.old) result (base_of K.kept self.new) }
-        ensures halted { GoesDown result (base_of K.kept self.new) }
+    /// Takes the database down because a number would pass the limit of stored numbers.
+    pub(crate) fn overflow(&mut self) -> DbFault
+        ensures down { GoesDown (base_of K.kept self.old) (base_of K.kept self.new) }
+        ensures fault { result ≡ DbFault.Halt (Halt.TooBig 1) }
     {
-        if !self.up {
-            return Err(DbFault::Down);
-        }
-        if self.stamp >= STORED_LIMIT {
-            self.up = false;
-            return Err(DbFault::Halt(Halt::TooBig { space: 1 }));
-        }
-        let stamp = self.stamp + 1;
-        match make_table(self.alloc, &mut self.keeper, table, columns, stamp) {
-            Ok(made) => match made {
-                Made::Refused => Err(DbFault::NotYet),
-                Made::Done => {
-                    self.stamp = stamp;
-                    Ok(())
-                }
-                Made::InDoubt => {
-                    self.up = false;
-                    self.opened = None;
-                    Err(DbFault::Halt(Halt::Doubt))
-                }
-            },
-            Err(stop) => {
-                self.up = false;
-                Err(self.stopped(stop))
-            }
-        }
+        self.take_down();
+        DbFault::Halt(Halt::TooBig { space: 1 })
     }
 
-    /// Opens a transaction and answers its id. Refused while one is open, and where the ids are used up.
-    pub fn begin(&mut self, name: &Text) -> Result<u64, DbFault>
-        ensures answers { Answers begin_due (begin_after name.now) (base_of K.kept self.old) result (base_of K.kept self.new) }
-        ensures down { StaysDown (base_of K.kept self.old) result (base_of K.kept self.new) }
+    /// Raises the ceiling of the ids if the next one is at it.
+    pub(crate) fn raise_xids(&mut self) -> Result<(), DbFault>
+        requires { self.old.up ≡ true }
+        ensures part { Part (base_of K.kept self.old) (base_of K.kept self.new) result }
+        ensures raises { Raises xid_raised (base_of K.kept self.old) result (base_of K.kept self.new) }
+        ensures ready { OnOk result (is_ready_xid (base_of K.kept self.new) ≡ true) }
+        ensures up { OnOk result (self.new.up ≡ true) }
     {
-        if !self.up {
-            return Err(DbFault::Down);
+        if !self.xids.must_raise() {
+            return Ok(());
         }
-        if self.opened.is_some() {
-            return Err(DbFault::NotYet);
+        if self.stamp >= STORED_LIMIT || self.xids.ceiling() > STORED_LIMIT - BLOCK {
+            return Err(self.overflow());
         }
-        if self.next_xid >= FIRST_CEILING {
-            return Err(DbFault::NotYet);
-        }
-        let Ok(name) = name.copy(self.alloc) else {
-            return Err(DbFault::Halt(Halt::NoMemory));
-        };
-        let xid = self.next_xid;
-        self.next_xid = xid + 1;
-        self.opened = Some(Transaction {
-            name,
-            xid,
-            writes: ByteMap::new(self.alloc),
-        });
-        Ok(xid)
-    }
-
-    /// Writes a row for an open transaction and answers the number of the action. The first value is the key. Refused
-    /// where no such transaction is open, there is no such table or it has another number of columns, the transaction
-    /// sees a row of the key, and where the numbers are used up.
-    pub fn insert(&mut self, name: &Text, table: &Text, values: &TextList) -> Result<u64, DbFault>
-        requires text { IsText table.now }
-        requires texts { AllTexts values.now }
-        requires some { 0 < length values.now }
-        ensures answers { Answers (insert_due name.now table.now values.now) (insert_after name.now table.now values.now) (base_of K.kept self.old) result (base_of K.kept self.new) }
-        ensures down { StaysDown (base_of K.kept self.old) result (base_of K.kept self.new) }
-        ensures halted { GoesDown result (base_of K.kept self.new) }
-    {
-        if !self.up {
-            return Err(DbFault::Down);
-        }
-        if !self.is_open(name) {
-            return Err(DbFault::NotYet);
-        }
-        if self.next_number >= FIRST_CEILING {
-            return Err(DbFault::NotYet);
-        }
-        if values.len() > MOST_COLUMNS {
-            return Err(DbFault::NotYet);
-        }
-        let Some(mut transaction) = self.opened.take() else {
-            return Err(DbFault::NotYet);
-        };
-        let writes = &mut transaction.writes;
-        let placed = place_row(
+        match raise(
             self.alloc,
             &mut self.keeper,
-            writes,
-            table,
-            values.as_slice(),
-        );
-        self.opened = Some(transaction);
-        match placed {
-            Ok(placed) => match placed {
-                Placed::Refused => Err(DbFault::NotYet),
-                Placed::Done => {
-                    let number = self.next_number;
-                    self.next_number = number + 1;
-                    Ok(number)
-                }
-            },
+            &XID_CEILING,
+            &mut self.xids,
+            &mut self.stamp,
+        ) {
+            Ok(()) => Ok(()),
             Err(stop) => {
                 self.up = false;
-                Err(self.stopped(stop))
+                Err(self.fall(stop))
             }
         }
     }
 
-    /// Makes what a transaction wrote stand, and answers how many actions that were, and whether the commit is in
-    /// doubt. Refused where no such transaction is open.
-    pub fn commit(&mut self, name: &Text) -> Result<(u64, bool), DbFault>
-        ensures answers { Answers (λ p. sure_count (commit_due name.now p)) (commit_after name.now) (base_of K.kept self.old) result (base_of K.kept self.new) }
-        ensures down { StaysDown (base_of K.kept self.old) result (base_of K.kept self.new) }
-        ensures halted { GoesDown result (base_of K.kept self.new) }
-        ensures doubt { IfOk result (λ r. r.1 ≡ true → (base_of K.kept self.new).up ≡ false) }
+    /// Raises the ceiling of the numbers of actions if the next one is at it.
+    pub(crate) fn raise_numbers(&mut self) -> Result<(), DbFault>
+        requires { self.old.up ≡ true }
+        ensures part { Part (base_of K.kept self.old) (base_of K.kept self.new) result }
+        ensures raises { Raises number_raised (base_of K.kept self.old) result (base_of K.kept self.new) }
+        ensures ready { OnOk result (is_ready_number (base_of K.kept self.new) ≡ true) }
+        ensures up { OnOk result (self.new.up ≡ true) }
     {
-        if !self.up {
-            return Err(DbFault::Down);
+        if !self.numbers.must_raise() {
+            return Ok(());
         }
-        if !self.is_open(name) {
-            return Err(DbFault::NotYet);
+        if self.stamp >= STORED_LIMIT || self.numbers.ceiling() > STORED_LIMIT - BLOCK {
+            return Err(self.overflow());
         }
-        let Some(transaction) = self.opened.take() else {
-            return Err(DbFault::NotYet);
-        };
-        let count = transaction.writes.len() as u64;
-        if count == 0 {
-            return Ok((0, false));
-        }
-        if self.stamp >= STORED_LIMIT {
-            self.up = false;
-            return Err(DbFault::Halt(Halt::TooBig { space: 1 }));
-        }
-        let stamp = self.stamp + 1;
-        match make_rows(self.alloc, &mut self.keeper, &transaction.writes, stamp) {
-            Ok(made) => match made {
-                Made::Done => {
-                    self.stamp = stamp;
-                    Ok((count, false))
-                }
-                Made::Refused | Made::InDoubt => {
-                    self.up = false;
-                    Ok((count, true))
-                }
-            },
+        match raise(
+            self.alloc,
+            &mut self.keeper,
+            &ACTION_CEILING,
+            &mut self.numbers,
+            &mut self.stamp,
+        ) {
+            Ok(()) => Ok(()),
             Err(stop) => {
                 self.up = false;
-                Err(self.stopped(stop))
+                Err(self.fall(stop))
             }
         }
     }
 
-    /// The rows of a table that stand, ascending by key. Refused where there is no such table.
-    pub fn rows(&mut self, table: &Text) -> Result<TableRows, DbFault>
-        requires { IsText table.now }
-        ensures answers { Answers (rows_due table.now) (λ p. p) (base_of K.kept self.old) result (base_of K.kept self.new) }
-        ensures down { StaysDown (base_of K.kept self.old) result (base_of K.kept self.new) }
-        ensures halted { GoesDown result (base_of K.kept self.new) }
+    /// Takes the database down at once, or has its store fail later.
+    pub fn crash(&mut self, crash: Crash) -> Result<Answered, DbFault>
+        ensures goes { (database : List ℕ) → Goes (CrashCommand database crash) (base_of K.kept self.old) result (base_of K.kept self.new) }
+        ensures later { (base_of K.kept self.old).kept.faults ≤ (base_of K.kept self.new).kept.faults }
+        ensures caused { (database : List ℕ) → Caused (CrashCommand database crash) (base_of K.kept self.old).kept result (base_of K.kept self.new).kept }
+        ensures certain { (database : List ℕ) → IsCertain (CrashCommand database crash) (base_of K.kept self.old).kept (base_of K.kept self.new).kept result }
+        ensures down { (database : List ℕ) → StaysDown (CrashCommand database crash) (base_of K.kept self.old) result (base_of K.kept self.new) }
     {
         if !self.up {
             return Err(DbFault::Down);
         }
-        match list_rows(self.alloc, &mut self.keeper, table) {
-            Ok(found) => match found {
-                None => Err(DbFault::NotYet),
-                Some(rows) => Ok(rows),
-            },
+        match crash {
+            Crash::Now => self.take_down(),
+            Crash::After { calls, keep } => self.keeper.arm(u64::from(calls), keep),
+            Crash::AtCommit { keep } => self.keeper.arm_commit(keep),
+        }
+        Ok(Answered::Sure(Answer::Done))
+    }
+
+    /// Brings the database up again, and says whether a commit that was in doubt stands.
+    pub fn up(&mut self) -> Result<Answered, DbFault>
+        ensures goes { (database : List ℕ) → Goes (UpCommand database) (base_of K.kept self.old) result (base_of K.kept self.new) }
+        ensures later { (base_of K.kept self.old).kept.faults ≤ (base_of K.kept self.new).kept.faults }
+        ensures caused { (database : List ℕ) → Caused (UpCommand database) (base_of K.kept self.old).kept result (base_of K.kept self.new).kept }
+        ensures certain { (database : List ℕ) → IsCertain (UpCommand database) (base_of K.kept self.old).kept (base_of K.kept self.new).kept result }
+    {
+        if self.up {
+            return Err(DbFault::IsUp);
+        }
+        self.keeper.disarm();
+        let _ = self.keeper.rollback();
+        match recover(self.alloc, &mut self.keeper) {
+            Ok((stamp, numbers)) => {
+                let answer = self.settle(stamp);
+                self.start(numbers);
+                Ok(Answered::Sure(answer))
+            }
             Err(stop) => {
                 self.up = false;
-                Err(self.stopped(stop))
+                Err(self.fall(stop))
             }
         }
+    }
+
+    /// What is said of the commit in doubt, by the stamp that was found.
+    fn settle(&mut self, stamp: Option<u64>) -> Answer
+        ensures answer { result ≡ settled self.old.doubt stamp }
+        ensures same { base_of K.kept self.new ≡ without_doubt (base_of K.kept self.old) }
+    {
+        match self.doubt.take() {
+            None => Answer::Done,
+            Some(written) => {
+                if stamp == Some(written) {
+                    return Answer::Kept;
+                }
+                Answer::Lost
+            }
+        }
+    }
+
+    /// Goes on from these numbers, with no transaction open.
+    fn start(&mut self, numbers: Numbers)
+        requires idle { is_some (fuse_kept K.kept self.old.keeper).pending ≡ false }
+        requires small { AreSmall (Some numbers) }
+        ensures starts { StartsWith numbers (base_of K.kept self.old) (base_of K.kept self.new) }
+    {
+        self.up = true;
+        self.stamp = numbers.stamp;
+        self.xids = Counters::resume(numbers.xid_ceiling);
+        self.numbers = Counters::resume(numbers.number_ceiling);
+        self.opens = ByteMap::new(self.alloc);
+        self.locks = LockTable::new(self.alloc);
     }
 }

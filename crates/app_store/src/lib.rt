@@ -3,16 +3,18 @@
 
 mod database;
 mod look;
+mod numbers;
+mod obey;
+mod opens;
 mod scan;
 mod spelling;
 mod stop;
 mod transact;
+mod transactions;
 mod work;
+mod writes;
 
 pub use database::Database;
 pub use node_keeper::{Fuse, Keeper};
 pub use slon_model::DbFault;
 pub use stop::Stop;
-
-#[cfg(test)]
-mod tests;

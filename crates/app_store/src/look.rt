@@ -1,19 +1,21 @@
 // What a step reads before it decides.
-ghost use Rattle.std.specs.Prelude.{◌≡◌, ◌<◌, ◌^◌, ℕ, List, Option, is_some, Ok, IfErr};
+ghost use Rattle.std.specs.Prelude.{◌≡◌, ◌<◌, ◌^◌, ℕ, List, Option, Some, is_some, false, Ok, IfOk, IfErr};
 ghost use Rattle.std.specs.Option.{option_map};
-ghost use Rattle.std.specs.FinMap.{get, contains_key};
+ghost use Rattle.std.specs.FinMap.{get};
 ghost use Rattle.slon_base.specs.Codec.{number_bytes};
-ghost use Rattle.app_store.specs.Spelled.{tables, rows, IsSmall};
+ghost use Rattle.app_store.specs.Spelled.{meta, tables, rows, IsSmall};
+ghost use Rattle.app_store.specs.Works.{FindsNumbers, AreSmall};
 ghost use Rattle.app_store.specs.Steps.{Looks, Says};
 ghost use Rattle.app_store.specs.declared.stop.Stop.TheVariants.{BadRow};
 
 use crate::Stop;
-use crate::transact::{ROWS, TABLES};
+use crate::transact::{ACTION_CEILING, META, ROWS, STAMP, TABLES, XID_CEILING};
 use slon_base::{Bytes, Keeper, RowIn};
 
 /// The number that a value of a space spells.
 fn read_number(space: u8, bytes: &Bytes) -> Result<u64, Stop>
     ensures again { (n : ℕ) → n < 2 ^ 63 → bytes.now ≡ number_bytes n → result ≡ Ok n }
+    ensures small { IfOk result (λ n. n < 2 ^ 63) }
     ensures fault { IfErr result (λ stop. stop ≡ BadRow space) }
 {
     let mut row = RowIn::new(bytes.as_slice());
@@ -37,9 +39,61 @@ pub(crate) fn find_columns<K: Keeper>(keeper: &mut K, table: &[u8]) -> Result<Op
     }
 }
 
-/// Whether a row of this spelled key is there.
-pub(crate) fn has_row<K: Keeper>(keeper: &mut K, key: &[u8]) -> Result<bool, Stop>
-    ensures { Looks (λ m result. Says (contains_key (m rows) key.now) result) (K.kept keeper.old) (K.kept keeper.new) result }
+/// The spelled values of a row of this spelled key, if it is there.
+pub(crate) fn read_row<K: Keeper>(keeper: &mut K, key: &[u8]) -> Result<Option<Bytes>, Stop>
+    ensures { Looks (λ m result. Says (get (m rows) key.now) result) (K.kept keeper.old) (K.kept keeper.new) result }
 {
-    Ok(keeper.get(ROWS, key)?.is_some())
+    Ok(keeper.get(ROWS, key)?)
+}
+
+/// A meta number, if it is there.
+fn find_number<K: Keeper>(keeper: &mut K, key: &[u8]) -> Result<Option<u64>, Stop>
+    ensures looks { Looks (λ m result. (number : Option ℕ) → IsSmall number → get (m meta) key.now ≡ option_map number_bytes number → Says number result)
+        (K.kept keeper.old) (K.kept keeper.new) result }
+    ensures small { IfOk result IsSmall }
+{
+    match keeper.get(META, key)? {
+        None => Ok(None),
+        Some(bytes) => Ok(Some(read_number(META, &bytes)?)),
+    }
+}
+
+/// The stamp and the ceilings of a database.
+#[derive(Clone, Copy, Debug)]
+pub(crate) struct Numbers {
+    pub(crate) stamp: u64,
+    pub(crate) xid_ceiling: u64,
+    pub(crate) number_ceiling: u64,
+}
+
+/// A ceiling, which is there where the stamp is.
+fn find_ceiling<K: Keeper>(keeper: &mut K, key: &[u8]) -> Result<u64, Stop>
+    ensures looks { Looks (λ m result. (number : ℕ) → number < 2 ^ 63 → get (m meta) key.now ≡ Some (number_bytes number) → Says number result)
+        (K.kept keeper.old) (K.kept keeper.new) result }
+    ensures small { IfOk result (λ n. n < 2 ^ 63) }
+{
+    match find_number(keeper, key)? {
+        Some(number) => Ok(number),
+        None => Err(Stop::BadRow { space: META }),
+    }
+}
+
+/// The stamp and the ceilings of a database, if its first rows are there.
+pub(crate) fn find_numbers<K: Keeper>(keeper: &mut K) -> Result<Option<Numbers>, Stop>
+    requires { is_some (K.kept keeper.old).pending ≡ false }
+    ensures looks { Looks FindsNumbers (K.kept keeper.old) (K.kept keeper.new) result }
+    ensures small { IfOk result AreSmall }
+{
+    match find_number(keeper, &STAMP)? {
+        None => Ok(None),
+        Some(stamp) => {
+            let xid_ceiling = find_ceiling(keeper, &XID_CEILING)?;
+            let number_ceiling = find_ceiling(keeper, &ACTION_CEILING)?;
+            Ok(Some(Numbers {
+                stamp,
+                xid_ceiling,
+                number_ceiling,
+            }))
+        }
+    }
 }

@@ -1,5 +1,5 @@
 // The rows of one table, read from the space of the rows.
-ghost use Rattle.std.specs.Prelude.{◌≡◌, ◌<◌, ◌^◌, ◌++◌, ℕ, List, length, Ok, IfErr, false};
+ghost use Rattle.std.specs.Prelude.{◌≡◌, ◌<◌, ◌^◌, ◌++◌, ℕ, List, length, Ok, IfOk, IfErr, false};
 ghost use Rattle.std.specs.FinMap.{insert};
 ghost use Rattle.slon_base.specs.Codec.{text_bytes, all_bytes, list_bytes, IsText, AllTexts, AreTexts};
 ghost use Rattle.slon_model.specs.Rows.{Row};
@@ -12,7 +12,7 @@ use slon_base::{ByteMap, Bytes, Keeper, RowFault, RowIn, Text, TextList};
 use std::alloc::Global;
 
 /// Why work stops at a row of the space of the rows.
-fn row_stop(fault: RowFault) -> Stop
+pub(crate) fn row_stop(fault: RowFault) -> Stop
     ensures memory { fault ≡ RowFault.NoMemory → result ≡ Stop.NoMemory }
     ensures failed { is_stop_failed result ≡ false }
 {
@@ -36,7 +36,8 @@ fn read_key(alloc: Global, bytes: &[u8]) -> Result<Text, RowFault>
 
 /// The texts that a row has left, so many of them.
 fn read_texts(alloc: Global, row: &mut RowIn<'_>, count: u32) -> Result<TextList, RowFault>
-    ensures { (texts : List (List ℕ)) → AllTexts texts → count ≡ length texts → row.old ≡ all_bytes texts → ReadsAll texts result row.new }
+    ensures reads { (texts : List (List ℕ)) → AllTexts texts → count ≡ length texts → row.old ≡ all_bytes texts → ReadsAll texts result row.new }
+    ensures texts { IfOk result (λ texts. (length texts ≡ count) × AllTexts texts) }
 {
     let mut texts = TextList::new(alloc);
     for _ in 0..count {
@@ -47,8 +48,9 @@ fn read_texts(alloc: Global, row: &mut RowIn<'_>, count: u32) -> Result<TextList
 
 /// The values after the key.
 #[tactic(auto, unfolding(slon_base::specs::Codec::list_bytes))]
-fn read_values(alloc: Global, bytes: &[u8]) -> Result<TextList, RowFault>
-    ensures { (values : Row) → AreTexts values → bytes.now ≡ list_bytes values → ReadsAs values result }
+pub(crate) fn read_values(alloc: Global, bytes: &[u8]) -> Result<TextList, RowFault>
+    ensures reads { (values : Row) → AreTexts values → bytes.now ≡ list_bytes values → ReadsAs values result }
+    ensures texts { IfOk result AreTexts }
 {
     let mut row = RowIn::new(bytes);
     let count = row.count()?;

@@ -1,6 +1,6 @@
 // Each transaction of the store: its changes, the stamp and the commit.
 ghost use Rattle.std.specs.Prelude.{◌≡◌, true, false, is_some};
-ghost use Rattle.app_store.specs.Spelled.{first_rows, new_table, new_rows, put_all};
+ghost use Rattle.app_store.specs.Spelled.{first_rows, new_table, new_ceiling, new_rows, write_all};
 ghost use Rattle.app_store.specs.Steps.{Transacts, Finishes, Puts};
 ghost use Rattle.std.specs.FinMap.{entries};
 
@@ -16,19 +16,17 @@ pub const TABLES: u8 = 2;
 /// The space of the rows.
 pub const ROWS: u8 = 3;
 
-const STAMP: [u8; 1] = [1];
+pub(crate) const STAMP: [u8; 1] = [1];
 
-const XID_CEILING: [u8; 1] = [2];
+pub(crate) const XID_CEILING: [u8; 1] = [2];
 
-const ACTION_CEILING: [u8; 1] = [3];
+pub(crate) const ACTION_CEILING: [u8; 1] = [3];
 
 const LOG_STATUS: [u8; 1] = [6];
 
 /// What a transaction of the store came to.
 #[derive(Clone, Copy, Debug, PartialEq, Eq)]
 pub enum Made {
-    /// It was refused before it began.
-    Refused,
     /// Its commit stands.
     Done,
     /// Its commit failed, so it stands or not.
@@ -80,21 +78,40 @@ pub(crate) fn write_table<K: Keeper>(
     finish(keeper)
 }
 
-/// Puts rows into the transaction that is pending.
-fn put_rows<K: Keeper>(keeper: &mut K, writes: &ByteMap<Bytes>) -> Result<(), Stop>
+/// Writes a ceiling that rises, which stands at this key.
+pub(crate) fn write_ceiling<K: Keeper>(
+    keeper: &mut K,
+    key: &[u8],
+    ceiling: &[u8],
+    stamp: &[u8],
+) -> Result<Made, Stop>
+    requires { is_some (K.kept keeper.old).pending ≡ false }
+    ensures { Transacts (new_ceiling key.now ceiling.now stamp.now) (K.kept keeper.old) (K.kept keeper.new) result }
+{
+    keeper.begin()?;
+    keeper.put(META, key, ceiling)?;
+    keeper.put(META, &STAMP, stamp)?;
+    finish(keeper)
+}
+
+/// Puts rows into the transaction that is pending, and takes rows away.
+fn put_rows<K: Keeper>(keeper: &mut K, writes: &ByteMap<Option<Bytes>>) -> Result<(), Stop>
     requires { is_some (K.kept keeper.old).pending ≡ true }
-    ensures { Puts (put_all (entries writes.now)) (K.kept keeper.old) (K.kept keeper.new) result }
+    ensures { Puts (write_all (entries writes.now)) (K.kept keeper.old) (K.kept keeper.new) result }
 {
     for (key, value) in writes.iter() {
-        keeper.put(ROWS, key.as_slice(), value.as_slice())?;
+        match value {
+            Some(value) => keeper.put(ROWS, key.as_slice(), value.as_slice())?,
+            None => keeper.del(ROWS, key.as_slice())?,
+        }
     }
     Ok(())
 }
 
-/// Writes the rows that a transaction wrote.
+/// Writes what a transaction wrote.
 pub(crate) fn write_rows<K: Keeper>(
     keeper: &mut K,
-    writes: &ByteMap<Bytes>,
+    writes: &ByteMap<Option<Bytes>>,
     stamp: &[u8],
 ) -> Result<Made, Stop>
     requires { is_some (K.kept keeper.old).pending ≡ false }

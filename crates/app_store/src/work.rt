@@ -1,38 +1,24 @@
 // The work of each command on the store: what is read first, and then the transaction.
-ghost use Rattle.std.specs.Prelude.{◌≡◌, ◌<◌, ◌^◌, ◌≤◌, ◌∷◌, ℕ, List, length, Option, Some, None, true, false, is_some, if◌then◌else◌};
+ghost use Rattle.std.specs.Prelude.{◌≡◌, ◌<◌, ◌^◌, ◌≤◌, ℕ, List, length, map, Option, Some, None, true, false, is_some, if◌then◌else◌, IfOk, unwrap_or};
 ghost use Rattle.std.specs.Option.{option_map};
-ghost use Rattle.std.specs.FinMap.{get, insert, entries};
+ghost use Rattle.std.specs.FinMap.{get, entries};
 ghost use Rattle.slon_base.specs.Keeper.{Store, nothing};
-ghost use Rattle.slon_base.specs.Codec.{number_bytes, text_bytes, list_bytes, IsText, AllTexts};
-ghost use Rattle.slon_model.specs.Rows.{Row, Rows};
-ghost use Rattle.app_store.specs.Spelled.{tables, rows, row_key, first_rows, new_table, new_rows, IsSmall, first_ceiling};
+ghost use Rattle.slon_base.specs.Codec.{number_bytes, text_bytes, list_bytes, IsText, AllTexts, AreTexts};
+ghost use Rattle.slon_model.specs.Rows.{Row, column_value, updated};
+ghost use Rattle.app_store.specs.Spelled.{tables, first_rows, new_table, new_ceiling, new_rows, IsSmall};
 ghost use Rattle.app_store.specs.Scan.{AllKeys};
-ghost use Rattle.app_store.specs.Steps.{Looks, Says, Makes, Closes, is_failed};
-ghost use Rattle.app_store.specs.Works.{ListsRows, Places, can_place, TellsEmpty};
+ghost use Rattle.app_store.specs.Steps.{Looks, Says, Leaves, LeavesOr, Tries, TriesOr, is_failed};
+ghost use Rattle.app_store.specs.Works.{ListsRows, TellsEmpty, HasPair};
 
 use crate::Stop;
-use crate::look::{find_columns, has_row};
-use crate::scan::scan_table;
-use crate::spelling::{spell_key, spell_number, spell_table, spell_values};
-use crate::transact::{Made, ROWS, write_first_rows, write_rows, write_table};
+use crate::look::find_columns;
+use crate::scan::{read_values, row_stop, scan_table};
+use crate::spelling::{spell_number, spell_table, spell_values};
+use crate::transact::{Made, ROWS, write_ceiling, write_first_rows, write_rows, write_table};
 use slon_base::{ByteMap, Bytes, Keeper, Text, TextList};
 use slon_model::TableRows;
-use std::alloc::Global;
-
-/// The first number that is not drawn before the ceiling rises.
-pub(crate) const FIRST_CEILING: u64 = 65;
-
-/// The greatest number of columns of a table.
-pub(crate) const MOST_COLUMNS: usize = 16;
-
-/// Whether a row was placed among the writes of a transaction.
-#[derive(Clone, Copy, Debug, PartialEq, Eq)]
-pub enum Placed {
-    /// It was refused.
-    Refused,
-    /// It stands among the writes.
-    Done,
-}
+use std::alloc::{AllocError, Global};
+use txn_core::BLOCK;
 
 /// Whether the store has no pair in any space.
 fn is_empty<K: Keeper>(keeper: &mut K) -> Result<bool, Stop>
@@ -46,99 +32,139 @@ fn is_empty<K: Keeper>(keeper: &mut K) -> Result<bool, Stop>
     Ok(true)
 }
 
-/// Writes the first rows of a new database into an empty store.
-pub(crate) fn make_database<K: Keeper>(alloc: Global, keeper: &mut K) -> Result<Made, Stop>
+/// Writes the first rows of a database.
+pub(crate) fn found<K: Keeper>(alloc: Global, keeper: &mut K) -> Result<Made, Stop>
     requires { is_some (K.kept keeper.old).pending ≡ false }
-    ensures closed { Closes (K.kept keeper.new) result }
-    ensures sure { (K.kept keeper.old).held ≡ Some nothing → (K.kept keeper.old).can_fail ≡ Some 0 →
-        ((K.kept keeper.new).can_fail ≡ Some 0) × Makes false (first_rows (number_bytes 1) (number_bytes first_ceiling)) nothing (K.kept keeper.new) result }
+    ensures tries { Tries (K.kept keeper.old) (K.kept keeper.new) result }
+    ensures works { (m : Store) → (K.kept keeper.old).held ≡ Some m → Leaves (first_rows (number_bytes 1) (number_bytes 65)) m result (K.kept keeper.new) }
 {
-    let empty = is_empty(keeper)?;
-    if !empty {
-        return Ok(Made::Refused);
-    }
     let stamp = spell_number(alloc, 1)?;
-    let ceiling = spell_number(alloc, FIRST_CEILING)?;
+    let ceiling = spell_number(alloc, 1 + BLOCK)?;
     write_first_rows(keeper, stamp.as_slice(), ceiling.as_slice())
 }
 
-/// Makes a table, where none has its name.
+/// Writes the first rows of a new database into an empty store. Refused where the store has a row.
+pub(crate) fn make_database<K: Keeper>(alloc: Global, keeper: &mut K) -> Result<Option<Made>, Stop>
+    requires { is_some (K.kept keeper.old).pending ≡ false }
+    ensures tries { TriesOr (K.kept keeper.old) (K.kept keeper.new) result }
+    ensures works { (K.kept keeper.old).held ≡ Some nothing → LeavesOr false (first_rows (number_bytes 1) (number_bytes 65)) nothing result (K.kept keeper.new) }
+    ensures full { (m : Store) → HasPair m → (K.kept keeper.old).held ≡ Some m → LeavesOr true (first_rows (number_bytes 1) (number_bytes 65)) m result (K.kept keeper.new) }
+{
+    let empty = is_empty(keeper)?;
+    if !empty {
+        return Ok(None);
+    }
+    Ok(Some(found(alloc, keeper)?))
+}
+
+/// Makes a table. Refused where one has its name.
 pub(crate) fn make_table<K: Keeper>(
     alloc: Global,
     keeper: &mut K,
     table: &Text,
     columns: u32,
     stamp: u64,
-) -> Result<Made, Stop>
+) -> Result<Option<Made>, Stop>
     requires idle { is_some (K.kept keeper.old).pending ≡ false }
     requires text { IsText table.now }
     requires room { stamp < 2 ^ 63 }
-    ensures closed { Closes (K.kept keeper.new) result }
-    ensures sure { (m : Store) (found : Option ℕ) → (K.kept keeper.old).held ≡ Some m → (K.kept keeper.old).can_fail ≡ Some 0 →
-        IsSmall found → get (m tables) (text_bytes table.now) ≡ option_map number_bytes found →
-        ((K.kept keeper.new).can_fail ≡ Some 0) × Makes (is_some found) (new_table (text_bytes table.now) (number_bytes columns) (number_bytes stamp)) m (K.kept keeper.new) result }
+    ensures tries { TriesOr (K.kept keeper.old) (K.kept keeper.new) result }
+    ensures works { (m : Store) (found : Option ℕ) → (K.kept keeper.old).held ≡ Some m → IsSmall found → get (m tables) (text_bytes table.now) ≡ option_map number_bytes found →
+        LeavesOr (is_some found) (new_table (text_bytes table.now) (number_bytes columns) (number_bytes stamp)) m result (K.kept keeper.new) }
 {
     let key = spell_table(alloc, table)?;
     let found = find_columns(keeper, key.as_slice())?;
     if found.is_some() {
-        return Ok(Made::Refused);
+        return Ok(None);
     }
     let columns = spell_number(alloc, columns as u64)?;
     let stamp = spell_number(alloc, stamp)?;
-    write_table(keeper, key.as_slice(), columns.as_slice(), stamp.as_slice())
+    Ok(Some(write_table(keeper, key.as_slice(), columns.as_slice(), stamp.as_slice())?))
+}
+
+/// Raises the ceiling that stands at this key.
+pub(crate) fn make_ceiling<K: Keeper>(
+    alloc: Global,
+    keeper: &mut K,
+    key: &[u8],
+    ceiling: u64,
+    stamp: u64,
+) -> Result<Made, Stop>
+    requires idle { is_some (K.kept keeper.old).pending ≡ false }
+    requires small { ceiling < 2 ^ 63 }
+    requires room { stamp < 2 ^ 63 }
+    ensures tries { Tries (K.kept keeper.old) (K.kept keeper.new) result }
+    ensures works { (m : Store) → (K.kept keeper.old).held ≡ Some m → Leaves (new_ceiling key.now (number_bytes ceiling) (number_bytes stamp)) m result (K.kept keeper.new) }
+{
+    let ceiling = spell_number(alloc, ceiling)?;
+    let stamp = spell_number(alloc, stamp)?;
+    write_ceiling(keeper, key, ceiling.as_slice(), stamp.as_slice())
 }
 
 /// Writes what a transaction wrote.
 pub(crate) fn make_rows<K: Keeper>(
     alloc: Global,
     keeper: &mut K,
-    writes: &ByteMap<Bytes>,
+    writes: &ByteMap<Option<Bytes>>,
     stamp: u64,
 ) -> Result<Made, Stop>
     requires idle { is_some (K.kept keeper.old).pending ≡ false }
     requires room { stamp < 2 ^ 63 }
-    ensures closed { Closes (K.kept keeper.new) result }
-    ensures sure { (m : Store) → (K.kept keeper.old).held ≡ Some m → (K.kept keeper.old).can_fail ≡ Some 0 →
-        ((K.kept keeper.new).can_fail ≡ Some 0) × Makes false (new_rows writes.now (number_bytes stamp)) m (K.kept keeper.new) result }
+    ensures tries { Tries (K.kept keeper.old) (K.kept keeper.new) result }
+    ensures works { (m : Store) → (K.kept keeper.old).held ≡ Some m → Leaves (new_rows writes.now (number_bytes stamp)) m result (K.kept keeper.new) }
 {
     let stamp = spell_number(alloc, stamp)?;
     write_rows(keeper, writes, stamp.as_slice())
 }
 
-/// Places a row among the writes of a transaction, where the table has so many columns and the key is not there.
-pub(crate) fn place_row<K: Keeper>(
+/// A row with new values for columns.
+fn with_columns(
     alloc: Global,
-    keeper: &mut K,
-    writes: &mut ByteMap<Bytes>,
-    table: &Text,
     values: &[Text],
-) -> Result<Placed, Stop>
-    requires idle { is_some (K.kept keeper.old).pending ≡ false }
-    requires text { IsText table.now }
-    requires texts { AllTexts values.now }
-    requires some { 0 < length values.now }
-    requires few { length values.now ≤ 16 }
-    ensures closed { is_some (K.kept keeper.new).pending ≡ false }
-    ensures sure { (m : Store) (found : Option ℕ) (key : List ℕ) (row : Row) → (K.kept keeper.old).held ≡ Some m → (K.kept keeper.old).can_fail ≡ Some 0 →
-        IsSmall found → get (m tables) (text_bytes table.now) ≡ option_map number_bytes found → values.now ≡ key ∷ row →
-        ((K.kept keeper.new).can_fail ≡ Some 0) × ((K.kept keeper.new).held ≡ Some m)
-        × Places (can_place found values.now (row_key table.now key) writes.old m) writes.old (insert writes.old (row_key table.now key) (list_bytes row)) writes.new result }
+    columns: &[(u32, Text)],
+) -> Result<TextList, AllocError>
+    requires { length values.now < 2 ^ 32 }
+    ensures { IfOk result (λ row. row ≡ updated columns.now values.now) }
 {
-    let name = spell_table(alloc, table)?;
-    let Some(columns) = find_columns(keeper, name.as_slice())? else {
-        return Ok(Placed::Refused);
-    };
-    if values.len() as u64 != columns {
-        return Ok(Placed::Refused);
+    let mut row = TextList::new(alloc);
+    let mut number = 2;
+    for value in values {
+        let value = find_column(columns, number).unwrap_or(value);
+        row.push(value.copy(alloc)?)?;
+        number += 1;
     }
-    let (first, others) = values.split_at(1);
-    let key = spell_key(alloc, table, &first[0])?;
-    if writes.contains_key(key.as_slice()) || has_row(keeper, key.as_slice())? {
-        return Ok(Placed::Refused);
+    Ok(row)
+}
+
+/// The new value of a column, if it has one.
+fn find_column(columns: &[(u32, Text)], number: usize) -> Option<&Text>
+    ensures { (old : List ℕ) → unwrap_or (option_map (λ value. value.now) result) old ≡ column_value columns.now number old }
+{
+    for (column, value) in columns {
+        if *column as usize == number {
+            return Some(value);
+        }
     }
-    let value = spell_values(alloc, others)?;
-    writes.insert(Vec::from_slice(alloc, key.as_slice())?, value)?;
-    Ok(Placed::Done)
+    None
+}
+
+/// The spelled values of a row with new values for columns.
+pub(crate) fn update_values(
+    alloc: Global,
+    values: &Bytes,
+    columns: &[(u32, Text)],
+) -> Result<Bytes, Stop>
+    requires { AllTexts (map (λ c. c.1) columns.now) }
+    ensures says { (row : Row) → AreTexts row → values.now ≡ list_bytes row → Says (list_bytes (updated columns.now row)) result }
+    ensures never { is_failed result ≡ false }
+{
+    match read_values(alloc, values.as_slice()) {
+        Ok(values) => {
+            let row = with_columns(alloc, values.as_slice(), columns)?;
+            Ok(spell_values(alloc, row.as_slice())?)
+        }
+        Err(fault) => Err(row_stop(fault)),
+    }
 }
 
 /// The rows in order, as a list.

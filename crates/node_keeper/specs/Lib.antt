@@ -1,4 +1,6 @@
+pub mod Charges
 pub mod FilesTold
+pub mod Fused
 pub mod Journal
 pub mod MemKept
 pub mod MemShelved

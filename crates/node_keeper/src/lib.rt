@@ -1,6 +1,7 @@
-//! Stores in memory, and a store that passes on what another one does.
+//! Stores in memory, and a store that passes calls on to another one and fails them from a call on, as it is told.
 #![tactic(auto)]
 
+mod charge;
 mod fault_plan;
 mod fuse;
 mod journaled;

@@ -1,4 +1,6 @@
 // Stores, shelves and outputs in memory, used through their traits.
+ghost use Rattle.std.specs.Prelude.{◌≡◌, is_some, false};
+
 use crate::{Files, Fuse, Keeper, MemFiles, MemKeeper, MemShelf, MemSink, Shelf, Sink};
 use slon_base::{Bytes, KeepFault, OutFault, Text};
 use std::test::Fail;
@@ -88,6 +90,94 @@ fn commits_in_doubt(rt: HostRuntime) -> Result<(), Fail> {
         keeper.rollback()?;
         assert_eq!(rt; keeper.count(1)?, count);
         assert_eq!(rt; (keeper.faults(), keeper.doubts()), (1, 1));
+    }
+    Ok(())
+}
+
+/// An empty store in a fuse that is off.
+fn fused(rt: &HostRuntime) -> Result<Fuse<MemKeeper>, Fail> {
+    let alloc = rt.alloc();
+    Ok(Fuse::new(MemKeeper::new(alloc, Vec::new(alloc), false)?))
+}
+
+fn mark(fails: bool) -> char {
+    if fails { 'x' } else { '.' }
+}
+
+/// Which of four calls fail, as `x`.
+fn looks(rt: &HostRuntime, keeper: &mut Fuse<MemKeeper>) -> Result<String, Fail> {
+    let mut seen = String::new(rt.alloc());
+    seen.push(mark(keeper.get(1, b"a").is_err()))?;
+    seen.push(mark(keeper.next_after(1, b"a").is_err()))?;
+    seen.push(mark(keeper.count(1).is_err()))?;
+    seen.push(mark(keeper.rollback().is_err()))?;
+    Ok(seen)
+}
+
+#[test]
+fn fails_from_a_call_on(rt: HostRuntime) -> Result<(), Fail> {
+    let table = [
+        (0, "xxxx", 4),
+        (1, ".xxx", 3),
+        (2, "..xx", 2),
+        (3, "...x", 1),
+        (4, "....", 0),
+    ];
+    for (calls, seen, faults) in table {
+        let mut keeper = fused(&rt)?;
+        keeper.arm_commit(true);
+        keeper.arm(calls, false);
+        assert_eq!(rt; looks(&rt, &mut keeper)?.as_str(), seen);
+        keeper.disarm();
+        assert_eq!(rt; looks(&rt, &mut keeper)?.as_str(), "....");
+        keeper.arm_commit(true);
+        assert_eq!(rt; looks(&rt, &mut keeper)?.as_str(), "....");
+        assert_eq!(rt; (keeper.faults(), keeper.doubts()), (faults, 0));
+        keeper.arm(0, false);
+        assert_eq!(rt; looks(&rt, &mut keeper)?.as_str(), "xxxx");
+        assert_eq!(rt; (keeper.faults(), keeper.doubts()), (faults + 4, 0));
+    }
+    Ok(())
+}
+
+fn change<K: Keeper>(keeper: &mut K) -> Result<(), KeepFault>
+    requires { is_some (K.kept keeper.old).pending ≡ false }
+{
+    keeper.begin()?;
+    keeper.put(1, b"a", b"1")?;
+    keeper.commit()
+}
+
+/// What a change and a rollback answer, and how many pairs there are afterwards, and faults, and doubts.
+fn changed<K: Keeper>(
+    keeper: &mut Fuse<K>,
+) -> Result<(Result<(), KeepFault>, Result<(), KeepFault>, u64, u64, u64), Fail>
+    requires { is_some (K.kept keeper.old.keeper).pending ≡ false }
+{
+    let change = change(keeper);
+    let rollback = keeper.rollback();
+    keeper.disarm();
+    Ok((
+        change,
+        rollback,
+        keeper.count(1)?,
+        keeper.faults(),
+        keeper.doubts(),
+    ))
+}
+
+#[test]
+fn fails_commits(rt: HostRuntime) -> Result<(), Fail> {
+    let failed = Err(KeepFault::Failed);
+    for (keep, count) in [(false, 0), (true, 1)] {
+        let mut keeper = fused(&rt)?;
+        keeper.rollback()?;
+        keeper.arm(2, keep);
+        assert_eq!(rt; changed(&mut keeper)?, (failed, failed, count, 2, 1));
+        let mut keeper = fused(&rt)?;
+        keeper.rollback()?;
+        keeper.arm_commit(keep);
+        assert_eq!(rt; changed(&mut keeper)?, (failed, failed, count, 2, 1));
     }
     Ok(())
 }

@@ -1,3 +1,4 @@
+pub mod Columns
 pub mod Joins
 pub mod Lines
 pub mod Moving

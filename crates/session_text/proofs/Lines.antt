@@ -9,6 +9,7 @@ use Rattle.std.proofs.Math.Nat.{min_comm}
 use Rattle.std.specs.List.{slice_range, position, prefix_len, slice_split}
 use Rattle.std.specs.Str.Lines.{lines, lines_of_parts, strip_carriage_return}
 use Rattle.std.proofs.Math.Seq.{take-append-add}
+use Rattle.session_text.specs.Reading.{line_size}
 use Rattle.session_text.specs.Handing.{front, behind}
 
 -- a copy that is cut off grows as the list does
@@ -96,3 +97,38 @@ same_behind bs buffer start end n len count some false part h f g k = rw g refl
 pub behind_found : (bs buffer : List ℕ) (start end len count : ℕ) (found : Option ℕ) (some : Bool) → bs ≡ slice_range buffer start end → found ≡ position (λ c. eqb c 10) bs → len ≡ unwrap_or found (length bs) → some ≡ is_some found → count ≡ cond some (len + 1) len → behind bs ≡ cond some (Some (slice_range buffer (start + count) end)) None
 behind_found bs buffer start end len count found some part e f g h =
     behind_is bs ∙ same_behind bs buffer start end (prefix_len (λ c. not (eqb c 10)) bs) len count some _ part refl (f ∙ ap (λ o. unwrap_or o (length bs)) e) (g ∙ ap is_some e) h
+
+-- the size of the first line
+pub size_open : (bs : List ℕ) → behind bs ≡ None → line_size bs ≡ length bs
+size_open [] h = refl
+size_open (c ∷ cs) h = grind (arith, size_open cs)
+
+pub size_broken : (bs rest : List ℕ) → behind bs ≡ Some rest → line_size bs + length rest ≡ length bs
+size_broken [] rest h = cc
+size_broken (c ∷ cs) rest h = grind (arith, size_broken cs rest)
+
+pub drop-size_broken : (bs rest : List ℕ) → behind bs ≡ Some rest → drop (line_size bs) bs ≡ rest
+drop-size_broken [] rest h = cc
+drop-size_broken (c ∷ cs) rest h =
+    elim (eqb c 10) as (λ b. cond b (Some cs) (behind cs) ≡ Some rest → drop (cond b 1 (1 + line_size cs)) (c ∷ cs) ≡ rest) [ true ↦ λ e. cc | false ↦ λ e. rw one-add (drop-size_broken cs rest e) ] h
+
+pub size-append : (xs ys : List ℕ) → behind xs ≡ None → line_size (xs ++ ys) ≡ length xs + line_size ys
+size-append [] ys h = omega arith
+size-append (c ∷ cs) ys h = grind (arith, size-append cs ys)
+
+pub size_more : (xs ys : List ℕ) → line_size xs ≤ line_size (xs ++ ys)
+size_more [] ys = omega arith
+size_more (c ∷ cs) ys = grind (arith, size_more cs ys)
+
+size_is : (bs : List ℕ) → line_size bs ≡ cond (ltb (prefix_len (λ c. not (eqb c 10)) bs) (length bs)) (prefix_len (λ c. not (eqb c 10)) bs + 1) (length bs)
+size_is [] = refl
+size_is (c ∷ cs) = grind (arith, nat_tests, size_is cs)
+
+same_size : (n size len count : ℕ) (some b : Bool) → len ≡ unwrap_or (cond b (Some n) None) size → some ≡ is_some (cond b (Some n) None) → count ≡ cond some (len + 1) len → cond b (n + 1) size ≡ count
+same_size n size len count some true f g k = rw (k, g, f) refl
+same_size n size len count some false f g k = rw (k, g, f) refl
+
+-- the size of the first line, by where its newline stands
+pub size_found : (bs : List ℕ) (len count : ℕ) (found : Option ℕ) (some : Bool) → found ≡ position (λ c. eqb c 10) bs → len ≡ unwrap_or found (length bs) → some ≡ is_some found → count ≡ cond some (len + 1) len → line_size bs ≡ count
+size_found bs len count found some e f g h =
+    size_is bs ∙ same_size (prefix_len (λ c. not (eqb c 10)) bs) (length bs) len count some _ (f ∙ ap (λ o. unwrap_or o (length bs)) e) (g ∙ ap is_some e) h

@@ -2,15 +2,15 @@
 use Rattle.std.proofs.Common.{◌≡◌, ℕ, ◌+◌, ◌-◌, ◌<◌, ◌≤◌, eqb, ltb, cond, Bool, true, false, List, [], ◌∷◌, ◌++◌, length, get_or, take, drop, Option, Some, None, refl, sym, ap, ◌∙◌, arith, append_assoc, length-append, inl, inr}
 use Rattle.std.proofs.lemmas.Bool.{cases_lt}
 use borrow.Author.Tests.{ltb-false}
-use Rattle.std.proofs.lemmas.List.{append-nil, take_all, take-take, take-append-le, take-append-drop, length-take}
+use Rattle.std.proofs.lemmas.List.{append-nil, drop_all, take_all, take-take, take-append-le, take-append-drop, length-take}
 use Rattle.std.specs.Str.Lines.{lines, strip_carriage_return}
 use Rattle.slon_base.specs.Outside.{Filed, Reads}
 use Rattle.std.specs.List.{slice_range}
 use Rattle.std.proofs.lemmas.Slice.{between_from_start}
 use Rattle.session_text.specs.declared.line_reader.NextLine.TheVariants.{Line, TooLong, End}
-use Rattle.session_text.specs.Reading.{Reading, line_limit}
+use Rattle.session_text.specs.Reading.{Reading, line_limit, line_size}
 use Rattle.session_text.specs.Handing.{front, behind, Stays, Comes, Hands}
-use Rattle.session_text.proofs.Lines.{front_open, front-append, behind-append, front-append_broken, behind-append_broken, lines_broken, lines_open}
+use Rattle.session_text.proofs.Lines.{front_open, front-append, behind-append, front-append_broken, behind-append_broken, lines_broken, lines_open, size_open, size_broken, drop-size_broken, size-append, size_more}
 
 -- The line is what was moved, cut off, and holds no newline.
 pub record Moved (kept : ℕ) (line bytes : List ℕ) (old now : Reading) (files : Filed) : Type 0 where
@@ -27,10 +27,11 @@ pub moved_filled : (kept : ℕ) (line bytes : List ℕ) (old now next : Reading)
 moved_filled kept line bytes old now next before after m comes same =
     record { moved = m.moved; rest = m.rest; comes = comes; whole = m.whole; unbroken = m.unbroken; cut = m.cut; count = same ∙ m.count }
 
--- the bytes to come pass a limit where those that are unread do
-pub past : (limit kept : ℕ) (line bytes : List ℕ) (old now next : Reading) (before after : Filed) (m : Moved kept line bytes old now before) → Comes next after m.rest → next.taken ≡ now.taken → limit < next.taken + length next.unread → limit < old.taken + length bytes
+-- the first line of the bytes to come passes a limit where that of those that are unread does
+pub past : (limit kept : ℕ) (line bytes : List ℕ) (old now next : Reading) (before after : Filed) (m : Moved kept line bytes old now before) → Comes next after m.rest → next.taken ≡ now.taken → limit < next.taken + line_size next.unread → limit < old.taken + line_size bytes
 past limit kept line bytes old now next before after m comes same h =
-    omega (arith, m.count, ap length m.whole, length-append m.moved m.rest, ap length comes.2, length-append next.unread comes.0)
+    let all : m.moved ++ (next.unread ++ comes.0) ≡ bytes = ap (λ l. m.moved ++ l) (sym comes.2) ∙ m.whole in
+    omega (arith, m.count, ap line_size all, size-append m.moved (next.unread ++ comes.0) m.unbroken, size_more next.unread comes.0)
 
 pub stays_on : (old now next : Filed) → Stays old now → Stays now next → Stays old next
 stays_on old now next a b =
@@ -85,6 +86,7 @@ pub record Ended (kept : ℕ) (line bytes : List ℕ) (old now : Reading) (files
   pub whole : List ℕ
   pub rest : List ℕ
   pub comes : Comes now files rest
+  pub broken : behind bytes ≡ Some rest
   pub first : lines bytes ≡ strip_carriage_return whole ∷ lines rest
   pub cut : line ≡ take kept whole
   pub count : now.taken + length rest ≡ old.taken + length bytes
@@ -99,6 +101,7 @@ ended kept line added bytes old now next files m e some count =
       whole = m.moved ++ front now.unread;
       rest = next.unread ++ left;
       comes = (left, m.comes.1, refl);
+      broken = behind_all;
       first = lines_broken bytes (next.unread ++ left) behind_all ∙ ap (λ l. strip_carriage_return l ∷ lines (next.unread ++ left)) first;
       cut = e ∙ ap (λ l. take kept (l ++ front now.unread)) m.cut ∙ take_twice kept m.moved (front now.unread);
       count = omega (arith, m.count, ap length all, length-append m.moved (now.unread ++ left), length-append now.unread left, length-append next.unread left);
@@ -109,7 +112,10 @@ hands_line kept line cut bytes old now files e m strip short = record {
   rest = m.rest;
   comes = m.comes;
   takes = m.first ∙ ap (λ l. l ∷ lines m.rest) (strip_short line_limit kept line m.whole e (strip ∙ ap strip_carriage_return m.cut) short);
+  left = sym (drop-size_broken bytes m.rest m.broken);
+  size = omega (arith, m.count, size_broken bytes m.rest m.broken);
   taken = m.count;
+  none = λ e. cc;
 }
 
 pub hands_too_long : (kept : ℕ) (line cut bytes : List ℕ) (old now : Reading) (files : Filed) → line_limit + 2 ≡ kept → Ended kept cut bytes old now files → line ≡ strip_carriage_return cut → line_limit < length line → Hands line bytes old now files TooLong
@@ -117,7 +123,10 @@ hands_too_long kept line cut bytes old now files e m strip long = record {
   rest = m.rest;
   comes = m.comes;
   takes = (strip_carriage_return m.whole, strip_long line_limit kept line m.whole e (strip ∙ ap strip_carriage_return m.cut) long, m.first);
+  left = sym (drop-size_broken bytes m.rest m.broken);
+  size = omega (arith, m.count, size_broken bytes m.rest m.broken);
   taken = m.count;
+  none = λ e. cc;
 }
 
 -- At the session's end nothing is to come.
@@ -137,20 +146,26 @@ over kept line bytes old now next before after m comes same empty =
       count = omega (arith, m.count, ap length all);
     }
 
+over_left : (bytes : List ℕ) → behind bytes ≡ None → [] ≡ drop (line_size bytes) bytes
+over_left bytes unbroken = sym (drop_all (line_size bytes) bytes (omega (arith, size_open bytes unbroken)))
+
+over_size : (kept : ℕ) (line bytes : List ℕ) (old now : Reading) (files : Filed) → Over kept line bytes old now files → now.taken ≡ old.taken + line_size bytes
+over_size kept line bytes old now files m = omega (arith, m.count, size_open bytes m.unbroken)
+
 pub hands_end : (kept : ℕ) (line bytes : List ℕ) (old now : Reading) (files : Filed) → 0 < kept → Over kept line bytes old now files → length line ≡ 0 → Hands line bytes old now files End
-hands_end kept line [] old now files some m empty = record { rest = []; comes = m.comes; takes = refl; taken = m.count }
+hands_end kept line [] old now files some m empty = record { rest = []; comes = m.comes; takes = refl; left = refl; size = omega (arith, m.count); taken = m.count; none = λ _. refl }
 hands_end kept line (c ∷ cs) old now files some m empty = absurd (omega (arith, ap length m.cut, length-take kept (c ∷ cs)))
 
 pub hands_last : (kept : ℕ) (line bytes : List ℕ) (old now : Reading) (files : Filed) → line_limit < kept → Over kept line bytes old now files → 0 < length line → length line ≤ line_limit → Hands line bytes old now files Line
 hands_last kept line bytes old now files room m some short =
     let long = ap length m.cut ∙ length-take kept bytes in
     let same : line ≡ bytes = m.cut ∙ take_all kept bytes (omega arith) in
-    record { rest = []; comes = m.comes; takes = lines_open bytes m.unbroken (omega arith) ∙ ap (λ l. l ∷ []) (sym same); taken = m.count }
+    record { rest = []; comes = m.comes; takes = lines_open bytes m.unbroken (omega arith) ∙ ap (λ l. l ∷ []) (sym same); left = over_left bytes m.unbroken; size = over_size kept line bytes old now files m; taken = m.count; none = λ e. cc }
 
 pub hands_last_too_long : (kept : ℕ) (line bytes : List ℕ) (old now : Reading) (files : Filed) → Over kept line bytes old now files → line_limit < length line → Hands line bytes old now files TooLong
 hands_last_too_long kept line bytes old now files m long =
     let cut = ap length m.cut ∙ length-take kept bytes in
-    record { rest = []; comes = m.comes; takes = (bytes, omega arith, lines_open bytes m.unbroken (omega arith)); taken = m.count }
+    record { rest = []; comes = m.comes; takes = (bytes, omega arith, lines_open bytes m.unbroken (omega arith)); left = over_left bytes m.unbroken; size = over_size kept line bytes old now files m; taken = m.count; none = λ e. cc }
 
 -- what was left before a reading that gave so many bytes
 pub read_on : (into : List ℕ) (n : ℕ) (before after : Option (List ℕ)) (left : List ℕ) → Reads into n before after → before ≡ Some left → (rest : List ℕ) × (after ≡ Some rest) × (left ≡ slice_range into 0 n ++ rest) × (n ≡ 0 → left ≡ [])

@@ -1,30 +1,47 @@
 -- A reply is read back from its text: so no other reply prints alike.
-use Rattle.std.proofs.Common.{◌≡◌, ℕ, ◌<◌, ◌^◌, eqb, cond, true, false, List, [], ◌∷◌, ◌++◌, map, length, get_or, refl, sym, ap, ◌∙◌, arith, append_assoc, length-append, codes}
+use Rattle.std.proofs.Common.{◌≡◌, ℕ, ◌<◌, ◌^◌, eqb, if◌then◌else◌, true, false, List, [], ◌∷◌, ◌++◌, map, length, refl, sym, ap, ◌∙◌, arith, append_assoc, length-append, codes}
 use Rattle.std.proofs.lemmas.Bool.{and_parts}
 use Rattle.std.proofs.lemmas.List.{append-nil, append_cancel_right}
+use Rattle.std.proofs.lemmas.List.Splits.{join_with_byte-slice_split}
 use Rattle.std.proofs.lemmas.Fmt.{decimal_is_IsNumeral}
 use borrow.Author.Tests.{leb-true}
 use Rattle.std.specs.Fmt.{decimal}
-use Rattle.std.specs.List.{list_all, slice_split, AllByRecursion}
+use Rattle.std.specs.List.{list_all, slice_split, join_with_byte, AllByRecursion}
 use Rattle.std.specs.Str.{bytes_eq}
 use Rattle.std.specs.Str.Parse.{digits_value}
 use Rattle.slon_model.specs.declared.reply.Answer.{Answer}
-use Rattle.slon_model.specs.declared.reply.Answer.TheVariants.{Done, Opened, Acted, Committed, Listed}
+use Rattle.slon_model.specs.declared.reply.Answer.TheVariants.{Done, Opened, Acted, Unchanged, Committed, Listed, Kept, Lost, Status}
 use Rattle.slon_model.specs.declared.reply.Refusal.{Refusal}
-use Rattle.slon_model.specs.declared.reply.Refusal.TheVariants.{Fault, BadRow, NotEmpty, Down, TooBig, NotYet}
+use Rattle.slon_model.specs.declared.reply.Refusal.TheVariants.{Fault, Locked, Full, BadRow, NotEmpty, Down, NoDatabase, IsUp, TooBig, TableExists, NameUsed, NoTable, NoTransaction, Duplicate, BadWidth}
 use Rattle.slon_model.specs.declared.reply.Reply.{Reply}
 use Rattle.slon_model.specs.declared.reply.Reply.TheVariants.{Accepted, Refused, InDoubt}
-use Rattle.slon_model.specs.Forms.{is_name_byte, is_name, is_value_byte, is_value}
+use Rattle.slon_model.specs.Forms.{is_name_byte, is_name, is_part_byte, is_part, are_two_parts, is_table_name, is_value_byte, is_value}
 use Rattle.slon_model.specs.Printed.{joined, rows_text, answer_text, refusal_text, reply_text}
 use Rattle.session_text.specs.Replies.{RowHasForm, AnswerHasForm, RefusalHasForm, HasForm, lines_text}
 use Rattle.session_text.proofs.Joins.{joined_first}
 use Rattle.session_text.proofs.Splitting.{lacks, lacks_by, lacks-append, lacks-decimal, split_first, split_last}
+use Rattle.session_text.proofs.WordForms.{part_bytes}
 
 name_lacks : (byte : ℕ) (name : List ℕ) → is_name_byte byte ≡ false → is_name name ≡ true → lacks byte name ≡ true
 name_lacks byte name fails e = lacks_by is_name_byte byte name fails (and_parts _ _ e).1
 
 value_lacks : (byte : ℕ) (value : List ℕ) → is_value_byte byte ≡ false → is_value value ≡ true → lacks byte value ≡ true
 value_lacks byte value fails e = lacks_by is_value_byte byte value fails (and_parts _ _ e).1
+
+part_lacks : (byte : ℕ) (part : List ℕ) → is_part_byte byte ≡ false → is_part part ≡ true → lacks byte part ≡ true
+part_lacks byte part fails e = lacks_by is_part_byte byte part fails (part_bytes part e)
+
+parts_lack : (byte : ℕ) (parts : List (List ℕ)) → is_part_byte byte ≡ false → lacks byte (46 ∷ []) ≡ true → are_two_parts parts ≡ true → lacks byte (join_with_byte 46 parts) ≡ true
+parts_lack byte [] fails dot e = cc
+parts_lack byte (a ∷ []) fails dot e = cc
+parts_lack byte (a ∷ b ∷ []) fails dot e =
+    let p = and_parts (is_part a) (is_part b) e in
+    lacks-append byte a (46 ∷ b) (part_lacks byte a fails p.0) (lacks-append byte (46 ∷ []) b dot (part_lacks byte b fails p.1))
+parts_lack byte (a ∷ b ∷ c ∷ more) fails dot e = cc
+
+table_lacks : (byte : ℕ) (table : List ℕ) → is_part_byte byte ≡ false → lacks byte (46 ∷ []) ≡ true → is_table_name table ≡ true → lacks byte table ≡ true
+table_lacks byte table fails dot e =
+    ap (lacks byte) (sym (join_with_byte-slice_split 46 table)) ∙ parts_lack byte (slice_split (λ c. eqb c 46) table) fails dot e
 
 number_back : (n : ℕ) → n < 2 ^ 64 → digits_value 10 (decimal n) ≡ n
 number_back n small = (decimal_is_IsNumeral n small).1
@@ -93,13 +110,51 @@ rows_lack : (rows : List (List ℕ × List (List ℕ))) → AllByRecursion RowHa
 rows_lack [] h = refl
 rows_lack (row ∷ more) h = lacks-append 10 (row_word row) (rows_text more) (row_lacks 10 row refl refl refl h.0) (rows_lack more h.1)
 
+-- The words between spaces, with the spaces again.
+abbrev text_of : List (List ℕ) → List ℕ
+text_of words = join_with_byte 32 words
+
+text_back : (text : List ℕ) → text_of (slice_split (λ b. eqb b 32) text) ≡ text
+text_back text = join_with_byte-slice_split 32 text
+
+-- the number that the words are
+abbrev number_of : List (List ℕ) → ℕ
+number_of words = digits_value 10 (text_of words)
+
+number_text_back : (n : ℕ) → n < 2 ^ 64 → number_of (slice_split (λ b. eqb b 32) (decimal n)) ≡ n
+number_text_back n small = ap (digits_value 10) (text_back (decimal n)) ∙ number_back n small
+
+below_word : (n : ℕ) → n < 256 → n < 2 ^ 64
+below_word n h = omega arith
+
+below_half : (n : ℕ) → n < 2 ^ 32 → n < 2 ^ 64
+below_half n h = omega arith
+
+-- the rows of the words behind `rows`, the first of which is their count
+abbrev listed_of : List (List ℕ) → Answer
+listed_of [] = Listed []
+listed_of (count ∷ rows) = Listed (map row_of rows)
+
+-- the status of the words behind `node`: a number, `log` and a number
+abbrev status_of : List (List ℕ) → Answer
+status_of [] = Done
+status_of (node ∷ []) = Done
+status_of (node ∷ name ∷ log) = Status (digits_value 10 node) (number_of log)
+
 -- the answer of the words behind `ok`
 abbrev answer_of : List (List ℕ) → Answer
 answer_of [] = Done
-answer_of (kind ∷ []) = Done
-answer_of (kind ∷ number ∷ more) =
-    cond (bytes_eq kind (codes "xid")) (Opened (digits_value 10 number)) (cond (bytes_eq kind (codes "action")) (Acted (digits_value 10 number)) (cond (bytes_eq kind (codes "actions")) (Committed (digits_value 10 number)) (Listed (map row_of more))))
+answer_of (kind ∷ rest) =
+    if bytes_eq kind (codes "xid") then Opened (number_of rest)
+    else (if bytes_eq kind (codes "action") then Acted (number_of rest)
+    else (if bytes_eq kind (codes "none") then Unchanged
+    else (if bytes_eq kind (codes "actions") then Committed (number_of rest)
+    else (if bytes_eq kind (codes "rows") then listed_of rest
+    else (if bytes_eq kind (codes "kept") then Kept
+    else (if bytes_eq kind (codes "lost") then Lost
+    else status_of rest))))))
 
+-- The text of an answer begins with `ok`, and the words behind it are read back.
 record IsAnswered (answer : Answer) : Type 0 where
   rest : List (List ℕ)
   words : slice_split (λ b. eqb b 32) (answer_text answer) ≡ codes "ok" ∷ rest
@@ -107,41 +162,67 @@ record IsAnswered (answer : Answer) : Type 0 where
 
 answer_back : (answer : Answer) → AnswerHasForm answer → IsAnswered answer
 answer_back Done h = record { rest = []; words = refl; back = refl }
-answer_back (Opened xid) h = record {
-  rest = codes "xid" ∷ decimal xid ∷ [];
-  words = ap (λ l. codes "ok" ∷ codes "xid" ∷ l) (split_last 32 (decimal xid) (lacks-decimal 32 xid refl h));
-  back = ap Opened (number_back xid h);
-}
-answer_back (Acted number) h = record {
-  rest = codes "action" ∷ decimal number ∷ [];
-  words = ap (λ l. codes "ok" ∷ codes "action" ∷ l) (split_last 32 (decimal number) (lacks-decimal 32 number refl h));
-  back = ap Acted (number_back number h);
-}
-answer_back (Committed actions) h = record {
-  rest = codes "actions" ∷ decimal actions ∷ [];
-  words = ap (λ l. codes "ok" ∷ codes "actions" ∷ l) (split_last 32 (decimal actions) (lacks-decimal 32 actions refl h));
-  back = ap Committed (number_back actions h);
-}
+answer_back (Opened xid) h = record { rest = _; words = refl; back = ap Opened (number_text_back xid h) }
+answer_back (Acted number) h = record { rest = _; words = refl; back = ap Acted (number_text_back number h) }
+answer_back Unchanged h = record { rest = _; words = refl; back = refl }
+answer_back (Committed actions) h = record { rest = _; words = refl; back = ap Committed (number_text_back actions h) }
 answer_back (Listed rows) h = record {
   rest = codes "rows" ∷ decimal (length rows) ∷ map row_word rows;
   words = ap (λ l. codes "ok" ∷ codes "rows" ∷ l) (rows_split (decimal (length rows)) rows (lacks-decimal 32 (length rows) refl h.0) h.1);
   back = ap Listed (rows_back rows h.1);
 }
+answer_back Kept h = record { rest = _; words = refl; back = refl }
+answer_back Lost h = record { rest = _; words = refl; back = refl }
+answer_back (Status node log) h =
+    let node_small = below_half node h.0 in
+    let parts = ap (slice_split (λ b. eqb b 32)) (append_assoc (decimal node) (codes " log ") (decimal log)) ∙ split_first 32 (decimal node) (codes "log " ++ decimal log) (lacks-decimal 32 node refl node_small) in
+    record {
+      rest = codes "node" ∷ decimal node ∷ codes "log" ∷ slice_split (λ b. eqb b 32) (decimal log);
+      words = ap (λ l. codes "ok" ∷ codes "node" ∷ l) parts;
+      back = ap (λ n. Status n (number_of (slice_split (λ b. eqb b 32) (decimal log)))) (number_back node node_small) ∙ ap (Status node) (number_text_back log (below_word log h.1));
+    }
 
 answer_lacks : (answer : Answer) → AnswerHasForm answer → lacks 10 (answer_text answer) ≡ true
 answer_lacks Done h = refl
 answer_lacks (Opened xid) h = lacks-decimal 10 xid refl h
 answer_lacks (Acted number) h = lacks-decimal 10 number refl h
+answer_lacks Unchanged h = refl
 answer_lacks (Committed actions) h = lacks-decimal 10 actions refl h
 answer_lacks (Listed rows) h = lacks-append 10 (decimal (length rows)) (rows_text rows) (lacks-decimal 10 (length rows) refl h.0) (rows_lack rows h.1)
+answer_lacks Kept h = refl
+answer_lacks Lost h = refl
+answer_lacks (Status node log) h =
+    lacks-append 10 (decimal node ++ codes " log ") (decimal log) (lacks-append 10 (decimal node) (codes " log ") (lacks-decimal 10 node refl (below_half node h.0)) refl) (lacks-decimal 10 log refl (below_word log h.1))
+
+-- the fault of the words behind `fault`: a name and a number
+abbrev fault_of : List (List ℕ) → Refusal
+fault_of [] = Duplicate
+fault_of (database ∷ count) = Fault database (number_of count)
+
+-- the refusal of this number, with the words behind its name
+abbrev refusal_with : List ℕ → List (List ℕ) → Refusal
+refusal_with code rest =
+    if bytes_eq code (codes "10") then fault_of rest
+    else (if bytes_eq code (codes "12") then Locked (number_of rest)
+    else (if bytes_eq code (codes "13") then Full (number_of rest)
+    else (if bytes_eq code (codes "14") then BadRow (number_of rest)
+    else (if bytes_eq code (codes "15") then NotEmpty (text_of rest)
+    else (if bytes_eq code (codes "16") then Down (text_of rest)
+    else (if bytes_eq code (codes "17") then NoDatabase (text_of rest)
+    else (if bytes_eq code (codes "19") then IsUp (text_of rest)
+    else (if bytes_eq code (codes "21") then TooBig (number_of rest)
+    else (if bytes_eq code (codes "50") then TableExists (text_of rest)
+    else (if bytes_eq code (codes "51") then NameUsed (text_of rest)
+    else (if bytes_eq code (codes "52") then NoTable (text_of rest)
+    else (if bytes_eq code (codes "53") then NoTransaction (text_of rest)
+    else (if bytes_eq code (codes "54") then Duplicate
+    else BadWidth (number_of rest))))))))))))))
 
 -- the refusal of the words behind `no`
 abbrev refusal_of : List (List ℕ) → Refusal
-refusal_of [] = NotYet
-refusal_of (code ∷ []) = NotYet
-refusal_of (code ∷ name ∷ []) = NotYet
-refusal_of (code ∷ name ∷ what ∷ more) =
-    cond (bytes_eq code (codes "10")) (Fault what (digits_value 10 (get_or more 0 []))) (cond (bytes_eq code (codes "14")) (BadRow (digits_value 10 what)) (cond (bytes_eq code (codes "15")) (NotEmpty what) (cond (bytes_eq code (codes "16")) (Down what) (TooBig (digits_value 10 what)))))
+refusal_of [] = Duplicate
+refusal_of (code ∷ []) = Duplicate
+refusal_of (code ∷ name ∷ rest) = refusal_with code rest
 
 abbrev doubt_of : List (List ℕ) → Reply
 doubt_of [] = Accepted Done
@@ -151,35 +232,47 @@ doubt_of (database ∷ ok ∷ rest) = InDoubt database (answer_of rest)
 abbrev reply_in : List (List ℕ) → Reply
 reply_in [] = Accepted Done
 reply_in (verb ∷ rest) =
-    cond (bytes_eq verb (codes "ok")) (Accepted (answer_of rest)) (cond (bytes_eq verb (codes "no")) (Refused (refusal_of rest)) (doubt_of rest))
+    if bytes_eq verb (codes "ok") then Accepted (answer_of rest) else (if bytes_eq verb (codes "no") then Refused (refusal_of rest) else doubt_of rest)
 
 abbrev reply_of : List ℕ → Reply
 reply_of text = reply_in (slice_split (λ b. eqb b 32) text)
 
-below_word : (n : ℕ) → n < 256 → n < 2 ^ 64
-below_word n h = omega arith
-
 refusal_back : (refusal : Refusal) → RefusalHasForm refusal → reply_of (refusal_text refusal) ≡ Refused refusal
 refusal_back (Fault database count) h =
-    let last = split_last 32 (decimal count) (lacks-decimal 32 count refl h.1) in
-    let words = ap (λ t. slice_split (λ b. eqb b 32) t) (append_assoc database (32 ∷ []) (decimal count)) ∙ split_first 32 database (decimal count) (name_lacks 32 database refl h.0) ∙ ap (λ l. database ∷ l) last in
-    ap (λ l. reply_in (codes "no" ∷ codes "10" ∷ codes "fault" ∷ l)) words ∙ ap (λ n. Refused (Fault database n)) (number_back count h.1)
-refusal_back (BadRow space) h =
-    ap (λ l. reply_in (codes "no" ∷ codes "14" ∷ codes "badrow" ∷ l)) (split_last 32 (decimal space) (lacks-decimal 32 space refl (below_word space h))) ∙ ap (λ n. Refused (BadRow n)) (number_back space (below_word space h))
-refusal_back (NotEmpty database) h = ap (λ l. reply_in (codes "no" ∷ codes "15" ∷ codes "notempty" ∷ l)) (split_last 32 database (name_lacks 32 database refl h))
-refusal_back (Down database) h = ap (λ l. reply_in (codes "no" ∷ codes "16" ∷ codes "down" ∷ l)) (split_last 32 database (name_lacks 32 database refl h))
-refusal_back (TooBig space) h =
-    ap (λ l. reply_in (codes "no" ∷ codes "21" ∷ codes "toobig" ∷ l)) (split_last 32 (decimal space) (lacks-decimal 32 space refl (below_word space h))) ∙ ap (λ n. Refused (TooBig n)) (number_back space (below_word space h))
-refusal_back NotYet h = refl
+    let words = ap (slice_split (λ b. eqb b 32)) (append_assoc database (32 ∷ []) (decimal count)) ∙ split_first 32 database (decimal count) (name_lacks 32 database refl h.0) in
+    ap (λ l. reply_in (codes "no" ∷ codes "10" ∷ codes "fault" ∷ l)) words ∙ ap (λ n. Refused (Fault database n)) (number_text_back count h.1)
+refusal_back (Locked xid) h = ap (λ n. Refused (Locked n)) (number_text_back xid h)
+refusal_back (Full limit) h = ap (λ n. Refused (Full n)) (number_text_back limit (below_half limit h))
+refusal_back (BadRow space) h = ap (λ n. Refused (BadRow n)) (number_text_back space (below_word space h))
+refusal_back (NotEmpty database) h = ap (λ t. Refused (NotEmpty t)) (text_back database)
+refusal_back (Down database) h = ap (λ t. Refused (Down t)) (text_back database)
+refusal_back (NoDatabase database) h = ap (λ t. Refused (NoDatabase t)) (text_back database)
+refusal_back (IsUp database) h = ap (λ t. Refused (IsUp t)) (text_back database)
+refusal_back (TooBig space) h = ap (λ n. Refused (TooBig n)) (number_text_back space (below_word space h))
+refusal_back (TableExists table) h = ap (λ t. Refused (TableExists t)) (text_back table)
+refusal_back (NameUsed name) h = ap (λ t. Refused (NameUsed t)) (text_back name)
+refusal_back (NoTable table) h = ap (λ t. Refused (NoTable t)) (text_back table)
+refusal_back (NoTransaction transaction) h = ap (λ t. Refused (NoTransaction t)) (text_back transaction)
+refusal_back Duplicate h = refl
+refusal_back (BadWidth columns) h = ap (λ n. Refused (BadWidth n)) (number_text_back columns h)
 
 refusal_lacks : (refusal : Refusal) → RefusalHasForm refusal → lacks 10 (refusal_text refusal) ≡ true
 refusal_lacks (Fault database count) h =
     lacks-append 10 (database ++ 32 ∷ []) (decimal count) (lacks-append 10 database (32 ∷ []) (name_lacks 10 database refl h.0) refl) (lacks-decimal 10 count refl h.1)
+refusal_lacks (Locked xid) h = lacks-decimal 10 xid refl h
+refusal_lacks (Full limit) h = lacks-decimal 10 limit refl (below_half limit h)
 refusal_lacks (BadRow space) h = lacks-decimal 10 space refl (below_word space h)
 refusal_lacks (NotEmpty database) h = name_lacks 10 database refl h
 refusal_lacks (Down database) h = name_lacks 10 database refl h
+refusal_lacks (NoDatabase database) h = name_lacks 10 database refl h
+refusal_lacks (IsUp database) h = name_lacks 10 database refl h
 refusal_lacks (TooBig space) h = lacks-decimal 10 space refl (below_word space h)
-refusal_lacks NotYet h = refl
+refusal_lacks (TableExists table) h = table_lacks 10 table refl refl h
+refusal_lacks (NameUsed name) h = name_lacks 10 name refl h
+refusal_lacks (NoTable table) h = table_lacks 10 table refl refl h
+refusal_lacks (NoTransaction transaction) h = name_lacks 10 transaction refl h
+refusal_lacks Duplicate h = refl
+refusal_lacks (BadWidth columns) h = lacks-decimal 10 columns refl h
 
 pub reply_back : (reply : Reply) → HasForm reply → reply_of (reply_text reply) ≡ reply
 reply_back (Accepted answer) h =

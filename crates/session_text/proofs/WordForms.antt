@@ -45,7 +45,7 @@ part_is c cs e =
     let f = and_parts (is_first_part_byte c) (leb (length cs) 30) h.0 in
     and_from (is_part_byte c) (list_all is_part_byte cs) (grind (arith, nat_tests, f.0)) h.1
 
-part_bytes : (bs : List ℕ) → is_part bs ≡ true → list_all is_part_byte bs ≡ true
+pub part_bytes : (bs : List ℕ) → is_part bs ≡ true → list_all is_part_byte bs ≡ true
 part_bytes [] e = refl
 part_bytes (c ∷ cs) e = part_is c cs e
 

@@ -8,7 +8,7 @@ use Rattle.session_text.specs.declared.line_reader.NextLine.{NextLine}
 use Rattle.session_text.specs.declared.line_reader.NextLine.TheVariants.{Line, TooLong, End}
 use Rattle.session_text.specs.declared.line_reader.ReadStop.{ReadStop}
 use Rattle.session_text.specs.declared.line_reader.ReadStop.TheVariants.{Failed, NoMemory}
-use Rattle.session_text.specs.Reading.{Reading, line_limit}
+use Rattle.session_text.specs.Reading.{Reading, line_limit, line_size}
 
 -- the bytes before the first newline
 abbrev pub front : List ℕ → List ℕ
@@ -42,9 +42,13 @@ Takes Line line bytes rest = lines bytes ≡ line ∷ lines rest
 Takes TooLong line bytes rest = (whole : List ℕ) × (line_limit < length whole) × (lines bytes ≡ whole ∷ lines rest)
 Takes End line bytes rest = lines bytes ≡ []
 
--- what a call hands over of the bytes to come, where they are told
+-- What a call hands over of the bytes to come, where they are told: the first line, whether it is short or too long, and
+-- its newline. At the end there are none.
 pub record Hands (line : List ℕ) (bytes : List ℕ) (old new : Reading) (files : Filed) (next : NextLine) : Type 0 where
   pub rest : List ℕ
   pub comes : Comes new files rest
   pub takes : Takes next line bytes rest
+  pub left : rest ≡ drop (line_size bytes) bytes
+  pub size : new.taken ≡ old.taken + line_size bytes
   pub taken : new.taken + length rest ≡ old.taken + length bytes
+  pub none : next ≡ End → bytes ≡ []

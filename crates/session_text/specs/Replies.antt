@@ -2,12 +2,12 @@
 use Rattle.std.specs.Prelude.{◌≡◌, ℕ, ◌^◌, ◌<◌, true, List, [], ◌∷◌, ◌++◌, length}
 use Rattle.std.specs.List.{list_all, AllByRecursion}
 use Rattle.slon_model.specs.declared.reply.Answer.{Answer}
-use Rattle.slon_model.specs.declared.reply.Answer.TheVariants.{Done, Opened, Acted, Committed, Listed}
+use Rattle.slon_model.specs.declared.reply.Answer.TheVariants.{Done, Opened, Acted, Unchanged, Committed, Listed, Kept, Lost, Status}
 use Rattle.slon_model.specs.declared.reply.Refusal.{Refusal}
-use Rattle.slon_model.specs.declared.reply.Refusal.TheVariants.{Fault, BadRow, NotEmpty, Down, TooBig, NotYet}
+use Rattle.slon_model.specs.declared.reply.Refusal.TheVariants.{Fault, Locked, Full, BadRow, NotEmpty, Down, NoDatabase, IsUp, TooBig, TableExists, NameUsed, NoTable, NoTransaction, Duplicate, BadWidth}
 use Rattle.slon_model.specs.declared.reply.Reply.{Reply}
 use Rattle.slon_model.specs.declared.reply.Reply.TheVariants.{Accepted, Refused, InDoubt}
-use Rattle.slon_model.specs.Forms.{is_name, is_value}
+use Rattle.slon_model.specs.Forms.{is_name, is_table_name, is_value}
 use Rattle.slon_model.specs.Printed.{reply_line}
 
 -- the key and the values of a row are of the form of values
@@ -18,16 +18,29 @@ abbrev pub AnswerHasForm : Answer → Type 0
 AnswerHasForm Done = Unit {0}
 AnswerHasForm (Opened xid) = xid < 2 ^ 64
 AnswerHasForm (Acted number) = number < 2 ^ 64
+AnswerHasForm Unchanged = Unit {0}
 AnswerHasForm (Committed actions) = actions < 2 ^ 64
 AnswerHasForm (Listed rows) = (length rows < 2 ^ 64) × AllByRecursion RowHasForm rows
+AnswerHasForm Kept = Unit {0}
+AnswerHasForm Lost = Unit {0}
+AnswerHasForm (Status node log) = (node < 2 ^ 32) × (log < 256)
 
 abbrev pub RefusalHasForm : Refusal → Type 0
 RefusalHasForm (Fault database count) = (is_name database ≡ true) × (count < 2 ^ 64)
+RefusalHasForm (Locked xid) = xid < 2 ^ 64
+RefusalHasForm (Full limit) = limit < 2 ^ 32
 RefusalHasForm (BadRow space) = space < 256
 RefusalHasForm (NotEmpty database) = is_name database ≡ true
 RefusalHasForm (Down database) = is_name database ≡ true
+RefusalHasForm (NoDatabase database) = is_name database ≡ true
+RefusalHasForm (IsUp database) = is_name database ≡ true
 RefusalHasForm (TooBig space) = space < 256
-RefusalHasForm NotYet = Unit {0}
+RefusalHasForm (TableExists table) = is_table_name table ≡ true
+RefusalHasForm (NameUsed name) = is_name name ≡ true
+RefusalHasForm (NoTable table) = is_table_name table ≡ true
+RefusalHasForm (NoTransaction transaction) = is_name transaction ≡ true
+RefusalHasForm Duplicate = Unit {0}
+RefusalHasForm (BadWidth columns) = columns < 2 ^ 64
 
 -- The names, keys, values and numbers of a reply are of their forms.
 abbrev pub HasForm : Reply → Type 0

@@ -1,6 +1,7 @@
 //! The text of a session: its lines are read, its commands are understood, and its replies are printed.
 #![tactic(auto)]
 
+mod crash;
 mod forms;
 mod laws;
 mod line_reader;
@@ -13,6 +14,7 @@ mod read_tests;
 #[cfg(test)]
 mod reader_tests;
 mod words;
+mod writes;
 
 pub use laws::{outputs_are_injective, printing_is_injective};
 pub use line_reader::{LineReader, NextLine, ReadStop};

@@ -4,7 +4,7 @@ ghost use Rattle.std.specs.List.{position};
 ghost use Rattle.std.specs.Str.Lines.{strip_carriage_return};
 ghost use Rattle.slon_base.specs.Counts.{Rose};
 ghost use Rattle.slon_base.specs.Outside.{top};
-ghost use Rattle.session_text.specs.Reading.{line_limit, session_limit};
+ghost use Rattle.session_text.specs.Reading.{line_limit, line_size, session_limit};
 ghost use Rattle.session_text.specs.Handing.{front, behind, Stays, Comes, Hands};
 
 use slon_base::{Files, OutFault};
@@ -161,7 +161,7 @@ impl LineReader {
     fn take_into(&mut self, line: &mut Vec<u8>) -> Result<bool, ReadStop>
         requires { length line.old.items ≤ KEPT_LEN }
         ensures room { length line.new.items ≤ KEPT_LEN }
-        ensures past { IsErrOf result ReadStop.PastLimit → session_limit < self.old.taken + length self.old.unread }
+        ensures past { IsErrOf result ReadStop.PastLimit → session_limit < self.old.taken + line_size self.old.unread }
         ensures failed { IsErrOf result ReadStop.Failed → ⊥ }
         ensures line { IfOk result (λ _. line.new.items ≡ take KEPT_LEN (line.old.items ++ front self.old.unread)) }
         ensures rest { IfOk result (λ ended. behind self.old.unread ≡ (if ended then Some self.new.unread else None)) }
@@ -200,7 +200,7 @@ impl LineReader {
         ensures files { Stays (F.filed files.old) (F.filed files.new) }
         ensures failed { IsErrOf result ReadStop.Failed → Rose (F.filed files.old).faults (F.filed files.new).faults }
         ensures hands { (bytes : List ℕ) → Comes self.old (F.filed files.old) bytes → IfOk result (Hands line.new.items bytes self.old self.new (F.filed files.new)) }
-        ensures past { (bytes : List ℕ) → Comes self.old (F.filed files.old) bytes → IsErrOf result ReadStop.PastLimit → session_limit < self.old.taken + length bytes }
+        ensures past { (bytes : List ℕ) → Comes self.old (F.filed files.old) bytes → IsErrOf result ReadStop.PastLimit → session_limit < self.old.taken + line_size bytes }
         ensures limit { IfOk result (λ _. self.new.taken ≤ session_limit) }
         ensures moves { IfOk result (λ next. next ≡ NextLine.Line → self.old.taken < self.new.taken) }
         ensures short { IfOk result (λ next. next ≡ NextLine.Line → length line.new.items ≤ line_limit) }

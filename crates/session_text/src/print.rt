@@ -52,13 +52,25 @@ fn push_answer(line: &mut String, answer: &Answer) -> Result<(), AllocError>
         Answer::Done => write!(line, "ok"),
         Answer::Opened { xid } => write!(line, "ok xid {xid}"),
         Answer::Acted { number } => write!(line, "ok action {number}"),
+        Answer::Unchanged => write!(line, "ok none"),
         Answer::Committed { actions } => write!(line, "ok actions {actions}"),
         Answer::Listed { rows } => {
             let count = rows.len();
             write!(line, "ok rows {count}")?;
             push_rows(line, rows.as_slice())
         }
+        Answer::Kept => write!(line, "ok kept"),
+        Answer::Lost => write!(line, "ok lost"),
+        Answer::Status { node, log } => write!(line, "ok node {node} log {log}"),
     }
+}
+
+/// Adds what stands in front of a name, and the name.
+fn push_named(line: &mut String, front: &str, name: &Text) -> Result<(), AllocError>
+    ensures { OnOk result (string_bytes line.new ≡ string_bytes line.old ++ (front.now ++ name.now)) }
+{
+    line.push_str(front)?;
+    line.push_str(name.as_str())
 }
 
 /// Adds why a command was not accepted.
@@ -67,20 +79,25 @@ fn push_refusal(line: &mut String, refusal: &Refusal) -> Result<(), AllocError>
 {
     match refusal {
         Refusal::Fault { database, count } => {
-            let name = database.as_str();
-            write!(line, "no 10 fault {name} {count}")
+            push_named(line, "no 10 fault ", database)?;
+            write!(line, " {count}")
         }
+        Refusal::Locked { xid } => write!(line, "no 12 locked {xid}"),
+        Refusal::Full { limit } => write!(line, "no 13 full {limit}"),
         Refusal::BadRow { space } => write!(line, "no 14 badrow {space}"),
-        Refusal::NotEmpty { database } => {
-            let name = database.as_str();
-            write!(line, "no 15 notempty {name}")
-        }
-        Refusal::Down { database } => {
-            let name = database.as_str();
-            write!(line, "no 16 down {name}")
-        }
+        Refusal::NotEmpty { database } => push_named(line, "no 15 notempty ", database),
+        Refusal::Down { database } => push_named(line, "no 16 down ", database),
+        Refusal::NoDatabase { database } => push_named(line, "no 17 nodatabase ", database),
+        Refusal::IsUp { database } => push_named(line, "no 19 isup ", database),
         Refusal::TooBig { space } => write!(line, "no 21 toobig {space}"),
-        Refusal::NotYet => write!(line, "no 97 notyet"),
+        Refusal::TableExists { table } => push_named(line, "no 50 tableexists ", table),
+        Refusal::NameUsed { name } => push_named(line, "no 51 nameused ", name),
+        Refusal::NoTable { table } => push_named(line, "no 52 notable ", table),
+        Refusal::NoTransaction { transaction } => {
+            push_named(line, "no 53 notransaction ", transaction)
+        }
+        Refusal::Duplicate => write!(line, "no 54 duplicate"),
+        Refusal::BadWidth { columns } => write!(line, "no 57 badwidth {columns}"),
     }
 }
 

@@ -4,8 +4,10 @@ ghost use Rattle.std.specs.Str.{is_utf8};
 ghost use Rattle.slon_model.specs.Lines as lines;
 ghost use Rattle.session_text.specs.Commands.{Gives, IsSaid, Reads};
 
+use crate::crash::{crash_of, up_of};
 use crate::line_reader::LINE_LIMIT;
-use crate::words::{Misread, name_of, number_of, table_name_of, values_of, words_of};
+use crate::words::{Misread, name_of, number_of, table_name_of, words_of};
+use crate::writes::{delete_of, insert_of, update_of};
 use slon_model::Command;
 use std::alloc::Global;
 use thiserror::Error;
@@ -63,21 +65,6 @@ fn begin_of(alloc: Global, words: &[&[u8]]) -> Result<Command, Misread>
     })
 }
 
-/// `insert DB NAME TABLE VALUE VALUE..`
-fn insert_of(alloc: Global, words: &[&[u8]]) -> Result<Command, Misread>
-    ensures { Gives (lines.insert_of (map (λ word. word.now) words.now)) result }
-{
-    if words.len() < 4 {
-        return Err(Misread::BadForm);
-    }
-    Ok(Command::Insert {
-        database: name_of(alloc, words[0])?,
-        transaction: name_of(alloc, words[1])?,
-        table: table_name_of(alloc, words[2])?,
-        values: values_of(alloc, &words[3..])?,
-    })
-}
-
 /// `commit DB NAME`
 fn commit_of(alloc: Global, words: &[&[u8]]) -> Result<Command, Misread>
     ensures { Gives (lines.commit_of (map (λ word. word.now) words.now)) result }
@@ -86,6 +73,19 @@ fn commit_of(alloc: Global, words: &[&[u8]]) -> Result<Command, Misread>
         return Err(Misread::BadForm);
     };
     Ok(Command::Commit {
+        database: name_of(alloc, database)?,
+        transaction: name_of(alloc, transaction)?,
+    })
+}
+
+/// `abort DB NAME`
+fn abort_of(alloc: Global, words: &[&[u8]]) -> Result<Command, Misread>
+    ensures { Gives (lines.abort_of (map (λ word. word.now) words.now)) result }
+{
+    let [database, transaction] = words else {
+        return Err(Misread::BadForm);
+    };
+    Ok(Command::Abort {
         database: name_of(alloc, database)?,
         transaction: name_of(alloc, transaction)?,
     })
@@ -104,6 +104,18 @@ fn rows_of(alloc: Global, words: &[&[u8]]) -> Result<Command, Misread>
     })
 }
 
+/// `status DB`
+fn status_of(alloc: Global, words: &[&[u8]]) -> Result<Command, Misread>
+    ensures { Gives (lines.status_of (map (λ word. word.now) words.now)) result }
+{
+    let [database] = words else {
+        return Err(Misread::BadForm);
+    };
+    Ok(Command::Status {
+        database: name_of(alloc, database)?,
+    })
+}
+
 /// The command that the first word names, of the words behind it.
 fn command_of(alloc: Global, verb: &[u8], rest: &[&[u8]]) -> Result<Command, Misread>
     ensures { Gives (lines.command_of verb.now (map (λ word. word.now) rest.now)) result }
@@ -116,10 +128,22 @@ fn command_of(alloc: Global, verb: &[u8], rest: &[&[u8]]) -> Result<Command, Mis
         begin_of(alloc, rest)
     } else if verb == b"insert".as_slice() {
         insert_of(alloc, rest)
+    } else if verb == b"update".as_slice() {
+        update_of(alloc, rest)
+    } else if verb == b"delete".as_slice() {
+        delete_of(alloc, rest)
     } else if verb == b"commit".as_slice() {
         commit_of(alloc, rest)
+    } else if verb == b"abort".as_slice() {
+        abort_of(alloc, rest)
     } else if verb == b"rows".as_slice() {
         rows_of(alloc, rest)
+    } else if verb == b"status".as_slice() {
+        status_of(alloc, rest)
+    } else if verb == b"crash".as_slice() {
+        crash_of(alloc, rest)
+    } else if verb == b"up".as_slice() {
+        up_of(alloc, rest)
     } else {
         Err(Misread::BadForm)
     }

@@ -70,7 +70,7 @@ pub fn table_name_of(alloc: Global, word: &[u8]) -> Result<Text, Misread>
 }
 
 /// The value that the word is.
-fn value_of(alloc: Global, word: &[u8]) -> Result<Text, Misread>
+pub fn value_of(alloc: Global, word: &[u8]) -> Result<Text, Misread>
     ensures { Gives (value_in word.now) result }
 {
     if !is_value(word) {

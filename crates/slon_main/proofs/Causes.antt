@@ -1,10 +1,11 @@
 -- Why a run stops, carried over the calls that it makes.
-use Rattle.std.proofs.Common.{◌≡◌, ◌∙◌, ℕ, ◌≤◌, ◌^◌, ◌-◌, Result, Ok, Err, sym, ap, subst, inl, inr, arith}
-use Rattle.slon_base.specs.Counts.{Rose}
+use Rattle.std.proofs.Common.{◌≡◌, ◌∙◌, ℕ, ◌≤◌, ◌^◌, ◌-◌, true, Option, Some, None, Result, Ok, Err, sym, ap, subst, inl, inr, arith}
+use Rattle.slon_base.specs.Counts.{Rose, Within}
+use Rattle.slon_base.specs.Keeper.{Kept, nothing}
 use Rattle.slon_main.specs.declared.run.Stop.{Stop}
 use Rattle.slon_main.specs.declared.run.Stop.TheVariants.{BadLine, Read, Write, NoMemory, NoStore, TooLong}
-use Rattle.slon_base.specs.Shelf.{Shelved}
-use Rattle.slon_main.specs.Running.{Counts, HasCause, NeverFails}
+use Rattle.slon_base.specs.Shelf.{Shelved, IsAsPromised}
+use Rattle.slon_main.specs.Running.{Counts, HasCause, NeverFails, Tells}
 
 -- a count that rises after it stood still or rose has risen
 pub rose_since : (old mid new : ℕ) → old ≤ mid → Rose mid new → Rose old new
@@ -44,3 +45,17 @@ handed_on P result (y, is, same) holds = subst P (sym is) (subst (λ s. P (Err s
 -- a shelf that keeps its promises
 pub never_still : (old new : Shelved) → new.promise ≡ old.promise → NeverFails old → NeverFails new
 never_still old new same never place = ap (λ f. f place) same ∙ never place
+
+pub tells_still : (old new : Shelved) → new.promise ≡ old.promise → Tells old → Tells new
+tells_still old new same tells = subst (λ f. (place : ℕ) → ((f place).begins_empty ≡ true) × ((f place).tells_rows ≡ true)) (sym same) tells
+
+within_none : (left : Option ℕ) → Within (Some 0) left → left ≡ Some 0
+within_none None within = absurd within
+within_none (Some n) within = let none : n ≡ 0 = omega (arith, within) in ap Some none
+
+-- a store as it was promised begins empty, and fails at no call
+pub begins_empty : (shelf : Shelved) (place : ℕ) (k : Kept) → Tells shelf → IsAsPromised (shelf.promise place) k → k.held ≡ Some nothing
+begins_empty shelf place k tells promised = promised.empty (tells place).0 (tells place).1
+
+pub cannot_fail : (shelf : Shelved) (place : ℕ) (k : Kept) → NeverFails shelf → IsAsPromised (shelf.promise place) k → k.can_fail ≡ Some 0
+cannot_fail shelf place k never promised = within_none k.can_fail (subst (λ p. Within p.can_fail k.can_fail) (never place) promised.left)

@@ -1,4 +1,6 @@
 pub mod Causes
 pub mod Ends
 pub mod Lifting
+pub mod Moving
+pub mod Places
 pub mod Runs

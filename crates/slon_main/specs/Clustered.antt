@@ -2,8 +2,7 @@
 use Rattle.std.specs.Prelude.{ℕ, List, map}
 use Rattle.slon_base.specs.Keeper.{Kept}
 use Rattle.slon_base.specs.declared.keeper.Keeper.{Ghosts}
-use Rattle.app_store.specs.Fits.{Base}
-use Rattle.app_store.specs.Base.{base_of}
+use Rattle.app_store.specs.Base.{Base, base_of}
 use Rattle.slon_main.specs.Agreed.{Clustered}
 use Rattle.slon_main.specs.declared.cluster.Named.{Named}
 use Rattle.slon_main.specs.declared.cluster.Cluster.{Cluster}

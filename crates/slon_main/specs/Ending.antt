@@ -1,16 +1,18 @@
 -- How a session ends, and what is written last.
-use Rattle.std.specs.Prelude.{◌≡◌, ℕ, ◌==◌, ◌≤◌, if◌then◌else◌, Bool, true, false, List, [], ◌∷◌, ◌++◌, codes, Option, Some, None}
+use Rattle.std.specs.Prelude.{◌≡◌, ℕ, ◌==◌, ◌≤◌, if◌then◌else◌, Bool, true, false, List, [], ◌∷◌, ◌++◌, length, codes, Option, Some, None}
 use Rattle.std.specs.Option.{option_map}
 use Rattle.std.specs.Fmt.{decimal}
 use Rattle.slon_base.specs.Counts.{Rose}
 use Rattle.slon_base.specs.Outside.{Filed, Poured}
+use Rattle.slon_base.specs.Shelf.{Shelved}
 use Rattle.slon_model.specs.Lines.{session_of}
+use Rattle.session_text.specs.Reading.{session_limit}
 use Rattle.slon_main.specs.declared.status.Status.{Status}
 use Rattle.slon_main.specs.declared.status.Status.TheVariants.{Done, Usage, BadLine, ReadFault, WriteFault, NoMemory, NoStore, Missing, TooLong}
 use Rattle.slon_main.specs.declared.run.Stop.{Stop}
 use Rattle.slon_main.specs.declared.run.Stop.TheVariants.{BadLine as StopsBad, Read as StopsRead, Write as StopsWrite, NoMemory as StopsShort, NoStore as StopsNoStore, TooLong as StopsLong}
 use Rattle.slon_main.specs.Agreed.{Clustered}
-use Rattle.slon_main.specs.Running.{Counts, Ran}
+use Rattle.slon_main.specs.Running.{Counts, Ran, RanOn, IsTooLong}
 
 -- a session allows so many databases
 abbrev pub database_limit : ℕ
@@ -123,20 +125,60 @@ is_lost Missing = true
 is_lost TooLong = false
 
 -- What is written and handed back at the end of a session of these bytes, and after the lines before its first bad one:
--- the replies to exactly their commands, each the one due, and databases that agree with the rules.
-abbrev pub EndsRun : Status → List ℕ → Option (List ℕ) → Option Clustered → Type 0
-EndsRun Done bytes written None = ⊥
-EndsRun Done bytes written (Some cluster) = Ran database_limit (session_of bytes).commands written cluster × ((session_of bytes).stop ≡ None)
-EndsRun BadLine bytes written None = ⊥
-EndsRun BadLine bytes written (Some cluster) =
-    (output : List ℕ) × (number : ℕ) × Ran database_limit (session_of bytes).commands (Some output) cluster × ((session_of bytes).stop ≡ Some number) × (written ≡ Some (output ++ bad_line number))
-EndsRun Usage bytes written cluster = Unit {0}
-EndsRun ReadFault bytes written cluster = Unit {0}
-EndsRun WriteFault bytes written cluster = Unit {0}
-EndsRun NoMemory bytes written cluster = Unit {0}
-EndsRun NoStore bytes written cluster = Unit {0}
-EndsRun Missing bytes written cluster = Unit {0}
-EndsRun TooLong bytes written cluster = Unit {0}
+-- the replies to exactly their commands, as the rules allow, and databases that agree with the rules. Where a file fails,
+-- where there is no store and where there are too many bytes, these are the replies to the first commands.
+abbrev pub EndsRun : Shelved → Status → List ℕ → Option (List ℕ) → Option Clustered → Type 0
+EndsRun shelf Done bytes written None = ⊥
+EndsRun shelf Done bytes written (Some cluster) = Ran shelf database_limit (session_of bytes).commands written cluster × ((session_of bytes).stop ≡ None)
+EndsRun shelf BadLine bytes written None = ⊥
+EndsRun shelf BadLine bytes written (Some cluster) =
+    (output : List ℕ) × (number : ℕ) × Ran shelf database_limit (session_of bytes).commands (Some output) cluster × ((session_of bytes).stop ≡ Some number) × (written ≡ Some (output ++ bad_line number))
+EndsRun shelf Usage bytes written cluster = Unit {0}
+EndsRun shelf ReadFault bytes written None = ⊥
+EndsRun shelf ReadFault bytes written (Some cluster) = (output : List ℕ) × RanOn shelf database_limit (session_of bytes).commands (Some output) cluster × (written ≡ Some (output ++ read_line))
+EndsRun shelf WriteFault bytes written cluster = Unit {0}
+EndsRun shelf NoMemory bytes written cluster = Unit {0}
+EndsRun shelf NoStore bytes written None = ⊥
+EndsRun shelf NoStore bytes written (Some cluster) =
+    (output : List ℕ) × (name : List ℕ) × RanOn shelf database_limit (session_of bytes).commands (Some output) cluster × (written ≡ Some (output ++ store_line name))
+EndsRun shelf Missing bytes written cluster = Unit {0}
+EndsRun shelf TooLong bytes written None = ⊥
+EndsRun shelf TooLong bytes written (Some cluster) = (output : List ℕ) × RanOn shelf database_limit (session_of bytes).commands (Some output) cluster × (written ≡ Some (output ++ long_line))
+
+-- Where the run of a session of these bytes ends: at its end, at its first bad line, or where it is too long.
+abbrev pub EndsAt : Status → List ℕ → Type 0
+EndsAt Done bytes = ((session_of bytes).stop ≡ None) × (IsTooLong bytes → ⊥)
+EndsAt Usage bytes = Unit {0}
+EndsAt BadLine bytes = (number : ℕ) × ((session_of bytes).stop ≡ Some number) × (IsTooLong bytes → ⊥)
+EndsAt ReadFault bytes = Unit {0}
+EndsAt WriteFault bytes = Unit {0}
+EndsAt NoMemory bytes = Unit {0}
+EndsAt NoStore bytes = Unit {0}
+EndsAt Missing bytes = Unit {0}
+EndsAt TooLong bytes = IsTooLong bytes
+
+-- the endings where nothing failed and nothing is wrong with the session
+abbrev pub is_whole : Status → Bool
+is_whole Done = true
+is_whole Usage = false
+is_whole BadLine = false
+is_whole ReadFault = false
+is_whole WriteFault = false
+is_whole NoMemory = true
+is_whole NoStore = false
+is_whole Missing = false
+is_whole TooLong = false
+
+-- no object failed
+pub record NoneRose (old new : Counts) : Type 0 where
+  pub files : Rose old.files new.files → ⊥
+  pub shelf : Rose old.shelf new.shelf → ⊥
+  pub out : Rose old.out new.out → ⊥
+
+-- the lines of a session are commands or say nothing, and it is short enough
+pub record IsWhole (bytes : List ℕ) : Type 0 where
+  pub stop : (session_of bytes).stop ≡ None
+  pub size : length bytes ≤ session_limit
 
 -- The files tell what they hold, and under the name that the words give they hold these bytes.
 pub record Holds (words : List (List ℕ)) (bytes : List ℕ) (files : Filed) : Type 0 where

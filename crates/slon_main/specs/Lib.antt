@@ -1,4 +1,5 @@
 pub mod Agreed
+pub mod Calls
 pub mod Clustered
 pub mod Ending
 pub mod Running

@@ -1,25 +1,30 @@
 -- What the parts of a run do.
-use Rattle.std.specs.Prelude.{◌≡◌, ℕ, ◌+◌, ◌<◌, ◌≤◌, Bool, true, false, List, [], ◌∷◌, ◌++◌, length, Option, Some, None, Result, Ok, Err}
+use Rattle.std.specs.Prelude.{◌≡◌, ℕ, suc, zero, ◌+◌, ◌<◌, ◌≤◌, Bool, true, false, List, [], ◌∷◌, ◌++◌, length, drop, Option, Some, None, Result, Ok, Err}
+use Rattle.std.specs.List.{AllByRecursion}
 use Rattle.std.specs.Option.{option_map}
 use Rattle.std.specs.Str.Lines.{lines}
 use Rattle.slon_base.specs.Counts.{Rose}
 use Rattle.slon_base.specs.Outside.{Filed}
 use Rattle.slon_base.specs.Shelf.{Shelved}
 use Rattle.slon_model.specs.declared.command.Command.{Command}
-use Rattle.slon_model.specs.declared.reply.Answer.TheVariants.{Done}
 use Rattle.slon_model.specs.declared.reply.Reply.{Reply}
-use Rattle.slon_model.specs.declared.reply.Reply.TheVariants.{Accepted}
-use Rattle.slon_model.specs.Lines.{Meaning, Silent, Says, Bad, Session}
+use Rattle.slon_model.specs.Lines.{Meaning, Silent, Says, Bad, Session, session_of}
 use Rattle.slon_model.specs.Printed.{reply_line}
-use Rattle.slon_model.specs.World.{World, start, due, after, Happening, Leads, commands_of, output_of}
-use Rattle.session_text.specs.Reading.{Reading, line_limit, session_limit}
+use Rattle.slon_model.specs.World.{World, start, Step, Happening, Leads, IsDue, commands_of, output_of}
+use Rattle.session_text.specs.Reading.{Reading, line_limit, line_size, session_limit}
 use Rattle.session_text.specs.Handing.{Hands}
 use Rattle.session_text.specs.declared.line_reader.NextLine.TheVariants.{Line}
-use Rattle.slon_main.specs.Agreed.{Clustered, Agrees, HasRoom, adopted}
+use Rattle.app_store.specs.Goes.{arms}
+use Rattle.slon_main.specs.Agreed.{Clustered, Agrees, IsReady}
+use Rattle.slon_main.specs.Calls.{StaysCertain}
 use Rattle.slon_main.specs.declared.run.Stop.{Stop}
 use Rattle.slon_main.specs.declared.run.Stop.TheVariants.{BadLine, Read, Write, NoMemory, NoStore, TooLong}
 
--- the shelf tells that its stores begin empty, tell their rows and fail at no call
+-- the shelf tells that its stores begin empty and tell their rows
+abbrev pub Tells : Shelved → Type 0
+Tells shelf = (place : ℕ) → ((shelf.promise place).begins_empty ≡ true) × ((shelf.promise place).tells_rows ≡ true)
+
+-- it tells also that they fail at no call
 abbrev pub NeverFails : Shelved → Type 0
 NeverFails shelf = (place : ℕ) → shelf.promise place ≡ record { begins_empty = true; tells_rows = true; can_fail = Some 0 }
 
@@ -80,59 +85,121 @@ is_of_line NoMemory = true
 is_of_line (NoStore name) = true
 is_of_line TooLong = false
 
+-- the shelf gave no store
+abbrev pub is_no_store : Stop → Bool
+is_no_store (BadLine number) = false
+is_no_store Read = false
+is_no_store Write = false
+is_no_store NoMemory = false
+is_no_store (NoStore name) = true
+is_no_store TooLong = false
+
 -- the reading of the next line of these bytes to come
 abbrev pub ReadsLine : ℕ → List ℕ → List ℕ → Reading → Reading → Filed → Result Bool Stop → Type 0
 ReadsLine number line bytes old new files (Ok true) = Hands line bytes old new files Line
-ReadsLine number line bytes old new files (Ok false) = lines bytes ≡ []
-ReadsLine number line bytes old new files (Err (BadLine bad)) = (bad ≡ number) × (whole : List ℕ) × (more : List (List ℕ)) × (line_limit < length whole) × (lines bytes ≡ whole ∷ more)
+ReadsLine number line bytes old new files (Ok false) = bytes ≡ []
+ReadsLine number line bytes old new files (Err (BadLine bad)) =
+    (bad ≡ number) × (old.taken + line_size bytes ≤ session_limit) × (whole : List ℕ) × (more : List (List ℕ)) × (line_limit < length whole) × (lines bytes ≡ whole ∷ more)
 ReadsLine number line bytes old new files (Err Read) = Unit {0}
 ReadsLine number line bytes old new files (Err Write) = ⊥
 ReadsLine number line bytes old new files (Err NoMemory) = Unit {0}
 ReadsLine number line bytes old new files (Err (NoStore name)) = ⊥
-ReadsLine number line bytes old new files (Err TooLong) = session_limit < old.taken + length bytes
+ReadsLine number line bytes old new files (Err TooLong) = session_limit < old.taken + line_size bytes
 
--- From all rules that agree a command is answered with what is due.
-abbrev pub Obeys : Command → Clustered → Clustered → Reply → Type 0
-Obeys command old new reply = (w : World) → Agrees w old → HasRoom w → (reply ≡ due w command) × Agrees (after w command) new
+-- From each world that agrees a command leads by a step that the rules allow to a world that agrees.
+abbrev pub Obeys : Command → Clustered → Reply → Clustered → Type 0
+Obeys command old reply new = (w : World) → Agrees w old → IsReady w → (v : World) × Step w command reply v × Agrees v new
 
--- a new database is made
-abbrev pub Makes : List ℕ → Clustered → Clustered → Reply → Type 0
-Makes name old new reply = (w : World) → Agrees w old → (reply ≡ Accepted Done) × Agrees (adopted name w) new
+-- A command that a line says goes on by a step that the rules allow, and its reply is written.
+pub record Replies (shelf : Shelved) (command : Command) (w : World) (before written : Option (List ℕ)) (old new : Clustered) : Type 0 where
+  pub reply : Reply
+  pub world : World
+  pub steps : Step w command reply world
+  pub agrees : Agrees world new
+  pub written_is : written ≡ option_map (λ bytes. bytes ++ reply_line reply) before
+  pub certain : NeverFails shelf → StaysCertain command old reply new
 
 -- what a line that means this does, and what is written then
-abbrev pub Means : Meaning → World → Option (List ℕ) → Option (List ℕ) → Clustered → Type 0
-Means Silent w before written new = (written ≡ before) × Agrees w new
-Means (Says command) w before written new = (written ≡ option_map (λ bytes. bytes ++ reply_line (due w command)) before) × Agrees (after w command) new
-Means Bad w before written new = ⊥
+abbrev pub Means : Meaning → Shelved → World → Option (List ℕ) → Option (List ℕ) → Clustered → Clustered → Type 0
+Means Silent shelf w before written old new = (written ≡ before) × (new ≡ old)
+Means (Says command) shelf w before written old new = Replies shelf command w before written old new
+Means Bad shelf w before written old new = ⊥
 
-abbrev pub RunsLine : ℕ → Meaning → Clustered → Clustered → Option (List ℕ) → Option (List ℕ) → Result (Unit {0}) Stop → Type 0
-RunsLine number meaning old new before written (Ok u) = (w : World) → Agrees w old → HasRoom w → Means meaning w before written new
-RunsLine number meaning old new before written (Err (BadLine bad)) = (bad ≡ number) × (meaning ≡ Bad) × (written ≡ before) × (new ≡ old)
-RunsLine number meaning old new before written (Err Read) = ⊥
-RunsLine number meaning old new before written (Err Write) = Unit {0}
-RunsLine number meaning old new before written (Err NoMemory) = Unit {0}
-RunsLine number meaning old new before written (Err (NoStore name)) = Unit {0}
-RunsLine number meaning old new before written (Err TooLong) = ⊥
+abbrev pub RunsLine : ℕ → Meaning → Shelved → Clustered → Clustered → Option (List ℕ) → Option (List ℕ) → Result (Unit {0}) Stop → Type 0
+RunsLine number meaning shelf old new before written (Ok u) = (w : World) → Agrees w old → IsReady w → Means meaning shelf w before written old new
+RunsLine number meaning shelf old new before written (Err (BadLine bad)) = (bad ≡ number) × (meaning ≡ Bad) × (written ≡ before) × (new ≡ old)
+RunsLine number meaning shelf old new before written (Err Read) = ⊥
+RunsLine number meaning shelf old new before written (Err Write) = Unit {0}
+RunsLine number meaning shelf old new before written (Err NoMemory) = Unit {0}
+RunsLine number meaning shelf old new before written (Err (NoStore name)) = (written ≡ before) × (new ≡ old)
+RunsLine number meaning shelf old new before written (Err TooLong) = ⊥
 
--- A history of exactly these commands was run: each reply was the one due, its lines were written, and the databases
--- agree with the rules after it.
-pub record Ran (limit : ℕ) (said : List Command) (output : Option (List ℕ)) (cluster : Clustered) : Type 0 where
+-- the run of a line ends as at a bad line exactly where it is one
+abbrev pub BadOnly : ℕ → Meaning → Result (Unit {0}) Stop → Type 0
+BadOnly number meaning (Ok u) = meaning ≡ Bad → ⊥
+BadOnly number meaning (Err (BadLine bad)) = (bad ≡ number) × (meaning ≡ Bad)
+BadOnly number meaning (Err Read) = ⊥
+BadOnly number meaning (Err Write) = Unit {0}
+BadOnly number meaning (Err NoMemory) = Unit {0}
+BadOnly number meaning (Err (NoStore name)) = Unit {0}
+BadOnly number meaning (Err TooLong) = ⊥
+
+-- no command has a store fail later
+abbrev pub NoneArms : List Command → Type 0
+NoneArms commands = AllByRecursion (λ command. arms command ≡ false) commands
+
+-- A history of exactly these commands that the rules allow was run, its lines were written, and the databases agree with
+-- the rules after it. Where no store can fail, each reply is the one that is due.
+pub record Ran (shelf : Shelved) (limit : ℕ) (said : List Command) (output : Option (List ℕ)) (cluster : Clustered) : Type 0 where
   pub history : List Happening
   pub world : World
   pub leads : Leads (start limit) history world
   pub commands : commands_of history ≡ said
   pub written : output ≡ Some (output_of history)
   pub agrees : Agrees world cluster
+  pub due : NeverFails shelf → NoneArms said → IsDue (start limit) history world
 
--- at its end and at a bad line a run has run all commands before it
-abbrev pub RunsSession : ℕ → Session → Option (List ℕ) → Clustered → Result (Unit {0}) Stop → Type 0
-RunsSession limit session written cluster (Ok u) = Ran limit session.commands written cluster × (session.stop ≡ None)
-RunsSession limit session written cluster (Err (BadLine number)) = Ran limit session.commands written cluster × (session.stop ≡ Some number)
-RunsSession limit session written cluster (Err Read) = Unit {0}
-RunsSession limit session written cluster (Err Write) = Unit {0}
-RunsSession limit session written cluster (Err NoMemory) = Unit {0}
-RunsSession limit session written cluster (Err (NoStore name)) = Unit {0}
-RunsSession limit session written cluster (Err TooLong) = Unit {0}
+-- the first of these commands were run so
+pub record RanOn (shelf : Shelved) (limit : ℕ) (said : List Command) (output : Option (List ℕ)) (cluster : Clustered) : Type 0 where
+  pub first : List Command
+  pub others : List Command
+  pub parts : said ≡ first ++ others
+  pub ran : Ran shelf limit first output cluster
+
+-- At its end and at a bad line a run has run all commands before it; at a fault of a file, without a store and at the
+-- greatest number of bytes it has run the first ones.
+abbrev pub RunsSession : Shelved → ℕ → Session → Option (List ℕ) → Clustered → Result (Unit {0}) Stop → Type 0
+RunsSession shelf limit session written cluster (Ok u) = Ran shelf limit session.commands written cluster × (session.stop ≡ None)
+RunsSession shelf limit session written cluster (Err (BadLine number)) = Ran shelf limit session.commands written cluster × (session.stop ≡ Some number)
+RunsSession shelf limit session written cluster (Err Read) = RanOn shelf limit session.commands written cluster
+RunsSession shelf limit session written cluster (Err Write) = Unit {0}
+RunsSession shelf limit session written cluster (Err NoMemory) = Unit {0}
+RunsSession shelf limit session written cluster (Err (NoStore name)) = RanOn shelf limit session.commands written cluster
+RunsSession shelf limit session written cluster (Err TooLong) = RanOn shelf limit session.commands written cluster
+
+-- how many bytes the first lines have, so many of them, with their newlines
+abbrev pub end_of : ℕ → List ℕ → ℕ
+end_of zero bytes = 0
+end_of (suc n) bytes = line_size bytes + end_of n (drop (line_size bytes) bytes)
+
+-- a session counts to the end of its first bad line, or to its own end
+abbrev pub counted : List ℕ → Option ℕ → ℕ
+counted bytes None = length bytes
+counted bytes (Some number) = end_of number bytes
+
+-- the first bytes, as many as a session may have, end before that
+abbrev pub IsTooLong : List ℕ → Type 0
+IsTooLong bytes = session_limit < counted bytes (session_of bytes).stop
+
+-- where a run ends
+abbrev pub StopsAt : List ℕ → Result (Unit {0}) Stop → Type 0
+StopsAt bytes (Ok u) = ((session_of bytes).stop ≡ None) × (IsTooLong bytes → ⊥)
+StopsAt bytes (Err (BadLine number)) = ((session_of bytes).stop ≡ Some number) × (IsTooLong bytes → ⊥)
+StopsAt bytes (Err Read) = Unit {0}
+StopsAt bytes (Err Write) = Unit {0}
+StopsAt bytes (Err NoMemory) = Unit {0}
+StopsAt bytes (Err (NoStore name)) = Unit {0}
+StopsAt bytes (Err TooLong) = IsTooLong bytes
 
 -- a session is too long only where it has more bytes than the limit
 abbrev pub LongOnly : {T : Type 0} → ℕ → Result T Stop → Type 0

@@ -1,21 +1,27 @@
 // The databases of a session.
-ghost use Rattle.std.specs.Prelude.{◌≡◌, ℕ, List, ◌∷◌, [], ◌++◌, length, map, true, false, is_err, Ok, Err, Some, IfOk};
+ghost use Rattle.std.specs.Prelude.{◌≡◌, ℕ, List, ◌∷◌, [], ◌++◌, length, map, true, false, None, Some, is_err, is_some, IfOk, unwrap_or};
 ghost use Rattle.std.specs.List.{position};
+ghost use Rattle.std.specs.Option.{option_map};
 ghost use Rattle.std.specs.Str.{bytes_eq};
 ghost use Rattle.slon_base.specs.Keeper.{nothing};
-ghost use Rattle.slon_model.specs.declared.command.Command.TheVariants.{Database as SaysDatabase, Table as SaysTable, Begin as SaysBegin, Insert as SaysInsert, Commit as SaysCommit, Rows as SaysRows};
+ghost use Rattle.slon_base.specs.declared.fault.Halt.TheVariants.{NoMemory as HaltsShort};
 ghost use Rattle.slon_model.specs.declared.reply.Answer.TheVariants.{Done as IsDone};
-ghost use Rattle.slon_model.specs.declared.reply.Reply.TheVariants.{Accepted as IsAccepted};
-ghost use Rattle.slon_model.specs.World.{World, start, due, reply_of};
+ghost use Rattle.slon_model.specs.declared.reply.Answered.TheVariants.{Sure as IsSure, InDoubt as IsInDoubt};
+ghost use Rattle.slon_model.specs.declared.reply.Reply.TheVariants.{Accepted as IsAccepted, InDoubt as DoubtsIt};
+ghost use Rattle.slon_model.specs.World.{start, is_database};
 ghost use Rattle.slon_model.specs.Spoken.{IsSpoken};
-ghost use Rattle.app_store.specs.Fits.{is_memory, is_out_of_memory};
-ghost use Rattle.slon_main.specs.Agreed.{Agrees, Goes, adopted, refusal_of};
+ghost use Rattle.app_store.specs.Base.{base_of};
+ghost use Rattle.app_store.specs.Goes.{is_memory};
+ghost use Rattle.slon_main.specs.Agreed.{Agrees};
+ghost use Rattle.slon_main.specs.Calls as calls;
+ghost use Rattle.slon_main.specs.Calls.{Moves, Steps, ReplyCaused, StaysCertain, Adopts, Makes, MakingReplyCaused, MakesCertain};
 ghost use Rattle.slon_main.specs.Clustered.{cluster_of};
 
 use crate::status::NoMemory;
-use app_store::{Database, Fuse, Keeper};
-use slon_base::{Halt, Text, TextList};
-use slon_model::{Answer, Command, DbFault, Refusal, Reply};
+use app_store::Database;
+use node_keeper::{Fuse, Keeper};
+use slon_base::{Halt, Text};
+use slon_model::{Answer, Answered, Command, DbFault, Refusal, Reply};
 use std::alloc::Global;
 
 /// A database with its name.
@@ -33,52 +39,103 @@ pub struct Cluster<K: Keeper> {
     databases: Vec<Named<K>>,
 }
 
-/// The reply to a command whose database did not do its work.
-fn refused(alloc: Global, database: &Text, fault: DbFault) -> Result<Reply, NoMemory>
-    ensures reply { IfOk result (λ reply. reply ≡ refusal_of database.now fault) }
+/// A copy of a word that a command names, and an empty text where it names none.
+fn copied(alloc: Global, word: Option<&Text>) -> Result<Text, NoMemory>
+    ensures { IfOk result (λ text. text ≡ unwrap_or (option_map (λ w. w.now) word.entry) []) }
+{
+    match word {
+        Some(word) => Ok(word.copy(alloc)?),
+        None => Ok(Text::from_str(alloc, "")?),
+    }
+}
+
+/// The reply where the store of a database stopped.
+fn halted(alloc: Global, database: &Text, halt: Halt) -> Result<Reply, NoMemory>
+    ensures reply { IfOk result (λ reply. reply ≡ calls.halted_with database.now halt) }
+    ensures memory { halt ≡ HaltsShort → is_err result ≡ true }
+{
+    match halt {
+        Halt::Fault { count } => {
+            let database = database.copy(alloc)?;
+            Ok(Reply::Refused(Refusal::Fault { database, count }))
+        }
+        Halt::BadRow { space } => Ok(Reply::Refused(Refusal::BadRow { space })),
+        Halt::TooBig { space } => Ok(Reply::Refused(Refusal::TooBig { space })),
+        Halt::Doubt => Ok(Reply::InDoubt {
+            database: database.copy(alloc)?,
+            answer: Answer::Done,
+        }),
+        Halt::NoMemory => Err(NoMemory),
+    }
+}
+
+/// The reply to a command that names these words and whose database did not do its work.
+fn refused(
+    alloc: Global,
+    database: &Text,
+    transaction: Option<&Text>,
+    table: Option<&Text>,
+    fault: DbFault,
+) -> Result<Reply, NoMemory>
+    ensures reply { IfOk result (λ reply. reply ≡ calls.refusal_with database.now (option_map (λ w. w.now) transaction.entry) (option_map (λ w. w.now) table.entry) fault) }
     ensures memory { is_memory fault ≡ true → is_err result ≡ true }
 {
-    Ok(Reply::Refused(match fault {
-        DbFault::NotYet => Refusal::NotYet,
-        DbFault::Down => Refusal::Down {
-            database: database.copy(alloc)?,
-        },
+    let refusal = match fault {
+        DbFault::Locked { xid } => Refusal::Locked { xid },
         DbFault::NotEmpty => Refusal::NotEmpty {
             database: database.copy(alloc)?,
         },
-        DbFault::Halt(halt) => match halt {
-            Halt::Fault { count } => Refusal::Fault {
-                database: database.copy(alloc)?,
-                count,
-            },
-            Halt::BadRow { space } => Refusal::BadRow { space },
-            Halt::TooBig { space } => Refusal::TooBig { space },
-            Halt::Doubt => {
-                return Ok(Reply::InDoubt {
-                    database: database.copy(alloc)?,
-                    answer: Answer::Done,
-                });
-            }
-            Halt::NoMemory => return Err(NoMemory),
+        DbFault::Down => Refusal::Down {
+            database: database.copy(alloc)?,
         },
-    }))
+        DbFault::IsUp => Refusal::IsUp {
+            database: database.copy(alloc)?,
+        },
+        DbFault::TableExists => Refusal::TableExists {
+            table: copied(alloc, table)?,
+        },
+        DbFault::NameUsed => Refusal::NameUsed {
+            name: copied(alloc, transaction)?,
+        },
+        DbFault::NoTable => Refusal::NoTable {
+            table: copied(alloc, table)?,
+        },
+        DbFault::NoTransaction => Refusal::NoTransaction {
+            transaction: copied(alloc, transaction)?,
+        },
+        DbFault::Duplicate => Refusal::Duplicate,
+        DbFault::BadWidth { columns } => Refusal::BadWidth { columns },
+        DbFault::Halt(halt) => return halted(alloc, database, halt),
+    };
+    Ok(Reply::Refused(refusal))
 }
 
-/// The reply to a command that is done or not.
-fn done(alloc: Global, database: &Text, made: Result<(), DbFault>) -> Result<Reply, NoMemory>
-    ensures reply { IfOk result (λ reply. reply ≡ reply_of database.now (λ u. IsDone) made) }
-    ensures memory { is_out_of_memory made ≡ true → is_err result ≡ true }
+/// The reply to a command that a database accepted.
+fn answered(alloc: Global, database: &Text, answered: Answered) -> Result<Reply, NoMemory>
+    ensures sure { (answer : Answer) → answered ≡ IsSure answer → IfOk result (λ reply. reply ≡ IsAccepted answer) }
+    ensures doubt { (answer : Answer) → answered ≡ IsInDoubt answer → IfOk result (λ reply. reply ≡ DoubtsIt database.now answer) }
 {
-    match made {
-        Ok(()) => Ok(Reply::Accepted(Answer::Done)),
-        Err(fault) => refused(alloc, database, fault),
+    match answered {
+        Answered::Sure(answer) => Ok(Reply::Accepted(answer)),
+        Answered::InDoubt(answer) => {
+            let database = database.copy(alloc)?;
+            Ok(Reply::InDoubt { database, answer })
+        }
     }
+}
+
+/// Whether the store of a new database held a row.
+fn is_not_empty(fault: DbFault) -> bool
+    ensures { result ≡ calls.is_not_empty fault }
+{
+    matches!(fault, DbFault::NotEmpty)
 }
 
 impl<K: Keeper> Cluster<K> {
     /// No databases yet, of which there may be so many.
     pub fn new(alloc: Global, limit: u32) -> Cluster<K>
-        ensures { Agrees (start limit) (cluster_of K.kept result) }
+        ensures agrees { Agrees (start limit) (cluster_of K.kept result) }
+        ensures certain { calls.AllCertain (cluster_of K.kept result) }
     {
         Cluster {
             alloc,
@@ -102,91 +159,41 @@ impl<K: Keeper> Cluster<K> {
             .position(|d| name.as_slice() == d.name.as_slice())
     }
 
-    fn table(&mut self, database: &Text, table: &Text, columns: u32) -> Result<Reply, NoMemory>
-        requires { IsSpoken (SaysTable database.now table.now columns) }
-        ensures { IfOk result (λ reply. Goes (SaysTable database.now table.now columns) (cluster_of K.kept self.old) reply (cluster_of K.kept self.new)) }
+    /// Whether there may be a new database of this name.
+    fn grant(&self, name: &Text) -> Result<Reply, NoMemory>
+        ensures { IfOk result (λ reply. reply ≡ calls.grant name.now (cluster_of K.kept self.now)) }
     {
-        let Some(i) = self.index_of(database) else {
-            return Ok(Reply::Refused(Refusal::NotYet));
-        };
-        let made = self.databases[i].database.table(table, columns);
-        done(self.alloc, database, made)
+        if self.index_of(name).is_some() {
+            let name = name.copy(self.alloc)?;
+            return Ok(Reply::Refused(Refusal::NameUsed { name }));
+        }
+        if self.databases.len() < self.limit as usize {
+            return Ok(Reply::Accepted(Answer::Done));
+        }
+        Ok(Reply::Refused(Refusal::Full { limit: self.limit }))
     }
 
-    fn begin(&mut self, database: &Text, transaction: &Text) -> Result<Reply, NoMemory>
-        ensures { IfOk result (λ reply. Goes (SaysBegin database.now transaction.now) (cluster_of K.kept self.old) reply (cluster_of K.kept self.new)) }
+    /// Has the database that the command names obey it.
+    fn ask(&mut self, command: &Command) -> Result<Reply, NoMemory>
+        requires spoken { IsSpoken command.now }
+        requires other { is_database command.now ≡ false }
+        ensures { IfOk result (λ reply. Moves command.now (cluster_of K.kept self.old) reply (cluster_of K.kept self.new)) }
     {
+        let database = command.database();
         let Some(i) = self.index_of(database) else {
-            return Ok(Reply::Refused(Refusal::NotYet));
+            let database = database.copy(self.alloc)?;
+            return Ok(Reply::Refused(Refusal::NoDatabase { database }));
         };
-        match self.databases[i].database.begin(transaction) {
-            Ok(xid) => Ok(Reply::Accepted(Answer::Opened { xid })),
-            Err(fault) => refused(self.alloc, database, fault),
+        match self.databases[i].database.obey(command) {
+            Ok(done) => answered(self.alloc, database, done),
+            Err(fault) => refused(
+                self.alloc,
+                database,
+                command.transaction(),
+                command.table(),
+                fault,
+            ),
         }
-    }
-
-    fn insert(
-        &mut self,
-        database: &Text,
-        transaction: &Text,
-        table: &Text,
-        values: &TextList,
-    ) -> Result<Reply, NoMemory>
-        requires { IsSpoken (SaysInsert database.now transaction.now table.now values.now) }
-        ensures { IfOk result (λ reply. Goes (SaysInsert database.now transaction.now table.now values.now) (cluster_of K.kept self.old) reply (cluster_of K.kept self.new)) }
-    {
-        let Some(i) = self.index_of(database) else {
-            return Ok(Reply::Refused(Refusal::NotYet));
-        };
-        match self.databases[i]
-            .database
-            .insert(transaction, table, values)
-        {
-            Ok(number) => Ok(Reply::Accepted(Answer::Acted { number })),
-            Err(fault) => refused(self.alloc, database, fault),
-        }
-    }
-
-    fn commit(&mut self, database: &Text, transaction: &Text) -> Result<Reply, NoMemory>
-        ensures { IfOk result (λ reply. Goes (SaysCommit database.now transaction.now) (cluster_of K.kept self.old) reply (cluster_of K.kept self.new)) }
-    {
-        let Some(i) = self.index_of(database) else {
-            return Ok(Reply::Refused(Refusal::NotYet));
-        };
-        match self.databases[i].database.commit(transaction) {
-            Ok((actions, in_doubt)) => {
-                let answer = Answer::Committed { actions };
-                if in_doubt {
-                    let database = database.copy(self.alloc)?;
-                    return Ok(Reply::InDoubt { database, answer });
-                }
-                Ok(Reply::Accepted(answer))
-            }
-            Err(fault) => refused(self.alloc, database, fault),
-        }
-    }
-
-    fn rows(&mut self, database: &Text, table: &Text) -> Result<Reply, NoMemory>
-        requires { IsSpoken (SaysRows database.now table.now) }
-        ensures { IfOk result (λ reply. Goes (SaysRows database.now table.now) (cluster_of K.kept self.old) reply (cluster_of K.kept self.new)) }
-    {
-        let Some(i) = self.index_of(database) else {
-            return Ok(Reply::Refused(Refusal::NotYet));
-        };
-        match self.databases[i].database.rows(table) {
-            Ok(rows) => Ok(Reply::Accepted(Answer::Listed { rows })),
-            Err(fault) => refused(self.alloc, database, fault),
-        }
-    }
-
-    // Whether there may be a new database.
-    fn grant(&self) -> Reply
-        ensures { (w : World) (name : List ℕ) → Agrees w (cluster_of K.kept self.now) → result ≡ due w (SaysDatabase name) }
-    {
-        if self.databases.is_empty() {
-            return Reply::Accepted(Answer::Done);
-        }
-        Reply::Refused(Refusal::NotYet)
     }
 
     /// Runs a command that a line can say, and replies. A new database is only granted: `adopt` makes it over its
@@ -197,49 +204,54 @@ impl<K: Keeper> Cluster<K> {
     /// `NoMemory` where there is none.
     pub fn step(&mut self, command: &Command) -> Result<Reply, NoMemory>
         requires { IsSpoken command.now }
-        ensures { IfOk result (λ reply. Goes command.now (cluster_of K.kept self.old) reply (cluster_of K.kept self.new)) }
+        ensures moves { IfOk result (λ reply. Moves command.now (cluster_of K.kept self.old) reply (cluster_of K.kept self.new)) }
+        ensures steps { IfOk result (λ reply. Steps command.now (cluster_of K.kept self.old) reply (cluster_of K.kept self.new)) }
+        ensures cause { IfOk result (λ reply. ReplyCaused reply (cluster_of K.kept self.old) (cluster_of K.kept self.new)) }
+        ensures certain { IfOk result (λ reply. StaysCertain command.now (cluster_of K.kept self.old) reply (cluster_of K.kept self.new)) }
     {
         match command {
-            Command::Database { .. } => Ok(self.grant()),
-            Command::Table {
-                database,
-                table,
-                columns,
-            } => self.table(database, table, *columns),
-            Command::Begin {
-                database,
-                transaction,
-            } => self.begin(database, transaction),
-            Command::Insert {
-                database,
-                transaction,
-                table,
-                values,
-            } => self.insert(database, transaction, table, values),
-            Command::Commit {
-                database,
-                transaction,
-            } => self.commit(database, transaction),
-            Command::Rows { database, table } => self.rows(database, table),
+            Command::Database { name } => self.grant(name),
+            _ => self.ask(command),
         }
     }
 
-    /// Makes a database of this name over its store, which begins empty, and replies. Where the store stops, the
-    /// database is there and down.
+    /// Keeps a database behind the others.
+    fn keep(&mut self, name: Text, database: Database<K>) -> Result<(), NoMemory>
+        ensures { IfOk result (λ _. cluster_of K.kept self.new ≡ calls.with_more name (base_of K.kept database) (cluster_of K.kept self.old)) }
+    {
+        match self.databases.push(Named { name, database }) {
+            Ok(()) => Ok(()),
+            Err(_) => Err(NoMemory),
+        }
+    }
+
+    /// Makes a database of this name over its store, which begins empty, and replies. Where the store fails, the
+    /// database is there and down. Where it holds a row, there is no such database.
     ///
     /// # Errors
     ///
     /// `NoMemory` where there is none.
     pub fn adopt(&mut self, name: Text, keeper: K) -> Result<Reply, NoMemory>
-        ensures { (w : World) → Agrees w (cluster_of K.kept self.old) → (K.kept keeper).held ≡ Some nothing → (K.kept keeper).can_fail ≡ Some 0 →
-            IfOk result (λ reply. (reply ≡ IsAccepted IsDone) × Agrees (adopted name w) (cluster_of K.kept self.new)) }
+        ensures adopts { IfOk result (λ reply. Adopts name (K.kept keeper) (cluster_of K.kept self.old) reply (cluster_of K.kept self.new)) }
+        ensures makes { (K.kept keeper).held ≡ Some nothing → IfOk result (λ reply. Makes name (cluster_of K.kept self.old) reply (cluster_of K.kept self.new)) }
+        ensures done { (K.kept keeper).held ≡ Some nothing → (K.kept keeper).can_fail ≡ Some 0 → IfOk result (λ reply. reply ≡ IsAccepted IsDone) }
+        ensures cause { IfOk result (λ reply. MakingReplyCaused name (K.kept keeper) reply (cluster_of K.kept self.old) (cluster_of K.kept self.new)) }
+        ensures certain { IfOk result (λ reply. MakesCertain (K.kept keeper) (cluster_of K.kept self.old) reply (cluster_of K.kept self.new)) }
     {
         let (database, created) = Database::create(self.alloc, Fuse::new(keeper));
-        let reply = done(self.alloc, &name, created)?;
-        let named = Named { name, database };
-        match self.databases.push(named) {
-            Ok(()) => Ok(reply),
-            Err(_) => Err(NoMemory),
+        match created {
+            Ok(()) => {
+                self.keep(name, database)?;
+                Ok(Reply::Accepted(Answer::Done))
+            }
+            Err(fault) => {
+                if is_not_empty(fault) {
+                    return Ok(Reply::Refused(Refusal::NotEmpty { database: name }));
+                }
+                let reply = refused(self.alloc, &name, None, None, fault)?;
+                self.keep(name, database)?;
+                Ok(reply)
+            }
         }
     }
 }

@@ -1,7 +1,7 @@
 // The run of a session: its lines are read, obeyed and answered one by one.
 ghost use Rattle.std.specs.Prelude.{◌≡◌, ℕ, ◌<◌, ◌≤◌, ◌++◌, List, length, true, false, Some, [], IfOk, IfErr, OnOk};
 ghost use Rattle.slon_base.specs.Outside.{top};
-ghost use Rattle.slon_model.specs.Lines.{meaning, session_of, Says};
+ghost use Rattle.slon_model.specs.Lines.{meaning, session_of};
 ghost use Rattle.slon_model.specs.Spoken.{IsSpoken};
 ghost use Rattle.std.specs.Option.{option_map};
 ghost use Rattle.slon_model.specs.Printed.{reply_line};
@@ -9,9 +9,10 @@ ghost use Rattle.slon_model.specs.World as world;
 ghost use Rattle.slon_model.specs.World.{World, start};
 ghost use Rattle.session_text.specs.Reading.{session_limit};
 ghost use Rattle.session_text.specs.Handing.{Stays, Comes};
-ghost use Rattle.slon_main.specs.Agreed.{Agrees, HasRoom};
+ghost use Rattle.slon_main.specs.Agreed.{Agrees, IsReady};
+ghost use Rattle.slon_main.specs.Calls.{Makes, StaysCertain, AllCertain, is_sure_reply};
 ghost use Rattle.slon_main.specs.Clustered.{cluster_of};
-ghost use Rattle.slon_main.specs.Running.{NeverFails, Shelves, HasCause, ReadsLine, Obeys, Makes, RunsLine, RunsSession, LongOnly, is_of_store, is_of_output, is_of_command, is_of_line, Means};
+ghost use Rattle.slon_main.specs.Running.{Tells, NeverFails, Shelves, HasCause, ReadsLine, Obeys, Replies, RunsLine, RunsSession, BadOnly, StopsAt, is_of_store, is_of_output, is_of_command, is_of_line, is_no_store};
 
 use crate::cluster::Cluster;
 use crate::status::NoMemory;
@@ -69,7 +70,9 @@ fn read_line<F: Files>(
 fn make<S: Shelf>(cluster: &mut Cluster<S::Store>, shelf: &mut S, name: Text) -> Result<Reply, Stop>
     ensures shelf { Shelves (S.shelved shelf.old) (S.shelved shelf.new) }
     ensures cause { (files out : ℕ) → HasCause (record { files = files; shelf = (S.shelved shelf.old).faults; out = out }) (record { files = files; shelf = (S.shelved shelf.new).faults; out = out }) result }
-    ensures made { NeverFails (S.shelved shelf.old) → IfOk result (Makes name (cluster_of S.Store.kept cluster.old) (cluster_of S.Store.kept cluster.new)) }
+    ensures made { Tells (S.shelved shelf.old) → IfOk result (λ reply. Makes name (cluster_of S.Store.kept cluster.old) reply (cluster_of S.Store.kept cluster.new)) }
+    ensures certain { NeverFails (S.shelved shelf.old) → IfOk result (λ reply. (is_sure_reply reply ≡ true) × (AllCertain (cluster_of S.Store.kept cluster.old) → AllCertain (cluster_of S.Store.kept cluster.new))) }
+    ensures unmade { IfErr result (λ stop. is_no_store stop ≡ true → cluster_of S.Store.kept cluster.new ≡ cluster_of S.Store.kept cluster.old) }
     ensures stop { IfErr result (λ stop. is_of_store stop ≡ true) }
 {
     let Ok(place) = u32::try_from(cluster.len()) else {
@@ -97,7 +100,9 @@ fn obey<S: Shelf>(
     requires { IsSpoken command.now }
     ensures shelf { Shelves (S.shelved shelf.old) (S.shelved shelf.new) }
     ensures cause { (files out : ℕ) → HasCause (record { files = files; shelf = (S.shelved shelf.old).faults; out = out }) (record { files = files; shelf = (S.shelved shelf.new).faults; out = out }) result }
-    ensures obeys { NeverFails (S.shelved shelf.old) → IfOk result (Obeys command.now (cluster_of S.Store.kept cluster.old) (cluster_of S.Store.kept cluster.new)) }
+    ensures obeys { Tells (S.shelved shelf.old) → IfOk result (λ reply. Obeys command.now (cluster_of S.Store.kept cluster.old) reply (cluster_of S.Store.kept cluster.new)) }
+    ensures certain { NeverFails (S.shelved shelf.old) → IfOk result (λ reply. StaysCertain command.now (cluster_of S.Store.kept cluster.old) reply (cluster_of S.Store.kept cluster.new)) }
+    ensures unmade { IfErr result (λ stop. is_no_store stop ≡ true → cluster_of S.Store.kept cluster.new ≡ cluster_of S.Store.kept cluster.old) }
     ensures stop { IfErr result (λ stop. is_of_store stop ≡ true) }
 {
     let Ok(reply) = cluster.step(command) else {
@@ -108,6 +113,7 @@ fn obey<S: Shelf>(
             if !is_accepted(&reply) {
                 return Ok(reply);
             }
+            drop(reply);
             let Ok(name) = name.copy(alloc) else {
                 return Err(Stop::NoMemory);
             };
@@ -159,7 +165,8 @@ fn run_command<S: Shelf, O: Sink>(
     ensures later { (O.poured out.old).faults ≤ (O.poured out.new).faults }
     ensures cause { (files : ℕ) → HasCause (record { files = files; shelf = (S.shelved shelf.old).faults; out = (O.poured out.old).faults }) (record { files = files; shelf = (S.shelved shelf.new).faults; out = (O.poured out.new).faults }) result }
     ensures stop { IfErr result (λ stop. is_of_command stop ≡ true) }
-    ensures runs { NeverFails (S.shelved shelf.old) → OnOk result ((w : World) → Agrees w (cluster_of S.Store.kept cluster.old) → HasRoom w → Means (Says command.now) w (O.poured out.old).written (O.poured out.new).written (cluster_of S.Store.kept cluster.new)) }
+    ensures runs { Tells (S.shelved shelf.old) → OnOk result ((w : World) → Agrees w (cluster_of S.Store.kept cluster.old) → IsReady w → Replies (S.shelved shelf.old) command.now w (O.poured out.old).written (O.poured out.new).written (cluster_of S.Store.kept cluster.old) (cluster_of S.Store.kept cluster.new)) }
+    ensures unmade { IfErr result (λ stop. is_no_store stop ≡ true → ((O.poured out.new).written ≡ (O.poured out.old).written) × (cluster_of S.Store.kept cluster.new ≡ cluster_of S.Store.kept cluster.old)) }
 {
     let reply = obey(alloc, cluster, shelf, command)?;
     answer(alloc, &reply, out)
@@ -178,7 +185,8 @@ fn run_line<S: Shelf, O: Sink>(
     ensures later { (O.poured out.old).faults ≤ (O.poured out.new).faults }
     ensures cause { (files : ℕ) → HasCause (record { files = files; shelf = (S.shelved shelf.old).faults; out = (O.poured out.old).faults }) (record { files = files; shelf = (S.shelved shelf.new).faults; out = (O.poured out.new).faults }) result }
     ensures stop { IfErr result (λ stop. is_of_line stop ≡ true) }
-    ensures runs { NeverFails (S.shelved shelf.old) → RunsLine number (meaning line.now) (cluster_of S.Store.kept cluster.old) (cluster_of S.Store.kept cluster.new) (O.poured out.old).written (O.poured out.new).written result }
+    ensures bad { BadOnly number (meaning line.now) result }
+    ensures runs { Tells (S.shelved shelf.old) → RunsLine number (meaning line.now) (S.shelved shelf.old) (cluster_of S.Store.kept cluster.old) (cluster_of S.Store.kept cluster.new) (O.poured out.old).written (O.poured out.new).written result }
 {
     match read_command(alloc, line, number) {
         Ok(said) => match said {
@@ -204,8 +212,8 @@ pub fn run_session<F: Files, S: Shelf, O: Sink>(
     ensures files { Stays (F.filed files.old) (F.filed files.new) }
     ensures later { (O.poured out.old).faults ≤ (O.poured out.new).faults }
     ensures cause { HasCause (record { files = (F.filed files.old).faults; shelf = (S.shelved shelf.old).faults; out = (O.poured out.old).faults }) (record { files = (F.filed files.new).faults; shelf = (S.shelved shelf.new).faults; out = (O.poured out.new).faults }) result }
-    ensures long { (bytes : List ℕ) → top (F.filed files.old).stack ≡ Some bytes → LongOnly (length bytes) result }
-    ensures runs { (bytes : List ℕ) (limit : ℕ) → top (F.filed files.old).stack ≡ Some bytes → NeverFails (S.shelved shelf.old) → (O.poured out.old).written ≡ Some [] → Agrees (start limit) (cluster_of S.Store.kept cluster.old) → RunsSession limit (session_of bytes) (O.poured out.new).written (cluster_of S.Store.kept cluster.new) result }
+    ensures place { (bytes : List ℕ) → top (F.filed files.old).stack ≡ Some bytes → StopsAt bytes result }
+    ensures runs { (bytes : List ℕ) (limit : ℕ) → top (F.filed files.old).stack ≡ Some bytes → Tells (S.shelved shelf.old) → (O.poured out.old).written ≡ Some [] → Agrees (start limit) (cluster_of S.Store.kept cluster.old) → RunsSession (S.shelved shelf.old) limit (session_of bytes) (O.poured out.new).written (cluster_of S.Store.kept cluster.new) result }
 {
     let Ok(mut reader) = LineReader::new(alloc) else {
         return Err(Stop::NoMemory);

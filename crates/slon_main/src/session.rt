@@ -6,8 +6,8 @@ ghost use Rattle.session_text.specs.Reading.{session_limit};
 ghost use Rattle.std.specs.Prelude.{string_bytes, IfOk};
 ghost use Rattle.slon_main.specs.Ending as ending;
 ghost use Rattle.slon_main.specs.Clustered.{cluster_of};
-ghost use Rattle.slon_main.specs.Running.{NeverFails};
-ghost use Rattle.slon_main.specs.Ending.{Closes, ClosesAt, hands_back, FaultOnly, is_run, is_refused, is_lost, EndsRun, Holds, Lacks, MissingOnly, UsageOnly};
+ghost use Rattle.slon_main.specs.Running.{Tells};
+ghost use Rattle.slon_main.specs.Ending.{Closes, ClosesAt, hands_back, FaultOnly, NoneRose, IsWhole, is_run, is_whole, is_refused, is_lost, EndsRun, EndsAt, Holds, Lacks, MissingOnly, UsageOnly};
 
 use crate::cluster::Cluster;
 use crate::run::{Stop, run_session};
@@ -42,12 +42,12 @@ fn close<K: Keeper, O: Sink>(
 {
     match out.write(line) {
         Ok(()) => Ended { status, cluster },
-        Err(fault) => Ended {
-            status: match fault {
-                OutFault::Failed => Status::WriteFault,
-                OutFault::NoMemory => Status::NoMemory,
+        Err(fault) => match fault {
+            OutFault::Failed => Ended {
+                status: Status::WriteFault,
+                cluster: None,
             },
-            cluster: None,
+            OutFault::NoMemory => short(),
         },
     }
 }
@@ -101,42 +101,23 @@ fn stopped<K: Keeper, O: Sink>(
 ) -> Ended<K>
     ensures { ClosesAt stop cluster (O.poured out.old) (O.poured out.new) result.status result.cluster }
 {
+    let kept = Some(cluster);
     match stop {
         Stop::BadLine { number } => match bad_line(alloc, number) {
-            Ok(line) => close(
-                line.as_str().as_bytes(),
-                Status::BadLine,
-                Some(cluster),
-                out,
-            ),
+            Ok(line) => close(line.as_str().as_bytes(), Status::BadLine, kept, out),
             Err(_) => short(),
         },
-        Stop::Read => close(
-            b"stop read\n".as_slice(),
-            Status::ReadFault,
-            Some(cluster),
-            out,
-        ),
+        Stop::Read => close(b"stop read\n".as_slice(), Status::ReadFault, kept, out),
         Stop::Write => Ended {
             status: Status::WriteFault,
             cluster: None,
         },
         Stop::NoMemory => short(),
         Stop::NoStore { name } => match store_line(alloc, &name) {
-            Ok(line) => close(
-                line.as_str().as_bytes(),
-                Status::NoStore,
-                Some(cluster),
-                out,
-            ),
+            Ok(line) => close(line.as_str().as_bytes(), Status::NoStore, kept, out),
             Err(_) => short(),
         },
-        Stop::TooLong => close(
-            b"stop long\n".as_slice(),
-            Status::TooLong,
-            Some(cluster),
-            out,
-        ),
+        Stop::TooLong => close(b"stop long\n".as_slice(), Status::TooLong, kept, out),
     }
 }
 
@@ -151,8 +132,8 @@ fn run_entered<F: Files, S: Shelf, O: Sink>(
     ensures run { is_run result.status ≡ true }
     ensures cluster { is_some result.cluster ≡ hands_back result.status }
     ensures faults { FaultOnly result.status (record { files = (F.filed files.old).faults; shelf = (S.shelved shelf.old).faults; out = (O.poured out.old).faults }) (record { files = (F.filed files.new).faults; shelf = (S.shelved shelf.new).faults; out = (O.poured out.new).faults }) }
-    ensures long { (bytes : List ℕ) → top (F.filed files.old).stack ≡ Some bytes → result.status ≡ Status.TooLong → session_limit < length bytes }
-    ensures ends { (bytes : List ℕ) → top (F.filed files.old).stack ≡ Some bytes → NeverFails (S.shelved shelf.old) → (O.poured out.old).written ≡ Some [] → EndsRun result.status bytes (O.poured out.new).written (option_map (cluster_of S.Store.kept) result.cluster) }
+    ensures place { (bytes : List ℕ) → top (F.filed files.old).stack ≡ Some bytes → EndsAt result.status bytes }
+    ensures ends { (bytes : List ℕ) → top (F.filed files.old).stack ≡ Some bytes → Tells (S.shelved shelf.old) → (O.poured out.old).written ≡ Some [] → EndsRun (S.shelved shelf.old) result.status bytes (O.poured out.new).written (option_map (cluster_of S.Store.kept) result.cluster) }
 {
     let mut cluster = Cluster::new(alloc, DATABASE_LIMIT);
     let ran = run_session(alloc, &mut cluster, files, shelf, out);
@@ -191,9 +172,11 @@ pub fn slon_main<F: Files, S: Shelf, O: Sink>(
     shelf: &mut S,
     out: &mut O,
 ) -> Ended<S::Store>
-    ensures ends { (bytes : List ℕ) → Holds words.now bytes (F.filed files.old) → NeverFails (S.shelved shelf.old) → (O.poured out.old).written ≡ Some [] → EndsRun result.status bytes (O.poured out.new).written (option_map (cluster_of S.Store.kept) result.cluster) }
+    ensures ends { (bytes : List ℕ) → Holds words.now bytes (F.filed files.old) → Tells (S.shelved shelf.old) → (O.poured out.old).written ≡ Some [] → EndsRun (S.shelved shelf.old) result.status bytes (O.poured out.new).written (option_map (cluster_of S.Store.kept) result.cluster) }
     ensures cluster { is_some result.cluster ≡ hands_back result.status }
     ensures faults { FaultOnly result.status (record { files = (F.filed files.old).faults; shelf = (S.shelved shelf.old).faults; out = (O.poured out.old).faults }) (record { files = (F.filed files.new).faults; shelf = (S.shelved shelf.new).faults; out = (O.poured out.new).faults }) }
+    ensures complete { (bytes : List ℕ) → Holds words.now bytes (F.filed files.old) → IsWhole bytes → NoneRose (record { files = (F.filed files.old).faults; shelf = (S.shelved shelf.old).faults; out = (O.poured out.old).faults }) (record { files = (F.filed files.new).faults; shelf = (S.shelved shelf.new).faults; out = (O.poured out.new).faults }) → is_whole result.status ≡ true }
+    ensures place { (bytes : List ℕ) → Holds words.now bytes (F.filed files.old) → EndsAt result.status bytes }
     ensures long { (bytes : List ℕ) → Holds words.now bytes (F.filed files.old) → result.status ≡ Status.TooLong → session_limit < length bytes }
     ensures usage { result.status ≡ Status.Usage → UsageOnly words.now (O.poured out.old) (O.poured out.new) }
     ensures refused { ending.session_word words.now ≡ None → is_refused result.status ≡ true }

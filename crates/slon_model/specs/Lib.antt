@@ -1,6 +1,9 @@
 pub mod Forms
 pub mod Lines
+pub mod Place
 pub mod Printed
 pub mod Rows
+pub mod Snapshots
 pub mod Spoken
+pub mod Words
 pub mod World

@@ -2,9 +2,9 @@
 use Rattle.std.specs.Prelude.{ℕ, List, [], ◌∷◌, ◌++◌, length, codes}
 use Rattle.std.specs.Fmt.{decimal}
 use Rattle.slon_model.specs.declared.reply.Answer.{Answer}
-use Rattle.slon_model.specs.declared.reply.Answer.TheVariants.{Done, Opened, Acted, Committed, Listed}
+use Rattle.slon_model.specs.declared.reply.Answer.TheVariants.{Done, Opened, Acted, Unchanged, Committed, Listed, Kept, Lost, Status}
 use Rattle.slon_model.specs.declared.reply.Refusal.{Refusal}
-use Rattle.slon_model.specs.declared.reply.Refusal.TheVariants.{Fault, BadRow, NotEmpty, Down, TooBig, NotYet}
+use Rattle.slon_model.specs.declared.reply.Refusal.TheVariants.{Fault, Locked, Full, BadRow, NotEmpty, Down, NoDatabase, IsUp, TooBig, TableExists, NameUsed, NoTable, NoTransaction, Duplicate, BadWidth}
 use Rattle.slon_model.specs.declared.reply.Reply.{Reply}
 use Rattle.slon_model.specs.declared.reply.Reply.TheVariants.{Accepted, Refused, InDoubt}
 
@@ -27,16 +27,29 @@ abbrev pub answer_text : Answer → List ℕ
 answer_text Done = codes "ok"
 answer_text (Opened xid) = codes "ok xid " ++ decimal xid
 answer_text (Acted number) = codes "ok action " ++ decimal number
+answer_text Unchanged = codes "ok none"
 answer_text (Committed actions) = codes "ok actions " ++ decimal actions
 answer_text (Listed rows) = codes "ok rows " ++ decimal (length rows) ++ rows_text rows
+answer_text Kept = codes "ok kept"
+answer_text Lost = codes "ok lost"
+answer_text (Status node log) = codes "ok node " ++ decimal node ++ codes " log " ++ decimal log
 
 abbrev pub refusal_text : Refusal → List ℕ
 refusal_text (Fault database count) = codes "no 10 fault " ++ database ++ codes " " ++ decimal count
+refusal_text (Locked xid) = codes "no 12 locked " ++ decimal xid
+refusal_text (Full limit) = codes "no 13 full " ++ decimal limit
 refusal_text (BadRow space) = codes "no 14 badrow " ++ decimal space
 refusal_text (NotEmpty database) = codes "no 15 notempty " ++ database
 refusal_text (Down database) = codes "no 16 down " ++ database
+refusal_text (NoDatabase database) = codes "no 17 nodatabase " ++ database
+refusal_text (IsUp database) = codes "no 19 isup " ++ database
 refusal_text (TooBig space) = codes "no 21 toobig " ++ decimal space
-refusal_text NotYet = codes "no 97 notyet"
+refusal_text (TableExists table) = codes "no 50 tableexists " ++ table
+refusal_text (NameUsed name) = codes "no 51 nameused " ++ name
+refusal_text (NoTable table) = codes "no 52 notable " ++ table
+refusal_text (NoTransaction transaction) = codes "no 53 notransaction " ++ transaction
+refusal_text Duplicate = codes "no 54 duplicate"
+refusal_text (BadWidth columns) = codes "no 57 badwidth " ++ decimal columns
 
 -- the line of a reply, without its newline
 abbrev pub reply_text : Reply → List ℕ

@@ -1,4 +1,20 @@
+ghost use Rattle.std.specs.Prelude.{◌≡◌};
+ghost use Rattle.std.specs.Option.{option_map};
+ghost use Rattle.slon_model.specs.Words as words;
+
+use crate::ColumnList;
 use slon_base::{Text, TextList};
+
+/// How a database is to crash.
+#[derive(Clone, Copy, Debug, Drop, PartialEq, Eq)]
+pub enum Crash {
+    /// At once.
+    Now,
+    /// At the call of its store after so many more. A commit that fails there stands if `keep` is set.
+    After { calls: u32, keep: bool },
+    /// At the next commit of its store, which stands if `keep` is set.
+    AtCommit { keep: bool },
+}
 
 /// A line of a session that asks for something.
 #[derive(Debug, Drop)]
@@ -25,8 +41,28 @@ pub enum Command {
         table: Text,
         values: TextList,
     },
+    /// Gives columns of the row with this key new values.
+    Update {
+        database: Text,
+        transaction: Text,
+        table: Text,
+        key: Text,
+        columns: ColumnList,
+    },
+    /// Takes the row with this key away.
+    Delete {
+        database: Text,
+        transaction: Text,
+        table: Text,
+        key: Text,
+    },
     /// Makes what the transaction wrote stand.
     Commit {
+        database: Text,
+        transaction: Text,
+    },
+    /// Forgets what the transaction wrote.
+    Abort {
         database: Text,
         transaction: Text,
     },
@@ -35,4 +71,68 @@ pub enum Command {
         database: Text,
         table: Text,
     },
+    /// Asks which node the database is, and how far it is.
+    Status {
+        database: Text,
+    },
+    /// Takes a database down, or prepares that.
+    Crash {
+        database: Text,
+        crash: Crash,
+    },
+    /// Brings a database up again.
+    Up {
+        database: Text,
+    },
+}
+
+impl Command {
+    /// The database that it names.
+    pub fn database(&self) -> &Text
+        ensures { result.now ≡ words.database_word self.now }
+    {
+        match self {
+            Command::Database { name } => name,
+            Command::Table { database, .. }
+            | Command::Begin { database, .. }
+            | Command::Insert { database, .. }
+            | Command::Update { database, .. }
+            | Command::Delete { database, .. }
+            | Command::Commit { database, .. }
+            | Command::Abort { database, .. }
+            | Command::Rows { database, .. }
+            | Command::Status { database }
+            | Command::Crash { database, .. }
+            | Command::Up { database } => database,
+        }
+    }
+
+    /// The transaction that it names, if it names one.
+    pub fn transaction(&self) -> Option<&Text>
+        ensures { option_map (λ word. word.now) result ≡ words.transaction_word self.now }
+    {
+        match self {
+            Command::Begin { transaction, .. }
+            | Command::Insert { transaction, .. }
+            | Command::Update { transaction, .. }
+            | Command::Delete { transaction, .. }
+            | Command::Commit { transaction, .. }
+            | Command::Abort { transaction, .. } => Some(transaction),
+            _ => None,
+        }
+    }
+
+    /// The table that it names, if it names one.
+    pub fn table(&self) -> Option<&Text>
+        ensures { option_map (λ word. word.now) result ≡ words.table_word self.now }
+    {
+        match self {
+            Command::Table { table, .. }
+            | Command::Insert { table, .. }
+            | Command::Update { table, .. }
+            | Command::Delete { table, .. }
+            | Command::Rows { table, .. } => Some(table),
+            _ => None,
+        }
+    }
 }

@@ -1,10 +1,12 @@
 //! The words of a session: its commands and its replies, and what they mean. The definitions stand in `specs/`.
 #![tactic(auto)]
 
+mod columns;
 mod command;
 mod fault;
 mod reply;
 
-pub use command::Command;
+pub use columns::ColumnList;
+pub use command::{Command, Crash};
 pub use fault::DbFault;
-pub use reply::{Answer, Refusal, Reply, TableRows};
+pub use reply::{Answer, Answered, Refusal, Reply, TableRows};

@@ -62,10 +62,27 @@ pub enum Answer {
     Opened { xid: u64 },
     /// The number of the action that was taken.
     Acted { number: u64 },
+    /// There was no row to change.
+    Unchanged,
     /// How many actions the commit made stand.
     Committed { actions: u64 },
     /// The rows of a table.
     Listed { rows: TableRows },
+    /// The database is up, and the commit that was in doubt stands.
+    Kept,
+    /// The database is up, and the commit that was in doubt does not stand.
+    Lost,
+    /// The node that the database is, 0 for none, and the status of its logs.
+    Status { node: u32, log: u8 },
+}
+
+/// What one database answers to a command that it accepted.
+#[derive(Debug, Drop)]
+pub enum Answered {
+    /// The command was done.
+    Sure(Answer),
+    /// Its commit failed, so it stands or not; what it answers if it stands.
+    InDoubt(Answer),
 }
 
 /// Why a command was not accepted. The number of each refusal is printed before its name.
@@ -73,16 +90,34 @@ pub enum Answer {
 pub enum Refusal {
     /// 10: the store of this database failed; its count of faults.
     Fault { database: Text, count: u64 },
+    /// 12: the open transaction of this id wrote the row.
+    Locked { xid: u64 },
+    /// 13: the session has so many databases and may have no more.
+    Full { limit: u32 },
     /// 14: a row of this space is not in its form.
     BadRow { space: u8 },
     /// 15: the store of a new database holds a row.
     NotEmpty { database: Text },
     /// 16: the database is down.
     Down { database: Text },
+    /// 17: the session has no database of the name.
+    NoDatabase { database: Text },
+    /// 19: the database is up.
+    IsUp { database: Text },
     /// 21: a number above the limit would be stored in this space.
     TooBig { space: u8 },
-    /// 97: what is asked for is not built yet.
-    NotYet,
+    /// 50: there is a table of the name.
+    TableExists { table: Text },
+    /// 51: the name is taken, of a database or of an open transaction.
+    NameUsed { name: Text },
+    /// 52: there is no table of the name.
+    NoTable { table: Text },
+    /// 53: no transaction of the name is open.
+    NoTransaction { transaction: Text },
+    /// 54: the table has a row with the key.
+    Duplicate,
+    /// 57: the values or columns do not fit a table with so many columns.
+    BadWidth { columns: u64 },
 }
 
 /// The reply to a command.

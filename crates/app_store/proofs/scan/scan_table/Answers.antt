@@ -2,8 +2,11 @@ use Rattle.std.proofs.Common.{◌∙◌, sym, ap, refl, arith, drop, length}
 use Rattle.std.specs.Prelude.{nat_eq}
 use Rattle.std.specs.List.{starts_with}
 use Rattle.std.specs.FinMap.{entries, len-entries}
+use Rattle.std.proofs.lemmas.Result.{err_from_is_err_and}
 use Rattle.app_store.specs.Spelled.{rows}
-use Rattle.app_store.proofs.Pending.{looked_first, looked_on, sight-looked, looks, memory_says}
+use Rattle.app_store.specs.Scan.{FindsRows}
+use Rattle.app_store.specs.Steps.{Looks}
+use Rattle.app_store.proofs.Pending.{looked_first, looked_on, sight-looked, looks, memory_says, looked_stops, stops_say, exit_as}
 use Rattle.app_store.proofs.Order.{prefixed}
 use Rattle.app_store.proofs.Scanning.{start_scan, next_row, all_found, all_counted, all_passed, none_next, some_next}
 use Rattle.app_store.proofs.scan.scan_table.Goals as goal
@@ -13,6 +16,12 @@ loop-init g c = record {
   looked = looked_first c.in_ok-limit.ensures;
   scanned = λ m seen table is. rw (c.new-found.ensures, c.in_ok-at.ensures) (start_scan c.args.prefix.now table (m rows) is);
 }
+
+pub returns-in_err-next_after : goal.returns-in_err-next_after
+returns-in_err-next_after g c =
+    exit_as (Looks (FindsRows c.args.prefix.now) (g.K.Keeper.kept c.args.keeper.now) (g.K.Keeper.kept c.next_after.new.self)) c.from_residual-in_err-next_after.result
+    (err_from_is_err_and c.from_residual-in_err-next_after.result c.from_residual-in_err-next_after.ensures.1)
+    (looked_stops c.in_err-next_after.field-0.0 c.loop.invariant.looked c.in_err-next_after.ensures (λ m seen table is. stops_say table c.in_err-next_after.field-0.0))
 
 pub returns-in-None : goal.returns-in-None
 returns-in-None g c =

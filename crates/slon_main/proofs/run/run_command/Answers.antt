@@ -2,6 +2,7 @@ use Rattle.std.proofs.Common.{arith}
 use Rattle.std.proofs.lemmas.Result.{err_from_is_err_and}
 use Rattle.slon_model.specs.declared.reply.Reply.{Reply}
 use Rattle.slon_main.proofs.Causes.{stops_as, stops_since}
+use Rattle.slon_main.proofs.Runs.{replied}
 use Rattle.slon_main.proofs.run.run_command.Goals as goal
 
 pub returns-in_err-reply-clause-cause : goal.returns-in_err-reply-clause-cause
@@ -11,3 +12,7 @@ returns-in_err-reply-clause-cause g c files =
 pub returns-clause-cause : goal.returns-clause-cause
 returns-clause-cause g c files =
     stops_since c.answer.result _ (record { files = files; shelf = (g.S.Shelf.shelved c.obey.new.shelf).faults; out = (g.O.Sink.poured c.args.out.now).faults }) _ (omega arith) c.obey.ensures.shelf.later (omega arith) (c.answer.ensures.cause files _)
+
+pub returns-clause-runs : goal.returns-clause-runs
+returns-clause-runs g c tells =
+    replied (g.S.Shelf.shelved c.args.shelf.now) c.args.command.now _ _ _ _ c.in_ok-reply.reply c.answer.result (c.in_ok-reply.ensures.obeys tells) c.in_ok-reply.ensures.certain c.answer.ensures.written

@@ -1,13 +1,14 @@
-use Rattle.std.proofs.Common.{◌∙◌, sym, subst, arith, rules, length, Bool, Err}
+use Rattle.std.proofs.Common.{◌∙◌, sym, subst, arith, rules, Bool, Err}
 use Rattle.std.proofs.lemmas.Result.{err_from_is_err_and}
 use Rattle.slon_model.specs.Lines.{session_of}
 use Rattle.session_text.specs.Handing.{Hands}
 use Rattle.session_text.specs.declared.line_reader.NextLine.TheVariants.{Line}
 use Rattle.session_text.proofs.Moving.{stays_on}
 use Rattle.slon_main.specs.Clustered.{cluster_of}
-use Rattle.slon_main.specs.Running.{HasCause, LongOnly, RunsSession}
-use Rattle.slon_main.proofs.Causes.{stops_as, stops_since, handed_on, never_still}
-use Rattle.slon_main.proofs.Runs.{came_first, came_on, begun, went_on, ran_all, read_stops, read_long, line_stops}
+use Rattle.slon_main.specs.Running.{HasCause, StopsAt, RunsSession}
+use Rattle.slon_main.proofs.Causes.{stops_as, stops_since, handed_on, never_still, tells_still}
+use Rattle.slon_main.proofs.Places.{came_first, came_on, stops_end, stops_reading, stops_running}
+use Rattle.slon_main.proofs.Runs.{begun, went_on, ran_all, read_stops, line_stops}
 use Rattle.slon_main.proofs.run.run_session.Goals as goal
 
 pub loop-line-init : goal.loop-line-init
@@ -18,7 +19,7 @@ loop-line-init g c = record {
   count = omega arith;
   limit = omega (arith, c.in-Ok.ensures.1);
   came = λ bytes is. came_first bytes c.in-Ok.reader (g.F.Files.filed c.args.files.now) is c.in-Ok.ensures.0 c.in-Ok.ensures.1;
-  runs = λ bytes limit is never empty agrees. begun limit bytes c.in-Ok.reader (g.F.Files.filed c.args.files.now) (g.O.Sink.poured c.args.out.now).written (cluster_of g.S.Store.Keeper.kept c.args.cluster.now) is c.in-Ok.ensures.0 empty agrees;
+  runs = λ bytes limit is tells empty agrees. begun (g.S.Shelf.shelved c.args.shelf.now) limit bytes c.in-Ok.reader (g.F.Files.filed c.args.files.now) (g.O.Sink.poured c.args.out.now).written (cluster_of g.S.Store.Keeper.kept c.args.cluster.now) is c.in-Ok.ensures.0 empty agrees;
 }
 
 pub returns-in_err-read_line-clause-cause : goal.returns-in_err-read_line-clause-cause
@@ -27,17 +28,17 @@ returns-in_err-read_line-clause-cause g c =
     (stops_since {T = Bool} (Err c.in_err-read_line.field-0.0) _ (record { files = (g.F.Files.filed c.loop-line.files).faults; shelf = (g.S.Shelf.shelved c.loop-line.shelf).faults; out = (g.O.Sink.poured c.loop-line.out).faults }) _ c.loop-line.invariant.files.faults c.loop-line.invariant.shelf.later c.loop-line.invariant.later
     (c.in_err-read_line.ensures.cause (g.S.Shelf.shelved c.loop-line.shelf).faults (g.O.Sink.poured c.loop-line.out).faults))
 
-pub returns-in_err-read_line-clause-long : goal.returns-in_err-read_line-clause-long
-returns-in_err-read_line-clause-long g c bytes is =
+pub returns-in_err-read_line-clause-place : goal.returns-in_err-read_line-clause-place
+returns-in_err-read_line-clause-place g c bytes is =
     let came = c.loop-line.invariant.came bytes is in
-    handed_on (LongOnly (length bytes)) c.from_residual.result (err_from_is_err_and c.from_residual.result c.from_residual.ensures.1)
-    (read_long bytes c.loop-line.number c.read_line.new.line.items c.loop-line.reader c.read_line.new.reader (g.F.Files.filed c.loop-line.files) (g.F.Files.filed c.read_line.new.files) came c.in_err-read_line.field-0.0 (c.in_err-read_line.ensures.reads came.rest came.comes))
+    handed_on (StopsAt bytes) c.from_residual.result (err_from_is_err_and c.from_residual.result c.from_residual.ensures.1)
+    (stops_reading bytes c.loop-line.number c.read_line.new.line.items c.loop-line.reader c.read_line.new.reader (g.F.Files.filed c.loop-line.files) (g.F.Files.filed c.read_line.new.files) came c.in_err-read_line.field-0.0 (c.in_err-read_line.ensures.reads came.rest came.comes))
 
 pub returns-in_err-read_line-clause-runs : goal.returns-in_err-read_line-clause-runs
-returns-in_err-read_line-clause-runs g c bytes limit is never empty agrees =
-    let running = c.loop-line.invariant.runs bytes limit is never empty agrees in
-    handed_on (RunsSession limit (session_of bytes) (g.O.Sink.poured c.loop-line.out).written (cluster_of g.S.Store.Keeper.kept c.loop-line.cluster)) c.from_residual.result (err_from_is_err_and c.from_residual.result c.from_residual.ensures.1)
-    (read_stops limit bytes c.loop-line.number c.read_line.new.line.items c.loop-line.reader c.read_line.new.reader (g.F.Files.filed c.loop-line.files) (g.F.Files.filed c.read_line.new.files) _ _ running c.in_err-read_line.field-0.0 (c.in_err-read_line.ensures.reads running.rest running.comes))
+returns-in_err-read_line-clause-runs g c bytes limit is tells empty agrees =
+    let running = c.loop-line.invariant.runs bytes limit is tells empty agrees in
+    handed_on (RunsSession (g.S.Shelf.shelved c.args.shelf.now) limit (session_of bytes) (g.O.Sink.poured c.loop-line.out).written (cluster_of g.S.Store.Keeper.kept c.loop-line.cluster)) c.from_residual.result (err_from_is_err_and c.from_residual.result c.from_residual.ensures.1)
+    (read_stops (g.S.Shelf.shelved c.args.shelf.now) limit bytes c.loop-line.number c.read_line.new.line.items c.loop-line.reader c.read_line.new.reader (g.F.Files.filed c.loop-line.files) (g.F.Files.filed c.read_line.new.files) _ _ running c.in_err-read_line.field-0.0 (c.in_err-read_line.ensures.reads running.rest running.comes))
 
 pub returns-in_err-run_line-clause-cause : goal.returns-in_err-run_line-clause-cause
 returns-in_err-run_line-clause-cause g c =
@@ -45,12 +46,20 @@ returns-in_err-run_line-clause-cause g c =
     (stops_since {T = Unit {0}} (Err c.in_err-run_line.field-0.0) _ (record { files = (g.F.Files.filed c.read_line.new.files).faults; shelf = (g.S.Shelf.shelved c.loop-line.shelf).faults; out = (g.O.Sink.poured c.loop-line.out).faults }) _ (omega (arith, c.loop-line.invariant.files.faults, c.read_line.ensures.files.faults)) c.loop-line.invariant.shelf.later c.loop-line.invariant.later
     (c.in_err-run_line.ensures.cause (g.F.Files.filed c.read_line.new.files).faults))
 
+pub returns-in_err-run_line-clause-place : goal.returns-in_err-run_line-clause-place
+returns-in_err-run_line-clause-place g c bytes is =
+    let came = c.loop-line.invariant.came bytes is in
+    let hands = subst (λ l. Hands l came.rest c.loop-line.reader c.read_line.new.reader (g.F.Files.filed c.read_line.new.files) Line) (sym c.deref.ensures.value) (rw c.if-branch.true at c.in_ok-read_line.ensures.reads came.rest came.comes) in
+    handed_on (StopsAt bytes) c.from_residual-in_err-run_line.result (err_from_is_err_and c.from_residual-in_err-run_line.result c.from_residual-in_err-run_line.ensures.1)
+    (stops_running bytes _ _ _ _ _ _ came hands c.in_ok-read_line.ensures.limit c.in_err-run_line.field-0.0 c.in_err-run_line.ensures.bad)
+
 pub returns-in_err-run_line-clause-runs : goal.returns-in_err-run_line-clause-runs
-returns-in_err-run_line-clause-runs g c bytes limit is never empty agrees =
-    let running = c.loop-line.invariant.runs bytes limit is never empty agrees in
+returns-in_err-run_line-clause-runs g c bytes limit is tells empty agrees =
+    let running = c.loop-line.invariant.runs bytes limit is tells empty agrees in
     let hands = subst (λ l. Hands l running.rest c.loop-line.reader c.read_line.new.reader (g.F.Files.filed c.read_line.new.files) Line) (sym c.deref.ensures.value) (rw c.if-branch.true at c.in_ok-read_line.ensures.reads running.rest running.comes) in
-    handed_on (RunsSession limit (session_of bytes) (g.O.Sink.poured c.run_line.new.out).written (cluster_of g.S.Store.Keeper.kept c.run_line.new.cluster)) c.from_residual-in_err-run_line.result (err_from_is_err_and c.from_residual-in_err-run_line.result c.from_residual-in_err-run_line.ensures.1)
-    (line_stops limit bytes _ _ _ _ _ _ _ _ _ _ running hands c.in_err-run_line.field-0.0 (c.in_err-run_line.ensures.runs (never_still (g.S.Shelf.shelved c.args.shelf.now) (g.S.Shelf.shelved c.loop-line.shelf) c.loop-line.invariant.shelf.promise never)))
+    handed_on (RunsSession (g.S.Shelf.shelved c.args.shelf.now) limit (session_of bytes) (g.O.Sink.poured c.run_line.new.out).written (cluster_of g.S.Store.Keeper.kept c.run_line.new.cluster)) c.from_residual-in_err-run_line.result (err_from_is_err_and c.from_residual-in_err-run_line.result c.from_residual-in_err-run_line.ensures.1)
+    (line_stops (g.S.Shelf.shelved c.args.shelf.now) (g.S.Shelf.shelved c.loop-line.shelf) limit bytes _ _ _ _ _ _ _ _ _ _ running hands c.in_err-run_line.field-0.0
+    (c.in_err-run_line.ensures.runs (tells_still (g.S.Shelf.shelved c.args.shelf.now) (g.S.Shelf.shelved c.loop-line.shelf) c.loop-line.invariant.shelf.promise tells)))
 
 pub loop-line-preserved : goal.loop-line-preserved
 loop-line-preserved g c = record {
@@ -61,14 +70,21 @@ loop-line-preserved g c = record {
   limit = c.in_ok-read_line.ensures.limit;
   came = λ bytes is.
       let came = c.loop-line.invariant.came bytes is in
-      came_on bytes _ _ _ _ _ came (rw c.if-branch.true at c.in_ok-read_line.ensures.reads came.rest came.comes);
-  runs = λ bytes limit is never empty agrees.
-      let running = c.loop-line.invariant.runs bytes limit is never empty agrees in
+      let hands = subst (λ l. Hands l came.rest c.loop-line.reader c.read_line.new.reader (g.F.Files.filed c.read_line.new.files) Line) (sym c.deref.ensures.value) (rw c.if-branch.true at c.in_ok-read_line.ensures.reads came.rest came.comes) in
+      came_on bytes _ _ _ _ _ _ came hands c.in_ok-run_line.ensures.bad;
+  runs = λ bytes limit is tells empty agrees.
+      let running = c.loop-line.invariant.runs bytes limit is tells empty agrees in
       let hands = subst (λ l. Hands l running.rest c.loop-line.reader c.read_line.new.reader (g.F.Files.filed c.read_line.new.files) Line) (sym c.deref.ensures.value) (rw c.if-branch.true at c.in_ok-read_line.ensures.reads running.rest running.comes) in
-      went_on limit bytes _ _ _ _ _ _ _ _ _ _ (omega (arith, c.loop-line.invariant.count, c.loop-line.invariant.limit)) running hands (c.in_ok-run_line.ensures.runs (never_still (g.S.Shelf.shelved c.args.shelf.now) (g.S.Shelf.shelved c.loop-line.shelf) c.loop-line.invariant.shelf.promise never));
+      went_on (g.S.Shelf.shelved c.args.shelf.now) (g.S.Shelf.shelved c.loop-line.shelf) limit bytes _ _ _ _ _ _ _ _ _ _ (never_still (g.S.Shelf.shelved c.args.shelf.now) (g.S.Shelf.shelved c.loop-line.shelf) c.loop-line.invariant.shelf.promise)
+      (omega (arith, c.loop-line.invariant.count, c.loop-line.invariant.limit)) running hands (c.in_ok-run_line.ensures.runs (tells_still (g.S.Shelf.shelved c.args.shelf.now) (g.S.Shelf.shelved c.loop-line.shelf) c.loop-line.invariant.shelf.promise tells));
 }
 
+pub returns-clause-place : goal.returns-clause-place
+returns-clause-place g c bytes is =
+    let came = c.loop-line.invariant.came bytes is in
+    stops_end bytes _ _ _ came (rw c.if-branch.false at c.in_ok-read_line.ensures.reads came.rest came.comes) c.loop-line.invariant.limit
+
 pub returns-clause-runs : goal.returns-clause-runs
-returns-clause-runs g c bytes limit is never empty agrees =
-    let running = c.loop-line.invariant.runs bytes limit is never empty agrees in
-    ran_all limit bytes _ _ _ _ _ running (rw c.if-branch.false at c.in_ok-read_line.ensures.reads running.rest running.comes)
+returns-clause-runs g c bytes limit is tells empty agrees =
+    let running = c.loop-line.invariant.runs bytes limit is tells empty agrees in
+    ran_all (g.S.Shelf.shelved c.args.shelf.now) limit bytes _ _ _ _ _ running (rw c.if-branch.false at c.in_ok-read_line.ensures.reads running.rest running.comes)

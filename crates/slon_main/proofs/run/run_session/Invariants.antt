@@ -5,8 +5,9 @@ use Rattle.session_text.specs.Reading.{session_limit}
 use Rattle.session_text.specs.Handing.{Stays}
 use Rattle.slon_main.specs.Agreed.{Agrees}
 use Rattle.slon_main.specs.Clustered.{cluster_of}
-use Rattle.slon_main.specs.Running.{NeverFails, Shelves}
-use Rattle.slon_main.proofs.Runs.{Came, Running}
+use Rattle.slon_main.specs.Running.{Tells, Shelves}
+use Rattle.slon_main.proofs.Places.{Came}
+use Rattle.slon_main.proofs.Runs.{Running}
 use Rattle.slon_main.proofs.run.run_session.Given as goal
 
 abbrev pub invariant-loop-line : goal.invariant-loop-line
@@ -16,8 +17,8 @@ invariant-loop-line g l = record {
   later : (g.O.Sink.poured l.fn.out).faults ≤ (g.O.Sink.poured l.out).faults;
   count : l.number ≤ l.reader.taken + 1;
   limit : l.reader.taken ≤ session_limit;
-  came : (bytes : List ℕ) → top (g.F.Files.filed l.fn.files).stack ≡ Some bytes → Came bytes l.reader (g.F.Files.filed l.files);
-  runs : (bytes : List ℕ) (limit : ℕ) → top (g.F.Files.filed l.fn.files).stack ≡ Some bytes → NeverFails (g.S.Shelf.shelved l.fn.shelf) → (g.O.Sink.poured l.fn.out).written ≡ Some [] → Agrees (start limit) (cluster_of g.S.Store.Keeper.kept l.fn.cluster) → Running limit bytes l.number l.reader (g.F.Files.filed l.files) (g.O.Sink.poured l.out).written (cluster_of g.S.Store.Keeper.kept l.cluster);
+  came : (bytes : List ℕ) → top (g.F.Files.filed l.fn.files).stack ≡ Some bytes → Came bytes l.number l.reader (g.F.Files.filed l.files);
+  runs : (bytes : List ℕ) (limit : ℕ) → top (g.F.Files.filed l.fn.files).stack ≡ Some bytes → Tells (g.S.Shelf.shelved l.fn.shelf) → (g.O.Sink.poured l.fn.out).written ≡ Some [] → Agrees (start limit) (cluster_of g.S.Store.Keeper.kept l.fn.cluster) → Running (g.S.Shelf.shelved l.fn.shelf) limit bytes l.number l.reader (g.F.Files.filed l.files) (g.O.Sink.poured l.out).written (cluster_of g.S.Store.Keeper.kept l.cluster);
 }
 
 abbrev pub decreases-loop-line : goal.decreases-loop-line

@@ -1,44 +1,35 @@
-use Rattle.std.proofs.Common.{◌∙◌, sym, ap, arith}
-use Rattle.slon_model.specs.World.{find_named}
-use Rattle.app_store.specs.Fits.{Opened}
-use Rattle.app_store.specs.Base.{opened_of, base_of}
-use Rattle.app_store.specs.Spelled.{row_key}
-use Rattle.app_store.specs.Works.{can_place}
-use Rattle.app_store.proofs.Fitting.{open_as, first_and_rest, columns_small, columns_of, inserted, not_inserted, only_memory, too_wide}
+use Rattle.std.proofs.Common.{◌∙◌, sym, ap, subst, refl, ◌==◌, ℕ, List, length, take, drop}
+use Rattle.app_store.specs.Base.{base_of}
+use Rattle.slon_model.specs.declared.command.Command.TheVariants.{Insert as InsertCommand}
+use Rattle.slon_model.specs.Place.{if_new, key_of}
+use Rattle.app_store.specs.Targets.{InsertOf, Written}
+use Rattle.app_store.proofs.Running.{up_running, due_running}
+use Rattle.app_store.proofs.Writing.{width_stopped, width_parts, bad_width, written_goes, table_narrow, values_fit, values_not_fit, values_parted, first_is}
 use Rattle.app_store.proofs.database.Database.insert.Goals as goal
 
-pub returns-then-len-gt-MOST_COLUMNS-clause-answers : goal.returns-then-len-gt-MOST_COLUMNS-clause-answers
-returns-then-len-gt-MOST_COLUMNS-clause-answers g c p fits room memory =
-    (sym (too_wide p c.args.name.now c.args.table.now c.args.values.now fits.sound (omega (arith, c.len.ensures, c.if-len-gt-MOST_COLUMNS.true))), fits)
+pub returns-then-not-are_values-clause-goes : goal.returns-then-not-are_values-clause-goes
+returns-then-not-are_values-clause-goes g c database p fits sound spelled room memory =
+    let standing = (up_running p (base_of g.K.Keeper.kept c.args.self.now) fits c.if-not-self.false).0 in
+    let due = due_running (InsertCommand database c.args.name.now c.args.table.now c.args.values.now) p refl standing in
+    let found = c.in-Ok.ensures.finds p fits sound spelled room refl in
+    let parts = width_parts c.args.name.now c.args.table.now p c.in-Ok.xid c.in-Ok.width (base_of g.K.Keeper.kept c.find_width.new.self) found in
+    let narrow = table_narrow c.args.table.now c.in-Ok.width p.tables spelled.narrow parts.1 in
+    bad_width (InsertCommand database c.args.name.now c.args.table.now c.args.values.now) p c.args.name.now c.args.table.now (key_of c.args.values.now) (λ width. length c.args.values.now == width) (if_new p.next_number) c.in-Ok.xid c.in-Ok.width (base_of g.K.Keeper.kept c.find_width.new.self) due found
+    (values_not_fit (length c.args.values.now) c.in-Ok.width narrow (sym c.are_values.ensures ∙ c.if-not-are_values.true))
 
-pub returns-in-Refused-clause-answers : goal.returns-in-Refused-clause-answers
-returns-in-Refused-clause-answers g c p fits room memory =
-    let o : Opened = record { name = c.in-Some.transaction.name; xid = c.in-Some.transaction.xid; writes = c.in-Some.transaction.writes } in
-    let is = ap opened_of (sym c.in-Some.ensures.value) in
-    let opened = open_as p (base_of g.K.Keeper.kept c.args.self.now) c.args.name.now o fits is (sym c.is_open.ensures ∙ c.if-not-is_open.false) in
-    let parts = first_and_rest c.args.values.now c.requires.some in
-    let work = c.place_row-placed.ensures.sure fits.held.0 (find_named c.args.table.now p.tables) parts.0 parts.1 fits.held.1 fits.sure
-    (columns_small c.args.table.now p.tables fits.sound.narrow) (columns_of p fits.held.0 c.args.table.now fits.held.2) (c.as_slice.ensures.value ∙ parts.2) in
-    let placed = rw (c.in-Ok.is, c.in-Refused.is) at work.2 in
-    not_inserted p _ o _ c.args.name.now c.args.table.now c.args.values.now parts.0 parts.1 _ fits is opened c.requires.text parts.2
-    (ap (λ v. can_place (find_named c.args.table.now p.tables) v (row_key c.args.table.now parts.0) o.writes fits.held.0) (sym c.as_slice.ensures.value) ∙ placed.0) placed.1 work.0 work.1
+pub returns-else-not-are_values-clause-goes : goal.returns-else-not-are_values-clause-goes
+returns-else-not-are_values-clause-goes g c database p fits sound spelled room memory =
+    let standing = (up_running p (base_of g.K.Keeper.kept c.args.self.now) fits c.if-not-self.false).0 in
+    let due = due_running (InsertCommand database c.args.name.now c.args.table.now c.args.values.now) p refl standing in
+    let found = c.in-Ok.ensures.finds p fits sound spelled room refl in
+    let parts = width_parts c.args.name.now c.args.table.now p c.in-Ok.xid c.in-Ok.width (base_of g.K.Keeper.kept c.find_width.new.self) found in
+    let whole = values_parted c.args.values.now c.split_at.result.0.now c.split_at.result.1.now c.index-first-0.result c.requires.some (c.split_at.ensures.front ∙ ap (λ (values : List (List ℕ)). take 1 values) c.as_slice.ensures.value) (c.split_at.ensures.back ∙ ap (λ (values : List (List ℕ)). drop 1 values) c.as_slice.ensures.value) (first_is c.split_at.result.0.now c.args.values.now c.index-first-0.result c.requires.some (c.split_at.ensures.front ∙ ap (λ (values : List (List ℕ)). take 1 values) c.as_slice.ensures.value) c.index-first-0.is) in
+    written_goes (InsertCommand database c.args.name.now c.args.table.now c.args.values.now) (InsertOf c.args.values.now) p c.args.name.now c.args.table.now (λ width. length c.args.values.now == width) c.in-Ok.xid c.in-Ok.width c.insert_row.result (base_of g.K.Keeper.kept c.find_width.new.self) (base_of g.K.Keeper.kept c.insert_row.new.self) standing due refl (λ q. refl) found
+    (values_fit (length c.args.values.now) c.in-Ok.width (sym c.are_values.ensures ∙ c.if-not-are_values.false))
+    (subst (λ values. Written (InsertOf values) c.in-Ok.xid c.args.table.now p c.insert_row.result (base_of g.K.Keeper.kept c.insert_row.new.self)) whole (c.insert_row.ensures.writes p parts.2 sound spelled room memory parts.0))
 
-pub returns-in-Done-clause-answers : goal.returns-in-Done-clause-answers
-returns-in-Done-clause-answers g c p fits room memory =
-    let o : Opened = record { name = c.in-Some.transaction.name; xid = c.in-Some.transaction.xid; writes = c.in-Some.transaction.writes } in
-    let is = ap opened_of (sym c.in-Some.ensures.value) in
-    let opened = open_as p (base_of g.K.Keeper.kept c.args.self.now) c.args.name.now o fits is (sym c.is_open.ensures ∙ c.if-not-is_open.false) in
-    let parts = first_and_rest c.args.values.now c.requires.some in
-    let work = c.place_row-placed.ensures.sure fits.held.0 (find_named c.args.table.now p.tables) parts.0 parts.1 fits.held.1 fits.sure
-    (columns_small c.args.table.now p.tables fits.sound.narrow) (columns_of p fits.held.0 c.args.table.now fits.held.2) (c.as_slice.ensures.value ∙ parts.2) in
-    let placed = rw (c.in-Ok.is, c.in-Done.is) at work.2 in
-    inserted p (base_of g.K.Keeper.kept c.args.self.now) o _ c.args.name.now c.args.table.now c.args.values.now parts.0 parts.1 _ fits is opened c.requires.text c.requires.texts
-    (omega (arith, c.len.ensures, c.if-len-gt-MOST_COLUMNS.false)) parts.2 c.if-self-ge-FIRST_CEILING.false
-    (ap (λ v. can_place (find_named c.args.table.now p.tables) v (row_key c.args.table.now parts.0) o.writes fits.held.0) (sym c.as_slice.ensures.value) ∙ placed.0) placed.1 work.0 work.1
-
-pub returns-in-Err-clause-answers : goal.returns-in-Err-clause-answers
-returns-in-Err-clause-answers g c p fits room memory =
-    let parts = first_and_rest c.args.values.now c.requires.some in
-    let work = c.place_row-placed.ensures.sure fits.held.0 (find_named c.args.table.now p.tables) parts.0 parts.1 fits.held.1 fits.sure
-    (columns_small c.args.table.now p.tables fits.sound.narrow) (columns_of p fits.held.0 c.args.table.now fits.held.2) (c.as_slice.ensures.value ∙ parts.2) in
-    absurd (only_memory c.in-Err.stop c.stopped.result (rw c.in-Err.is at work.2) c.stopped.ensures.memory memory)
+pub returns-in-Err-clause-goes : goal.returns-in-Err-clause-goes
+returns-in-Err-clause-goes g c database p fits sound spelled room memory =
+    let standing = (up_running p (base_of g.K.Keeper.kept c.args.self.now) fits c.if-not-self.false).0 in
+    let due = due_running (InsertCommand database c.args.name.now c.args.table.now c.args.values.now) p refl standing in
+    width_stopped (InsertCommand database c.args.name.now c.args.table.now c.args.values.now) p c.args.name.now c.args.table.now (key_of c.args.values.now) (λ width. length c.args.values.now == width) (if_new p.next_number) c.in-Err.fault (base_of g.K.Keeper.kept c.find_width.new.self) standing due (c.in-Err.ensures.finds p fits sound spelled room memory)

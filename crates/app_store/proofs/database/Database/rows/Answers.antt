@@ -1,51 +1,28 @@
-use Rattle.std.proofs.Common.{◌≡◌, ◌∙◌, sym, ap, subst, refl, Ok, Err, Some, None, Bool, true, false, cond, is_some, Result}
+use Rattle.std.proofs.Common.{◌∙◌, is_some, Some, None, cond}
+use Rattle.app_store.specs.Base.{base_of}
 use Rattle.std.specs.FinMap.{entries}
-use Rattle.slon_base.specs.Codec.{text_bytes}
-use Rattle.slon_model.specs.declared.fault.DbFault.{DbFault}
-use Rattle.slon_model.specs.declared.fault.DbFault.TheVariants.{NotYet}
-use Rattle.slon_model.specs.Rows.{member}
-use Rattle.slon_model.specs.World.{find_named, standing_rows}
-use Rattle.app_store.specs.Scan.{IsTableOf}
-use Rattle.app_store.proofs.Pending.{sight-idle}
-use Rattle.app_store.proofs.Standing.{is_table}
-use Rattle.app_store.proofs.Fitting.{refit, columns_small, columns_of, only_memory, says_only}
+use Rattle.slon_model.specs.Place.{find_named, standing_rows}
+use Rattle.app_store.proofs.Holding.{columns_small, columns_of}
+use Rattle.app_store.proofs.Listing.{table_of}
+use Rattle.app_store.proofs.Pending.{held_gives}
+use Rattle.app_store.proofs.Running.{up_running}
+use Rattle.app_store.proofs.Transacting.{rows_refused, rows_listed, none_is, some_is, says_stop, stopped}
 use Rattle.app_store.proofs.database.Database.rows.Goals as goal
 
-none_due : {A : Type 0} (b : Bool) (x : A) → None ≡ cond b (Some x) None → Err NotYet ≡ cond b (Ok x) (Err NotYet)
-none_due true x is = absurd cc
-none_due false x is = refl
+pub returns-in-None-clause-goes : goal.returns-in-None-clause-goes
+returns-in-None-clause-goes g c database p fits sound spelled room memory =
+    let says = held_gives (up_running p (base_of g.K.Keeper.kept c.args.self.now) fits c.if-not-self.false).1.idle c.in-Ok.ensures fits.held.0 fits.held.1 (find_named c.args.table.now p.tables) (standing_rows p c.args.table.now) (columns_small c.args.table.now p.tables spelled.narrow) (columns_of p fits.held.0 c.args.table.now fits.held.2) (table_of p fits.held.0 c.args.table.now c.requires spelled fits.held.2) in
+    let none = rw c.in-None.is at says in
+    rows_refused database c.args.table.now p (base_of g.K.Keeper.kept c.args.self.now) _ fits c.if-not-self.false (none_is _ (is_some (find_named c.args.table.now p.tables)) none) c.in-Ok.ensures.held c.in-Ok.ensures.counted.later (c.in-Ok.ensures.opened ∙ (up_running p (base_of g.K.Keeper.kept c.args.self.now) fits c.if-not-self.false).1.idle)
 
-some_due : {A : Type 0} (b : Bool) (x y : A) → Some y ≡ cond b (Some x) None → Ok y ≡ cond b (Ok x) (Err NotYet)
-some_due {A} true x y is = let same : y ≡ x = cc in ap (λ v. ok v) same
-  where
-    ok : A → Result A DbFault
-    ok v = Ok v
-some_due false x y is = absurd cc
+pub returns-in-Some-clause-goes : goal.returns-in-Some-clause-goes
+returns-in-Some-clause-goes g c database p fits sound spelled room memory =
+    let says = held_gives (up_running p (base_of g.K.Keeper.kept c.args.self.now) fits c.if-not-self.false).1.idle c.in-Ok.ensures fits.held.0 fits.held.1 (find_named c.args.table.now p.tables) (standing_rows p c.args.table.now) (columns_small c.args.table.now p.tables spelled.narrow) (columns_of p fits.held.0 c.args.table.now fits.held.2) (table_of p fits.held.0 c.args.table.now c.requires spelled fits.held.2) in
+    let some = rw c.in-Some.is at says in
+    let both = some_is c.in-Some.rows _ (is_some (find_named c.args.table.now p.tables)) some in
+    rows_listed database c.args.table.now p (base_of g.K.Keeper.kept c.args.self.now) _ c.in-Some.rows fits c.if-not-self.false both.0 both.1 c.in-Ok.ensures.held c.in-Ok.ensures.counted.later (c.in-Ok.ensures.opened ∙ (up_running p (base_of g.K.Keeper.kept c.args.self.now) fits c.if-not-self.false).1.idle)
 
-pub returns-in-None-clause-answers : goal.returns-in-None-clause-answers
-returns-in-None-clause-answers g c p fits room memory =
-    let m = fits.held.0 in
-    let listed = c.in-Ok.ensures.gives m (sight-idle (g.K.Keeper.kept c.args.self.now.keeper.keeper) (c.args.self.now.idle fits.up) ∙ fits.held.1) (find_named c.args.table.now p.tables) (standing_rows p c.args.table.now)
-    (columns_small c.args.table.now p.tables fits.sound.narrow) (columns_of p m c.args.table.now fits.held.2)
-    (subst (IsTableOf (text_bytes c.args.table.now) (standing_rows p c.args.table.now)) (sym fits.held.2.rows_held) (is_table (λ a. member a.xid p.commits) p.next_xid c.args.table.now p.actions c.requires fits.sound.written)) in (
-      none_due (is_some (find_named c.args.table.now p.tables)) (entries (standing_rows p c.args.table.now)) (sym c.in-None.is ∙ listed),
-      refit p _ (g.K.Keeper.kept c.list_rows.new.keeper.keeper) fits (c.in-Ok.ensures.sure.still fits.sure) (c.in-Ok.ensures.held ∙ fits.held.1),
-    )
-
-pub returns-in-Some-clause-answers : goal.returns-in-Some-clause-answers
-returns-in-Some-clause-answers g c p fits room memory =
-    let m = fits.held.0 in
-    let listed = c.in-Ok.ensures.gives m (sight-idle (g.K.Keeper.kept c.args.self.now.keeper.keeper) (c.args.self.now.idle fits.up) ∙ fits.held.1) (find_named c.args.table.now p.tables) (standing_rows p c.args.table.now)
-    (columns_small c.args.table.now p.tables fits.sound.narrow) (columns_of p m c.args.table.now fits.held.2)
-    (subst (IsTableOf (text_bytes c.args.table.now) (standing_rows p c.args.table.now)) (sym fits.held.2.rows_held) (is_table (λ a. member a.xid p.commits) p.next_xid c.args.table.now p.actions c.requires fits.sound.written)) in (
-      some_due (is_some (find_named c.args.table.now p.tables)) (entries (standing_rows p c.args.table.now)) c.in-Some.rows (sym c.in-Some.is ∙ listed),
-      refit p _ (g.K.Keeper.kept c.list_rows.new.keeper.keeper) fits (c.in-Ok.ensures.sure.still fits.sure) (c.in-Ok.ensures.held ∙ fits.held.1),
-    )
-
-pub returns-in-Err-clause-answers : goal.returns-in-Err-clause-answers
-returns-in-Err-clause-answers g c p fits room memory =
-    let m = fits.held.0 in
-    let listed = c.in-Err.ensures.gives m (sight-idle (g.K.Keeper.kept c.args.self.now.keeper.keeper) (c.args.self.now.idle fits.up) ∙ fits.held.1) (find_named c.args.table.now p.tables) (standing_rows p c.args.table.now)
-    (columns_small c.args.table.now p.tables fits.sound.narrow) (columns_of p m c.args.table.now fits.held.2)
-    (subst (IsTableOf (text_bytes c.args.table.now) (standing_rows p c.args.table.now)) (sym fits.held.2.rows_held) (is_table (λ a. member a.xid p.commits) p.next_xid c.args.table.now p.actions c.requires fits.sound.written)) in
-    absurd (only_memory c.in-Err.stop c.stopped.result (says_only (cond (is_some (find_named c.args.table.now p.tables)) (Some (entries (standing_rows p c.args.table.now))) None) c.in-Err.stop listed (c.in-Err.ensures.sure.never fits.sure)) c.stopped.ensures.memory memory)
+pub returns-in-Err-clause-goes : goal.returns-in-Err-clause-goes
+returns-in-Err-clause-goes g c database p fits sound spelled room memory =
+    let says = held_gives (up_running p (base_of g.K.Keeper.kept c.args.self.now) fits c.if-not-self.false).1.idle c.in-Err.ensures fits.held.0 fits.held.1 (find_named c.args.table.now p.tables) (standing_rows p c.args.table.now) (columns_small c.args.table.now p.tables spelled.narrow) (columns_of p fits.held.0 c.args.table.now fits.held.2) (table_of p fits.held.0 c.args.table.now c.requires spelled fits.held.2) in
+    stopped _ p (base_of g.K.Keeper.kept c.args.self.now) _ _ c.in-Err.stop c.fall.result fits c.if-not-self.false (c.in-Err.ensures.held ∙ fits.held.1) (says_stop (cond (is_some (find_named c.args.table.now p.tables)) (Some (entries (standing_rows p c.args.table.now))) None) c.in-Err.stop says) c.in-Err.ensures.counted.failed c.fall.ensures.down.kept c.fall.ensures.down.up c.fall.ensures.down.doubt c.fall.ensures.fault memory

@@ -1,15 +1,39 @@
-use Rattle.std.proofs.Common.{◌∙◌, ◌++◌, ◌∷◌, [], map, sym, ap, refl, subst}
-use Rattle.slon_main.proofs.Lifting.{fits_more, not_so}
-use Rattle.slon_model.specs.World.{new_place, reply_of}
-use Rattle.slon_model.specs.declared.reply.Answer.TheVariants.{Done}
-use Rattle.slon_main.specs.Agreed.{FitsAll}
-use Rattle.slon_main.specs.Clustered.{named_base}
+use Rattle.std.proofs.Common.{◌∙◌, sym, subst}
+use Rattle.app_store.specs.Base.{base_of}
+use Rattle.slon_main.specs.Calls.{Made}
+use Rattle.slon_main.proofs.Moving.{not_so, rejects, keeps_ok, keeps_err, makes, adopts_caused, adopts_done}
 use Rattle.slon_main.proofs.cluster.Cluster.adopt.Goals as goal
 
-pub returns-in-Ok : goal.returns-in-Ok
-returns-in-Ok g c w agrees held sure =
-    let made = c.create-database.ensures.made (ap (λ k. k.held) c.new.ensures ∙ held) (ap (λ k. k.can_fail) c.new.ensures ∙ sure) (not_so _ c.in_ok-reply.ensures.memory) in
-    let f = named_base g.K.Keeper.kept in (
-      c.in_ok-reply.ensures.reply ∙ ap (reply_of c.args.name (λ u. Done)) made.0,
-      record { limit = agrees.limit; fits = subst (λ xs. FitsAll (w.places ++ (c.args.name, new_place) ∷ []) (map f xs)) (sym c.in-Ok.ensures.items) (fits_more f c.args.name new_place _ w.places c.args.self.now.databases.items agrees.fits refl made.1) },
-    )
+pub returns-then-is_not_empty-clause-adopts : goal.returns-then-is_not_empty-clause-adopts
+returns-then-is_not_empty-clause-adopts g c =
+    rejects c.args.name _ _ _ _ c.in-Err.fault
+    (subst (λ k. Made k c.create-database.result.1 (base_of g.K.Keeper.kept c.create-database.result.0)) c.new.ensures.kept (record { begins = c.create-database.ensures.begins; caused = c.create-database.ensures.caused; still = c.create-database.ensures.still; never = c.create-database.ensures.never; down = c.create-database.ensures.down; full = c.create-database.ensures.full }))
+    c.in-Err.is (sym c.is_not_empty.ensures ∙ c.if-is_not_empty.true)
+
+pub returns-in_ok-keep-in-Ok-clause-adopts : goal.returns-in_ok-keep-in-Ok-clause-adopts
+returns-in_ok-keep-in-Ok-clause-adopts g c =
+    keeps_ok c.args.name _ _ _ _ _ c.in-Ok.field-0
+    (subst (λ k. Made k c.create-database.result.1 (base_of g.K.Keeper.kept c.create-database.result.0)) c.new.ensures.kept (record { begins = c.create-database.ensures.begins; caused = c.create-database.ensures.caused; still = c.create-database.ensures.still; never = c.create-database.ensures.never; down = c.create-database.ensures.down; full = c.create-database.ensures.full }))
+    c.in-Ok.is c.in_ok-keep-in-Ok.ensures
+
+pub returns-in_ok-keep-in-Ok-clause-makes : goal.returns-in_ok-keep-in-Ok-clause-makes
+returns-in_ok-keep-in-Ok-clause-makes g c = makes c.args.name _ _ _ _ (returns-in_ok-keep-in-Ok-clause-adopts g c)
+
+pub returns-in_ok-keep-in-Err-clause-adopts : goal.returns-in_ok-keep-in-Err-clause-adopts
+returns-in_ok-keep-in-Err-clause-adopts g c =
+    keeps_err c.args.name _ _ _ _ _ _ c.in-Err.fault
+    (subst (λ k. Made k c.create-database.result.1 (base_of g.K.Keeper.kept c.create-database.result.0)) c.new.ensures.kept (record { begins = c.create-database.ensures.begins; caused = c.create-database.ensures.caused; still = c.create-database.ensures.still; never = c.create-database.ensures.never; down = c.create-database.ensures.down; full = c.create-database.ensures.full }))
+    c.in-Err.is (sym c.is_not_empty.ensures ∙ c.if-is_not_empty.false)
+    (not_so _ c.in_ok-reply-in-Err.ensures.memory) c.in_ok-reply-in-Err.ensures.reply c.in_ok-keep-in-Err.ensures
+
+pub returns-in_ok-keep-in-Err-clause-makes : goal.returns-in_ok-keep-in-Err-clause-makes
+returns-in_ok-keep-in-Err-clause-makes g c = makes c.args.name _ _ _ _ (returns-in_ok-keep-in-Err-clause-adopts g c)
+
+pub returns-in_ok-keep-in-Err-clause-cause : goal.returns-in_ok-keep-in-Err-clause-cause
+returns-in_ok-keep-in-Err-clause-cause g c = adopts_caused c.args.name _ _ _ _ (returns-in_ok-keep-in-Err-clause-adopts g c)
+
+pub returns-then-is_not_empty-clause-done : goal.returns-then-is_not_empty-clause-done
+returns-then-is_not_empty-clause-done g c = adopts_done c.args.name _ _ _ _ (returns-then-is_not_empty-clause-adopts g c)
+
+pub returns-in_ok-keep-in-Err-clause-done : goal.returns-in_ok-keep-in-Err-clause-done
+returns-in_ok-keep-in-Err-clause-done g c = adopts_done c.args.name _ _ _ _ (returns-in_ok-keep-in-Err-clause-adopts g c)

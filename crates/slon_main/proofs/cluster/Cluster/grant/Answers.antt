@@ -1,13 +1,21 @@
-use Rattle.std.proofs.Common.{◌≡◌, ◌∙◌, ◌==◌, if◌then◌else◌, length, vec_len, sym, ap, arith}
-use Rattle.std.proofs.lemmas.Bool.{eqb-true}
-use Rattle.slon_model.specs.declared.reply.Answer.TheVariants.{Done}
-use Rattle.slon_model.specs.declared.reply.Refusal.TheVariants.{NotYet}
-use Rattle.slon_model.specs.declared.reply.Reply.TheVariants.{Accepted, Refused}
-use Rattle.slon_main.proofs.Lifting.{granted}
+use Rattle.std.proofs.Common.{◌∙◌, is_some, sym, ap, arith}
+use Rattle.slon_model.specs.declared.reply.Refusal.TheVariants.{NameUsed}
+use Rattle.slon_model.specs.declared.reply.Reply.TheVariants.{Refused}
 use Rattle.slon_main.specs.Clustered.{named_base}
+use Rattle.slon_main.proofs.Moving.{grants_taken, grants_more, grants_none}
 use Rattle.slon_main.proofs.cluster.Cluster.grant.Goals as goal
 
-pub returns-then-is_empty : goal.returns-then-is_empty
-returns-then-is_empty g c w name agrees =
-    let none : length w.places ≡ 0 = omega (arith, granted (named_base g.K.Keeper.kept) w.places c.args.self.now.databases.items agrees.fits, eqb-true (vec_len c.args.self.now.databases) 0 (sym c.is_empty.ensures ∙ c.if-is_empty.true), c.args.self.now.databases.ok.0) in
-    ap (λ n. if n == 0 then Accepted Done else Refused NotYet) (sym none)
+pub returns-then-is_some : goal.returns-then-is_some
+returns-then-is_some g c =
+    ap (λ n. Refused (NameUsed n)) c.in_ok-name.ensures
+    ∙ grants_taken (named_base g.K.Keeper.kept) c.args.name.now c.args.self.now.limit c.args.self.now.databases.items (sym (c.is_some.ensures ∙ ap is_some c.index_of.ensures) ∙ c.if-is_some.true)
+
+pub returns-then-len-self : goal.returns-then-len-self
+returns-then-len-self g c =
+    grants_more (named_base g.K.Keeper.kept) c.args.name.now c.args.self.now.limit c.args.self.now.databases.items (sym (c.is_some.ensures ∙ ap is_some c.index_of.ensures) ∙ c.if-is_some.false)
+    (omega (arith, c.if-len-self.true, c.len.ensures, c.args.self.now.databases.ok.0))
+
+pub returns : goal.returns
+returns g c =
+    grants_none (named_base g.K.Keeper.kept) c.args.name.now c.args.self.now.limit c.args.self.now.databases.items (sym (c.is_some.ensures ∙ ap is_some c.index_of.ensures) ∙ c.if-is_some.false)
+    (omega (arith, c.if-len-self.false, c.len.ensures, c.args.self.now.databases.ok.0))

@@ -1,0 +1,76 @@
+// The open transactions of a database.
+ghost use Rattle.std.specs.Prelude.{◌≡◌, ℕ, ◌+◌, ◌-◌, ◌^◌, min, OnOk, IfOk, Some, None, is_some, false};
+ghost use Rattle.std.specs.Option.{option_map};
+ghost use Rattle.std.specs.FinMap.{get, insert, remove, empty};
+ghost use Rattle.app_store.specs.Written.{with_write, written_at};
+
+use slon_base::{ByteMap, Bytes};
+use std::alloc::{AllocError, Global};
+
+/// An open transaction with the rows that its commit will put or take away, by their spelled keys.
+#[derive(Drop)]
+pub struct Transaction {
+    pub(crate) xid: u64,
+    pub(crate) actions: u64,
+    pub(crate) writes: ByteMap<Option<Bytes>>,
+}
+
+/// The open transactions of a database by their names.
+pub(crate) type Opens = ByteMap<Transaction>;
+
+/// Opens a transaction of this name.
+pub(crate) fn open(
+    alloc: Global,
+    opens: &mut Opens,
+    name: &[u8],
+    xid: u64,
+) -> Result<(), AllocError>
+    ensures { OnOk result (opens.new ≡ insert opens.old name.now (record { xid = xid; actions = 0; writes = empty })) }
+{
+    let transaction = Transaction {
+        xid,
+        actions: 0,
+        writes: ByteMap::new(alloc),
+    };
+    opens.insert(Vec::from_slice(alloc, name)?, transaction)
+}
+
+/// Adds an action of the transaction of this name, which writes the row of this key.
+pub(crate) fn write(
+    alloc: Global,
+    opens: &mut Opens,
+    name: &[u8],
+    key: &[u8],
+    value: Option<Bytes>,
+) -> Result<(), AllocError>
+    ensures { (t : Transaction) → get opens.old name.now ≡ Some t → OnOk result (opens.new ≡ insert (remove opens.old name.now) name.now (with_write key.now value t)) }
+{
+    let Some(mut transaction) = opens.remove(name) else {
+        return Ok(());
+    };
+    transaction.actions = transaction.actions.saturating_add(1);
+    let key = Vec::from_slice(alloc, key)?;
+    transaction.writes.insert(key, value)?;
+    opens.insert(Vec::from_slice(alloc, name)?, transaction)
+}
+
+/// What the transaction of this name wrote at this key, if it wrote there.
+pub(crate) fn written(
+    alloc: Global,
+    opens: &Opens,
+    name: &[u8],
+    key: &[u8],
+) -> Result<Option<Option<Bytes>>, AllocError>
+    ensures { IfOk result (λ w. w ≡ written_at key.now (get opens.now name.now)) }
+{
+    match opens.get(name) {
+        None => Ok(None),
+        Some(transaction) => match transaction.writes.get(key) {
+            None => Ok(None),
+            Some(written) => Ok(Some(match written {
+                None => None,
+                Some(value) => Some(Bytes::from_slice(alloc, value.as_slice())?),
+            })),
+        },
+    }
+}

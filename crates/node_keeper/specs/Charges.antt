@@ -1,0 +1,46 @@
+-- What calls make of the charge of a fuse.
+use Rattle.std.specs.Prelude.{ℕ, ◌-◌, ◌==◌, Bool, true, false, if◌then◌else◌, Option, None}
+use Rattle.node_keeper.specs.declared.charge.Charge.{Charge}
+use Rattle.node_keeper.specs.declared.charge.Charge.TheVariants.{Off, After, AtCommit, Blown}
+
+-- the charge after a call that is no commit
+abbrev pub burnt : Charge → Charge
+burnt Off = Off
+burnt (After calls keep) = if calls == 0 then Blown keep else After (calls - 1) keep
+burnt (AtCommit keep) = AtCommit keep
+burnt (Blown keep) = Blown keep
+
+-- the charge after a commit
+abbrev pub burnt_by_commit : Charge → Charge
+burnt_by_commit Off = Off
+burnt_by_commit (After calls keep) = if calls == 0 then Blown keep else After (calls - 1) keep
+burnt_by_commit (AtCommit keep) = Blown keep
+burnt_by_commit (Blown keep) = Blown keep
+
+abbrev pub is_blown : Charge → Bool
+is_blown Off = false
+is_blown (After calls keep) = false
+is_blown (AtCommit keep) = false
+is_blown (Blown keep) = true
+
+-- a commit that the fuse fails is durable
+abbrev pub keeps : Charge → Bool
+keeps Off = false
+keeps (After calls keep) = keep
+keeps (AtCommit keep) = keep
+keeps (Blown keep) = keep
+
+-- the fuse fails the next call, if that is no commit
+abbrev pub strikes : Charge → Bool
+strikes charge = is_blown (burnt charge)
+
+-- the fuse fails the next call, if that is a commit
+abbrev pub strikes_commit : Charge → Bool
+strikes_commit charge = is_blown (burnt_by_commit charge)
+
+-- the bound on failures to come, which only a fuse that is off has
+abbrev pub bound : Charge → Option ℕ → Option ℕ
+bound Off left = left
+bound (After calls keep) left = None
+bound (AtCommit keep) left = None
+bound (Blown keep) left = None

@@ -1,0 +1,49 @@
+// What a fuse was told, and what calls make of it.
+ghost use Rattle.std.specs.Prelude.{◌≡◌};
+ghost use Rattle.node_keeper.specs.Charges.{burnt, burnt_by_commit, is_blown};
+
+/// What a fuse was told.
+#[derive(Clone, Copy, Debug, PartialEq, Eq)]
+pub enum Charge {
+    /// To fail no call.
+    Off,
+    /// To let so many calls through, and to fail the next one.
+    After { calls: u64, keep: bool },
+    /// To fail the next commit.
+    AtCommit { keep: bool },
+    /// It is blown, and fails each call.
+    Blown { keep: bool },
+}
+
+impl Charge {
+    /// What a call makes of it that is no commit.
+    pub(crate) fn burnt(self) -> Charge
+        ensures { result ≡ burnt self }
+    {
+        match self {
+            Charge::After { calls: 0, keep } => Charge::Blown { keep },
+            Charge::After { calls, keep } => Charge::After {
+                calls: calls - 1,
+                keep,
+            },
+            charge => charge,
+        }
+    }
+
+    /// What a commit makes of it.
+    pub(crate) fn burnt_by_commit(self) -> Charge
+        ensures { result ≡ burnt_by_commit self }
+    {
+        match self {
+            Charge::AtCommit { keep } => Charge::Blown { keep },
+            charge => charge.burnt(),
+        }
+    }
+
+    /// Whether a fuse fails the call that made this of its charge.
+    pub(crate) fn is_blown(self) -> bool
+        ensures { result ≡ is_blown self }
+    {
+        matches!(self, Charge::Blown { .. })
+    }
+}

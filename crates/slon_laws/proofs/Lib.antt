@@ -1,0 +1,11 @@
+pub mod Committing
+pub mod Covering
+pub mod Growth
+pub mod Keys
+pub mod Laws
+pub mod Locks
+pub mod Moves
+pub mod Opens
+pub mod Sounds
+pub mod Spells
+pub mod Worlds

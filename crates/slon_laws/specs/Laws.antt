@@ -1,0 +1,64 @@
+-- The laws of every database that a legal history leads to.
+use Rattle.std.specs.Prelude.{◌≡◌, ℕ, ◌<◌, ◌≤◌, ◌⊎◌, ◌==◌, true, List, [], ◌∷◌, Some}
+use Rattle.std.specs.List.{AllByRecursion}
+use Rattle.slon_model.specs.Rows.{Action, member, play_rows}
+use Rattle.slon_model.specs.Place.{Place, find_named, open_xids, standing_rows, committed, taken}
+use Rattle.slon_model.specs.Snapshots.{Covers}
+use Rattle.slon_model.specs.World.{World, start, Happening, Leads}
+use Rattle.slon_laws.specs.Sound.{conflicts, before, Pairs}
+
+-- P holds of each database of each session that a legal history leads to
+abbrev pub HoldsOfEach : (Place → Type 0) → Type 0
+HoldsOfEach P =
+    (limit : ℕ) (history : List Happening) (w : World) → Leads (start limit) history w →
+    (name : List ℕ) (p : Place) → find_named name w.places ≡ Some p → P p
+
+-- the action is one of these
+abbrev pub IsAmong : Action → List Action → Type 0
+IsAmong a [] = ⊥
+IsAmong a (b ∷ bs) = (a ≡ b) ⊎ IsAmong a bs
+
+-- Of two committed actions on one row by two transactions, that of the lower number committed first.
+abbrev pub LocksOrder : Place → Type 0
+LocksOrder p =
+    (a b : Action) → IsAmong a p.actions → IsAmong b p.actions → conflicts a b ≡ true → (a.xid ≡ b.xid → ⊥) →
+    member a.xid p.commits ≡ true → member b.xid p.commits ≡ true →
+    a.number < b.number → before a.xid b.xid p.commits ≡ true
+
+abbrev pub LocksOrderActions : Type 0
+LocksOrderActions = HoldsOfEach LocksOrder
+
+-- The accepted writes stand in the order of their numbers, the newest first, so that a fold over them is one in that order.
+abbrev pub AreNumbered : Place → Type 0
+AreNumbered p = Pairs (λ a b. a.number < b.number) p.actions
+
+abbrev pub NumbersRise : Type 0
+NumbersRise = HoldsOfEach AreNumbered
+
+-- What a table holds is a fold over the committed actions. A commit leaves the same if it applies the actions of its own
+-- transaction to what the table held.
+abbrev pub OwnActionsApply : Place → Type 0
+OwnActionsApply p =
+    (name : List ℕ) (xid : ℕ) → find_named name p.opens ≡ Some xid →
+    (table : List ℕ) → standing_rows (committed name xid p) table ≡ play_rows (λ a. a.xid == xid) table p.actions (standing_rows p table)
+
+abbrev pub CommitApplies : Type 0
+CommitApplies = HoldsOfEach OwnActionsApply
+
+-- The durable ceilings are above all numbers and ids that were drawn, and no snapshot ends above them.
+pub record IsBounded (p : Place) : Type 0 where
+  pub numbers : AllByRecursion (λ a. a.number < p.number_ceiling) p.actions
+  pub xids : AllByRecursion (λ a. a.xid < p.xid_ceiling) p.actions
+  pub commits : AllByRecursion (λ x. x < p.xid_ceiling) p.commits
+  pub opens : AllByRecursion (λ x. x < p.xid_ceiling) (open_xids p)
+  pub snapshot : (taken p).xmax ≤ p.xid_ceiling
+
+abbrev pub CeilingsBound : Type 0
+CeilingsBound = HoldsOfEach IsBounded
+
+-- Of two snapshots that are taken in one database, one after the other, the later one sees all that the earlier one sees.
+abbrev pub SnapshotsCover : Type 0
+SnapshotsCover =
+    (limit : ℕ) (history later : List Happening) (w v : World) → Leads (start limit) history w → Leads w later v →
+    (name : List ℕ) (p q : Place) → find_named name w.places ≡ Some p → find_named name v.places ≡ Some q →
+    Covers (taken q) (taken p)

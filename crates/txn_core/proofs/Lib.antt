@@ -1,0 +1,9 @@
+pub mod Covering
+pub mod Holding
+pub mod KeyedMaps
+pub mod OwnedRows
+pub mod SnapshotParts
+pub mod SnapshotTexts
+pub mod Splitting
+pub mod TableWriters
+pub mod Ties

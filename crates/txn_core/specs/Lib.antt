@@ -1,0 +1,4 @@
+pub mod Counters
+pub mod LockMaps
+pub mod Locks
+pub mod Snapshots

@@ -1,0 +1,118 @@
+// A snapshot read from its printed form.
+ghost use Rattle.std.specs.Prelude.{◌≡◌, [], ◌∷◌, eqb, IsTrue, ◌↔◌, ◌<◌, ◌^◌, ℕ, List, map, Some, IfOk};
+ghost use Rattle.std.specs.List.{AllByRecursion, slice_split};
+ghost use Rattle.std.specs.Fmt.{decimal};
+ghost use Rattle.slon_model.specs.Snapshots.{Snapshot as Model, IsSnapshot, ids_text};
+ghost use Rattle.txn_core.specs.Snapshots.{seen_as, rises_below, Parses, GetsIds, GetsSnapshot};
+
+use crate::fault::BadSnapshot;
+use crate::snapshot::Snapshot;
+use crate::xid_list::XidList;
+use std::alloc::{AllocError, Global};
+use std::str;
+
+/// The greatest `xmax`.
+const XMAX_LIMIT: u64 = 9_223_372_036_854_775_807;
+
+/// The parts of the text between the bytes that are equal to this one.
+fn split_at(alloc: Global, text: &[u8], byte: u8) -> Result<Vec<&[u8]>, AllocError>
+    ensures { IfOk result (λ parts. map (λ part. part.now) parts.items ≡ slice_split (λ b. eqb b byte) text.now) }
+{
+    text.split(|b| *b == byte).collect(alloc)
+}
+
+/// The number that the word spells.
+fn number_of(word: &[u8]) -> Option<u64>
+    ensures { (n : ℕ) → n < 2 ^ 63 → word.now ≡ decimal n → result ≡ Some n }
+{
+    match str::from_utf8(word) {
+        Ok(digits) => digits.parse::<u64>().ok(),
+        Err(_) => None,
+    }
+}
+
+/// The ids that the text spells with commas between them.
+fn ids_of(alloc: Global, text: &[u8]) -> Result<XidList, BadSnapshot>
+    ensures { (xs : List ℕ) → AllByRecursion (λ x. x < 2 ^ 63) xs → text.now ≡ ids_text xs → GetsIds xs result }
+{
+    let mut ids = XidList::new(alloc);
+    if text.is_empty() {
+        return Ok(ids);
+    }
+    let words = split_at(alloc, text, b',')?;
+    for word in words.as_slice() {
+        match number_of(word) {
+            Some(xid) => ids.push(xid)?,
+            None => return Err(BadSnapshot::NotCanonical),
+        }
+    }
+    Ok(ids)
+}
+
+/// The snapshot of these three parts of a text.
+fn snapshot_of(alloc: Global, parts: &[&[u8]]) -> Result<Snapshot, BadSnapshot>
+    ensures { (s : Model) → IsSnapshot s → map (λ part. part.now) parts.now ≡ decimal s.xmin ∷ decimal s.xmax ∷ ids_text s.running ∷ [] → GetsSnapshot s result }
+{
+    let [xmin, xmax, running] = parts else {
+        return Err(BadSnapshot::NotCanonical);
+    };
+    let (Some(xmin), Some(xmax)) = (number_of(xmin), number_of(xmax)) else {
+        return Err(BadSnapshot::NotCanonical);
+    };
+    Ok(Snapshot {
+        xmin,
+        xmax,
+        running: ids_of(alloc, running)?,
+    })
+}
+
+/// Whether each id is below the one behind it, and the last below the limit.
+fn rises_below(xids: &[u64], limit: u64) -> bool
+    ensures { result ≡ rises_below limit xids.now }
+{
+    for index in 0..xids.len() {
+        let above = xids.get(index + 1).copied().unwrap_or(limit);
+        if xids[index] >= above {
+            return false;
+        }
+    }
+    true
+}
+
+impl Snapshot {
+    /// Whether it has the form of every snapshot: the running transactions ascend below `xmax`, `xmin` is the first of
+    /// them, or `xmax` where none is running, and `xmax` is below 2 to the 63.
+    pub fn is_canonical(&self) -> bool
+        ensures { IsTrue result ↔ IsSnapshot (seen_as self.now) }
+    {
+        let running = self.running.as_slice();
+        let first = running.first().copied().unwrap_or(self.xmax);
+        if self.xmax > XMAX_LIMIT {
+            return false;
+        }
+        if self.xmin != first {
+            return false;
+        }
+        rises_below(running, self.xmax)
+    }
+
+    /// The snapshot that is printed as this text.
+    ///
+    /// # Errors
+    ///
+    /// `NotCanonical` exactly where no snapshot is printed so, and `NoMemory`.
+    pub fn parse(alloc: Global, text: &[u8]) -> Result<Snapshot, BadSnapshot>
+        ensures { Parses text.now result }
+    {
+        let parts = split_at(alloc, text, b':')?;
+        let snapshot = snapshot_of(alloc, parts.as_slice())?;
+        if !snapshot.is_canonical() {
+            return Err(BadSnapshot::NotCanonical);
+        }
+        let printed = snapshot.print(alloc)?;
+        if printed.as_bytes() != text {
+            return Err(BadSnapshot::NotCanonical);
+        }
+        Ok(snapshot)
+    }
+}
