@@ -1,5 +1,5 @@
 -- What the calls of a database do: from a place that fits, by a step that the rules allow, to a place that fits.
-use Rattle.std.specs.Prelude.{◌≡◌, ℕ, Bool, true, false, Some, Result, Ok, Err, if◌then◌else◌}
+use Rattle.std.specs.Prelude.{◌⊎◌, ◌+◌, ◌^◌, ◌≤◌, ◌≡◌, ℕ, Bool, true, false, Some, Result, Ok, Err, if◌then◌else◌}
 use Rattle.slon_base.specs.Counts.{Rose}
 use Rattle.slon_base.specs.Keeper.{Kept, Store, nothing}
 use Rattle.slon_base.specs.declared.fault.Halt.TheVariants.{Fault, Doubt, BadRow, TooBig, NoMemory}
@@ -12,6 +12,10 @@ use Rattle.slon_model.specs.declared.command.Crash.TheVariants.{Now, After, AtCo
 use Rattle.slon_model.specs.declared.reply.Answered.{Answered}
 use Rattle.slon_model.specs.declared.reply.Answered.TheVariants.{Sure, InDoubt}
 use Rattle.slon_model.specs.Place.{Place, PlaceStep, new_place, bare_place, founded, fallen, doubted, is_up_command}
+use Rattle.node_keeper.specs.declared.charge.Charge.{Charge}
+use Rattle.node_keeper.specs.declared.charge.Charge.TheVariants.{After as ChargeAfter, AtCommit as ChargeAtCommit}
+use Rattle.node_keeper.specs.declared.fuse.Fuse.{Fuse}
+use Rattle.node_keeper.specs.Fused.{fuse_kept}
 use Rattle.slon_laws.specs.Sound.{Sound}
 use Rattle.slon_laws.specs.Spelled.{IsSpelled}
 use Rattle.app_store.specs.Base.{Base}
@@ -188,3 +192,51 @@ MakingCaused old (Err (Halt Doubt)) new = Rose old.faults new.faults × Rose old
 MakingCaused old (Err (Halt (BadRow space))) new = Unit {0}
 MakingCaused old (Err (Halt (TooBig space))) new = Unit {0}
 MakingCaused old (Err (Halt NoMemory)) new = Unit {0}
+
+-- a stamp or a ceiling is too near to the limit of stored numbers to rise once more
+abbrev pub IsFull : Base → Type 0
+IsFull b = (2 ^ 63 ≤ b.stamp + 1) ⊎ (2 ^ 63 ≤ b.xid_ceiling + 64) ⊎ (2 ^ 63 ≤ b.number_ceiling + 64)
+
+-- that a number is too big is said only where one may not rise
+abbrev pub IsBigAt : DbFault → Base → Type 0
+IsBigAt (Locked xid) new = Unit {0}
+IsBigAt NotEmpty new = Unit {0}
+IsBigAt Down new = Unit {0}
+IsBigAt IsUp new = Unit {0}
+IsBigAt TableExists new = Unit {0}
+IsBigAt NameUsed new = Unit {0}
+IsBigAt NoTable new = Unit {0}
+IsBigAt NoTransaction new = Unit {0}
+IsBigAt Duplicate new = Unit {0}
+IsBigAt (BadWidth columns) new = Unit {0}
+IsBigAt (Halt (Fault count)) new = Unit {0}
+IsBigAt (Halt Doubt) new = Unit {0}
+IsBigAt (Halt (BadRow space)) new = Unit {0}
+IsBigAt (Halt (TooBig space)) new = (space ≡ 1) × IsFull new
+IsBigAt (Halt NoMemory) new = Unit {0}
+
+abbrev pub BigCaused : {T : Type 0} → Result T DbFault → Base → Type 0
+BigCaused (Ok x) new = Unit {0}
+BigCaused (Err fault) new = IsBigAt fault new
+
+-- what a database that is up tells its fuse
+abbrev pub armed_by : CrashKind → Charge → Charge
+armed_by Now charge = charge
+armed_by (After calls keep) charge = ChargeAfter calls keep
+armed_by (AtCommit keep) charge = ChargeAtCommit keep
+
+-- A crash tells the fuse which calls to fail, and nothing where it is at once. A database that comes up tells it to fail
+-- none, so where the store below can fail no more nothing can.
+abbrev pub Arms : {K : Type 0} → (K → Kept) → Command → Bool → Fuse K → Fuse K → Type 0
+Arms kept (Database name) up old new = Unit {0}
+Arms kept (Table database table columns) up old new = Unit {0}
+Arms kept (Begin database name) up old new = Unit {0}
+Arms kept (Insert database name table values) up old new = Unit {0}
+Arms kept (Update database name table key columns) up old new = Unit {0}
+Arms kept (Delete database name table key) up old new = Unit {0}
+Arms kept (Commit database name) up old new = Unit {0}
+Arms kept (Abort database name) up old new = Unit {0}
+Arms kept (Rows database table) up old new = Unit {0}
+Arms kept (Status database) up old new = Unit {0}
+Arms kept (Crash database crash) up old new = up ≡ true → new.charge ≡ armed_by crash old.charge
+Arms kept (Up database) up old new = up ≡ false → (kept old.keeper).can_fail ≡ Some 0 → (fuse_kept kept new).can_fail ≡ Some 0

@@ -13,7 +13,7 @@ use Rattle.app_store.specs.declared.stop.Stop.{Stop}
 use Rattle.app_store.specs.declared.stop.Stop.TheVariants.{Failed, NoMemory, BadRow}
 use Rattle.app_store.specs.Base.{Base}
 use Rattle.app_store.specs.Fits.{Fits, HasRoom}
-use Rattle.app_store.specs.Goes.{is_out_of_memory, is_sure_fault}
+use Rattle.app_store.specs.Goes.{is_out_of_memory, is_sure_fault, BigCaused}
 use Rattle.app_store.specs.declared.look.Numbers.{Numbers}
 use Rattle.txn_core.specs.Locks.{holder_of}
 use Rattle.slon_model.specs.declared.reply.Answer.{Answer}
@@ -31,6 +31,8 @@ pub record GoesDown (old new : Base) : Type 0 where
   pub up : new.up ≡ false
   pub doubt : new.doubt ≡ old.doubt
   pub stamp : new.stamp ≡ old.stamp
+  pub xid_ceiling : new.xid_ceiling ≡ old.xid_ceiling
+  pub number_ceiling : new.number_ceiling ≡ old.number_ceiling
 
 -- a stop at the store: it failed, and the place is as it was or as the other one
 pub data FellTo (p also : Place) (fault : DbFault) (new : Base) : Type 0 where
@@ -70,6 +72,7 @@ pub record Part {T : Type 0} (old new : Base) (result : Result T DbFault) : Type
   pub caused : PartCaused old.kept result new.kept
   pub still : old.kept.can_fail ≡ Some 0 → new.kept.can_fail ≡ Some 0
   pub never : old.kept.can_fail ≡ Some 0 → is_part_sure result ≡ true
+  pub big : BigCaused result new
 
 -- what is said of a commit that was in doubt
 abbrev pub settled_by : Bool → Answer

@@ -41,7 +41,7 @@ impl<K: Keeper> Database<K> {
     ghost use Rattle.slon_model.specs.declared.command.Command.TheVariants.{Crash as CrashCommand, Up as UpCommand};
     ghost use Rattle.slon_model.specs.Place.{xid_raised, number_raised};
     ghost use Rattle.app_store.specs.Base.{base_of, IsFresh};
-    ghost use Rattle.app_store.specs.Goes.{Begins, Refuses, Goes, Caused, IsCertain, StaysDown, MakingCaused, is_made};
+    ghost use Rattle.app_store.specs.Goes.{Begins, Refuses, Goes, Caused, IsCertain, StaysDown, MakingCaused, IsFull, IsBigAt, BigCaused, Arms, is_made};
     ghost use Rattle.app_store.specs.Parts.{GoesDown, Raises, Part, StartsWith, halt_of, settled, without_doubt, is_ready_xid, is_ready_number};
 
     /// The database of a store that holds no row yet: its first rows are written.
@@ -56,6 +56,7 @@ impl<K: Keeper> Database<K> {
         ensures still { (fuse_kept K.kept keeper).can_fail ≡ Some 0 → (base_of K.kept result.0).kept.can_fail ≡ Some 0 }
         ensures never { (fuse_kept K.kept keeper).can_fail ≡ Some 0 → is_made result.1 ≡ true }
         ensures full { Refuses (fuse_kept K.kept keeper) result.1 (base_of K.kept result.0) }
+        ensures big { BigCaused result.1 (base_of K.kept result.0) }
         ensures down { OnErr result.1 ((base_of K.kept result.0).up ≡ false) }
     {
         let mut keeper = keeper;
@@ -105,7 +106,8 @@ impl<K: Keeper> Database<K> {
 
     /// Takes the database down: what was open is forgotten.
     pub(crate) fn take_down(&mut self)
-        ensures { GoesDown (base_of K.kept self.old) (base_of K.kept self.new) }
+        ensures down { GoesDown (base_of K.kept self.old) (base_of K.kept self.new) }
+        ensures keeper { self.new.keeper ≡ self.old.keeper }
     {
         self.up = false;
         self.opens = ByteMap::new(self.alloc);
@@ -116,6 +118,7 @@ impl<K: Keeper> Database<K> {
     pub(crate) fn fall(&mut self, stop: Stop) -> DbFault
         ensures down { GoesDown (base_of K.kept self.old) (base_of K.kept self.new) }
         ensures fault { result ≡ halt_of stop (base_of K.kept self.old).kept.faults }
+        ensures big { IsBigAt result (base_of K.kept self.new) }
     {
         self.take_down();
         DbFault::Halt(match stop {
@@ -129,8 +132,10 @@ impl<K: Keeper> Database<K> {
 
     /// Takes the database down because a number would pass the limit of stored numbers.
     pub(crate) fn overflow(&mut self) -> DbFault
+        requires { IsFull (base_of K.kept self.old) }
         ensures down { GoesDown (base_of K.kept self.old) (base_of K.kept self.new) }
         ensures fault { result ≡ DbFault.Halt (Halt.TooBig 1) }
+        ensures big { IsBigAt result (base_of K.kept self.new) }
     {
         self.take_down();
         DbFault::Halt(Halt::TooBig { space: 1 })
@@ -197,7 +202,9 @@ impl<K: Keeper> Database<K> {
     /// Takes the database down at once, or has its store fail later.
     pub fn crash(&mut self, crash: Crash) -> Result<Answered, DbFault>
         ensures goes { (database : List ℕ) → Goes (CrashCommand database crash) (base_of K.kept self.old) result (base_of K.kept self.new) }
+        ensures arms { (database : List ℕ) → Arms K.kept (CrashCommand database crash) self.old.up self.old.keeper self.new.keeper }
         ensures later { (base_of K.kept self.old).kept.faults ≤ (base_of K.kept self.new).kept.faults }
+        ensures big { BigCaused result (base_of K.kept self.new) }
         ensures caused { (database : List ℕ) → Caused (CrashCommand database crash) (base_of K.kept self.old).kept result (base_of K.kept self.new).kept }
         ensures certain { (database : List ℕ) → IsCertain (CrashCommand database crash) (base_of K.kept self.old).kept (base_of K.kept self.new).kept result }
         ensures down { (database : List ℕ) → StaysDown (CrashCommand database crash) (base_of K.kept self.old) result (base_of K.kept self.new) }
@@ -216,7 +223,9 @@ impl<K: Keeper> Database<K> {
     /// Brings the database up again, and says whether a commit that was in doubt stands.
     pub fn up(&mut self) -> Result<Answered, DbFault>
         ensures goes { (database : List ℕ) → Goes (UpCommand database) (base_of K.kept self.old) result (base_of K.kept self.new) }
+        ensures arms { (database : List ℕ) → Arms K.kept (UpCommand database) self.old.up self.old.keeper self.new.keeper }
         ensures later { (base_of K.kept self.old).kept.faults ≤ (base_of K.kept self.new).kept.faults }
+        ensures big { BigCaused result (base_of K.kept self.new) }
         ensures caused { (database : List ℕ) → Caused (UpCommand database) (base_of K.kept self.old).kept result (base_of K.kept self.new).kept }
         ensures certain { (database : List ℕ) → IsCertain (UpCommand database) (base_of K.kept self.old).kept (base_of K.kept self.new).kept result }
     {

@@ -3,8 +3,8 @@ ghost use Rattle.std.specs.Prelude.{◌≡◌, ◌≤◌, ◌<◌, ◌^◌, ◌�
 ghost use Rattle.slon_base.specs.Codec.{IsText, AllTexts};
 ghost use Rattle.slon_model.specs.declared.command.Command.TheVariants.{Insert as InsertCommand, Update as UpdateCommand, Delete as DeleteCommand};
 ghost use Rattle.slon_model.specs.Place as rules;
-ghost use Rattle.app_store.specs.Base.{base_of};
-ghost use Rattle.app_store.specs.Goes.{Goes, Caused, IsCertain, StaysDown};
+ghost use Rattle.app_store.specs.Base.{Base, base_of};
+ghost use Rattle.app_store.specs.Goes.{Goes, Caused, IsCertain, StaysDown, BigCaused};
 ghost use Rattle.app_store.specs.Parts.{Part, is_doubt};
 ghost use Rattle.txn_core.specs.Locks.{holder_of, without};
 ghost use Rattle.app_store.specs.Targets.{FindsWidth, ReadsTarget, FindsRow, AddsWrite, Writes, InsertOf, UpdateOf, DeleteOf, acted_as};
@@ -49,6 +49,7 @@ fn are_values(values: &TextList, width: u64) -> bool
 fn acted(added: Result<u64, DbFault>) -> Result<Answered, DbFault>
     ensures value { result ≡ acted_as added }
     ensures definite { is_doubt result ≡ false }
+    ensures big { (b : Base) → BigCaused added b → BigCaused result b }
 {
     match added {
         Ok(number) => Ok(Answered::Sure(Answer::Acted { number })),
@@ -192,6 +193,7 @@ impl<K: Keeper> Database<K> {
         requires some { 0 < length values.now }
         ensures goes { (database : List ℕ) → Goes (InsertCommand database name.now table.now values.now) (base_of K.kept self.old) result (base_of K.kept self.new) }
         ensures later { (base_of K.kept self.old).kept.faults ≤ (base_of K.kept self.new).kept.faults }
+        ensures big { BigCaused result (base_of K.kept self.new) }
         ensures caused { (database : List ℕ) → Caused (InsertCommand database name.now table.now values.now) (base_of K.kept self.old).kept result (base_of K.kept self.new).kept }
         ensures certain { (database : List ℕ) → IsCertain (InsertCommand database name.now table.now values.now) (base_of K.kept self.old).kept (base_of K.kept self.new).kept result }
         ensures down { (database : List ℕ) → StaysDown (InsertCommand database name.now table.now values.now) (base_of K.kept self.old) result (base_of K.kept self.new) }
@@ -259,6 +261,7 @@ impl<K: Keeper> Database<K> {
         requires texts { AllTexts (map (λ c. c.1) columns.now) }
         ensures goes { (database : List ℕ) → Goes (UpdateCommand database name.now table.now key.now columns.now) (base_of K.kept self.old) result (base_of K.kept self.new) }
         ensures later { (base_of K.kept self.old).kept.faults ≤ (base_of K.kept self.new).kept.faults }
+        ensures big { BigCaused result (base_of K.kept self.new) }
         ensures caused { (database : List ℕ) → Caused (UpdateCommand database name.now table.now key.now columns.now) (base_of K.kept self.old).kept result (base_of K.kept self.new).kept }
         ensures certain { (database : List ℕ) → IsCertain (UpdateCommand database name.now table.now key.now columns.now) (base_of K.kept self.old).kept (base_of K.kept self.new).kept result }
         ensures down { (database : List ℕ) → StaysDown (UpdateCommand database name.now table.now key.now columns.now) (base_of K.kept self.old) result (base_of K.kept self.new) }
@@ -318,6 +321,7 @@ impl<K: Keeper> Database<K> {
         requires key { IsText key.now }
         ensures goes { (database : List ℕ) → Goes (DeleteCommand database name.now table.now key.now) (base_of K.kept self.old) result (base_of K.kept self.new) }
         ensures later { (base_of K.kept self.old).kept.faults ≤ (base_of K.kept self.new).kept.faults }
+        ensures big { BigCaused result (base_of K.kept self.new) }
         ensures caused { (database : List ℕ) → Caused (DeleteCommand database name.now table.now key.now) (base_of K.kept self.old).kept result (base_of K.kept self.new).kept }
         ensures certain { (database : List ℕ) → IsCertain (DeleteCommand database name.now table.now key.now) (base_of K.kept self.old).kept (base_of K.kept self.new).kept result }
         ensures down { (database : List ℕ) → StaysDown (DeleteCommand database name.now table.now key.now) (base_of K.kept self.old) result (base_of K.kept self.new) }

@@ -21,76 +21,79 @@ use Rattle.slon_laws.proofs.Moves.{either, goes, prepares}
 use Rattle.slon_laws.proofs.Sounds.{sound_prepares}
 use Rattle.slon_laws.proofs.Worlds.{sound_world, sound_world_step, all_found}
 
--- ids only rise, and what is no more open is never open again
+-- ids and numbers only rise, and what is no more open is never open again
 pub record Outlasts (p q : Place) : Type 0 where
   pub later : p.next_xid ≤ q.next_xid
+  pub numbers : p.next_number ≤ q.next_number
   pub still : (x : ℕ) → x < p.next_xid → member x (open_xids q) ≡ true → member x (open_xids p) ≡ true
 
 pub outlasts_itself : (p : Place) → Outlasts p p
-outlasts_itself p = record { later = omega arith; still = λ x below is. is }
+outlasts_itself p = record { later = omega arith; numbers = omega arith; still = λ x below is. is }
 
 pub outlasts_on : (p q r : Place) → Outlasts p q → Outlasts q r → Outlasts p r
 outlasts_on p q r one two = record {
   later = omega (arith, one.later, two.later);
+  numbers = omega (arith, one.numbers, two.numbers);
   still = λ x below is. one.still x below (two.still x (omega (arith, below, one.later)) is);
 }
 
 -- ---- each step
 
 -- ids and open transactions stay
-same_ids : (p q : Place) → q.next_xid ≡ p.next_xid → q.opens ≡ p.opens → Outlasts p q
-same_ids p q ids opens = record { later = omega (arith, ids); still = λ x below is. ap (λ os. member x (xids_of os)) (sym opens) ∙ is }
+same_ids : (p q : Place) → q.next_xid ≡ p.next_xid → p.next_number ≤ q.next_number → q.opens ≡ p.opens → Outlasts p q
+same_ids p q ids numbers opens = record { later = omega (arith, ids); numbers = numbers; still = λ x below is. ap (λ os. member x (xids_of os)) (sym opens) ∙ is }
 
 -- none is open
-none_open : (p q : Place) → p.next_xid ≤ q.next_xid → q.opens ≡ [] → Outlasts p q
-none_open p q later opens = record { later = later; still = λ x below is. absurd (false≢true (ap (λ os. member x (xids_of os)) (sym opens) ∙ is)) }
+none_open : (p q : Place) → p.next_xid ≤ q.next_xid → p.next_number ≤ q.next_number → q.opens ≡ [] → Outlasts p q
+none_open p q later numbers opens = record { later = later; numbers = numbers; still = λ x below is. absurd (false≢true (ap (λ os. member x (xids_of os)) (sym opens) ∙ is)) }
 
 raised_ids : (p : Place) → Outlasts p (xid_raised p)
-raised_ids p = elim (p.next_xid == p.xid_ceiling) as (λ b. Outlasts p (cond b (record p { xid_ceiling = p.xid_ceiling + 64; stamp = p.stamp + 1 }) p)) [ true ↦ same_ids p _ refl refl | false ↦ outlasts_itself p ]
+raised_ids p = elim (p.next_xid == p.xid_ceiling) as (λ b. Outlasts p (cond b (record p { xid_ceiling = p.xid_ceiling + 64; stamp = p.stamp + 1 }) p)) [ true ↦ same_ids p _ refl (omega arith) refl | false ↦ outlasts_itself p ]
 
 raised_numbers : (p : Place) → Outlasts p (number_raised p)
-raised_numbers p = elim (p.next_number == p.number_ceiling) as (λ b. Outlasts p (cond b (record p { number_ceiling = p.number_ceiling + 64; stamp = p.stamp + 1 }) p)) [ true ↦ same_ids p _ refl refl | false ↦ outlasts_itself p ]
+raised_numbers p = elim (p.next_number == p.number_ceiling) as (λ b. Outlasts p (cond b (record p { number_ceiling = p.number_ceiling + 64; stamp = p.stamp + 1 }) p)) [ true ↦ same_ids p _ refl (omega arith) refl | false ↦ outlasts_itself p ]
 
 outlasts_prepares : (p q : Place) → Prepares p q → Outlasts p q
 outlasts_prepares p q (Leaves is) = subst (Outlasts p) (sym is) (outlasts_itself p)
 outlasts_prepares p q (RaisesXid is) = subst (Outlasts p) (sym is) (raised_ids p)
 outlasts_prepares p q (RaisesNumber is) = subst (Outlasts p) (sym is) (raised_numbers p)
-outlasts_prepares p q (Founds none is) = subst (Outlasts p) (sym is) (same_ids p (founded p) refl refl)
+outlasts_prepares p q (Founds none is) = subst (Outlasts p) (sym is) (same_ids p (founded p) refl (omega arith) refl)
 
 begun_ids : (name : List ℕ) (p : Place) → Outlasts p (begin_after name p)
 begun_ids name p = record {
   later = omega arith;
+  numbers = omega arith;
   still = λ x below is. elim (member_behind x p.next_xid name p.opens is) [
     | inl old ↦ old
     | inr new ↦ absurd (omega (arith, below, new))
   ];
 }
 
-left_ids : (name : List ℕ) (p q : Place) → q.next_xid ≡ p.next_xid → q.opens ≡ without name p.opens → Outlasts p q
-left_ids name p q ids opens = record { later = omega (arith, ids); still = λ x below is. member_without x name p.opens (ap (λ os. member x (xids_of os)) (sym opens) ∙ is) }
+left_ids : (name : List ℕ) (p q : Place) → q.next_xid ≡ p.next_xid → q.next_number ≡ p.next_number → q.opens ≡ without name p.opens → Outlasts p q
+left_ids name p q ids numbers opens = record { later = omega (arith, ids); numbers = omega (arith, numbers); still = λ x below is. member_without x name p.opens (ap (λ os. member x (xids_of os)) (sym opens) ∙ is) }
 
 outlasts_goes : (command : Command) (p q : Place) → Sound p → Goes command p q → Outlasts p q
 outlasts_goes command p q s (Stays is) = subst (Outlasts p) (sym is) (outlasts_itself p)
-outlasts_goes command p q s (Tables table columns narrow is) = subst (Outlasts p) (sym is) (same_ids p (table_after table columns p) refl refl)
+outlasts_goes command p q s (Tables table columns narrow is) = subst (Outlasts p) (sym is) (same_ids p (table_after table columns p) refl (omega arith) refl)
 outlasts_goes command p q s (Begins name none is) = subst (Outlasts p) (sym is) (outlasts_on p (xid_raised p) (begin_after name (xid_raised p)) (raised_ids p) (begun_ids name (xid_raised p)))
 outlasts_goes command p q s (Writes name table xid change found free can is) =
-    subst (Outlasts p) (sym is) (outlasts_on p (number_raised p) (written xid table change (number_raised p)) (raised_numbers p) (same_ids (number_raised p) (written xid table change (number_raised p)) refl refl))
-outlasts_goes command p q s (Commits name xid found is) = subst (Outlasts p) (sym is) (left_ids name p (committed name xid p) refl refl)
-outlasts_goes command p q s (Aborts name is) = subst (Outlasts p) (sym is) (left_ids name p (abort_after name p) refl refl)
-outlasts_goes command p q s (Crashes is) = subst (Outlasts p) (sym is) (none_open p _ (omega arith) refl)
+    subst (Outlasts p) (sym is) (outlasts_on p (number_raised p) (written xid table change (number_raised p)) (raised_numbers p) (same_ids (number_raised p) (written xid table change (number_raised p)) refl (omega arith) refl))
+outlasts_goes command p q s (Commits name xid found is) = subst (Outlasts p) (sym is) (left_ids name p (committed name xid p) refl refl refl)
+outlasts_goes command p q s (Aborts name is) = subst (Outlasts p) (sym is) (left_ids name p (abort_after name p) refl refl refl)
+outlasts_goes command p q s (Crashes is) = subst (Outlasts p) (sym is) (none_open p _ (omega arith) (omega arith) refl)
 outlasts_goes command p q s (Comes r prepared is) =
-    subst (Outlasts p) (sym is) (outlasts_on p r (up_after r) (outlasts_prepares p r prepared) (none_open r (up_after r) (sound_prepares p r prepared s).xids_below refl))
+    subst (Outlasts p) (sym is) (outlasts_on p r (up_after r) (outlasts_prepares p r prepared) (none_open r (up_after r) (sound_prepares p r prepared s).xids_below (sound_prepares p r prepared s).numbers_below refl))
 
 pub outlasts_step : (command : Command) (p q : Place) (result : Result Answered DbFault) → PlaceStep command p result q → Sound p → Outlasts p q
 outlasts_step command p q result (Answers told is) s = subst (Outlasts p) (sym is) (outlasts_goes command p (place_after command p) s (goes command p))
 outlasts_step command p q result (Fails count also up rose told is) s =
     let r = cond also (prepared command p) p in
     let before : Outlasts p r = either (Outlasts p) also (prepared command p) p (outlasts_prepares p (prepared command p) (prepares command p)) (outlasts_itself p) in
-    subst (Outlasts p) (sym is) (outlasts_on p r (fallen count r) before (none_open r (fallen count r) (omega arith) refl))
+    subst (Outlasts p) (sym is) (outlasts_on p r (fallen count r) before (none_open r (fallen count r) (omega arith) (omega arith) refl))
 outlasts_step command p q result (Doubts answer stands due stores told is) s =
     let r = cond stands (place_after command p) p in
     let before : Outlasts p r = either (Outlasts p) stands (place_after command p) p (outlasts_goes command p (place_after command p) s (goes command p)) (outlasts_itself p) in
-    subst (Outlasts p) (sym is) (outlasts_on p r (doubted stands r) before (none_open r (doubted stands r) (omega arith) refl))
+    subst (Outlasts p) (sym is) (outlasts_on p r (doubted stands r) before (none_open r (doubted stands r) (omega arith) (omega arith) refl))
 
 -- ---- each history
 

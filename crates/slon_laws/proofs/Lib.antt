@@ -1,5 +1,6 @@
 pub mod Committing
 pub mod Covering
+pub mod Drawing
 pub mod Growth
 pub mod Keys
 pub mod Laws

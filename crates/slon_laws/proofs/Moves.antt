@@ -55,14 +55,14 @@ prepares command p =
 -- ---- writes
 
 -- a write is accepted with its number, or changes nothing
-abbrev IsAct : ℕ → Result Answer DbFault → Type 0
+abbrev pub IsAct : ℕ → Result Answer DbFault → Type 0
 IsAct n r = (r ≡ Ok (Acted n)) ⊎ (changes r ≡ false)
 
-new_is : (n : ℕ) (o : Option Row) → IsAct n (if_new n o)
+pub new_is : (n : ℕ) (o : Option Row) → IsAct n (if_new n o)
 new_is n None = inl refl
 new_is n (Some row) = inr refl
 
-there_is : (n : ℕ) (o : Option Row) → IsAct n (if_there n o)
+pub there_is : (n : ℕ) (o : Option Row) → IsAct n (if_there n o)
 there_is n None = inr refl
 there_is n (Some row) = inl refl
 
@@ -75,13 +75,13 @@ held_is n xid (Some other) answer is =
     ]
 
 -- what was accepted
-record Fits (fits : ℕ → Bool) (name table key : List ℕ) (p : Place) (o : Option ℕ) : Type 0 where
-  width : ℕ
-  xid : ℕ
-  opened : o ≡ Some xid
-  found : find_named table p.tables ≡ Some width
-  fit : fits width ≡ true
-  free : IsFree xid (holder table key p)
+pub record Fits (fits : ℕ → Bool) (name table key : List ℕ) (p : Place) (o : Option ℕ) : Type 0 where
+  pub width : ℕ
+  pub xid : ℕ
+  pub opened : o ≡ Some xid
+  pub found : find_named table p.tables ≡ Some width
+  pub fit : fits width ≡ true
+  pub free : IsFree xid (holder table key p)
 
 free_of : (n xid : ℕ) (o : Option ℕ) (answer : Result Answer DbFault) → unless_held xid o answer ≡ Ok (Acted n) → IsFree xid o
 free_of n xid None answer is = tt
@@ -100,7 +100,7 @@ module _ (fits : ℕ → Bool) (acts : Option Row → Result Answer DbFault) (n 
         | false ↦ inr refl
       ]
 
-  by_is : (o : Option ℕ) → IsAct n (write_by fits acts table key p o)
+  pub by_is : (o : Option ℕ) → IsAct n (write_by fits acts table key p o)
   by_is None = inr refl
   by_is (Some xid) = into_is xid (find_named table p.tables)
 
@@ -112,7 +112,7 @@ module _ (fits : ℕ → Bool) (acts : Option Row → Result Answer DbFault) (n 
         | false ↦ λ fit found. absurd cc
       ] refl is
 
-  by_fits : (o : Option ℕ) → write_by fits acts table key p o ≡ Ok (Acted n) → Fits fits name table key p o
+  pub by_fits : (o : Option ℕ) → write_by fits acts table key p o ≡ Ok (Acted n) → Fits fits name table key p o
   by_fits None is = absurd cc
   by_fits (Some xid) is = into_fits xid (find_named table p.tables) refl is
 

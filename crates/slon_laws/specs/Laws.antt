@@ -1,6 +1,11 @@
 -- The laws of every database that a legal history leads to.
 use Rattle.std.specs.Prelude.{◌≡◌, ℕ, ◌<◌, ◌≤◌, ◌⊎◌, ◌==◌, true, List, [], ◌∷◌, Some}
 use Rattle.std.specs.List.{AllByRecursion}
+use Rattle.slon_model.specs.declared.reply.Answer.{Answer}
+use Rattle.slon_model.specs.declared.reply.Answer.TheVariants.{Opened, Acted}
+use Rattle.slon_model.specs.declared.reply.Reply.{Reply}
+use Rattle.slon_model.specs.declared.reply.Reply.TheVariants.{Accepted, Refused, InDoubt}
+use Rattle.slon_model.specs.Words.{database_word}
 use Rattle.slon_model.specs.Rows.{Action, member, play_rows}
 use Rattle.slon_model.specs.Place.{Place, find_named, open_xids, standing_rows, committed, taken}
 use Rattle.slon_model.specs.Snapshots.{Covers}
@@ -55,6 +60,30 @@ pub record IsBounded (p : Place) : Type 0 where
 
 abbrev pub CeilingsBound : Type 0
 CeilingsBound = HoldsOfEach IsBounded
+
+-- an id or a number that is given is below the ceilings
+abbrev pub IsAnswerBelow : Place → Answer → Type 0
+IsAnswerBelow p (Opened xid) = xid < p.xid_ceiling
+IsAnswerBelow p (Acted number) = number < p.number_ceiling
+IsAnswerBelow p others = Unit {0}
+
+abbrev pub IsReplyBelow : Place → Reply → Type 0
+IsReplyBelow p (Accepted answer) = IsAnswerBelow p answer
+IsReplyBelow p (Refused refusal) = Unit {0}
+IsReplyBelow p (InDoubt database answer) = Unit {0}
+
+-- Every id and every number that a database gave in a reply is below its ceilings ever after.
+abbrev pub RepliesStayBelow : Type 0
+RepliesStayBelow =
+    (limit : ℕ) (history later : List Happening) (h : Happening) (w v : World) → Leads (start limit) (h ∷ history) w → Leads w later v →
+    (p : Place) → find_named (database_word h.command) v.places ≡ Some p → IsReplyBelow p h.reply
+
+-- Every snapshot ends at most at the ceilings ever after.
+abbrev pub SnapshotsStayBelow : Type 0
+SnapshotsStayBelow =
+    (limit : ℕ) (history later : List Happening) (w v : World) → Leads (start limit) history w → Leads w later v →
+    (name : List ℕ) (p q : Place) → find_named name w.places ≡ Some p → find_named name v.places ≡ Some q →
+    (taken p).xmax ≤ q.xid_ceiling
 
 -- Of two snapshots that are taken in one database, one after the other, the later one sees all that the earlier one sees.
 abbrev pub SnapshotsCover : Type 0

@@ -1,7 +1,7 @@
 //! The laws of every database of a legal history. There is no code: each law is what a function of an empty body ensures.
 #![tactic(auto)]
 
-ghost use Rattle.slon_laws.specs.Laws.{LocksOrderActions, NumbersRise, CommitApplies, CeilingsBound, SnapshotsCover};
+ghost use Rattle.slon_laws.specs.Laws.{LocksOrderActions, NumbersRise, CommitApplies, CeilingsBound, RepliesStayBelow, SnapshotsStayBelow, SnapshotsCover};
 
 /// Locks order actions: of two committed actions on one row by two transactions, the transaction of the lower number
 /// committed first.
@@ -16,9 +16,12 @@ pub fn commit_applies()
     ensures applies { CommitApplies }
 {}
 
-/// The durable ceilings are above every number and every id that was drawn, and no snapshot ends above them.
+/// The durable ceilings are above every number and every id that was drawn, those that a reply gave at any time before
+/// among them, and no snapshot that was taken until now ends above them.
 pub fn ceilings_bound_numbers()
-    ensures { CeilingsBound }
+    ensures bound { CeilingsBound }
+    ensures replies { RepliesStayBelow }
+    ensures snapshots { SnapshotsStayBelow }
 {}
 
 /// Of two snapshots of one database that are taken one after the other, the later one sees all that the earlier one sees.

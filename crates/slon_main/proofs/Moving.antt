@@ -190,7 +190,7 @@ choice_caused true room name limit old new = tt
 choice_caused false true name limit old new = tt
 choice_caused false false name limit old new = tt
 
-choice_sure : (taken room : Bool) (name : List ℕ) (limit : ℕ) → is_sure_reply (cond taken (Refused (refused.NameUsed name)) (cond room (Accepted Done) (Refused (refused.Full limit)))) ≡ true
+pub choice_sure : (taken room : Bool) (name : List ℕ) (limit : ℕ) → is_sure_reply (cond taken (Refused (refused.NameUsed name)) (cond room (Accepted Done) (Refused (refused.Full limit)))) ≡ true
 choice_sure true room name limit = refl
 choice_sure false true name limit = refl
 choice_sure false false name limit = refl
@@ -205,7 +205,7 @@ moves_caused command old reply new (Asks b d result is found obeyed memory told 
 
 -- ---- no fault where none can come
 
-answer_sure : (command : Command) (result : Result Answered DbFault) → is_sure result ≡ true → is_sure_reply (reply_of command result) ≡ true
+pub answer_sure : (command : Command) (result : Result Answered DbFault) → is_sure result ≡ true → is_sure_reply (reply_of command result) ≡ true
 answer_sure command (Ok (Sure answer)) is = refl
 answer_sure command (Ok (AnsweredInDoubt answer)) is = is
 answer_sure command (Err (Locked xid)) is = refl
@@ -339,7 +339,7 @@ pub adopts_caused : (name : List ℕ) (kept : Kept) (old : Clustered) (reply : R
 adopts_caused name kept old reply new (Rejects b made told same) = subst (λ r. MakingReplyCaused name kept r old new) (sym told) tt
 adopts_caused name kept old reply new (Keeps b result made memory kept_it told same) = subst (λ r. MakingReplyCaused name kept r old new) (sym told) (made_caused name kept old new b result same made.caused)
 
-making_sure : (name : List ℕ) (result : Result (Unit {0}) DbFault) → is_made result ≡ true → is_sure_reply (making_reply name result) ≡ true
+pub making_sure : (name : List ℕ) (result : Result (Unit {0}) DbFault) → is_made result ≡ true → is_sure_reply (making_reply name result) ≡ true
 making_sure name (Ok u) is = refl
 making_sure name (Err fault) is = answer_sure (Database name) (Err fault) is
 

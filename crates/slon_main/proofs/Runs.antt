@@ -26,7 +26,7 @@ use Rattle.app_store.specs.Goes.{arms}
 use Rattle.slon_main.specs.declared.run.Stop.{Stop}
 use Rattle.slon_main.specs.declared.run.Stop.TheVariants.{BadLine, Read, Write, NoMemory, NoStore, TooLong}
 use Rattle.slon_main.specs.Agreed.{Clustered, FitsAll, Agrees, IsReady, HasRoomFor}
-use Rattle.slon_main.specs.Calls.{AllCertain, StaysCertain}
+use Rattle.slon_main.specs.Calls.{AllQuiet, StaysQuiet, AllCertain, StaysCertain}
 use Rattle.slon_main.specs.Running.{NeverFails, NoneArms, ReadsLine, RunsLine, Means, Replies, Ran, RanOn, RunsSession}
 use Rattle.slon_main.proofs.Moving.{sure_step}
 use Rattle.slon_main.proofs.Places.{too_long_is_bad}
@@ -49,6 +49,7 @@ pub record Running (shelf : Shelved) (limit : ℕ) (bytes : List ℕ) (number : 
   pub written : output ≡ Some (output_of history)
   pub agrees : Agrees world cluster
   pub certain : NeverFails shelf → NoneArms (commands_of history) → IsDue (start limit) history world × AllCertain cluster
+  pub quiet : AllQuiet cluster → IsDue (start limit) history world
 
 none_fits : (bases : List (List ℕ × Base)) → FitsAll [] bases → AllByRecursion (λ b. b.1.kept.can_fail ≡ Some 0) bases
 none_fits [] all = tt
@@ -71,6 +72,7 @@ begun shelf limit bytes reader files output cluster is none empty agrees = recor
   written = empty;
   agrees = agrees;
   certain = λ never armless. (refl, start_certain limit cluster agrees);
+  quiet = λ all. refl;
 }
 
 -- there is room for one more step
@@ -113,6 +115,7 @@ went_on shelf now limit bytes number line old new before files output written cl
       written = same ∙ running.written;
       agrees = subst (Agrees running.world) (sym kept) running.agrees;
       certain = λ never armless. let so_far = running.certain never armless in (so_far.0, subst AllCertain (sym kept) so_far.1);
+      quiet = λ all. running.quiet (subst AllQuiet kept all);
     }
     go (Says command) is said = record {
       rest = hands.rest;
@@ -131,6 +134,10 @@ went_on shelf now limit bytes number line old new before files output written cl
           let here = said.certain (still never) so_far.1 in
           let due = sure_step running.world said.world command said.reply said.steps here.0 in
           ((running.world, so_far.0, due.0, due.1), here.1 (none_last (commands_of running.history) command armless));
+      quiet = λ all.
+          let here = said.quiet all in
+          let due = sure_step running.world said.world command said.reply said.steps here.0 in
+          (running.world, running.quiet here.1, due.0, due.1);
     }
     go Bad is none = absurd none
 
@@ -143,6 +150,7 @@ ran_so shelf limit bytes number reader files output cluster running said is = re
   written = running.written;
   agrees = running.agrees;
   due = λ never armless. (running.certain never (subst NoneArms (sym is) armless)).0;
+  quiet = running.quiet;
 }
 
 ran : (shelf : Shelved) (limit : ℕ) (bytes : List ℕ) (number : ℕ) (reader : Reading) (files : Filed) (output : Option (List ℕ)) (cluster : Clustered) → (running : Running shelf limit bytes number reader files output cluster) → (session_from number (lines running.rest)).commands ≡ [] → Ran shelf limit (session_of bytes).commands output cluster
@@ -165,7 +173,7 @@ ran_nothing shelf limit said output cluster empty agrees = record {
   first = [];
   others = said;
   parts = refl;
-  ran = record { history = []; world = start limit; leads = refl; commands = refl; written = empty; agrees = agrees; due = λ never armless. refl };
+  ran = record { history = []; world = start limit; leads = refl; commands = refl; written = empty; agrees = agrees; due = λ never armless. refl; quiet = λ all. refl };
 }
 
 -- no line is left
@@ -210,8 +218,8 @@ line_stops shelf now limit bytes number line old new before files output written
 line_stops shelf now limit bytes number line old new before files output written cluster next running hands TooLong runs = absurd runs
 
 -- a command is obeyed, and its reply is written
-pub replied : {E : Type 0} (shelf : Shelved) (command : Command) (before written : Option (List ℕ)) (old new : Clustered) (reply : Reply) (result : Result (Unit {0}) E) → ((w : World) → Agrees w old → IsReady w → (v : World) × Step w command reply v × Agrees v new) → (NeverFails shelf → StaysCertain command old reply new)
+pub replied : {E : Type 0} (shelf : Shelved) (command : Command) (before written : Option (List ℕ)) (old new : Clustered) (reply : Reply) (result : Result (Unit {0}) E) → ((w : World) → Agrees w old → IsReady w → (v : World) × Step w command reply v × Agrees v new) → (NeverFails shelf → StaysCertain command old reply new) → StaysQuiet reply old new
     → OnOk result (written ≡ option_map (λ bytes. bytes ++ reply_line reply) before) → OnOk result ((w : World) → Agrees w old → IsReady w → Replies shelf command w before written old new)
-replied shelf command before written old new reply (Ok u) obeys certain told = λ w agrees is_ready.
-    let gone = obeys w agrees is_ready in record { reply = reply; world = gone.0; steps = gone.1; agrees = gone.2; written_is = told; certain = certain }
-replied shelf command before written old new reply (Err e) obeys certain told = tt
+replied shelf command before written old new reply (Ok u) obeys certain quiet told = λ w agrees is_ready.
+    let gone = obeys w agrees is_ready in record { reply = reply; world = gone.0; steps = gone.1; agrees = gone.2; written_is = told; certain = certain; quiet = quiet }
+replied shelf command before written old new reply (Err e) obeys certain quiet told = tt

@@ -1,5 +1,5 @@
 -- What the calls on the databases of a session do.
-use Rattle.std.specs.Prelude.{◌≡◌, ℕ, if◌then◌else◌, is_some, nat_lt, Bool, true, false, List, [], ◌∷◌, ◌++◌, length, Option, Some, None, unwrap_or, Result, Ok, Err, OnErr}
+use Rattle.std.specs.Prelude.{◌≡◌, ◌≤◌, ℕ, if◌then◌else◌, is_some, nat_lt, Bool, true, false, List, [], ◌∷◌, ◌++◌, length, Option, Some, None, unwrap_or, Result, Ok, Err, OnErr}
 use Rattle.std.specs.List.{AllByRecursion}
 use Rattle.std.specs.Str.{bytes_eq}
 use Rattle.slon_base.specs.Counts.{Rose}
@@ -20,7 +20,7 @@ use Rattle.slon_model.specs.Words.{database_word}
 use Rattle.slon_model.specs.Place.{find_named}
 use Rattle.slon_model.specs.World.{World, Step, due, is_database, refusal_of, reply_of}
 use Rattle.app_store.specs.Base.{Base}
-use Rattle.app_store.specs.Goes.{Goes, Caused, IsCertain, StaysDown, Begins, Refuses, MakingCaused, arms, is_made, is_out_of_memory}
+use Rattle.app_store.specs.Goes.{BigCaused, Goes, Caused, IsCertain, StaysDown, Begins, Refuses, MakingCaused, arms, is_made, is_out_of_memory}
 use Rattle.slon_main.specs.Agreed.{Clustered, Agrees, IsReady}
 
 -- the refusal of a command that names these words
@@ -62,9 +62,11 @@ grant name c =
 -- what a database makes of a command
 pub record Obeyed (command : Command) (old : Base) (result : Result Answered DbFault) (new : Base) : Type 0 where
   pub goes : Goes command old result new
+  pub later : old.kept.faults ≤ new.kept.faults
   pub caused : Caused command old.kept result new.kept
   pub certain : IsCertain command old.kept new.kept result
   pub down : StaysDown command old result new
+  pub big : BigCaused result new
 
 -- What a command does: the making of a database is granted or refused; or no database has the name; in both cases nothing
 -- is changed. Or the database of the name obeys, the reply is what it answers, and all others stay as they were.
@@ -127,6 +129,14 @@ AllCertain c = AllByRecursion (λ b. b.1.kept.can_fail ≡ Some 0) c.bases
 abbrev pub StaysCertain : Command → Clustered → Reply → Clustered → Type 0
 StaysCertain command old reply new = AllCertain old → (is_sure_reply reply ≡ true) × (arms command ≡ false → AllCertain new)
 
+-- no store of a database has counted a fault
+abbrev pub AllQuiet : Clustered → Type 0
+AllQuiet c = AllByRecursion (λ b. b.1.kept.faults ≡ 0) c.bases
+
+-- where none has after a command, none had before it, and the reply tells of none
+abbrev pub StaysQuiet : Reply → Clustered → Clustered → Type 0
+StaysQuiet reply old new = AllQuiet new → (is_sure_reply reply ≡ true) × AllQuiet old
+
 -- ---- the making of a database
 
 -- what the making of a database made of its store
@@ -137,6 +147,7 @@ pub record Made (kept : Kept) (result : Result (Unit {0}) DbFault) (b : Base) : 
   pub never : kept.can_fail ≡ Some 0 → is_made result ≡ true
   pub down : OnErr result (b.up ≡ false)
   pub full : Refuses kept result b
+  pub big : BigCaused result b
 
 abbrev pub making_reply : List ℕ → Result (Unit {0}) DbFault → Reply
 making_reply name (Ok u) = Accepted Done

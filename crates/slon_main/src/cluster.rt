@@ -14,7 +14,7 @@ ghost use Rattle.app_store.specs.Base.{base_of};
 ghost use Rattle.app_store.specs.Goes.{is_memory};
 ghost use Rattle.slon_main.specs.Agreed.{Agrees};
 ghost use Rattle.slon_main.specs.Calls as calls;
-ghost use Rattle.slon_main.specs.Calls.{Moves, Steps, ReplyCaused, StaysCertain, Adopts, Makes, MakingReplyCaused, MakesCertain};
+ghost use Rattle.slon_main.specs.Calls.{Moves, Steps, ReplyCaused, StaysCertain, StaysQuiet, Adopts, Makes, MakingReplyCaused, MakesCertain};
 ghost use Rattle.slon_main.specs.Clustered.{cluster_of};
 
 use crate::status::NoMemory;
@@ -208,6 +208,7 @@ impl<K: Keeper> Cluster<K> {
         ensures steps { IfOk result (λ reply. Steps command.now (cluster_of K.kept self.old) reply (cluster_of K.kept self.new)) }
         ensures cause { IfOk result (λ reply. ReplyCaused reply (cluster_of K.kept self.old) (cluster_of K.kept self.new)) }
         ensures certain { IfOk result (λ reply. StaysCertain command.now (cluster_of K.kept self.old) reply (cluster_of K.kept self.new)) }
+        ensures quiet { IfOk result (λ reply. StaysQuiet reply (cluster_of K.kept self.old) (cluster_of K.kept self.new)) }
     {
         match command {
             Command::Database { name } => self.grant(name),
@@ -237,6 +238,7 @@ impl<K: Keeper> Cluster<K> {
         ensures done { (K.kept keeper).held ≡ Some nothing → (K.kept keeper).can_fail ≡ Some 0 → IfOk result (λ reply. reply ≡ IsAccepted IsDone) }
         ensures cause { IfOk result (λ reply. MakingReplyCaused name (K.kept keeper) reply (cluster_of K.kept self.old) (cluster_of K.kept self.new)) }
         ensures certain { IfOk result (λ reply. MakesCertain (K.kept keeper) (cluster_of K.kept self.old) reply (cluster_of K.kept self.new)) }
+        ensures quiet { IfOk result (λ reply. StaysQuiet reply (cluster_of K.kept self.old) (cluster_of K.kept self.new)) }
     {
         let (database, created) = Database::create(self.alloc, Fuse::new(keeper));
         match created {

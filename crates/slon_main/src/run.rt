@@ -10,7 +10,7 @@ ghost use Rattle.slon_model.specs.World.{World, start};
 ghost use Rattle.session_text.specs.Reading.{session_limit};
 ghost use Rattle.session_text.specs.Handing.{Stays, Comes};
 ghost use Rattle.slon_main.specs.Agreed.{Agrees, IsReady};
-ghost use Rattle.slon_main.specs.Calls.{Makes, StaysCertain, AllCertain, is_sure_reply};
+ghost use Rattle.slon_main.specs.Calls.{Makes, StaysCertain, StaysQuiet, AllCertain, is_sure_reply};
 ghost use Rattle.slon_main.specs.Clustered.{cluster_of};
 ghost use Rattle.slon_main.specs.Running.{Tells, NeverFails, Shelves, HasCause, ReadsLine, Obeys, Replies, RunsLine, RunsSession, BadOnly, StopsAt, is_of_store, is_of_output, is_of_command, is_of_line, is_no_store};
 
@@ -72,6 +72,7 @@ fn make<S: Shelf>(cluster: &mut Cluster<S::Store>, shelf: &mut S, name: Text) ->
     ensures cause { (files out : ℕ) → HasCause (record { files = files; shelf = (S.shelved shelf.old).faults; out = out }) (record { files = files; shelf = (S.shelved shelf.new).faults; out = out }) result }
     ensures made { Tells (S.shelved shelf.old) → IfOk result (λ reply. Makes name (cluster_of S.Store.kept cluster.old) reply (cluster_of S.Store.kept cluster.new)) }
     ensures certain { NeverFails (S.shelved shelf.old) → IfOk result (λ reply. (is_sure_reply reply ≡ true) × (AllCertain (cluster_of S.Store.kept cluster.old) → AllCertain (cluster_of S.Store.kept cluster.new))) }
+    ensures quiet { IfOk result (λ reply. StaysQuiet reply (cluster_of S.Store.kept cluster.old) (cluster_of S.Store.kept cluster.new)) }
     ensures unmade { IfErr result (λ stop. is_no_store stop ≡ true → cluster_of S.Store.kept cluster.new ≡ cluster_of S.Store.kept cluster.old) }
     ensures stop { IfErr result (λ stop. is_of_store stop ≡ true) }
 {
@@ -102,6 +103,7 @@ fn obey<S: Shelf>(
     ensures cause { (files out : ℕ) → HasCause (record { files = files; shelf = (S.shelved shelf.old).faults; out = out }) (record { files = files; shelf = (S.shelved shelf.new).faults; out = out }) result }
     ensures obeys { Tells (S.shelved shelf.old) → IfOk result (λ reply. Obeys command.now (cluster_of S.Store.kept cluster.old) reply (cluster_of S.Store.kept cluster.new)) }
     ensures certain { NeverFails (S.shelved shelf.old) → IfOk result (λ reply. StaysCertain command.now (cluster_of S.Store.kept cluster.old) reply (cluster_of S.Store.kept cluster.new)) }
+    ensures quiet { IfOk result (λ reply. StaysQuiet reply (cluster_of S.Store.kept cluster.old) (cluster_of S.Store.kept cluster.new)) }
     ensures unmade { IfErr result (λ stop. is_no_store stop ≡ true → cluster_of S.Store.kept cluster.new ≡ cluster_of S.Store.kept cluster.old) }
     ensures stop { IfErr result (λ stop. is_of_store stop ≡ true) }
 {

@@ -24,7 +24,7 @@ pub returns-in-Ok-clause-goes : goal.returns-in-Ok-clause-goes
 returns-in-Ok-clause-goes g c database p fits sound spelled room memory =
     let works = c.in-Ok.ensures.works fits.held.0 fits.held.1 in
     let made = rw c.in-InDoubt.is at works in
-    commit_doubted database c.args.name.now p (base_of g.K.Keeper.kept c.args.self.now) _ _ c.in-Some.transaction fits c.if-not-self.false (ap (Rattle.std.specs.FinMap.get c.args.self.now.opens) (sym c.as_slice.ensures.value) ∙ sym c.in-Some.ensures.value) (some_actions c.in-Some.transaction.actions c.if-actions-eq0.false) c.take_down.ensures.up refl c.take_down.ensures.kept c.in-Ok.ensures.tries.counted.later made
+    commit_doubted database c.args.name.now p (base_of g.K.Keeper.kept c.args.self.now) _ _ c.in-Some.transaction fits c.if-not-self.false (ap (Rattle.std.specs.FinMap.get c.args.self.now.opens) (sym c.as_slice.ensures.value) ∙ sym c.in-Some.ensures.value) (some_actions c.in-Some.transaction.actions c.if-actions-eq0.false) c.take_down.ensures.down.up refl c.take_down.ensures.down.kept c.in-Ok.ensures.tries.counted.later made
 
 pub returns-clause-goes : goal.returns-clause-goes
 returns-clause-goes g c database p fits sound spelled room memory =

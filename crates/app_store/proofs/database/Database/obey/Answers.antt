@@ -56,3 +56,9 @@ returns-in-Crash-clause-down g c = rw c.in-Crash.is (c.crash.ensures.down c.in-C
 
 pub returns-in-Up-clause-goes : goal.returns-in-Up-clause-goes
 returns-in-Up-clause-goes g c = rw c.in-Up.is (c.up.ensures.goes c.in-Up.database)
+
+pub returns-in-Crash-clause-arms : goal.returns-in-Crash-clause-arms
+returns-in-Crash-clause-arms g c = rw c.in-Crash.is (c.crash.ensures.arms c.in-Crash.database)
+
+pub returns-in-Up-clause-arms : goal.returns-in-Up-clause-arms
+returns-in-Up-clause-arms g c = rw c.in-Up.is (c.up.ensures.arms c.in-Up.database)

@@ -23,7 +23,7 @@ pub returns-in-InDoubt-clause-goes : goal.returns-in-InDoubt-clause-goes
 returns-in-InDoubt-clause-goes g c database p fits sound spelled room memory =
     let works = c.in-Ok.ensures.works fits.held.0 (find_named c.args.table.now p.tables) fits.held.1 (columns_small c.args.table.now p.tables spelled.narrow) (columns_of p fits.held.0 c.args.table.now fits.held.2) in
     let made = rw (c.in-Some.is, c.in-InDoubt.is) at works in
-    table_doubted database c.args.table.now c.args.columns p (base_of g.K.Keeper.kept c.args.self.now) _ _ fits c.if-not-self.false made.0 c.take_down.ensures.up refl c.take_down.ensures.kept c.in-Ok.ensures.tries.counted.later made.1
+    table_doubted database c.args.table.now c.args.columns p (base_of g.K.Keeper.kept c.args.self.now) _ _ fits c.if-not-self.false made.0 c.take_down.ensures.down.up refl c.take_down.ensures.down.kept c.in-Ok.ensures.tries.counted.later made.1
 
 pub returns-in-Err-clause-goes : goal.returns-in-Err-clause-goes
 returns-in-Err-clause-goes g c database p fits sound spelled room memory =

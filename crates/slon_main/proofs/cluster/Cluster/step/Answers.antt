@@ -1,6 +1,7 @@
 use Rattle.slon_main.specs.Clustered.{cluster_of}
-use Rattle.slon_main.specs.Calls.{Moves, Steps, ReplyCaused, StaysCertain}
+use Rattle.slon_main.specs.Calls.{Moves, Steps, ReplyCaused, StaysCertain, StaysQuiet}
 use Rattle.slon_main.proofs.Moving.{if_ok, granted_moves, steps, moves_caused, moves_certain}
+use Rattle.slon_main.proofs.Quiet.{moves_quiet}
 use Rattle.slon_main.proofs.cluster.Cluster.step.Goals as goal
 
 pub returns-in-Database-clause-steps : goal.returns-in-Database-clause-steps
@@ -17,5 +18,6 @@ returns-in_default g c =
       moves = c.ask.ensures;
       steps = if_ok (λ reply. Moves c.args.command.now old reply new) (λ reply. Steps c.args.command.now old reply new) c.ask.result (λ reply. steps c.args.command.now old reply new) c.ask.ensures;
       cause = if_ok (λ reply. Moves c.args.command.now old reply new) (λ reply. ReplyCaused reply old new) c.ask.result (λ reply. moves_caused c.args.command.now old reply new) c.ask.ensures;
+      quiet = if_ok (λ reply. Moves c.args.command.now old reply new) (λ reply. StaysQuiet reply old new) c.ask.result (λ reply. moves_quiet c.args.command.now old reply new) c.ask.ensures;
       certain = if_ok (λ reply. Moves c.args.command.now old reply new) (λ reply. StaysCertain c.args.command.now old reply new) c.ask.result (λ reply. moves_certain c.args.command.now old reply new) c.ask.ensures;
     }
