@@ -11,3 +11,4 @@ pub mod Transacting
 pub mod Listing
 pub mod Rising
 pub mod Writing
+pub mod Taking

@@ -9,3 +9,4 @@ pub mod Fits
 pub mod Goes
 pub mod Parts
 pub mod Targets
+pub mod Taking

@@ -1,5 +1,5 @@
 // One database: its store, its numbers, and its open transactions with their locks.
-ghost use Rattle.std.specs.Prelude.{◌≡◌, ◌≢◌, ◌≤◌, ◌<◌, ◌^◌, ◌+◌, ℕ, List, IfOk, OnOk, OnErr, Ok, Err, Some, None, false, is_some, true};
+ghost use Rattle.std.specs.Prelude.{◌≡◌, ◌≢◌, ◌≤◌, ◌<◌, ◌^◌, ◌+◌, ℕ, List, IfOk, OnOk, OnErr, Ok, Err, Some, None, false, is_some, true, if◌then◌else◌};
 ghost use Rattle.node_keeper.specs.Fused.{fuse_kept};
 ghost use Rattle.app_store.specs.Works.{AreSmall};
 
@@ -40,6 +40,9 @@ impl<K: Keeper> Database<K> {
     ghost use Rattle.slon_base.specs.Keeper.{nothing};
     ghost use Rattle.slon_model.specs.declared.command.Command.TheVariants.{Crash as CrashCommand, Up as UpCommand};
     ghost use Rattle.slon_model.specs.Place.{xid_raised, number_raised};
+    ghost use Rattle.slon_model.specs.declared.fault.DbFault.TheVariants.{Down as IsDown};
+    ghost use Rattle.slon_model.specs.declared.reply.Answer.TheVariants.{Done as IsDone};
+    ghost use Rattle.slon_model.specs.declared.reply.Answered.TheVariants.{Sure as IsSure};
     ghost use Rattle.app_store.specs.Base.{base_of, IsFresh};
     ghost use Rattle.app_store.specs.Goes.{Begins, Refuses, Goes, Caused, IsCertain, StaysDown, MakingCaused, IsFull, IsBigAt, BigCaused, Arms, is_made};
     ghost use Rattle.app_store.specs.Parts.{GoesDown, Raises, Part, StartsWith, halt_of, settled, without_doubt, is_ready_xid, is_ready_number};
@@ -202,6 +205,7 @@ impl<K: Keeper> Database<K> {
     /// Takes the database down at once, or has its store fail later.
     pub fn crash(&mut self, crash: Crash) -> Result<Answered, DbFault>
         ensures goes { (database : List ℕ) → Goes (CrashCommand database crash) (base_of K.kept self.old) result (base_of K.kept self.new) }
+        ensures answer { result ≡ (if self.old.up then Ok (IsSure IsDone) else Err IsDown) }
         ensures arms { (database : List ℕ) → Arms K.kept (CrashCommand database crash) self.old.up self.old.keeper self.new.keeper }
         ensures later { (base_of K.kept self.old).kept.faults ≤ (base_of K.kept self.new).kept.faults }
         ensures big { BigCaused result (base_of K.kept self.new) }

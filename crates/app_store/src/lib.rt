@@ -18,3 +18,4 @@ pub use database::Database;
 pub use node_keeper::{Fuse, Keeper};
 pub use slon_model::DbFault;
 pub use stop::Stop;
+pub use txn_core::Snapshot;

@@ -1,11 +1,14 @@
 // The open transactions of a database.
-ghost use Rattle.std.specs.Prelude.{◌≡◌, ℕ, ◌+◌, ◌-◌, ◌^◌, min, OnOk, IfOk, Some, None, is_some, false};
+ghost use Rattle.std.specs.Prelude.{◌≡◌, ℕ, ◌+◌, ◌-◌, ◌^◌, min, OnOk, IfOk, Some, None, is_some, false, []};
 ghost use Rattle.std.specs.Option.{option_map};
-ghost use Rattle.std.specs.FinMap.{get, insert, remove, empty};
+ghost use Rattle.std.specs.FinMap.{get, insert, remove, empty, entries};
+ghost use Rattle.app_store.specs.Taking.{put_xids};
 ghost use Rattle.app_store.specs.Written.{with_write, written_at};
 
 use slon_base::{ByteMap, Bytes};
 use std::alloc::{AllocError, Global};
+use std::collections::BTreeSet;
+use txn_core::XidList;
 
 /// An open transaction with the rows that its commit will put or take away, by their spelled keys.
 #[derive(Drop)]
@@ -73,4 +76,19 @@ pub(crate) fn written(
             })),
         },
     }
+}
+
+/// The ids of the open transactions, ascending.
+pub(crate) fn open_xids(alloc: Global, opens: &Opens) -> Result<XidList, AllocError>
+    ensures { IfOk result (λ xids. xids ≡ put_xids [] (entries opens.now)) }
+{
+    let mut xids = BTreeSet::new(alloc);
+    for (_, transaction) in opens.iter() {
+        xids.insert(transaction.xid)?;
+    }
+    let mut running = XidList::new(alloc);
+    for xid in xids.iter() {
+        running.push(*xid)?;
+    }
+    Ok(running)
 }

@@ -1,17 +1,35 @@
 // The commands of a database on its tables and its transactions.
-ghost use Rattle.std.specs.Prelude.{◌≡◌, ◌≤◌, ℕ, List};
+ghost use Rattle.std.specs.Prelude.{◌≡◌, ◌≤◌, ℕ, List, IfOk, true};
 ghost use Rattle.slon_base.specs.Codec.{IsText};
 ghost use Rattle.slon_model.specs.declared.command.Command.TheVariants.{Table as TableCommand, Begin as BeginCommand, Commit as CommitCommand, Abort as AbortCommand, Rows as RowsCommand};
 ghost use Rattle.app_store.specs.Base.{base_of};
 ghost use Rattle.app_store.specs.Goes.{Goes, Caused, IsCertain, StaysDown, BigCaused};
+ghost use Rattle.app_store.specs.Fits.{Fits};
+ghost use Rattle.app_store.specs.Taking.{IsTakenOf};
+ghost use Rattle.slon_laws.specs.Sound.{Sound};
+ghost use Rattle.slon_model.specs.Place.{Place, is_running, taken};
+ghost use Rattle.slon_model.specs.Snapshots.{first_or};
+ghost use Rattle.txn_core.specs.Snapshots.{seen_as};
 
 use crate::database::Database;
-use crate::opens::open;
+use crate::opens::{open, open_xids};
 use crate::transact::Made;
 use crate::work::{list_rows, make_rows, make_table};
 use node_keeper::Keeper;
 use slon_base::{STORED_LIMIT, Text};
 use slon_model::{Answer, Answered, DbFault};
+use std::alloc::AllocError;
+use txn_core::Snapshot;
+
+/// The first of these ids, or the one that is given next where there is none.
+fn least(xids: &[u64], next: u64) -> u64
+    ensures { result ≡ first_or next xids.now }
+{
+    match xids.first() {
+        Some(first) => *first,
+        None => next,
+    }
+}
 
 impl<K: Keeper> Database<K> {
     /// Makes a table with so many columns. Refused where a table has the name.
@@ -171,5 +189,23 @@ impl<K: Keeper> Database<K> {
                 Err(self.fall(stop))
             }
         }
+    }
+
+    /// The snapshot that is taken now, which sees the transactions that have ended.
+    ///
+    /// # Errors
+    ///
+    /// `AllocError` where there is no memory.
+    pub fn snapshot(&self) -> Result<Snapshot, AllocError>
+        ensures lists { IfOk result (λ s. IsTakenOf (base_of K.kept self.now) (seen_as s)) }
+        ensures taken { (p : Place) → Fits p (base_of K.kept self.now) → Sound p → is_running p.standing ≡ true → IfOk result (λ s. seen_as s ≡ taken p) }
+    {
+        let running = open_xids(self.alloc, &self.opens)?;
+        let xmax = self.xids.next();
+        Ok(Snapshot {
+            xmin: least(running.as_slice(), xmax),
+            xmax,
+            running,
+        })
     }
 }

@@ -1,0 +1,11 @@
+use Rattle.std.proofs.Common.{◌∙◌, ap}
+use Rattle.app_store.specs.Base.{base_of}
+use Rattle.slon_model.specs.Snapshots.{first_or}
+use Rattle.app_store.proofs.Taking.{taken_of, taken_is}
+use Rattle.app_store.proofs.database.Database.snapshot.Goals as goal
+
+pub returns-clause-lists : goal.returns-clause-lists
+returns-clause-lists g c = taken_of (base_of g.K.Keeper.kept c.args.self.now) _ c.next-xmax.ensures.value (c.least.ensures ∙ ap (first_or c.next-xmax.result) c.as_slice.ensures) c.in_ok-running.ensures
+
+pub returns-clause-taken : goal.returns-clause-taken
+returns-clause-taken g c = taken_is (base_of g.K.Keeper.kept c.args.self.now) _ (returns-clause-lists g c)

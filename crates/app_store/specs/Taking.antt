@@ -1,0 +1,25 @@
+-- The snapshot that is taken of the open transactions of a database.
+use Rattle.std.specs.Prelude.{◌≡◌, ◌↔◌, ℕ, true, List, [], ◌∷◌, Some}
+use Rattle.std.specs.Ordering.{nat_cmp}
+use Rattle.std.specs.BTreeSet.{insert_key}
+use Rattle.std.specs.FinMap.{get}
+use Rattle.slon_model.specs.Rows.{member}
+use Rattle.slon_model.specs.Snapshots.{Snapshot, Rising, first_or}
+use Rattle.app_store.specs.declared.opens.Transaction.{Transaction}
+use Rattle.app_store.specs.Base.{Base, Opens}
+
+-- the ids of these transactions, put among others in their order
+abbrev pub put_xids : List ℕ → List (List ℕ × Transaction) → List ℕ
+put_xids xids [] = xids
+put_xids xids (e ∷ es) = put_xids (insert_key nat_cmp xids e.1.xid) es
+
+-- a transaction of this id is open
+abbrev pub IsOpen : ℕ → Opens → Type 0
+IsOpen xid opens = (name : List ℕ) × (t : Transaction) × (get opens name ≡ Some t) × (t.xid ≡ xid)
+
+-- It ends at the next id, and lists the ids of the open transactions, ascending and no others.
+pub record IsTakenOf (b : Base) (s : Snapshot) : Type 0 where
+  pub last : s.xmax ≡ b.next_xid
+  pub first : s.xmin ≡ first_or s.xmax s.running
+  pub rising : Rising s.running
+  pub lists : (x : ℕ) → (member x s.running ≡ true) ↔ IsOpen x b.opens
