@@ -1,6 +1,6 @@
 -- A database that begins, that goes down, and that comes up again.
 use Rattle.std.proofs.Common.{◌≡◌, ℕ, zero, suc, ◌+◌, ◌<◌, ◌≤◌, true, false, cond, List, Option, Some, None, Result, Ok, Err, refl, sym, ap, subst, ◌∙◌, ◌⊎◌, inl, inr, arith, is_some}
-use Rattle.std.specs.Prelude.{◌==◌}
+use Rattle.std.specs.Prelude.{◌==◌, not}
 use Rattle.std.specs.Option.{option_map}
 use Rattle.std.specs.FinMap.{get, get-empty}
 use Rattle.std.proofs.lemmas.Bool.{false≢true, false_from_ne_true, eqb-true, eq-eqb}
@@ -9,7 +9,11 @@ use Rattle.slon_base.specs.Keeper.{Kept, Store, RollsBack, key_cmp, nothing}
 use Rattle.slon_base.specs.Codec.{number_bytes, list_bytes}
 use Rattle.slon_base.specs.declared.fault.KeepFault.{KeepFault}
 use Rattle.slon_base.specs.declared.fault.Halt.TheVariants.{Doubt}
-use Rattle.node_keeper.specs.Fused.{with_left}
+use Rattle.node_keeper.specs.declared.charge.Charge.{Charge}
+use Rattle.node_keeper.specs.declared.charge.Charge.TheVariants.{Off, After, AtCommit, Blown}
+use Rattle.node_keeper.specs.declared.fuse.Fuse.{Fuse}
+use Rattle.node_keeper.specs.Charges.{bound}
+use Rattle.node_keeper.specs.Fused.{with_left, fuse_kept}
 use Rattle.slon_model.specs.declared.fault.DbFault.{DbFault}
 use Rattle.slon_model.specs.declared.fault.DbFault.TheVariants.{Halt}
 use Rattle.slon_model.specs.declared.command.Command.TheVariants.{Crash, Up}
@@ -25,14 +29,15 @@ use Rattle.app_store.specs.declared.stop.Stop.TheVariants.{Failed as StopFailed,
 use Rattle.app_store.specs.declared.look.Numbers.{Numbers}
 use Rattle.app_store.specs.Base.{Base, IsFresh}
 use Rattle.app_store.specs.Fits.{Fits, Runs, StandsAs, OpensAs}
-use Rattle.app_store.specs.Goes.{Begun, Founds, Fails as BeginFails, Doubts as BeginDoubts, is_memory, IsFull}
+use Rattle.app_store.specs.Goes.{Begun, Founds, Fails as BeginFails, Doubts as BeginDoubts, is_memory, is_sure_fault, IsFull}
 use Rattle.app_store.specs.Parts.{GoesDown, StartsWith, halt_of, settled, settled_by, is_stamp}
 use Rattle.app_store.specs.Spelled.{Holds, row_key, first_rows}
+use Rattle.app_store.specs.Spending.{IsAtMost, Stays}
 use Rattle.app_store.specs.Steps.{IsStopOfStore, is_stop_failed}
 use Rattle.app_store.specs.Works.{Recovered, Was, Founded}
 use Rattle.app_store.proofs.Holding.{holds_same, holds_first}
 use Rattle.app_store.proofs.Places.{no_holder, or_true}
-use Rattle.app_store.proofs.Pending.{rose_later}
+use Rattle.app_store.proofs.Pending.{rose_later, stays, untold}
 use Rattle.app_store.proofs.Running.{answers_ok, due_running, fits_running, looked, up_running}
 
 -- the first rows, over what was there
@@ -130,6 +135,25 @@ crashes_later database crash p old kept same fits up is =
 -- a store that is to fail no more, after a rollback
 pub cleared : {T : Type 0} {left : Option ℕ} (old : Kept) {mid new : Kept} {result : Result T KeepFault} → mid ≡ with_left left old → RollsBack mid new result → (new.held ≡ old.held) × (old.faults ≤ new.faults)
 cleared old same rolls = (rolls.held ∙ ap (λ k. k.held) same, omega (arith, ap (λ k. k.faults) same, rolls.cause.later))
+
+pub cleared_stays : {T : Type 0} {left : Option ℕ} (old : Kept) {mid new : Kept} {result : Result T KeepFault} → mid ≡ with_left left old → RollsBack mid new result → Stays left new.can_fail
+cleared_stays old same rolls n most = stays rolls.cause n (subst (λ k. IsAtMost n k.can_fail) (sym same) most)
+
+-- only a fuse that is off has a bound, and then it is that of the store below
+pub fuse_stays : {K : Type 0} (kept : K → Kept) (f : Fuse K) → Stays (fuse_kept kept f).can_fail (kept f.keeper).can_fail
+fuse_stays kept f = below f.charge
+  where
+    below : (charge : Charge) → Stays (bound charge (kept f.keeper).can_fail) (kept f.keeper).can_fail
+    below Off n most = most
+    below (After calls keep) n most = untold (kept f.keeper).can_fail n most
+    below (AtCommit keep) n most = untold (kept f.keeper).can_fail n most
+    below (Blown keep) n most = untold (kept f.keeper).can_fail n most
+
+-- a fault is told of a stop for a failure
+pub stop_fails : (stop : Stop) (fault : DbFault) (count : ℕ) → fault ≡ halt_of stop count → not (is_sure_fault fault) ≡ true → is_stop_failed stop ≡ true
+stop_fails StopFailed fault count is failed = refl
+stop_fails StopNoMemory fault count is failed = absurd (false≢true (sym (ap (λ f. not (is_sure_fault f)) is) ∙ failed))
+stop_fails (StopBadRow space) fault count is failed = absurd (false≢true (sym (ap (λ f. not (is_sure_fault f)) is) ∙ failed))
 
 -- what is said of a commit in doubt, where the first rows stood
 settles_was : (s : Standing) (p : Place) (b : Base) → StandsAs s p b → b.up ≡ false → up_due s ≡ Ok (settled b.doubt (Some p.stamp))

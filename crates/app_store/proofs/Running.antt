@@ -1,6 +1,6 @@
 -- A database that is up: each change of the code leaves what fits the place after it.
 use Rattle.std.proofs.Common.{◌≡◌, ℕ, ◌+◌, ◌≤◌, Bool, true, false, cond, Option, Some, None, Result, Ok, Err, refl, sym, ap, subst, ◌∙◌, ◌⊎◌, inl, inr, arith, is_some}
-use Rattle.std.specs.Prelude.{◌==◌}
+use Rattle.std.specs.Prelude.{◌==◌, not}
 use Rattle.std.specs.FinMap.{get}
 use Rattle.std.proofs.lemmas.Bool.{false≢true, true≢false}
 use Rattle.slon_base.specs.Counts.{Rose}
@@ -288,11 +288,13 @@ both_causes command old mid new (Err fault) is later caused definite = part_caus
     sooner (Halt (TooBig space)) caused = tt
     sooner (Halt NoMemory) caused = tt
 
-sure_both : (result : Result Answered DbFault) → is_doubt result ≡ false → is_part_sure result ≡ true → is_sure result ≡ true
-sure_both (Ok (Sure answer)) definite sure = refl
-sure_both (Ok (InDoubt answer)) definite sure = absurd (true≢false definite)
-sure_both (Err fault) definite sure = sure
+sure_both : (result : Result Answered DbFault) → is_doubt result ≡ false → is_part_sure result ≡ is_sure result
+sure_both (Ok (Sure answer)) definite = refl
+sure_both (Ok (InDoubt answer)) definite = absurd (true≢false definite)
+sure_both (Err fault) definite = refl
 
 pub both_certain : {T : Type 0} (command : Command) (old mid new : Base) (found : Result T DbFault) (result : Result Answered DbFault) → Part old mid found → Part mid new result → is_doubt result ≡ false → IsCertain command old.kept new.kept result
-both_certain command old mid new found result first second definite =
-    record { still = λ can quiet. second.still (first.still can); never = λ can. sure_both result definite (second.never (first.still can)) }
+both_certain command old mid new found result first second definite = record {
+  still = λ quiet n most. second.still n (first.still n most);
+  spends = λ failed n most. second.spends (ap not (sure_both result definite) ∙ failed) n (first.still n most);
+}

@@ -1,5 +1,5 @@
 -- What the calls of a database do: from a place that fits, by a step that the rules allow, to a place that fits.
-use Rattle.std.specs.Prelude.{◌⊎◌, ◌+◌, ◌^◌, ◌≤◌, ◌≡◌, ℕ, Bool, true, false, Some, Result, Ok, Err, if◌then◌else◌}
+use Rattle.std.specs.Prelude.{◌⊎◌, ◌+◌, ◌^◌, ◌≤◌, ◌≡◌, ℕ, Bool, true, false, not, Some, Result, Ok, Err, if◌then◌else◌}
 use Rattle.slon_base.specs.Counts.{Rose}
 use Rattle.slon_base.specs.Keeper.{Kept, Store, nothing}
 use Rattle.slon_base.specs.declared.fault.Halt.TheVariants.{Fault, Doubt, BadRow, TooBig, NoMemory}
@@ -21,6 +21,7 @@ use Rattle.slon_laws.specs.Spelled.{IsSpelled}
 use Rattle.app_store.specs.Base.{Base}
 use Rattle.app_store.specs.Works.{HasPair}
 use Rattle.app_store.specs.Fits.{Fits, HasRoom}
+use Rattle.app_store.specs.Spending.{Stays, Spends}
 
 -- there was no memory for it
 abbrev pub is_memory : DbFault → Bool
@@ -165,10 +166,11 @@ arms (Status database) = false
 arms (Crash database crash) = arms_kind crash
 arms (Up database) = false
 
--- over a store that can fail no more nothing fails
+-- A bound on the failures to come is kept but where the command arms the fuse, and a fault or a doubt takes one from it. So
+-- over a store that can fail no more nothing fails.
 pub record IsCertain (command : Command) (old new : Kept) (result : Result Answered DbFault) : Type 0 where
-  pub still : old.can_fail ≡ Some 0 → arms command ≡ false → new.can_fail ≡ Some 0
-  pub never : old.can_fail ≡ Some 0 → is_sure result ≡ true
+  pub still : arms command ≡ false → Stays old.can_fail new.can_fail
+  pub spends : Spends (not (is_sure result)) old.can_fail new.can_fail
 
 -- a database that is down says so, and nothing is changed
 abbrev pub StaysDown : Command → Base → Result Answered DbFault → Base → Type 0
@@ -226,7 +228,7 @@ armed_by (After calls keep) charge = ChargeAfter calls keep
 armed_by (AtCommit keep) charge = ChargeAtCommit keep
 
 -- A crash tells the fuse which calls to fail, and nothing where it is at once. A database that comes up tells it to fail
--- none, so where the store below can fail no more nothing can.
+-- none, so each bound on the failures of the store below is one on its own.
 abbrev pub Arms : {K : Type 0} → (K → Kept) → Command → Bool → Fuse K → Fuse K → Type 0
 Arms kept (Database name) up old new = Unit {0}
 Arms kept (Table database table columns) up old new = Unit {0}
@@ -239,4 +241,4 @@ Arms kept (Abort database name) up old new = Unit {0}
 Arms kept (Rows database table) up old new = Unit {0}
 Arms kept (Status database) up old new = Unit {0}
 Arms kept (Crash database crash) up old new = up ≡ true → new.charge ≡ armed_by crash old.charge
-Arms kept (Up database) up old new = up ≡ false → (kept old.keeper).can_fail ≡ Some 0 → (fuse_kept kept new).can_fail ≡ Some 0
+Arms kept (Up database) up old new = up ≡ false → Stays (kept old.keeper).can_fail (fuse_kept kept new).can_fail

@@ -13,6 +13,7 @@ use Rattle.app_store.specs.declared.stop.Stop.{Stop}
 use Rattle.app_store.specs.declared.stop.Stop.TheVariants.{Failed, NoMemory, BadRow}
 use Rattle.app_store.specs.Base.{Base}
 use Rattle.app_store.specs.Fits.{Fits, HasRoom}
+use Rattle.app_store.specs.Spending.{Stays, Spends}
 use Rattle.app_store.specs.Goes.{is_out_of_memory, is_sure_fault, BigCaused}
 use Rattle.app_store.specs.declared.look.Numbers.{Numbers}
 use Rattle.txn_core.specs.Locks.{holder_of}
@@ -70,8 +71,8 @@ is_doubt (Err fault) = false
 pub record Part {T : Type 0} (old new : Base) (result : Result T DbFault) : Type 0 where
   pub later : old.kept.faults ≤ new.kept.faults
   pub caused : PartCaused old.kept result new.kept
-  pub still : old.kept.can_fail ≡ Some 0 → new.kept.can_fail ≡ Some 0
-  pub never : old.kept.can_fail ≡ Some 0 → is_part_sure result ≡ true
+  pub still : Stays old.kept.can_fail new.kept.can_fail
+  pub spends : Spends (not (is_part_sure result)) old.kept.can_fail new.kept.can_fail
   pub big : BigCaused result new
 
 -- what is said of a commit that was in doubt

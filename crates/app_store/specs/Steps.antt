@@ -7,6 +7,7 @@ use Rattle.app_store.specs.declared.stop.Stop.{Stop}
 use Rattle.app_store.specs.declared.stop.Stop.TheVariants.{Failed, NoMemory, BadRow}
 use Rattle.app_store.specs.declared.transact.Made.{Made}
 use Rattle.app_store.specs.declared.transact.Made.TheVariants.{Done, InDoubt}
+use Rattle.app_store.specs.Spending.{Stays, Spends}
 
 -- the store failed
 abbrev pub is_stop_failed : Stop → Bool
@@ -18,10 +19,10 @@ abbrev pub is_failed : {T : Type 0} → Result T Stop → Bool
 is_failed (Ok x) = false
 is_failed (Err stop) = is_stop_failed stop
 
--- over a store that can fail no more nothing fails
+-- a bound on the failures to come is kept, and a failure takes one from it
 pub record IsSure {T : Type 0} (old new : Kept) (result : Result T Stop) : Type 0 where
-  pub still : old.can_fail ≡ Some 0 → new.can_fail ≡ Some 0
-  pub never : old.can_fail ≡ Some 0 → is_failed result ≡ false
+  pub still : Stays old.can_fail new.can_fail
+  pub spends : Spends (is_failed result) old.can_fail new.can_fail
 
 -- faults are told where the count rose
 pub record IsCounted {T : Type 0} (old new : Kept) (result : Result T Stop) : Type 0 where
@@ -50,11 +51,11 @@ Closes new (Ok Done) = is_some new.pending ≡ false
 Closes new (Ok InDoubt) = Unit {0}
 Closes new (Err stop) = Unit {0}
 
--- over a store that can fail no more a transaction is done, or there is no memory
-abbrev pub IsMade : Result Made Stop → Type 0
-IsMade (Ok Done) = Unit {0}
-IsMade (Ok InDoubt) = ⊥
-IsMade (Err stop) = is_stop_failed stop ≡ false
+-- the store failed in a transaction, at its commit too
+abbrev pub fails_made : Result Made Stop → Bool
+fails_made (Ok Done) = false
+fails_made (Ok InDoubt) = true
+fails_made (Err stop) = is_stop_failed stop
 
 -- the count of doubts rises exactly where a commit is in doubt
 abbrev pub Doubts : Kept → Kept → Result Made Stop → Type 0
@@ -75,8 +76,8 @@ EndsAs old new (Ok InDoubt) = (new.held ≡ old.held) ⊎ (old.pending ≡ Some 
 EndsAs old new (Err stop) = (new.held ≡ old.held) × IsStopOfStore stop
 
 pub record Finishes (old new : Kept) (result : Result Made Stop) : Type 0 where
-  pub still : old.can_fail ≡ Some 0 → new.can_fail ≡ Some 0
-  pub sure : old.can_fail ≡ Some 0 → IsMade result
+  pub still : Stays old.can_fail new.can_fail
+  pub spends : Spends (fails_made result) old.can_fail new.can_fail
   pub counted : IsCounted old new result
   pub closed : Closes new result
   pub doubts : Doubts old new result
@@ -90,17 +91,12 @@ Leaves change m (Err stop) new = (new.held ≡ Some m) × IsStopOfStore stop
 
 -- a transaction
 pub record Transacts (change : Store → Store) (old new : Kept) (result : Result Made Stop) : Type 0 where
-  pub still : old.can_fail ≡ Some 0 → new.can_fail ≡ Some 0
-  pub sure : old.can_fail ≡ Some 0 → IsMade result
+  pub still : Stays old.can_fail new.can_fail
+  pub spends : Spends (fails_made result) old.can_fail new.can_fail
   pub counted : IsCounted old new result
   pub closed : Closes new result
   pub doubts : Doubts old new result
   pub leaves : (m : Store) → old.held ≡ Some m → Leaves change m result new
-
--- it was done, or there was no memory
-abbrev pub IsPut : Result (Unit {0}) Stop → Type 0
-IsPut (Ok u) = Unit {0}
-IsPut (Err stop) = is_stop_failed stop ≡ false
 
 -- where it stopped, no row was out of its form
 abbrev pub OnlyStore : {T : Type 0} → Result T Stop → Type 0
@@ -109,8 +105,8 @@ OnlyStore (Err stop) = IsStopOfStore stop
 
 -- a part of a transaction that is pending
 pub record Puts (change : Store → Store) (old new : Kept) (result : Result (Unit {0}) Stop) : Type 0 where
-  pub still : old.can_fail ≡ Some 0 → new.can_fail ≡ Some 0
-  pub sure : old.can_fail ≡ Some 0 → IsPut result
+  pub still : Stays old.can_fail new.can_fail
+  pub spends : Spends (is_failed result) old.can_fail new.can_fail
   pub counted : IsCounted old new result
   pub held : new.held ≡ old.held
   pub doubts : new.doubts ≡ old.doubts
@@ -120,8 +116,8 @@ pub record Puts (change : Store → Store) (old new : Kept) (result : Result (Un
 
 -- what is promised of a transaction over every store
 pub record Tries (old new : Kept) (result : Result Made Stop) : Type 0 where
-  pub still : old.can_fail ≡ Some 0 → new.can_fail ≡ Some 0
-  pub sure : old.can_fail ≡ Some 0 → IsMade result
+  pub still : Stays old.can_fail new.can_fail
+  pub spends : Spends (fails_made result) old.can_fail new.can_fail
   pub counted : IsCounted old new result
   pub closed : Closes new result
   pub doubts : Doubts old new result
@@ -132,10 +128,10 @@ ClosesOr new (Ok None) = is_some new.pending ≡ false
 ClosesOr new (Ok (Some made)) = Closes new (Ok made)
 ClosesOr new (Err stop) = Unit {0}
 
-abbrev pub IsMadeOr : Result (Option Made) Stop → Type 0
-IsMadeOr (Ok None) = Unit {0}
-IsMadeOr (Ok (Some made)) = IsMade (Ok made)
-IsMadeOr (Err stop) = is_stop_failed stop ≡ false
+abbrev pub fails_made_or : Result (Option Made) Stop → Bool
+fails_made_or (Ok None) = false
+fails_made_or (Ok (Some made)) = fails_made (Ok made)
+fails_made_or (Err stop) = is_stop_failed stop
 
 abbrev pub DoubtsOr : Kept → Kept → Result (Option Made) Stop → Type 0
 DoubtsOr old new (Ok None) = new.doubts ≡ old.doubts
@@ -148,8 +144,8 @@ LeavesOr refused change m (Ok (Some made)) new = (refused ≡ false) × Leaves c
 LeavesOr refused change m (Err stop) new = (new.held ≡ Some m) × IsStopOfStore stop
 
 pub record TriesOr (old new : Kept) (result : Result (Option Made) Stop) : Type 0 where
-  pub still : old.can_fail ≡ Some 0 → new.can_fail ≡ Some 0
-  pub sure : old.can_fail ≡ Some 0 → IsMadeOr result
+  pub still : Stays old.can_fail new.can_fail
+  pub spends : Spends (fails_made_or result) old.can_fail new.can_fail
   pub counted : IsCounted old new result
   pub closed : ClosesOr new result
   pub doubts : DoubtsOr old new result

@@ -1,5 +1,5 @@
 // One database: its store, its numbers, and its open transactions with their locks.
-ghost use Rattle.std.specs.Prelude.{◌≡◌, ◌≢◌, ◌≤◌, ◌<◌, ◌^◌, ◌+◌, ℕ, List, IfOk, OnOk, OnErr, Ok, Err, Some, None, false, is_some, true, if◌then◌else◌};
+ghost use Rattle.std.specs.Prelude.{◌≡◌, ◌≢◌, ◌≤◌, ◌<◌, ◌^◌, ◌+◌, ℕ, List, IfOk, OnOk, OnErr, Ok, Err, Some, None, false, is_some, true, not, if◌then◌else◌};
 ghost use Rattle.node_keeper.specs.Fused.{fuse_kept};
 ghost use Rattle.app_store.specs.Works.{AreSmall};
 
@@ -45,6 +45,7 @@ impl<K: Keeper> Database<K> {
     ghost use Rattle.slon_model.specs.declared.reply.Answered.TheVariants.{Sure as IsSure};
     ghost use Rattle.app_store.specs.Base.{base_of, IsFresh};
     ghost use Rattle.app_store.specs.Goes.{Begins, Refuses, Goes, Caused, IsCertain, StaysDown, MakingCaused, IsFull, IsBigAt, BigCaused, Arms, is_made};
+    ghost use Rattle.app_store.specs.Spending.{Stays, Spends};
     ghost use Rattle.app_store.specs.Parts.{GoesDown, Raises, Part, StartsWith, halt_of, settled, without_doubt, is_ready_xid, is_ready_number};
 
     /// The database of a store that holds no row yet: its first rows are written.
@@ -56,8 +57,8 @@ impl<K: Keeper> Database<K> {
         ensures begins { Begins (fuse_kept K.kept keeper) result.1 (base_of K.kept result.0) }
         ensures later { (fuse_kept K.kept keeper).faults ≤ (base_of K.kept result.0).kept.faults }
         ensures caused { MakingCaused (fuse_kept K.kept keeper) result.1 (base_of K.kept result.0).kept }
-        ensures still { (fuse_kept K.kept keeper).can_fail ≡ Some 0 → (base_of K.kept result.0).kept.can_fail ≡ Some 0 }
-        ensures never { (fuse_kept K.kept keeper).can_fail ≡ Some 0 → is_made result.1 ≡ true }
+        ensures still { Stays (fuse_kept K.kept keeper).can_fail (base_of K.kept result.0).kept.can_fail }
+        ensures spends { Spends (not (is_made result.1)) (fuse_kept K.kept keeper).can_fail (base_of K.kept result.0).kept.can_fail }
         ensures full { Refuses (fuse_kept K.kept keeper) result.1 (base_of K.kept result.0) }
         ensures big { BigCaused result.1 (base_of K.kept result.0) }
         ensures down { OnErr result.1 ((base_of K.kept result.0).up ≡ false) }

@@ -29,6 +29,7 @@ fn read_number(space: u8, bytes: &Bytes) -> Result<u64, Stop>
 }
 
 /// How many columns a table has, by the spelled name, if there is one.
+#[tactic(auto, using(crate::proofs::Pending::stays))]
 pub(crate) fn find_columns<K: Keeper>(keeper: &mut K, table: &[u8]) -> Result<Option<u64>, Stop>
     ensures { Looks (λ m result. (columns : Option ℕ) → IsSmall columns → get (m tables) table.now ≡ option_map number_bytes columns → Says columns result)
         (K.kept keeper.old) (K.kept keeper.new) result }
@@ -40,6 +41,7 @@ pub(crate) fn find_columns<K: Keeper>(keeper: &mut K, table: &[u8]) -> Result<Op
 }
 
 /// The spelled values of a row of this spelled key, if it is there.
+#[tactic(auto, using(crate::proofs::Pending::stays))]
 pub(crate) fn read_row<K: Keeper>(keeper: &mut K, key: &[u8]) -> Result<Option<Bytes>, Stop>
     ensures { Looks (λ m result. Says (get (m rows) key.now) result) (K.kept keeper.old) (K.kept keeper.new) result }
 {
@@ -47,6 +49,7 @@ pub(crate) fn read_row<K: Keeper>(keeper: &mut K, key: &[u8]) -> Result<Option<B
 }
 
 /// A meta number, if it is there.
+#[tactic(auto, using(crate::proofs::Pending::stays))]
 fn find_number<K: Keeper>(keeper: &mut K, key: &[u8]) -> Result<Option<u64>, Stop>
     ensures looks { Looks (λ m result. (number : Option ℕ) → IsSmall number → get (m meta) key.now ≡ option_map number_bytes number → Says number result)
         (K.kept keeper.old) (K.kept keeper.new) result }

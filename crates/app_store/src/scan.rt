@@ -76,6 +76,7 @@ fn take_row(
 }
 
 /// The rows of the table whose spelled name is the prefix, by their keys.
+#[tactic(auto, using(crate::proofs::Pending::stays))]
 pub(crate) fn scan_table<K: Keeper>(
     alloc: Global,
     keeper: &mut K,

@@ -34,6 +34,7 @@ pub enum Made {
 }
 
 /// Commits.
+#[tactic(auto, using(crate::proofs::Pending::stays))]
 fn finish<K: Keeper>(keeper: &mut K) -> Result<Made, Stop>
     requires { is_some (K.kept keeper.old).pending ≡ true }
     ensures { Finishes (K.kept keeper.old) (K.kept keeper.new) result }
@@ -46,6 +47,7 @@ fn finish<K: Keeper>(keeper: &mut K) -> Result<Made, Stop>
 }
 
 /// Writes the first rows of a new database.
+#[tactic(auto, using(crate::proofs::Pending::stays))]
 pub(crate) fn write_first_rows<K: Keeper>(
     keeper: &mut K,
     stamp: &[u8],
@@ -63,6 +65,7 @@ pub(crate) fn write_first_rows<K: Keeper>(
 }
 
 /// Writes the row of a new table.
+#[tactic(auto, using(crate::proofs::Pending::stays))]
 pub(crate) fn write_table<K: Keeper>(
     keeper: &mut K,
     table: &[u8],
@@ -79,6 +82,7 @@ pub(crate) fn write_table<K: Keeper>(
 }
 
 /// Writes a ceiling that rises, which stands at this key.
+#[tactic(auto, using(crate::proofs::Pending::stays))]
 pub(crate) fn write_ceiling<K: Keeper>(
     keeper: &mut K,
     key: &[u8],
@@ -95,6 +99,7 @@ pub(crate) fn write_ceiling<K: Keeper>(
 }
 
 /// Puts rows into the transaction that is pending, and takes rows away.
+#[tactic(auto, using(crate::proofs::Pending::stays))]
 fn put_rows<K: Keeper>(keeper: &mut K, writes: &ByteMap<Option<Bytes>>) -> Result<(), Stop>
     requires { is_some (K.kept keeper.old).pending ≡ true }
     ensures { Puts (write_all (entries writes.now)) (K.kept keeper.old) (K.kept keeper.new) result }
@@ -109,6 +114,7 @@ fn put_rows<K: Keeper>(keeper: &mut K, writes: &ByteMap<Option<Bytes>>) -> Resul
 }
 
 /// Writes what a transaction wrote.
+#[tactic(auto, using(crate::proofs::Pending::stays))]
 pub(crate) fn write_rows<K: Keeper>(
     keeper: &mut K,
     writes: &ByteMap<Option<Bytes>>,

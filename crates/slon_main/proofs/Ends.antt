@@ -27,14 +27,14 @@ ends_closed shelf f bytes line status cluster old new is has holds (Short same k
 
 -- the same, of what was written
 ran_written : (shelf : Shelved) (bytes : List ℕ) (output : Option (List ℕ)) (cluster : Clustered) → (ran : Ran shelf database_limit (session_of bytes).commands output cluster) → Ran shelf database_limit (session_of bytes).commands (Some (output_of ran.history)) cluster
-ran_written shelf bytes output cluster ran = record { history = ran.history; world = ran.world; leads = ran.leads; commands = ran.commands; written = refl; agrees = ran.agrees; due = ran.due; quiet = ran.quiet }
+ran_written shelf bytes output cluster ran = record { history = ran.history; world = ran.world; leads = ran.leads; commands = ran.commands; written = refl; agrees = ran.agrees; due = ran.due; quiet = ran.quiet; few = ran.few }
 
 ran_on_written : (shelf : Shelved) (bytes : List ℕ) (output : Option (List ℕ)) (cluster : Clustered) → (on : RanOn shelf database_limit (session_of bytes).commands output cluster) → RanOn shelf database_limit (session_of bytes).commands (Some (output_of on.ran.history)) cluster
 ran_on_written shelf bytes output cluster on = record {
   first = on.first;
   others = on.others;
   parts = on.parts;
-  ran = record { history = on.ran.history; world = on.ran.world; leads = on.ran.leads; commands = on.ran.commands; written = refl; agrees = on.ran.agrees; due = on.ran.due; quiet = on.ran.quiet };
+  ran = record { history = on.ran.history; world = on.ran.world; leads = on.ran.leads; commands = on.ran.commands; written = refl; agrees = on.ran.agrees; due = on.ran.due; quiet = on.ran.quiet; few = on.ran.few };
 }
 
 line_after : (line output : List ℕ) (old new : Option (List ℕ)) → new ≡ option_map (λ before. before ++ line) old → old ≡ Some output → new ≡ Some (output ++ line)

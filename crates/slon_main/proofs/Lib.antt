@@ -1,5 +1,7 @@
+pub mod Bounds
 pub mod Causes
 pub mod Ends
+pub mod Failing
 pub mod Lifting
 pub mod Moving
 pub mod Quiet

@@ -31,6 +31,7 @@ use Rattle.slon_main.specs.Agreed.{Clustered, Agrees, HasRoomFor}
 use Rattle.slon_main.specs.Calls.{refusal_with, put_base, with_more, grant, Obeyed, Moves, Grants, Misses, Asks, Steps, StepsAs, ReplyCaused, is_sure_reply, AllCertain, StaysCertain, Made, making_reply, is_not_empty, was_not_empty, Adopts, Rejects, Keeps, Makes, MakingReplyCaused, MakesCertain}
 use Rattle.slon_main.specs.Running.{Obeys}
 use Rattle.slon_main.proofs.Lifting.{find_position, put_position, find_missing, find_some, fitting, missing_fits, same_some, same_length, fits_more, find_put, all_bases_found, all_bases_put, all_bases_more}
+use Rattle.slon_main.proofs.Bounds.{stays_none, never_fails}
 
 -- what follows of the reply of a call
 pub if_ok : {E : Type 0} (P Q : Reply → Type 0) (result : Result Reply E) → ((reply : Reply) → P reply → Q reply) → IfOk result P → IfOk result Q
@@ -230,8 +231,8 @@ moves_certain command old reply new (Grants is told same) certain =
 moves_certain command old reply new (Misses is none told same) certain = (ap is_sure_reply told, λ arms. subst AllCertain (sym same) certain)
 moves_certain command old reply new (Asks b d result is found obeyed memory told same) certain =
     let here : b.kept.can_fail ≡ Some 0 = all_bases_found (λ e. e.1.kept.can_fail ≡ Some 0) (λ e. e.kept.can_fail ≡ Some 0) (λ e s. s) (database_word command) b old.bases certain found in (
-      ap is_sure_reply told ∙ answer_sure command result (obeyed.certain.never here),
-      λ armless. subst AllCertain (sym same) (all_bases_put (λ e. e.kept.can_fail ≡ Some 0) (database_word command) d old.bases (obeyed.certain.still here armless) certain),
+      ap is_sure_reply told ∙ answer_sure command result (never_fails (is_sure result) b.kept.can_fail d.kept.can_fail obeyed.certain.spends here),
+      λ armless. subst AllCertain (sym same) (all_bases_put (λ e. e.kept.can_fail ≡ Some 0) (database_word command) d old.bases (stays_none b.kept.can_fail d.kept.can_fail (obeyed.certain.still armless) here) certain),
     )
 
 -- a step whose reply tells of no fault is the one that is due
@@ -346,8 +347,8 @@ making_sure name (Err fault) is = answer_sure (Database name) (Err fault) is
 pub adopts_certain : (name : List ℕ) (kept : Kept) (old : Clustered) (reply : Reply) (new : Clustered) → Adopts name kept old reply new → MakesCertain kept old reply new
 adopts_certain name kept old reply new (Rejects b made told same) sure_store = (ap is_sure_reply told, λ certain. subst AllCertain (sym same) certain)
 adopts_certain name kept old reply new (Keeps b result made memory kept_it told same) sure_store = (
-  ap is_sure_reply told ∙ making_sure name result (made.never sure_store),
-  λ certain. subst AllCertain (sym same) (all_bases_more (λ e. e.kept.can_fail ≡ Some 0) name b old.bases (made.still sure_store) certain),
+  ap is_sure_reply told ∙ making_sure name result (never_fails (is_made result) kept.can_fail b.kept.can_fail made.spends sure_store),
+  λ certain. subst AllCertain (sym same) (all_bases_more (λ e. e.kept.can_fail ≡ Some 0) name b old.bases (stays_none kept.can_fail b.kept.can_fail made.still sure_store) certain),
 )
 
 -- over a store that is empty and cannot fail it is made
@@ -361,4 +362,4 @@ adopts_done name kept old reply new (Rejects b made told same) empty sure_store 
     let begun = made.begins empty refl in absurd (never_not_empty begun.0 begun.1)
 adopts_done name kept old reply new (Keeps b result made memory kept_it told same) empty sure_store =
     let begun = made.begins empty memory in
-    told ∙ ap (making_reply name) (sure_begun result begun.0 begun.1 (made.never sure_store))
+    told ∙ ap (making_reply name) (sure_begun result begun.0 begun.1 (never_fails (is_made result) kept.can_fail b.kept.can_fail made.spends sure_store))

@@ -1,5 +1,5 @@
 -- Where no store has counted a fault at the end, none is told, and each reply is the one that is due.
-use Rattle.std.proofs.Common.{◌≡◌, ◌∙◌, ℕ, ◌≤◌, true, false, cond, List, [], ◌∷◌, ◌++◌, length, is_some, nat_lt, Option, Some, None, Result, Ok, Err, inl, inr, refl, sym, ap, subst, true≢false, arith}
+use Rattle.std.proofs.Common.{◌≡◌, ◌∙◌, ℕ, ◌≤◌, true, false, cond, List, [], ◌∷◌, ◌++◌, length, is_some, nat_lt, Some, Result, Ok, Err, inl, inr, refl, ap, subst, arith}
 use Rattle.std.specs.List.{AllByRecursion}
 use Rattle.std.specs.Str.{bytes_eq}
 use Rattle.slon_base.specs.Counts.{Rose}
@@ -8,7 +8,6 @@ use Rattle.slon_base.specs.declared.fault.Halt.TheVariants.{Doubt, NoMemory, Fau
 use Rattle.slon_model.specs.declared.fault.DbFault.{DbFault}
 use Rattle.slon_model.specs.declared.fault.DbFault.TheVariants.{Locked, NotEmpty, Down, IsUp, TableExists, NameUsed, NoTable, NoTransaction, Duplicate, BadWidth, Halt}
 use Rattle.slon_model.specs.declared.command.Command.{Command}
-use Rattle.slon_model.specs.declared.command.Command.TheVariants.{Database}
 use Rattle.slon_model.specs.declared.reply.Answered.{Answered}
 use Rattle.slon_model.specs.declared.reply.Answered.TheVariants.{Sure, InDoubt as AnsweredInDoubt}
 use Rattle.slon_model.specs.declared.reply.Reply.{Reply}

@@ -4,10 +4,11 @@ use Rattle.std.specs.List.{AllByRecursion}
 use Rattle.std.specs.Option.{option_map}
 use Rattle.std.specs.Str.Lines.{lines}
 use Rattle.slon_base.specs.Outside.{Filed, top}
-use Rattle.slon_base.specs.Shelf.{Shelved}
+use Rattle.slon_base.specs.Shelf.{Shelved, Promise}
 use Rattle.slon_model.specs.declared.command.Command.{Command}
 use Rattle.slon_model.specs.declared.reply.Reply.{Reply}
 use Rattle.slon_model.specs.Lines.{Meaning, Silent, Says, Bad, Session, meaning, behind, session_from, session_of}
+use Rattle.slon_model.specs.Place.{find_named}
 use Rattle.slon_model.specs.Printed.{reply_line}
 use Rattle.slon_model.specs.World.{World, Step, Happening, Leads, IsDue, start, commands_of, output_of}
 use Rattle.slon_model.proofs.Spoken.{says_spoken}
@@ -27,7 +28,9 @@ use Rattle.slon_main.specs.declared.run.Stop.{Stop}
 use Rattle.slon_main.specs.declared.run.Stop.TheVariants.{BadLine, Read, Write, NoMemory, NoStore, TooLong}
 use Rattle.slon_main.specs.Agreed.{Clustered, FitsAll, Agrees, IsReady, HasRoomFor}
 use Rattle.slon_main.specs.Calls.{AllQuiet, StaysQuiet, AllCertain, StaysCertain}
+use Rattle.slon_main.specs.Failing.{IsWithin, Pays}
 use Rattle.slon_main.specs.Running.{NeverFails, NoneArms, ReadsLine, RunsLine, Means, Replies, Ran, RanOn, RunsSession}
+use Rattle.slon_main.proofs.Causes.{never_still}
 use Rattle.slon_main.proofs.Moving.{sure_step}
 use Rattle.slon_main.proofs.Places.{too_long_is_bad}
 
@@ -50,6 +53,7 @@ pub record Running (shelf : Shelved) (limit : ℕ) (bytes : List ℕ) (number : 
   pub agrees : Agrees world cluster
   pub certain : NeverFails shelf → NoneArms (commands_of history) → IsDue (start limit) history world × AllCertain cluster
   pub quiet : AllQuiet cluster → IsDue (start limit) history world
+  pub few : NoneArms (commands_of history) → IsWithin shelf.promise history cluster
 
 none_fits : (bases : List (List ℕ × Base)) → FitsAll [] bases → AllByRecursion (λ b. b.1.kept.can_fail ≡ Some 0) bases
 none_fits [] all = tt
@@ -57,6 +61,13 @@ none_fits (b ∷ bs) all = absurd all
 
 start_certain : (limit : ℕ) (cluster : Clustered) → Agrees (start limit) cluster → AllCertain cluster
 start_certain limit cluster agrees = none_fits cluster.bases agrees.fits
+
+none_there : {X : Type 0} (bases : List (List ℕ × Base)) → FitsAll [] bases → (name : List ℕ) (b : Base) → find_named name bases ≡ Some b → X
+none_there [] all name b found = absurd cc
+none_there (e ∷ es) all name b found = absurd all
+
+start_within : (promise : ℕ → Promise) (limit : ℕ) (cluster : Clustered) → Agrees (start limit) cluster → IsWithin promise [] cluster
+start_within promise limit cluster agrees = record { absent = λ name none. refl; present = λ name b n found told. none_there cluster.bases agrees.fits name b found }
 
 pub begun : (shelf : Shelved) (limit : ℕ) (bytes : List ℕ) (reader : Reading) (files : Filed) (output : Option (List ℕ)) (cluster : Clustered) → top files.stack ≡ Some bytes → reader.unread ≡ [] → output ≡ Some [] → Agrees (start limit) cluster → Running shelf limit bytes 1 reader files output cluster
 begun shelf limit bytes reader files output cluster is none empty agrees = record {
@@ -73,6 +84,7 @@ begun shelf limit bytes reader files output cluster is none empty agrees = recor
   agrees = agrees;
   certain = λ never armless. (refl, start_certain limit cluster agrees);
   quiet = λ all. refl;
+  few = λ armless. start_within shelf.promise limit cluster agrees;
 }
 
 -- there is room for one more step
@@ -89,10 +101,10 @@ none_last [] last all = all.0
 none_last (c ∷ cs) last all = none_last cs last all.1
 
 -- one more line
-pub went_on : (shelf now : Shelved) (limit : ℕ) (bytes : List ℕ) (number : ℕ) (line : List ℕ) (old new : Reading) (before files : Filed) (output written : Option (List ℕ)) (cluster next : Clustered) → (NeverFails shelf → NeverFails now) → HasRoomFor number
+pub went_on : (shelf now : Shelved) (limit : ℕ) (bytes : List ℕ) (number : ℕ) (line : List ℕ) (old new : Reading) (before files : Filed) (output written : Option (List ℕ)) (cluster next : Clustered) → now.promise ≡ shelf.promise → HasRoomFor number
     → (running : Running shelf limit bytes number old before output cluster) → Hands line running.rest old new files Line → ((w : World) → Agrees w cluster → IsReady w → Means (meaning line) now w output written cluster next)
     → Running shelf limit bytes (number + 1) new files written next
-went_on shelf now limit bytes number line old new before files output written cluster next still room running hands means =
+went_on shelf now limit bytes number line old new before files output written cluster next promised room running hands means =
     go (meaning line) refl (means running.world running.agrees (ready shelf limit bytes number old before output cluster room running))
   where
     from : (m : Meaning) → meaning line ≡ m → session_of bytes ≡ behind_commands (commands_of running.history) (behind number m (session_from (number + 1) (lines hands.rest)))
@@ -116,6 +128,7 @@ went_on shelf now limit bytes number line old new before files output written cl
       agrees = subst (Agrees running.world) (sym kept) running.agrees;
       certain = λ never armless. let so_far = running.certain never armless in (so_far.0, subst AllCertain (sym kept) so_far.1);
       quiet = λ all. running.quiet (subst AllQuiet kept all);
+      few = λ armless. subst (IsWithin shelf.promise running.history) (sym kept) (running.few armless);
     }
     go (Says command) is said = record {
       rest = hands.rest;
@@ -131,13 +144,16 @@ went_on shelf now limit bytes number line old new before files output written cl
       agrees = said.agrees;
       certain = λ never armless.
           let so_far = running.certain never (none_before (commands_of running.history) command armless) in
-          let here = said.certain (still never) so_far.1 in
+          let here = said.certain (never_still shelf now promised never) so_far.1 in
           let due = sure_step running.world said.world command said.reply said.steps here.0 in
           ((running.world, so_far.0, due.0, due.1), here.1 (none_last (commands_of running.history) command armless));
       quiet = λ all.
           let here = said.quiet all in
           let due = sure_step running.world said.world command said.reply said.steps here.0 in
           (running.world, running.quiet here.1, due.0, due.1);
+      few = λ armless.
+          subst (λ p. IsWithin p (record { command = command; reply = said.reply } ∷ running.history) next) promised
+          (said.pays (none_last (commands_of running.history) command armless) running.history (subst (λ p. IsWithin p running.history cluster) (sym promised) (running.few (none_before (commands_of running.history) command armless))));
     }
     go Bad is none = absurd none
 
@@ -151,6 +167,7 @@ ran_so shelf limit bytes number reader files output cluster running said is = re
   agrees = running.agrees;
   due = λ never armless. (running.certain never (subst NoneArms (sym is) armless)).0;
   quiet = running.quiet;
+  few = λ armless. running.few (subst NoneArms (sym is) armless);
 }
 
 ran : (shelf : Shelved) (limit : ℕ) (bytes : List ℕ) (number : ℕ) (reader : Reading) (files : Filed) (output : Option (List ℕ)) (cluster : Clustered) → (running : Running shelf limit bytes number reader files output cluster) → (session_from number (lines running.rest)).commands ≡ [] → Ran shelf limit (session_of bytes).commands output cluster
@@ -173,7 +190,7 @@ ran_nothing shelf limit said output cluster empty agrees = record {
   first = [];
   others = said;
   parts = refl;
-  ran = record { history = []; world = start limit; leads = refl; commands = refl; written = empty; agrees = agrees; due = λ never armless. refl; quiet = λ all. refl };
+  ran = record { history = []; world = start limit; leads = refl; commands = refl; written = empty; agrees = agrees; due = λ never armless. refl; quiet = λ all. refl; few = λ armless. start_within shelf.promise limit cluster agrees };
 }
 
 -- no line is left
@@ -218,8 +235,8 @@ line_stops shelf now limit bytes number line old new before files output written
 line_stops shelf now limit bytes number line old new before files output written cluster next running hands TooLong runs = absurd runs
 
 -- a command is obeyed, and its reply is written
-pub replied : {E : Type 0} (shelf : Shelved) (command : Command) (before written : Option (List ℕ)) (old new : Clustered) (reply : Reply) (result : Result (Unit {0}) E) → ((w : World) → Agrees w old → IsReady w → (v : World) × Step w command reply v × Agrees v new) → (NeverFails shelf → StaysCertain command old reply new) → StaysQuiet reply old new
+pub replied : {E : Type 0} (shelf : Shelved) (command : Command) (before written : Option (List ℕ)) (old new : Clustered) (reply : Reply) (result : Result (Unit {0}) E) → ((w : World) → Agrees w old → IsReady w → (v : World) × Step w command reply v × Agrees v new) → (NeverFails shelf → StaysCertain command old reply new) → StaysQuiet reply old new → Pays shelf.promise command old reply new
     → OnOk result (written ≡ option_map (λ bytes. bytes ++ reply_line reply) before) → OnOk result ((w : World) → Agrees w old → IsReady w → Replies shelf command w before written old new)
-replied shelf command before written old new reply (Ok u) obeys certain quiet told = λ w agrees is_ready.
-    let gone = obeys w agrees is_ready in record { reply = reply; world = gone.0; steps = gone.1; agrees = gone.2; written_is = told; certain = certain; quiet = quiet }
-replied shelf command before written old new reply (Err e) obeys certain quiet told = tt
+replied shelf command before written old new reply (Ok u) obeys certain quiet pays told = λ w agrees is_ready.
+    let gone = obeys w agrees is_ready in record { reply = reply; world = gone.0; steps = gone.1; agrees = gone.2; written_is = told; certain = certain; quiet = quiet; pays = pays }
+replied shelf command before written old new reply (Err e) obeys certain quiet pays told = tt

@@ -1,5 +1,5 @@
 -- What the calls on the databases of a session do.
-use Rattle.std.specs.Prelude.{◌≡◌, ◌≤◌, ℕ, if◌then◌else◌, is_some, nat_lt, Bool, true, false, List, [], ◌∷◌, ◌++◌, length, Option, Some, None, unwrap_or, Result, Ok, Err, OnErr}
+use Rattle.std.specs.Prelude.{◌≡◌, ◌≤◌, ℕ, if◌then◌else◌, is_some, nat_lt, not, Bool, true, false, List, [], ◌∷◌, ◌++◌, length, Option, Some, None, unwrap_or, Result, Ok, Err, OnErr}
 use Rattle.std.specs.List.{AllByRecursion}
 use Rattle.std.specs.Str.{bytes_eq}
 use Rattle.slon_base.specs.Counts.{Rose}
@@ -21,6 +21,7 @@ use Rattle.slon_model.specs.Place.{find_named}
 use Rattle.slon_model.specs.World.{World, Step, due, is_database, refusal_of, reply_of}
 use Rattle.app_store.specs.Base.{Base}
 use Rattle.app_store.specs.Goes.{BigCaused, Goes, Caused, IsCertain, StaysDown, Begins, Refuses, MakingCaused, arms, is_made, is_out_of_memory}
+use Rattle.app_store.specs.Spending.{Stays, Spends}
 use Rattle.slon_main.specs.Agreed.{Clustered, Agrees, IsReady}
 
 -- the refusal of a command that names these words
@@ -143,8 +144,8 @@ StaysQuiet reply old new = AllQuiet new → (is_sure_reply reply ≡ true) × Al
 pub record Made (kept : Kept) (result : Result (Unit {0}) DbFault) (b : Base) : Type 0 where
   pub begins : Begins kept result b
   pub caused : MakingCaused kept result b.kept
-  pub still : kept.can_fail ≡ Some 0 → b.kept.can_fail ≡ Some 0
-  pub never : kept.can_fail ≡ Some 0 → is_made result ≡ true
+  pub still : Stays kept.can_fail b.kept.can_fail
+  pub spends : Spends (not (is_made result)) kept.can_fail b.kept.can_fail
   pub down : OnErr result (b.up ≡ false)
   pub full : Refuses kept result b
   pub big : BigCaused result b

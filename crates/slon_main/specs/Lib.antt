@@ -2,4 +2,5 @@ pub mod Agreed
 pub mod Calls
 pub mod Clustered
 pub mod Ending
+pub mod Failing
 pub mod Running

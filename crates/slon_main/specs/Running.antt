@@ -17,6 +17,7 @@ use Rattle.session_text.specs.declared.line_reader.NextLine.TheVariants.{Line}
 use Rattle.app_store.specs.Goes.{arms}
 use Rattle.slon_main.specs.Agreed.{Clustered, Agrees, IsReady}
 use Rattle.slon_main.specs.Calls.{AllQuiet, StaysQuiet, StaysCertain}
+use Rattle.slon_main.specs.Failing.{IsWithin, Pays}
 use Rattle.slon_main.specs.declared.run.Stop.{Stop}
 use Rattle.slon_main.specs.declared.run.Stop.TheVariants.{BadLine, Read, Write, NoMemory, NoStore, TooLong}
 
@@ -119,6 +120,7 @@ pub record Replies (shelf : Shelved) (command : Command) (w : World) (before wri
   pub written_is : written ≡ option_map (λ bytes. bytes ++ reply_line reply) before
   pub certain : NeverFails shelf → StaysCertain command old reply new
   pub quiet : StaysQuiet reply old new
+  pub pays : Pays shelf.promise command old reply new
 
 -- what a line that means this does, and what is written then
 abbrev pub Means : Meaning → Shelved → World → Option (List ℕ) → Option (List ℕ) → Clustered → Clustered → Type 0
@@ -150,7 +152,8 @@ abbrev pub NoneArms : List Command → Type 0
 NoneArms commands = AllByRecursion (λ command. arms command ≡ false) commands
 
 -- A history of exactly these commands that the rules allow was run, its lines were written, and the databases agree with
--- the rules after it. Where no store can fail, or none has counted a fault at the end, each reply is the one that is due.
+-- the rules after it. Where no store can fail, or none has counted a fault at the end, each reply is the one that is due. Where no
+-- command has a store fail, the replies that tell of faults of a database are at most as many as the calls of its store that can fail.
 pub record Ran (shelf : Shelved) (limit : ℕ) (said : List Command) (output : Option (List ℕ)) (cluster : Clustered) : Type 0 where
   pub history : List Happening
   pub world : World
@@ -160,6 +163,7 @@ pub record Ran (shelf : Shelved) (limit : ℕ) (said : List Command) (output : O
   pub agrees : Agrees world cluster
   pub due : NeverFails shelf → NoneArms said → IsDue (start limit) history world
   pub quiet : AllQuiet cluster → IsDue (start limit) history world
+  pub few : NoneArms said → IsWithin shelf.promise history cluster
 
 -- the first of these commands were run so
 pub record RanOn (shelf : Shelved) (limit : ℕ) (said : List Command) (output : Option (List ℕ)) (cluster : Clustered) : Type 0 where

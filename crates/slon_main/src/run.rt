@@ -1,5 +1,5 @@
 // The run of a session: its lines are read, obeyed and answered one by one.
-ghost use Rattle.std.specs.Prelude.{◌≡◌, ℕ, ◌<◌, ◌≤◌, ◌++◌, List, length, true, false, Some, [], IfOk, IfErr, OnOk};
+ghost use Rattle.std.specs.Prelude.{◌≡◌, ℕ, ◌<◌, ◌≤◌, ◌++◌, List, length, true, false, Some, None, [], IfOk, IfErr, OnOk};
 ghost use Rattle.slon_base.specs.Outside.{top};
 ghost use Rattle.slon_model.specs.Lines.{meaning, session_of};
 ghost use Rattle.slon_model.specs.Spoken.{IsSpoken};
@@ -12,6 +12,9 @@ ghost use Rattle.session_text.specs.Handing.{Stays, Comes};
 ghost use Rattle.slon_main.specs.Agreed.{Agrees, IsReady};
 ghost use Rattle.slon_main.specs.Calls.{Makes, StaysCertain, StaysQuiet, AllCertain, is_sure_reply};
 ghost use Rattle.slon_main.specs.Clustered.{cluster_of};
+ghost use Rattle.slon_main.specs.Failing.{Pays};
+ghost use Rattle.slon_model.specs.Place.{find_named};
+ghost use Rattle.slon_model.specs.declared.command.Command.TheVariants.{Database as DatabaseCommand};
 ghost use Rattle.slon_main.specs.Running.{Tells, NeverFails, Shelves, HasCause, ReadsLine, Obeys, Replies, RunsLine, RunsSession, BadOnly, StopsAt, is_of_store, is_of_output, is_of_command, is_of_line, is_no_store};
 
 use crate::cluster::Cluster;
@@ -73,6 +76,7 @@ fn make<S: Shelf>(cluster: &mut Cluster<S::Store>, shelf: &mut S, name: Text) ->
     ensures made { Tells (S.shelved shelf.old) → IfOk result (λ reply. Makes name (cluster_of S.Store.kept cluster.old) reply (cluster_of S.Store.kept cluster.new)) }
     ensures certain { NeverFails (S.shelved shelf.old) → IfOk result (λ reply. (is_sure_reply reply ≡ true) × (AllCertain (cluster_of S.Store.kept cluster.old) → AllCertain (cluster_of S.Store.kept cluster.new))) }
     ensures quiet { IfOk result (λ reply. StaysQuiet reply (cluster_of S.Store.kept cluster.old) (cluster_of S.Store.kept cluster.new)) }
+    ensures pays { find_named name (cluster_of S.Store.kept cluster.old).bases ≡ None → IfOk result (λ reply. Pays (S.shelved shelf.old).promise (DatabaseCommand name) (cluster_of S.Store.kept cluster.old) reply (cluster_of S.Store.kept cluster.new)) }
     ensures unmade { IfErr result (λ stop. is_no_store stop ≡ true → cluster_of S.Store.kept cluster.new ≡ cluster_of S.Store.kept cluster.old) }
     ensures stop { IfErr result (λ stop. is_of_store stop ≡ true) }
 {
@@ -104,6 +108,7 @@ fn obey<S: Shelf>(
     ensures obeys { Tells (S.shelved shelf.old) → IfOk result (λ reply. Obeys command.now (cluster_of S.Store.kept cluster.old) reply (cluster_of S.Store.kept cluster.new)) }
     ensures certain { NeverFails (S.shelved shelf.old) → IfOk result (λ reply. StaysCertain command.now (cluster_of S.Store.kept cluster.old) reply (cluster_of S.Store.kept cluster.new)) }
     ensures quiet { IfOk result (λ reply. StaysQuiet reply (cluster_of S.Store.kept cluster.old) (cluster_of S.Store.kept cluster.new)) }
+    ensures pays { IfOk result (λ reply. Pays (S.shelved shelf.old).promise command.now (cluster_of S.Store.kept cluster.old) reply (cluster_of S.Store.kept cluster.new)) }
     ensures unmade { IfErr result (λ stop. is_no_store stop ≡ true → cluster_of S.Store.kept cluster.new ≡ cluster_of S.Store.kept cluster.old) }
     ensures stop { IfErr result (λ stop. is_of_store stop ≡ true) }
 {

@@ -1,9 +1,11 @@
 // Whole sessions over files, stores and an output in memory.
 use crate::{Status, slon_main};
-use node_keeper::{MemFiles, MemShelf, MemSink};
+use app_store::{Database, Fuse};
+use node_keeper::{MemFiles, MemKeeper, MemShelf, MemSink};
 use slon_base::{Bytes, Text};
 use std::alloc::Global;
 use std::process::Abort;
+use std::str::Lines;
 use std::test::Fail;
 
 const FIRST_PATH: &[u8] =
@@ -339,129 +341,278 @@ fn stores_fail(rt: HostRuntime) -> Result<(), Fail> {
     Ok(())
 }
 
-/// The commands of a session that crashes, each with its reply and the reply to `rows` once all up to it stands.
-const CRASHED: [(&str, &str, &str); 16] = [
-    ("table a public.t 3", "ok", "ok rows 0"),
-    ("begin a x", "ok xid 65", "ok rows 0"),
-    ("insert a x public.t k 1 2", "ok action 65", "ok rows 0"),
-    ("update a x public.t k 2=5", "ok action 66", "ok rows 0"),
-    ("begin a y", "ok xid 66", "ok rows 0"),
-    ("delete a y public.t j", "ok none", "ok rows 0"),
-    ("insert a y public.t m 3 4", "ok action 67", "ok rows 0"),
-    ("insert a y public.t k 3 4", "no 12 locked 65", "ok rows 0"),
-    ("commit a x", "ok actions 2", "ok rows 1 k=5,2"),
-    ("rows a public.t", "ok rows 1 k=5,2", "ok rows 1 k=5,2"),
-    ("status a", "ok node 0 log 0", "ok rows 1 k=5,2"),
-    ("abort a y", "ok", "ok rows 1 k=5,2"),
-    ("begin a z", "ok xid 67", "ok rows 1 k=5,2"),
-    (
-        "insert a z public.t n 6 7",
-        "ok action 68",
-        "ok rows 1 k=5,2",
-    ),
-    ("delete a z public.t k", "ok action 69", "ok rows 1 k=5,2"),
-    ("commit a z", "ok actions 2", "ok rows 1 n=6,7"),
+/// A command, its reply where no call fails, and what `rows` answers once its commit stands, if it commits.
+type Step = (&'static str, &'static str, Option<&'static str>);
+
+const NO_TABLE: &str = "no 52 notable public.t";
+
+const FAULT: &str = "no 10 fault a 1";
+
+/// A database is made and comes up once, so that its numbers stand at their ceilings.
+const START: [Step; 3] = [
+    ("database a", "ok", Some(NO_TABLE)),
+    ("crash a", "ok", None),
+    ("up a", "ok", None),
 ];
 
-/// The session that crashes after so many calls. It comes up once before, so that its numbers stand at their ceilings.
-fn crashing(alloc: Global, calls: u32, keep: bool) -> Result<String, Fail> {
-    let after = if keep { "keep" } else { "lose" };
+const COMMANDS: [Step; 16] = [
+    ("table a public.t 3", "ok", Some("ok rows 0")),
+    ("begin a x", "ok xid 65", None),
+    ("insert a x public.t k 1 2", "ok action 65", None),
+    ("update a x public.t k 2=5", "ok action 66", None),
+    ("begin a y", "ok xid 66", None),
+    ("delete a y public.t j", "ok none", None),
+    ("insert a y public.t m 3 4", "ok action 67", None),
+    ("insert a y public.t k 3 4", "no 12 locked 65", None),
+    ("commit a x", "ok actions 2", Some("ok rows 1 k=5,2")),
+    ("rows a public.t", "ok rows 1 k=5,2", None),
+    ("status a", "ok node 0 log 0", None),
+    ("abort a y", "ok", None),
+    ("begin a z", "ok xid 67", None),
+    ("insert a z public.t n 6 7", "ok action 68", None),
+    ("delete a z public.t k", "ok action 69", None),
+    ("commit a z", "ok actions 2", Some("ok rows 1 n=6,7")),
+];
+
+/// It is seen what stands in the end. Where no call fails before, the second `up` finds the database up.
+const FINISH: [Step; 5] = [
+    ("crash a", "ok", None),
+    ("up a", "ok", None),
+    ("up a", "no 19 isup a", None),
+    ("commit a z", "no 53 notransaction z", None),
+    ("rows a public.t", "ok rows 1 n=6,7", None),
+];
+
+/// The session of these commands, with this line before the table is made.
+fn failing(alloc: Global, order: &str) -> Result<String, Fail> {
     let mut session = String::new(alloc);
-    write!(
-        session,
-        "database a\ncrash a\nup a\ncrash a after {calls} {after}\n"
-    )?;
-    for (command, _, _) in CRASHED {
+    for (command, _, _) in START {
         write!(session, "{command}\n")?;
     }
-    write!(session, "crash a\nup a\nrows a public.t\n")?;
+    write!(session, "{order}\n")?;
+    for (command, _, _) in COMMANDS {
+        write!(session, "{command}\n")?;
+    }
+    for (command, _, _) in FINISH {
+        write!(session, "{command}\n")?;
+    }
     Ok(session)
 }
 
-/// What a crash left: the replies to `crash`, to `up` and to `rows` after it.
+/// What the replies so far say of a database of which one call fails.
 #[derive(Clone, Copy)]
-struct Left {
-    crash: &'static str,
+struct Known {
+    // Which call it is, as the test counts.
+    call: u64,
+    // Whether a commit that fails stands.
+    keep: bool,
+    // Whether a reply told that the call failed.
+    told: bool,
+    down: bool,
+    // What the next `up` answers that finds the database down.
     up: &'static str,
+    // What `rows` answers.
     rows: &'static str,
 }
 
-/// The calls of the store that crash a whole session, and the first that does not.
+impl Known {
+    fn new(call: u64, keep: bool) -> Known {
+        Known {
+            call,
+            keep,
+            told: false,
+            down: false,
+            up: "ok",
+            rows: NO_TABLE,
+        }
+    }
+
+    /// Stops where the reply is another one.
+    fn is_reply(&self, rt: &impl Abort, reply: &str, want: &str) {
+        let call = self.call;
+        assert!(rt; reply == want, "call {call}: {reply}, not {want}");
+    }
+
+    /// The call fails, which takes the database down. Stops where that was told before.
+    fn fail(&mut self, rt: &impl Abort) {
+        let call = self.call;
+        assert!(rt; !self.told, "call {call} fails twice");
+        self.told = true;
+        self.down = true;
+    }
+
+    /// The commit that is due this reply, and these rows once it stands, fails and is in doubt.
+    fn doubt(
+        &mut self,
+        rt: &impl Abort,
+        alloc: Global,
+        reply: &str,
+        due: &str,
+        rows: &'static str,
+    ) -> Result<(), Fail> {
+        let doubt = format!(in alloc; "doubt a {due}")?;
+        self.is_reply(rt, reply, doubt.as_str());
+        self.fail(rt);
+        if self.keep {
+            self.up = "ok kept";
+            self.rows = rows;
+        } else {
+            self.up = "ok lost";
+        }
+        Ok(())
+    }
+
+    /// Goes on by the reply to a command of a database that is down.
+    fn answer_down(&mut self, rt: &impl Abort, command: &str, reply: &str) {
+        if command != "up a" {
+            self.is_reply(rt, reply, "no 16 down a");
+        } else if reply == FAULT {
+            self.fail(rt);
+        } else {
+            self.is_reply(rt, reply, self.up);
+            self.down = false;
+            self.up = "ok";
+        }
+    }
+
+    /// Goes on by the reply that was due.
+    fn answer_due(&mut self, step: Step) {
+        let (command, _, commits) = step;
+        self.down = command == "crash a";
+        if let Some(rows) = commits {
+            self.rows = rows;
+        }
+    }
+
+    /// Goes on by the reply to a command of a database that is up.
+    fn answer_up(
+        &mut self,
+        rt: &impl Abort,
+        alloc: Global,
+        step: Step,
+        reply: &str,
+    ) -> Result<(), Fail> {
+        let (command, sure, commits) = step;
+        let due = if self.told && command == "rows a public.t" {
+            self.rows
+        } else {
+            sure
+        };
+        if reply == due {
+            self.answer_due(step);
+        } else if reply == FAULT {
+            self.fail(rt);
+        } else if let Some(rows) = commits {
+            self.doubt(rt, alloc, reply, due, rows)?;
+        } else {
+            self.is_reply(rt, reply, due);
+        }
+        Ok(())
+    }
+
+    /// Goes on by the replies to these commands. Stops at one that may not be given.
+    fn walk(
+        &mut self,
+        rt: &impl Abort,
+        alloc: Global,
+        steps: &[Step],
+        replies: &mut Lines<'_>,
+    ) -> Result<(), Fail> {
+        for step in steps {
+            let reply = replies.next().unwrap_or("");
+            if self.down {
+                self.answer_down(rt, step.0, reply);
+            } else {
+                self.answer_up(rt, alloc, *step, reply)?;
+            }
+        }
+        Ok(())
+    }
+}
+
+/// Whether a reply told that the call failed, where each reply of the session is one that may be given.
+fn is_told(
+    rt: &impl Abort,
+    alloc: Global,
+    order: &str,
+    fails: Fails,
+    call: u64,
+    keep: bool,
+) -> Result<bool, Fail> {
+    let session = failing(alloc, order)?;
+    let (is, out) = run(alloc, Some("s"), session.as_bytes(), fails)?;
+    assert_eq!(rt; is, Status::Done);
+    let Ok(written) = str::from_utf8(out.written()) else {
+        return Err(Fail::from("the replies are no text"));
+    };
+    let mut replies = written.lines();
+    let mut known = Known::new(call, keep);
+    known.walk(rt, alloc, START.as_slice(), &mut replies)?;
+    if !order.is_empty() {
+        known.is_reply(rt, replies.next().unwrap_or(""), "ok");
+    }
+    known.walk(rt, alloc, COMMANDS.as_slice(), &mut replies)?;
+    known.walk(rt, alloc, FINISH.as_slice(), &mut replies)?;
+    assert!(rt; replies.next().is_none());
+    Ok(known.told)
+}
+
+/// A session that crashes at each of the 37 calls of its commands, and at none.
 #[test]
 fn crashes_at_every_call(rt: HostRuntime) -> Result<(), Fail> {
     for keep in [false, true] {
+        let stands = if keep { "keep" } else { "lose" };
         for calls in 0..38 {
-            let session = crashing(rt.alloc(), calls, keep)?;
-            let (is, out) = run(rt.alloc(), Some("s"), session.as_bytes(), NOTHING)?;
-            assert_eq!(rt; is, Status::Done);
-            let Ok(written) = str::from_utf8(out.written()) else {
-                return Err(Fail::from("the replies are no text"));
-            };
-            let crashed = are_replies(&rt, rt.alloc(), written, keep)?;
-            assert_eq!(rt; crashed, calls < 37, "{calls}");
+            let order = format!(in rt.alloc(); "crash a after {calls} {stands}")?;
+            let told = is_told(&rt, rt.alloc(), order.as_str(), NOTHING, calls, keep)?;
+            assert_eq!(rt; told, calls < 37, "{calls}");
         }
     }
     Ok(())
 }
 
-/// Stops where the reply is another one.
-fn is_reply(rt: &impl Abort, reply: Option<&str>, want: &str) {
-    let reply = reply.unwrap_or("");
-    assert!(rt; reply == want, "{reply}, not {want}");
-}
-
-/// Whether the session crashed, where each reply is one that may be given.
-fn are_replies(rt: &impl Abort, alloc: Global, written: &str, keep: bool) -> Result<bool, Fail> {
-    let mut replies = written.lines();
-    for start in ["ok", "ok", "ok", "ok"] {
-        is_reply(rt, replies.next(), start);
-    }
-    let mut left = Left {
-        crash: "ok",
-        up: "ok",
-        rows: "no 52 notable public.t",
-    };
-    let mut crashed = false;
-    for (_, want, rows) in CRASHED {
-        let reply = replies.next().unwrap_or("");
-        if crashed {
-            is_reply(rt, Some(reply), "no 16 down a");
-        } else if reply == want {
-            left.rows = rows;
-        } else {
-            crashed = true;
-            left = left_by(rt, alloc, left, reply, (want, rows), keep)?;
+/// A store that fails at each of its 311 calls, and at none. Nothing is told where a rollback fails, with which the
+/// making of the database and each `up` begin.
+#[test]
+fn stores_fail_at_every_call(rt: HostRuntime) -> Result<(), Fail> {
+    let rollbacks = [1, 264, 305];
+    for keep in [false, true] {
+        for store in 1..313 {
+            let fails = Fails {
+                store,
+                keep,
+                ..NOTHING
+            };
+            let told = is_told(&rt, rt.alloc(), "", fails, store, keep)?;
+            let is_last = store == 312;
+            assert_eq!(rt; told, !is_last && !rollbacks.contains(&store), "{store}");
         }
     }
-    is_reply(rt, replies.next(), left.crash);
-    is_reply(rt, replies.next(), left.up);
-    is_reply(rt, replies.next(), left.rows);
-    assert!(rt; replies.next().is_none());
-    Ok(crashed)
+    Ok(())
 }
 
-/// What is left by the command that crashed, by its reply, the one that was due and the rows if it stands.
-fn left_by(
-    rt: &impl Abort,
-    alloc: Global,
-    before: Left,
-    reply: &str,
-    due: (&'static str, &'static str),
-    keep: bool,
-) -> Result<Left, Fail> {
-    let mut doubt = String::new(alloc);
-    write!(doubt, "doubt a {}", due.0)?;
-    let (up, rows) = if reply != doubt.as_str() {
-        assert_eq!(rt; reply, "no 10 fault a 1");
-        ("ok", before.rows)
-    } else if keep {
-        ("ok kept", due.1)
-    } else {
-        ("ok lost", before.rows)
-    };
-    Ok(Left {
-        crash: "no 16 down a",
-        up,
-        rows,
-    })
+/// A database in memory, of which transactions begin and end: which one begins, which one is aborted, and the snapshot.
+#[test]
+fn snapshots_list_open_transactions(rt: HostRuntime) -> Result<(), Fail> {
+    let alloc = rt.alloc();
+    let store = MemKeeper::new(alloc, Vec::new(alloc), false)?;
+    let (mut database, made) = Database::create(alloc, Fuse::new(store));
+    assert!(rt; made.is_ok());
+    for (begins, ends, text) in [
+        ("c", None, "1:2:1"),
+        ("b", None, "1:3:1,2"),
+        ("a", Some("b"), "1:4:1,3"),
+        ("d", Some("c"), "3:5:3,4"),
+        ("e", Some("e"), "3:6:3,4"),
+    ] {
+        let begun = database.begin(&Text::from_str(alloc, begins)?);
+        assert!(rt; begun.is_ok());
+        if let Some(name) = ends {
+            let ended = database.abort(&Text::from_str(alloc, name)?);
+            assert!(rt; ended.is_ok());
+        }
+        let snapshot = database.snapshot()?;
+        assert_eq!(rt; snapshot.print(alloc)?.as_str(), text);
+    }
+    Ok(())
 }

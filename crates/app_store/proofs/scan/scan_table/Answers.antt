@@ -6,7 +6,7 @@ use Rattle.std.proofs.lemmas.Result.{err_from_is_err_and}
 use Rattle.app_store.specs.Spelled.{rows}
 use Rattle.app_store.specs.Scan.{FindsRows}
 use Rattle.app_store.specs.Steps.{Looks}
-use Rattle.app_store.proofs.Pending.{looked_first, looked_on, sight-looked, looks, memory_says, looked_stops, stops_say, exit_as}
+use Rattle.app_store.proofs.Pending.{looked_first, looked_on, sight-looked, looks, memory_says, looked_stops, stops_say, exit_as, read_exits}
 use Rattle.app_store.proofs.Order.{prefixed}
 use Rattle.app_store.proofs.Scanning.{start_scan, next_row, all_found, all_counted, all_passed, none_next, some_next}
 use Rattle.app_store.proofs.scan.scan_table.Goals as goal
@@ -71,3 +71,6 @@ returns g c =
     looks _ refl c.loop.invariant.looked
     (λ m seen table is. all_counted c.args.prefix.now table c.loop.found (entries (m rows)) c.loop.at c.loop.counter (c.loop.invariant.scanned m seen table is)
     (omega (arith, c.in_ok-limit.ensures.gives m seen, len-entries (m rows))))
+
+pub returns-in_err-limit : goal.returns-in_err-limit
+returns-in_err-limit g c = read_exits c.from_residual.result c.from_residual.ensures.1 c.in_err-limit.ensures (λ m table is. stops_say table c.in_err-limit.field-0.0)

@@ -1,14 +1,15 @@
-use Rattle.std.proofs.Common.{◌≡◌, ◌≤◌, true, is_some, Some}
+use Rattle.std.proofs.Common.{◌≡◌, ◌≤◌, true, is_some}
 use Rattle.std.specs.FinMap.{entries}
 use Rattle.std.specs.Option.{option_map}
 use Rattle.slon_base.specs.ByteMap.{pairs}
 use Rattle.app_store.specs.Spelled.{write_all}
+use Rattle.app_store.specs.Spending.{Stays}
 use Rattle.app_store.proofs.transact.put_rows.Given as goal
 
 abbrev pub invariant-loop-key : goal.invariant-loop-key
 invariant-loop-key g l =
     record {
-      still : (g.K.Keeper.kept l.fn.keeper).can_fail ≡ Some 0 → (g.K.Keeper.kept l.keeper).can_fail ≡ Some 0;
+      still : Stays (g.K.Keeper.kept l.fn.keeper).can_fail (g.K.Keeper.kept l.keeper).can_fail;
       later : (g.K.Keeper.kept l.fn.keeper).faults ≤ (g.K.Keeper.kept l.keeper).faults;
       held : (g.K.Keeper.kept l.keeper).held ≡ (g.K.Keeper.kept l.fn.keeper).held;
       doubts : (g.K.Keeper.kept l.keeper).doubts ≡ (g.K.Keeper.kept l.fn.keeper).doubts;

@@ -15,4 +15,4 @@ returns-clause-cause g c files =
 
 pub returns-clause-runs : goal.returns-clause-runs
 returns-clause-runs g c tells =
-    replied (g.S.Shelf.shelved c.args.shelf.now) c.args.command.now _ _ _ _ c.in_ok-reply.reply c.answer.result (c.in_ok-reply.ensures.obeys tells) c.in_ok-reply.ensures.certain c.in_ok-reply.ensures.quiet c.answer.ensures.written
+    replied (g.S.Shelf.shelved c.args.shelf.now) c.args.command.now _ _ _ _ c.in_ok-reply.reply c.answer.result (c.in_ok-reply.ensures.obeys tells) c.in_ok-reply.ensures.certain c.in_ok-reply.ensures.quiet c.in_ok-reply.ensures.pays c.answer.ensures.written

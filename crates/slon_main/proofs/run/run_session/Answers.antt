@@ -6,7 +6,7 @@ use Rattle.session_text.specs.declared.line_reader.NextLine.TheVariants.{Line}
 use Rattle.session_text.proofs.Moving.{stays_on}
 use Rattle.slon_main.specs.Clustered.{cluster_of}
 use Rattle.slon_main.specs.Running.{HasCause, StopsAt, RunsSession}
-use Rattle.slon_main.proofs.Causes.{stops_as, stops_since, handed_on, never_still, tells_still}
+use Rattle.slon_main.proofs.Causes.{stops_as, stops_since, handed_on, tells_still}
 use Rattle.slon_main.proofs.Places.{came_first, came_on, stops_end, stops_reading, stops_running}
 use Rattle.slon_main.proofs.Runs.{begun, went_on, ran_all, read_stops, line_stops}
 use Rattle.slon_main.proofs.run.run_session.Goals as goal
@@ -75,7 +75,7 @@ loop-line-preserved g c = record {
   runs = λ bytes limit is tells empty agrees.
       let running = c.loop-line.invariant.runs bytes limit is tells empty agrees in
       let hands = subst (λ l. Hands l running.rest c.loop-line.reader c.read_line.new.reader (g.F.Files.filed c.read_line.new.files) Line) (sym c.deref.ensures.value) (rw c.if-branch.true at c.in_ok-read_line.ensures.reads running.rest running.comes) in
-      went_on (g.S.Shelf.shelved c.args.shelf.now) (g.S.Shelf.shelved c.loop-line.shelf) limit bytes _ _ _ _ _ _ _ _ _ _ (never_still (g.S.Shelf.shelved c.args.shelf.now) (g.S.Shelf.shelved c.loop-line.shelf) c.loop-line.invariant.shelf.promise)
+      went_on (g.S.Shelf.shelved c.args.shelf.now) (g.S.Shelf.shelved c.loop-line.shelf) limit bytes _ _ _ _ _ _ _ _ _ _ c.loop-line.invariant.shelf.promise
       (omega (arith, c.loop-line.invariant.count, c.loop-line.invariant.limit)) running hands (c.in_ok-run_line.ensures.runs (tells_still (g.S.Shelf.shelved c.args.shelf.now) (g.S.Shelf.shelved c.loop-line.shelf) c.loop-line.invariant.shelf.promise tells));
 }
 

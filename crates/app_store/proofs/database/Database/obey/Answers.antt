@@ -62,3 +62,33 @@ returns-in-Crash-clause-arms g c = rw c.in-Crash.is (c.crash.ensures.arms c.in-C
 
 pub returns-in-Up-clause-arms : goal.returns-in-Up-clause-arms
 returns-in-Up-clause-arms g c = rw c.in-Up.is (c.up.ensures.arms c.in-Up.database)
+
+pub returns-in-Table-clause-certain : goal.returns-in-Table-clause-certain
+returns-in-Table-clause-certain g c = rw c.in-Table.is (c.table.ensures.certain c.in-Table.database)
+
+pub returns-in-Begin-clause-certain : goal.returns-in-Begin-clause-certain
+returns-in-Begin-clause-certain g c = rw c.in-Begin.is (c.begin.ensures.certain c.in-Begin.database)
+
+pub returns-in-Insert-clause-certain : goal.returns-in-Insert-clause-certain
+returns-in-Insert-clause-certain g c = rw c.in-Insert.is (c.insert.ensures.certain c.in-Insert.database)
+
+pub returns-in-Update-clause-certain : goal.returns-in-Update-clause-certain
+returns-in-Update-clause-certain g c = rw c.in-Update.is (c.update.ensures.certain c.in-Update.database)
+
+pub returns-in-Delete-clause-certain : goal.returns-in-Delete-clause-certain
+returns-in-Delete-clause-certain g c = rw c.in-Delete.is (c.delete.ensures.certain c.in-Delete.database)
+
+pub returns-in-Commit-clause-certain : goal.returns-in-Commit-clause-certain
+returns-in-Commit-clause-certain g c = rw c.in-Commit.is (c.commit.ensures.certain c.in-Commit.database)
+
+pub returns-in-Abort-clause-certain : goal.returns-in-Abort-clause-certain
+returns-in-Abort-clause-certain g c = rw c.in-Abort.is (c.abort.ensures.certain c.in-Abort.database)
+
+pub returns-in-Rows-clause-certain : goal.returns-in-Rows-clause-certain
+returns-in-Rows-clause-certain g c = rw c.in-Rows.is (c.rows.ensures.certain c.in-Rows.database)
+
+pub returns-in-Crash-clause-certain : goal.returns-in-Crash-clause-certain
+returns-in-Crash-clause-certain g c = rw c.in-Crash.is (c.crash.ensures.certain c.in-Crash.database)
+
+pub returns-in-Up-clause-certain : goal.returns-in-Up-clause-certain
+returns-in-Up-clause-certain g c = rw c.in-Up.is (c.up.ensures.certain c.in-Up.database)
