@@ -2,7 +2,7 @@
 ghost use Rattle.std.specs.Prelude.{◌≡◌, [], ◌∷◌, eqb, IsTrue, ◌↔◌, ◌<◌, ◌^◌, ℕ, List, map, Some, IfOk};
 ghost use Rattle.std.specs.List.{AllByRecursion, slice_split};
 ghost use Rattle.std.specs.Fmt.{decimal};
-ghost use Rattle.slon_model.specs.Snapshots.{Snapshot as Model, IsSnapshot, ids_text};
+ghost use Rattle.slon_model.specs.Snapshots.{Snapshot as Model, IsSnapshot, ids_text, snapshot_text};
 ghost use Rattle.txn_core.specs.Snapshots.{seen_as, rises_below, Parses, GetsIds, GetsSnapshot};
 
 use crate::fault::BadSnapshot;
@@ -96,13 +96,14 @@ impl Snapshot {
         rises_below(running, self.xmax)
     }
 
-    /// The snapshot that is printed as this text.
+    /// The snapshot that is printed as this text. What was printed is read back as it was.
     ///
     /// # Errors
     ///
     /// `NotCanonical` exactly where no snapshot is printed so, and `NoMemory`.
     pub fn parse(alloc: Global, text: &[u8]) -> Result<Snapshot, BadSnapshot>
-        ensures { Parses text.now result }
+        ensures parses { Parses text.now result }
+        ensures again { (s : Model) → IsSnapshot s → snapshot_text s ≡ text.now → IfOk result (λ found. seen_as found ≡ s) }
     {
         let parts = split_at(alloc, text, b':')?;
         let snapshot = snapshot_of(alloc, parts.as_slice())?;
