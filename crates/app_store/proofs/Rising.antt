@@ -29,7 +29,7 @@ use Rattle.app_store.specs.declared.stop.Stop.TheVariants.{Failed as StopFailed,
 use Rattle.app_store.specs.declared.look.Numbers.{Numbers}
 use Rattle.app_store.specs.Base.{Base, IsFresh}
 use Rattle.app_store.specs.Fits.{Fits, Runs, StandsAs, OpensAs}
-use Rattle.app_store.specs.Goes.{Begun, Founds, Fails as BeginFails, Doubts as BeginDoubts, is_memory, is_sure_fault, IsFull}
+use Rattle.app_store.specs.Goes.{Begun, Founds, Fails as BeginFails, Doubts as BeginDoubts, is_memory, is_sure_fault}
 use Rattle.app_store.specs.Parts.{GoesDown, StartsWith, halt_of, settled, settled_by, is_stamp}
 use Rattle.app_store.specs.Spelled.{Holds, row_key, first_rows}
 use Rattle.app_store.specs.Spending.{IsAtMost, Stays}
@@ -252,11 +252,3 @@ rises_err database p old b new StopFailed fault fits spelled was either only ros
     ]
 rises_err database p old b new StopNoMemory fault fits spelled was either only rose doubt down fault_is memory = absurd (false≢true (sym memory ∙ ap is_memory fault_is))
 rises_err database p old b new (StopBadRow space) fault fits spelled was either only rose doubt down fault_is memory = absurd only
-
--- ---- numbers near to the limit
-
--- a database that goes down keeps its stamp and its ceilings
-pub full_down : (old new : Base) → GoesDown old new → IsFull old → IsFull new
-full_down old new down (inl stamp) = inl (omega (arith, stamp, down.stamp))
-full_down old new down (inr (inl xids)) = inr (inl (omega (arith, xids, down.xid_ceiling)))
-full_down old new down (inr (inr numbers)) = inr (inr (omega (arith, numbers, down.number_ceiling)))

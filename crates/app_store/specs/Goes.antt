@@ -195,31 +195,55 @@ MakingCaused old (Err (Halt (BadRow space))) new = Unit {0}
 MakingCaused old (Err (Halt (TooBig space))) new = Unit {0}
 MakingCaused old (Err (Halt NoMemory)) new = Unit {0}
 
--- a stamp or a ceiling is too near to the limit of stored numbers to rise once more
-abbrev pub IsFull : Base → Type 0
-IsFull b = (2 ^ 63 ≤ b.stamp + 1) ⊎ (2 ^ 63 ≤ b.xid_ceiling + 64) ⊎ (2 ^ 63 ≤ b.number_ceiling + 64)
+-- What a command may have to store that is above the limit of stored numbers: nothing; the stamp of one more transaction; or
+-- that or a ceiling, where the next draw of an id or of a number of an action raises it.
+pub data Need : Type 0 where
+  NeedsNothing : Need
+  NeedsStamp : Need
+  NeedsXid : Need
+  NeedsNumber : Need
 
--- that a number is too big is said only where one may not rise
-abbrev pub IsBigAt : DbFault → Base → Type 0
-IsBigAt (Locked xid) new = Unit {0}
-IsBigAt NotEmpty new = Unit {0}
-IsBigAt Down new = Unit {0}
-IsBigAt IsUp new = Unit {0}
-IsBigAt TableExists new = Unit {0}
-IsBigAt NameUsed new = Unit {0}
-IsBigAt NoTable new = Unit {0}
-IsBigAt NoTransaction new = Unit {0}
-IsBigAt Duplicate new = Unit {0}
-IsBigAt (BadWidth columns) new = Unit {0}
-IsBigAt (Halt (Fault count)) new = Unit {0}
-IsBigAt (Halt Doubt) new = Unit {0}
-IsBigAt (Halt (BadRow space)) new = Unit {0}
-IsBigAt (Halt (TooBig space)) new = (space ≡ 1) × IsFull new
-IsBigAt (Halt NoMemory) new = Unit {0}
+abbrev pub IsNeeded : Need → Base → Type 0
+IsNeeded NeedsNothing b = ⊥
+IsNeeded NeedsStamp b = 2 ^ 63 ≤ b.stamp + 1
+IsNeeded NeedsXid b = (b.next_xid ≡ b.xid_ceiling) × ((2 ^ 63 ≤ b.stamp + 1) ⊎ (2 ^ 63 ≤ b.xid_ceiling + 64))
+IsNeeded NeedsNumber b = (b.next_number ≡ b.number_ceiling) × ((2 ^ 63 ≤ b.stamp + 1) ⊎ (2 ^ 63 ≤ b.number_ceiling + 64))
 
-abbrev pub BigCaused : {T : Type 0} → Result T DbFault → Base → Type 0
-BigCaused (Ok x) new = Unit {0}
-BigCaused (Err fault) new = IsBigAt fault new
+-- that a number is too big is said only where this holds of the database, which keeps its numbers as it goes down
+abbrev pub IsBigAt : Need → DbFault → Base → Type 0
+IsBigAt need (Locked xid) new = Unit {0}
+IsBigAt need NotEmpty new = Unit {0}
+IsBigAt need Down new = Unit {0}
+IsBigAt need IsUp new = Unit {0}
+IsBigAt need TableExists new = Unit {0}
+IsBigAt need NameUsed new = Unit {0}
+IsBigAt need NoTable new = Unit {0}
+IsBigAt need NoTransaction new = Unit {0}
+IsBigAt need Duplicate new = Unit {0}
+IsBigAt need (BadWidth columns) new = Unit {0}
+IsBigAt need (Halt (Fault count)) new = Unit {0}
+IsBigAt need (Halt Doubt) new = Unit {0}
+IsBigAt need (Halt (BadRow space)) new = Unit {0}
+IsBigAt need (Halt (TooBig space)) new = (space ≡ 1) × IsNeeded need new
+IsBigAt need (Halt NoMemory) new = Unit {0}
+
+abbrev pub BigCaused : {T : Type 0} → Need → Result T DbFault → Base → Type 0
+BigCaused need (Ok x) new = Unit {0}
+BigCaused need (Err fault) new = IsBigAt need fault new
+
+abbrev pub need_of : Command → Need
+need_of (Database name) = NeedsNothing
+need_of (Table database table columns) = NeedsStamp
+need_of (Begin database name) = NeedsXid
+need_of (Insert database name table values) = NeedsNumber
+need_of (Update database name table key columns) = NeedsNumber
+need_of (Delete database name table key) = NeedsNumber
+need_of (Commit database name) = NeedsStamp
+need_of (Abort database name) = NeedsNothing
+need_of (Rows database table) = NeedsNothing
+need_of (Status database) = NeedsNothing
+need_of (Crash database crash) = NeedsNothing
+need_of (Up database) = NeedsNothing
 
 -- what a database that is up tells its fuse
 abbrev pub armed_by : CrashKind → Charge → Charge

@@ -14,7 +14,7 @@ use Rattle.app_store.specs.declared.stop.Stop.TheVariants.{Failed, NoMemory, Bad
 use Rattle.app_store.specs.Base.{Base}
 use Rattle.app_store.specs.Fits.{Fits, HasRoom}
 use Rattle.app_store.specs.Spending.{Stays, Spends}
-use Rattle.app_store.specs.Goes.{is_out_of_memory, is_sure_fault, BigCaused}
+use Rattle.app_store.specs.Goes.{is_out_of_memory, is_sure_fault}
 use Rattle.app_store.specs.declared.look.Numbers.{Numbers}
 use Rattle.txn_core.specs.Locks.{holder_of}
 use Rattle.slon_model.specs.declared.reply.Answer.{Answer}
@@ -33,6 +33,8 @@ pub record GoesDown (old new : Base) : Type 0 where
   pub doubt : new.doubt ≡ old.doubt
   pub stamp : new.stamp ≡ old.stamp
   pub xid_ceiling : new.xid_ceiling ≡ old.xid_ceiling
+  pub next_xid : new.next_xid ≡ old.next_xid
+  pub next_number : new.next_number ≡ old.next_number
   pub number_ceiling : new.number_ceiling ≡ old.number_ceiling
 
 -- a stop at the store: it failed, and the place is as it was or as the other one
@@ -73,7 +75,6 @@ pub record Part {T : Type 0} (old new : Base) (result : Result T DbFault) : Type
   pub caused : PartCaused old.kept result new.kept
   pub still : Stays old.kept.can_fail new.kept.can_fail
   pub spends : Spends (not (is_part_sure result)) old.kept.can_fail new.kept.can_fail
-  pub big : BigCaused result new
 
 -- what is said of a commit that was in doubt
 abbrev pub settled_by : Bool → Answer

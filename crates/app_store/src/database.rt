@@ -44,7 +44,7 @@ impl<K: Keeper> Database<K> {
     ghost use Rattle.slon_model.specs.declared.reply.Answer.TheVariants.{Done as IsDone};
     ghost use Rattle.slon_model.specs.declared.reply.Answered.TheVariants.{Sure as IsSure};
     ghost use Rattle.app_store.specs.Base.{base_of, IsFresh};
-    ghost use Rattle.app_store.specs.Goes.{Begins, Refuses, Goes, Caused, IsCertain, StaysDown, MakingCaused, IsFull, IsBigAt, BigCaused, Arms, is_made};
+    ghost use Rattle.app_store.specs.Goes.{Begins, Refuses, Goes, Caused, IsCertain, StaysDown, MakingCaused, IsBigAt, BigCaused, Need, NeedsXid, NeedsNumber, NeedsNothing, Arms, is_made};
     ghost use Rattle.app_store.specs.Spending.{Stays, Spends};
     ghost use Rattle.app_store.specs.Parts.{GoesDown, Raises, Part, StartsWith, halt_of, settled, without_doubt, is_ready_xid, is_ready_number};
 
@@ -60,7 +60,7 @@ impl<K: Keeper> Database<K> {
         ensures still { Stays (fuse_kept K.kept keeper).can_fail (base_of K.kept result.0).kept.can_fail }
         ensures spends { Spends (not (is_made result.1)) (fuse_kept K.kept keeper).can_fail (base_of K.kept result.0).kept.can_fail }
         ensures full { Refuses (fuse_kept K.kept keeper) result.1 (base_of K.kept result.0) }
-        ensures big { BigCaused result.1 (base_of K.kept result.0) }
+        ensures big { BigCaused NeedsNothing result.1 (base_of K.kept result.0) }
         ensures down { OnErr result.1 ((base_of K.kept result.0).up ≡ false) }
     {
         let mut keeper = keeper;
@@ -122,7 +122,7 @@ impl<K: Keeper> Database<K> {
     pub(crate) fn fall(&mut self, stop: Stop) -> DbFault
         ensures down { GoesDown (base_of K.kept self.old) (base_of K.kept self.new) }
         ensures fault { result ≡ halt_of stop (base_of K.kept self.old).kept.faults }
-        ensures big { IsBigAt result (base_of K.kept self.new) }
+        ensures big { (need : Need) → IsBigAt need result (base_of K.kept self.new) }
     {
         self.take_down();
         DbFault::Halt(match stop {
@@ -136,10 +136,8 @@ impl<K: Keeper> Database<K> {
 
     /// Takes the database down because a number would pass the limit of stored numbers.
     pub(crate) fn overflow(&mut self) -> DbFault
-        requires { IsFull (base_of K.kept self.old) }
         ensures down { GoesDown (base_of K.kept self.old) (base_of K.kept self.new) }
         ensures fault { result ≡ DbFault.Halt (Halt.TooBig 1) }
-        ensures big { IsBigAt result (base_of K.kept self.new) }
     {
         self.take_down();
         DbFault::Halt(Halt::TooBig { space: 1 })
@@ -149,6 +147,7 @@ impl<K: Keeper> Database<K> {
     pub(crate) fn raise_xids(&mut self) -> Result<(), DbFault>
         requires { self.old.up ≡ true }
         ensures part { Part (base_of K.kept self.old) (base_of K.kept self.new) result }
+        ensures big { BigCaused NeedsXid result (base_of K.kept self.new) }
         ensures raises { Raises xid_raised (base_of K.kept self.old) result (base_of K.kept self.new) }
         ensures ready { OnOk result (is_ready_xid (base_of K.kept self.new) ≡ true) }
         ensures up { OnOk result (self.new.up ≡ true) }
@@ -178,6 +177,7 @@ impl<K: Keeper> Database<K> {
     pub(crate) fn raise_numbers(&mut self) -> Result<(), DbFault>
         requires { self.old.up ≡ true }
         ensures part { Part (base_of K.kept self.old) (base_of K.kept self.new) result }
+        ensures big { BigCaused NeedsNumber result (base_of K.kept self.new) }
         ensures raises { Raises number_raised (base_of K.kept self.old) result (base_of K.kept self.new) }
         ensures ready { OnOk result (is_ready_number (base_of K.kept self.new) ≡ true) }
         ensures up { OnOk result (self.new.up ≡ true) }
@@ -209,7 +209,7 @@ impl<K: Keeper> Database<K> {
         ensures answer { result ≡ (if self.old.up then Ok (IsSure IsDone) else Err IsDown) }
         ensures arms { (database : List ℕ) → Arms K.kept (CrashCommand database crash) self.old.up self.old.keeper self.new.keeper }
         ensures later { (base_of K.kept self.old).kept.faults ≤ (base_of K.kept self.new).kept.faults }
-        ensures big { BigCaused result (base_of K.kept self.new) }
+        ensures big { BigCaused NeedsNothing result (base_of K.kept self.new) }
         ensures caused { (database : List ℕ) → Caused (CrashCommand database crash) (base_of K.kept self.old).kept result (base_of K.kept self.new).kept }
         ensures certain { (database : List ℕ) → IsCertain (CrashCommand database crash) (base_of K.kept self.old).kept (base_of K.kept self.new).kept result }
         ensures down { (database : List ℕ) → StaysDown (CrashCommand database crash) (base_of K.kept self.old) result (base_of K.kept self.new) }
@@ -230,7 +230,7 @@ impl<K: Keeper> Database<K> {
         ensures goes { (database : List ℕ) → Goes (UpCommand database) (base_of K.kept self.old) result (base_of K.kept self.new) }
         ensures arms { (database : List ℕ) → Arms K.kept (UpCommand database) self.old.up self.old.keeper self.new.keeper }
         ensures later { (base_of K.kept self.old).kept.faults ≤ (base_of K.kept self.new).kept.faults }
-        ensures big { BigCaused result (base_of K.kept self.new) }
+        ensures big { BigCaused NeedsNothing result (base_of K.kept self.new) }
         ensures caused { (database : List ℕ) → Caused (UpCommand database) (base_of K.kept self.old).kept result (base_of K.kept self.new).kept }
         ensures certain { (database : List ℕ) → IsCertain (UpCommand database) (base_of K.kept self.old).kept (base_of K.kept self.new).kept result }
     {

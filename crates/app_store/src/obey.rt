@@ -2,7 +2,7 @@
 ghost use Rattle.std.specs.Prelude.{◌≡◌, ◌≤◌, ℕ, Ok, Err, if◌then◌else◌};
 ghost use Rattle.slon_model.specs.Spoken.{IsSpoken};
 ghost use Rattle.app_store.specs.Base.{base_of};
-ghost use Rattle.app_store.specs.Goes.{Goes, Caused, IsCertain, StaysDown, BigCaused, Arms};
+ghost use Rattle.app_store.specs.Goes.{Goes, Caused, IsCertain, StaysDown, BigCaused, Arms, need_of};
 
 use crate::database::Database;
 use node_keeper::Keeper;
@@ -19,7 +19,7 @@ impl<K: Keeper> Database<K> {
         requires { IsSpoken command.now }
         ensures goes { Goes command.now (base_of K.kept self.old) result (base_of K.kept self.new) }
         ensures later { (base_of K.kept self.old).kept.faults ≤ (base_of K.kept self.new).kept.faults }
-        ensures big { BigCaused result (base_of K.kept self.new) }
+        ensures big { BigCaused (need_of command.now) result (base_of K.kept self.new) }
         ensures arms { Arms K.kept command.now self.old.up self.old.keeper self.new.keeper }
         ensures caused { Caused command.now (base_of K.kept self.old).kept result (base_of K.kept self.new).kept }
         ensures certain { IsCertain command.now (base_of K.kept self.old).kept (base_of K.kept self.new).kept result }

@@ -3,7 +3,7 @@ ghost use Rattle.std.specs.Prelude.{◌≡◌, ◌≤◌, ℕ, List, IfOk, true}
 ghost use Rattle.slon_base.specs.Codec.{IsText};
 ghost use Rattle.slon_model.specs.declared.command.Command.TheVariants.{Table as TableCommand, Begin as BeginCommand, Commit as CommitCommand, Abort as AbortCommand, Rows as RowsCommand};
 ghost use Rattle.app_store.specs.Base.{base_of};
-ghost use Rattle.app_store.specs.Goes.{Goes, Caused, IsCertain, StaysDown, BigCaused};
+ghost use Rattle.app_store.specs.Goes.{Goes, Caused, IsCertain, StaysDown, BigCaused, NeedsStamp, NeedsXid, NeedsNothing};
 ghost use Rattle.app_store.specs.Fits.{Fits};
 ghost use Rattle.app_store.specs.Taking.{IsTakenOf};
 ghost use Rattle.slon_laws.specs.Sound.{Sound};
@@ -38,7 +38,7 @@ impl<K: Keeper> Database<K> {
         requires narrow { columns ≤ 16 }
         ensures goes { (database : List ℕ) → Goes (TableCommand database table.now columns) (base_of K.kept self.old) result (base_of K.kept self.new) }
         ensures later { (base_of K.kept self.old).kept.faults ≤ (base_of K.kept self.new).kept.faults }
-        ensures big { BigCaused result (base_of K.kept self.new) }
+        ensures big { BigCaused NeedsStamp result (base_of K.kept self.new) }
         ensures caused { (database : List ℕ) → Caused (TableCommand database table.now columns) (base_of K.kept self.old).kept result (base_of K.kept self.new).kept }
         ensures certain { (database : List ℕ) → IsCertain (TableCommand database table.now columns) (base_of K.kept self.old).kept (base_of K.kept self.new).kept result }
         ensures down { (database : List ℕ) → StaysDown (TableCommand database table.now columns) (base_of K.kept self.old) result (base_of K.kept self.new) }
@@ -77,7 +77,7 @@ impl<K: Keeper> Database<K> {
     pub fn begin(&mut self, name: &Text) -> Result<Answered, DbFault>
         ensures goes { (database : List ℕ) → Goes (BeginCommand database name.now) (base_of K.kept self.old) result (base_of K.kept self.new) }
         ensures later { (base_of K.kept self.old).kept.faults ≤ (base_of K.kept self.new).kept.faults }
-        ensures big { BigCaused result (base_of K.kept self.new) }
+        ensures big { BigCaused NeedsXid result (base_of K.kept self.new) }
         ensures caused { (database : List ℕ) → Caused (BeginCommand database name.now) (base_of K.kept self.old).kept result (base_of K.kept self.new).kept }
         ensures certain { (database : List ℕ) → IsCertain (BeginCommand database name.now) (base_of K.kept self.old).kept (base_of K.kept self.new).kept result }
         ensures down { (database : List ℕ) → StaysDown (BeginCommand database name.now) (base_of K.kept self.old) result (base_of K.kept self.new) }
@@ -103,7 +103,7 @@ impl<K: Keeper> Database<K> {
     pub fn commit(&mut self, name: &Text) -> Result<Answered, DbFault>
         ensures goes { (database : List ℕ) → Goes (CommitCommand database name.now) (base_of K.kept self.old) result (base_of K.kept self.new) }
         ensures later { (base_of K.kept self.old).kept.faults ≤ (base_of K.kept self.new).kept.faults }
-        ensures big { BigCaused result (base_of K.kept self.new) }
+        ensures big { BigCaused NeedsStamp result (base_of K.kept self.new) }
         ensures caused { (database : List ℕ) → Caused (CommitCommand database name.now) (base_of K.kept self.old).kept result (base_of K.kept self.new).kept }
         ensures certain { (database : List ℕ) → IsCertain (CommitCommand database name.now) (base_of K.kept self.old).kept (base_of K.kept self.new).kept result }
         ensures down { (database : List ℕ) → StaysDown (CommitCommand database name.now) (base_of K.kept self.old) result (base_of K.kept self.new) }
@@ -149,7 +149,7 @@ impl<K: Keeper> Database<K> {
     pub fn abort(&mut self, name: &Text) -> Result<Answered, DbFault>
         ensures goes { (database : List ℕ) → Goes (AbortCommand database name.now) (base_of K.kept self.old) result (base_of K.kept self.new) }
         ensures later { (base_of K.kept self.old).kept.faults ≤ (base_of K.kept self.new).kept.faults }
-        ensures big { BigCaused result (base_of K.kept self.new) }
+        ensures big { BigCaused NeedsNothing result (base_of K.kept self.new) }
         ensures caused { (database : List ℕ) → Caused (AbortCommand database name.now) (base_of K.kept self.old).kept result (base_of K.kept self.new).kept }
         ensures certain { (database : List ℕ) → IsCertain (AbortCommand database name.now) (base_of K.kept self.old).kept (base_of K.kept self.new).kept result }
         ensures down { (database : List ℕ) → StaysDown (AbortCommand database name.now) (base_of K.kept self.old) result (base_of K.kept self.new) }
@@ -171,7 +171,7 @@ impl<K: Keeper> Database<K> {
         requires { IsText table.now }
         ensures goes { (database : List ℕ) → Goes (RowsCommand database table.now) (base_of K.kept self.old) result (base_of K.kept self.new) }
         ensures later { (base_of K.kept self.old).kept.faults ≤ (base_of K.kept self.new).kept.faults }
-        ensures big { BigCaused result (base_of K.kept self.new) }
+        ensures big { BigCaused NeedsNothing result (base_of K.kept self.new) }
         ensures caused { (database : List ℕ) → Caused (RowsCommand database table.now) (base_of K.kept self.old).kept result (base_of K.kept self.new).kept }
         ensures certain { (database : List ℕ) → IsCertain (RowsCommand database table.now) (base_of K.kept self.old).kept (base_of K.kept self.new).kept result }
         ensures down { (database : List ℕ) → StaysDown (RowsCommand database table.now) (base_of K.kept self.old) result (base_of K.kept self.new) }

@@ -4,7 +4,7 @@ ghost use Rattle.slon_base.specs.Codec.{IsText, AllTexts};
 ghost use Rattle.slon_model.specs.declared.command.Command.TheVariants.{Insert as InsertCommand, Update as UpdateCommand, Delete as DeleteCommand};
 ghost use Rattle.slon_model.specs.Place as rules;
 ghost use Rattle.app_store.specs.Base.{Base, base_of};
-ghost use Rattle.app_store.specs.Goes.{Goes, Caused, IsCertain, StaysDown, BigCaused};
+ghost use Rattle.app_store.specs.Goes.{Goes, Caused, IsCertain, StaysDown, BigCaused, Need, NeedsNumber};
 ghost use Rattle.app_store.specs.Parts.{Part, is_doubt};
 ghost use Rattle.txn_core.specs.Locks.{holder_of, without};
 ghost use Rattle.app_store.specs.Targets.{FindsWidth, ReadsTarget, FindsRow, AddsWrite, Writes, InsertOf, UpdateOf, DeleteOf, acted_as};
@@ -49,7 +49,7 @@ fn are_values(values: &TextList, width: u64) -> bool
 fn acted(added: Result<u64, DbFault>) -> Result<Answered, DbFault>
     ensures value { result ≡ acted_as added }
     ensures definite { is_doubt result ≡ false }
-    ensures big { (b : Base) → BigCaused added b → BigCaused result b }
+    ensures big { (need : Need) (b : Base) → BigCaused need added b → BigCaused need result b }
 {
     match added {
         Ok(number) => Ok(Answered::Sure(Answer::Acted { number })),
@@ -63,6 +63,7 @@ impl<K: Keeper> Database<K> {
         requires up { self.old.up ≡ true }
         requires text { IsText table.now }
         ensures part { Part (base_of K.kept self.old) (base_of K.kept self.new) result }
+        ensures big { (need : Need) → BigCaused need result (base_of K.kept self.new) }
         ensures finds { FindsWidth name.now table.now (base_of K.kept self.old) result (base_of K.kept self.new) }
         ensures up { OnOk result (self.new.up ≡ true) }
     {
@@ -106,6 +107,7 @@ impl<K: Keeper> Database<K> {
         requires text { IsText table.now }
         requires key { IsText key.now }
         ensures part { Part (base_of K.kept self.old) (base_of K.kept self.new) result }
+        ensures big { (need : Need) → BigCaused need result (base_of K.kept self.new) }
         ensures reads { ReadsTarget name.now table.now key.now (base_of K.kept self.old) result (base_of K.kept self.new) }
         ensures up { OnOk result (self.new.up ≡ true) }
     {
@@ -134,6 +136,7 @@ impl<K: Keeper> Database<K> {
         requires text { IsText table.now }
         requires key { IsText key.now }
         ensures part { Part (base_of K.kept self.old) (base_of K.kept self.new) result }
+        ensures big { (need : Need) → BigCaused need result (base_of K.kept self.new) }
         ensures finds { FindsRow name.now xid table.now key.now (base_of K.kept self.old) result (base_of K.kept self.new) }
         ensures up { OnOk result (self.new.up ≡ true) }
     {
@@ -155,6 +158,7 @@ impl<K: Keeper> Database<K> {
     ) -> Result<u64, DbFault>
         requires up { self.old.up ≡ true }
         ensures part { Part (base_of K.kept self.old) (base_of K.kept self.new) result }
+        ensures big { BigCaused NeedsNumber result (base_of K.kept self.new) }
         ensures adds { AddsWrite name.now xid table.now key.now row_key.now value (base_of K.kept self.old) result (base_of K.kept self.new) }
     {
         match self.raise_numbers() {
@@ -193,7 +197,7 @@ impl<K: Keeper> Database<K> {
         requires some { 0 < length values.now }
         ensures goes { (database : List ℕ) → Goes (InsertCommand database name.now table.now values.now) (base_of K.kept self.old) result (base_of K.kept self.new) }
         ensures later { (base_of K.kept self.old).kept.faults ≤ (base_of K.kept self.new).kept.faults }
-        ensures big { BigCaused result (base_of K.kept self.new) }
+        ensures big { BigCaused NeedsNumber result (base_of K.kept self.new) }
         ensures caused { (database : List ℕ) → Caused (InsertCommand database name.now table.now values.now) (base_of K.kept self.old).kept result (base_of K.kept self.new).kept }
         ensures certain { (database : List ℕ) → IsCertain (InsertCommand database name.now table.now values.now) (base_of K.kept self.old).kept (base_of K.kept self.new).kept result }
         ensures down { (database : List ℕ) → StaysDown (InsertCommand database name.now table.now values.now) (base_of K.kept self.old) result (base_of K.kept self.new) }
@@ -228,6 +232,7 @@ impl<K: Keeper> Database<K> {
         requires texts { AllTexts row.now }
         requires few { length row.now < 2 ^ 16 }
         ensures part { Part (base_of K.kept self.old) (base_of K.kept self.new) result }
+        ensures big { BigCaused NeedsNumber result (base_of K.kept self.new) }
         ensures writes { Writes (InsertOf (key.now ∷ row.now)) name.now xid table.now (base_of K.kept self.old) result (base_of K.kept self.new) }
         ensures definite { is_doubt result ≡ false }
     {
@@ -261,7 +266,7 @@ impl<K: Keeper> Database<K> {
         requires texts { AllTexts (map (λ c. c.1) columns.now) }
         ensures goes { (database : List ℕ) → Goes (UpdateCommand database name.now table.now key.now columns.now) (base_of K.kept self.old) result (base_of K.kept self.new) }
         ensures later { (base_of K.kept self.old).kept.faults ≤ (base_of K.kept self.new).kept.faults }
-        ensures big { BigCaused result (base_of K.kept self.new) }
+        ensures big { BigCaused NeedsNumber result (base_of K.kept self.new) }
         ensures caused { (database : List ℕ) → Caused (UpdateCommand database name.now table.now key.now columns.now) (base_of K.kept self.old).kept result (base_of K.kept self.new).kept }
         ensures certain { (database : List ℕ) → IsCertain (UpdateCommand database name.now table.now key.now columns.now) (base_of K.kept self.old).kept (base_of K.kept self.new).kept result }
         ensures down { (database : List ℕ) → StaysDown (UpdateCommand database name.now table.now key.now columns.now) (base_of K.kept self.old) result (base_of K.kept self.new) }
@@ -294,6 +299,7 @@ impl<K: Keeper> Database<K> {
         requires key { IsText key.now }
         requires texts { AllTexts (map (λ c. c.1) columns.now) }
         ensures part { Part (base_of K.kept self.old) (base_of K.kept self.new) result }
+        ensures big { BigCaused NeedsNumber result (base_of K.kept self.new) }
         ensures writes { Writes (UpdateOf key.now columns.now) name.now xid table.now (base_of K.kept self.old) result (base_of K.kept self.new) }
         ensures definite { is_doubt result ≡ false }
     {
@@ -321,7 +327,7 @@ impl<K: Keeper> Database<K> {
         requires key { IsText key.now }
         ensures goes { (database : List ℕ) → Goes (DeleteCommand database name.now table.now key.now) (base_of K.kept self.old) result (base_of K.kept self.new) }
         ensures later { (base_of K.kept self.old).kept.faults ≤ (base_of K.kept self.new).kept.faults }
-        ensures big { BigCaused result (base_of K.kept self.new) }
+        ensures big { BigCaused NeedsNumber result (base_of K.kept self.new) }
         ensures caused { (database : List ℕ) → Caused (DeleteCommand database name.now table.now key.now) (base_of K.kept self.old).kept result (base_of K.kept self.new).kept }
         ensures certain { (database : List ℕ) → IsCertain (DeleteCommand database name.now table.now key.now) (base_of K.kept self.old).kept (base_of K.kept self.new).kept result }
         ensures down { (database : List ℕ) → StaysDown (DeleteCommand database name.now table.now key.now) (base_of K.kept self.old) result (base_of K.kept self.new) }
@@ -347,6 +353,7 @@ impl<K: Keeper> Database<K> {
         requires text { IsText table.now }
         requires key { IsText key.now }
         ensures part { Part (base_of K.kept self.old) (base_of K.kept self.new) result }
+        ensures big { BigCaused NeedsNumber result (base_of K.kept self.new) }
         ensures writes { Writes (DeleteOf key.now) name.now xid table.now (base_of K.kept self.old) result (base_of K.kept self.new) }
         ensures definite { is_doubt result ≡ false }
     {

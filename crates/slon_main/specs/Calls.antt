@@ -20,7 +20,7 @@ use Rattle.slon_model.specs.Words.{database_word}
 use Rattle.slon_model.specs.Place.{find_named}
 use Rattle.slon_model.specs.World.{World, Step, due, is_database, refusal_of, reply_of}
 use Rattle.app_store.specs.Base.{Base}
-use Rattle.app_store.specs.Goes.{BigCaused, Goes, Caused, IsCertain, StaysDown, Begins, Refuses, MakingCaused, arms, is_made, is_out_of_memory}
+use Rattle.app_store.specs.Goes.{BigCaused, NeedsNothing, need_of, Goes, Caused, IsCertain, StaysDown, Begins, Refuses, MakingCaused, arms, is_made, is_out_of_memory}
 use Rattle.app_store.specs.Spending.{Stays, Spends}
 use Rattle.slon_main.specs.Agreed.{Clustered, Agrees, IsReady}
 
@@ -67,7 +67,7 @@ pub record Obeyed (command : Command) (old : Base) (result : Result Answered DbF
   pub caused : Caused command old.kept result new.kept
   pub certain : IsCertain command old.kept new.kept result
   pub down : StaysDown command old result new
-  pub big : BigCaused result new
+  pub big : BigCaused (need_of command) result new
 
 -- What a command does: the making of a database is granted or refused; or no database has the name; in both cases nothing
 -- is changed. Or the database of the name obeys, the reply is what it answers, and all others stay as they were.
@@ -148,7 +148,7 @@ pub record Made (kept : Kept) (result : Result (Unit {0}) DbFault) (b : Base) : 
   pub spends : Spends (not (is_made result)) kept.can_fail b.kept.can_fail
   pub down : OnErr result (b.up ≡ false)
   pub full : Refuses kept result b
-  pub big : BigCaused result b
+  pub big : BigCaused NeedsNothing result b
 
 abbrev pub making_reply : List ℕ → Result (Unit {0}) DbFault → Reply
 making_reply name (Ok u) = Accepted Done
