@@ -29,7 +29,7 @@ ends_closed shelf f bytes line status cluster old new is has holds (Short same k
 ran_written : (shelf : Shelved) (bytes : List ℕ) (output : Option (List ℕ)) (cluster : Clustered) → (ran : Ran shelf database_limit (session_of bytes).commands output cluster) → Ran shelf database_limit (session_of bytes).commands (Some (output_of ran.history)) cluster
 ran_written shelf bytes output cluster ran = record { history = ran.history; world = ran.world; leads = ran.leads; commands = ran.commands; written = refl; agrees = ran.agrees; due = ran.due; quiet = ran.quiet; few = ran.few }
 
-ran_on_written : (shelf : Shelved) (bytes : List ℕ) (output : Option (List ℕ)) (cluster : Clustered) → (on : RanOn shelf database_limit (session_of bytes).commands output cluster) → RanOn shelf database_limit (session_of bytes).commands (Some (output_of on.ran.history)) cluster
+abbrev ran_on_written : (shelf : Shelved) (bytes : List ℕ) (output : Option (List ℕ)) (cluster : Clustered) → (on : RanOn shelf database_limit (session_of bytes).commands output cluster) → RanOn shelf database_limit (session_of bytes).commands (Some (output_of on.ran.history)) cluster
 ran_on_written shelf bytes output cluster on = record {
   first = on.first;
   others = on.others;
@@ -40,7 +40,7 @@ ran_on_written shelf bytes output cluster on = record {
 line_after : (line output : List ℕ) (old new : Option (List ℕ)) → new ≡ option_map (λ before. before ++ line) old → old ≡ Some output → new ≡ Some (output ++ line)
 line_after line output old new written is = written ∙ ap (option_map (λ before. before ++ line)) is
 
-pub ends_stopped : {C : Type 0} (shelf : Shelved) (f : C → Clustered) (bytes : List ℕ) (stop : Stop) (cluster : C) (old new : Poured) (is : Status) (has : Option C) → ClosesAt stop cluster old new is has → RunsSession shelf database_limit (session_of bytes) old.written (f cluster) (Err stop)
+pub ends_stopped : {C : Type 0} (shelf : Shelved) (f : C → Clustered) (bytes : List ℕ) (stop : Stop) (cluster : C) (old new : Poured) (is : Status) (has : Option C) → ClosesAt stop cluster old new is has → RunsSession shelf database_limit bytes old.written (f cluster) (Err stop)
     → EndsRun shelf is bytes new.written (option_map f has)
 ends_stopped shelf f bytes (StopsBad number) cluster old new is has closes (ran, stop) =
     ends_closed shelf f bytes (bad_line number) BadLine cluster old new is has
@@ -52,10 +52,10 @@ ends_stopped shelf f bytes StopsWrite cluster old new is has closes runs = subst
 ends_stopped shelf f bytes StopsShort cluster old new is has closes runs = subst (λ s. EndsRun shelf s bytes new.written (option_map f has)) (sym closes.0) tt
 ends_stopped shelf f bytes (StopsNoStore name) cluster old new is has closes on =
     ends_closed shelf f bytes (store_line name) NoStore cluster old new is has
-    (λ written. (output_of on.ran.history, name, ran_on_written shelf bytes old.written (f cluster) on, line_after (store_line name) (output_of on.ran.history) old.written new.written written on.ran.written)) closes
+    (λ written. (output_of on.0.ran.history, name, ran_on_written shelf bytes old.written (f cluster) on.0, on.1, line_after (store_line name) (output_of on.0.ran.history) old.written new.written written on.0.ran.written)) closes
 ends_stopped shelf f bytes StopsLong cluster old new is has closes on =
     ends_closed shelf f bytes long_line TooLong cluster old new is has
-    (λ written. (output_of on.ran.history, ran_on_written shelf bytes old.written (f cluster) on, line_after long_line (output_of on.ran.history) old.written new.written written on.ran.written)) closes
+    (λ written. (output_of on.0.ran.history, ran_on_written shelf bytes old.written (f cluster) on.0, on.1, line_after long_line (output_of on.0.ran.history) old.written new.written written on.0.ran.written)) closes
 
 -- an ending is the one with the line, or the output failed, or memory ran out
 pub closed_by : {C : Type 0} (P : Status → Option C → Type 0) (line : List ℕ) (status : Status) (cluster : Option C) (old new : Poured) (is : Status) (has : Option C) → P status cluster → (Rose old.faults new.faults → P WriteFault None) → P NoMemory None → Closes line status cluster old new is has → P is has

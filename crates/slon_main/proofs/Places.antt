@@ -83,7 +83,7 @@ came_first bytes reader files is none zero_taken = record {
 }
 
 -- the end of the next line
-next_end : (bytes : List ℕ) (number : ℕ) (reader : Reading) (files : Filed) → (came : Came bytes number reader files) → reader.taken + line_size came.rest ≡ end_of (suc came.before) bytes
+pub next_end : (bytes : List ℕ) (number : ℕ) (reader : Reading) (files : Filed) → (came : Came bytes number reader files) → reader.taken + line_size came.rest ≡ end_of (suc came.before) bytes
 next_end bytes number reader files came =
     let same : line_size came.rest ≡ line_size (drop (end_of came.before bytes) bytes) = ap line_size (came.left ∙ ap (λ n. drop n bytes) came.taken) in
     omega (arith, same, came.taken, end_next came.before bytes)

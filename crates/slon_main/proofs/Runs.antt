@@ -1,5 +1,5 @@
 -- A run, line by line.
-use Rattle.std.proofs.Common.{◌≡◌, ◌∙◌, ℕ, ◌+◌, false, List, [], ◌∷◌, ◌++◌, Option, Some, Ok, Err, OnOk, Result, refl, sym, ap, subst, append_assoc, append-nil, arith}
+use Rattle.std.proofs.Common.{◌≡◌, ◌∙◌, ℕ, ◌+◌, ◌<◌, ◌≤◌, drop, false, List, [], ◌∷◌, ◌++◌, Option, Some, Ok, Err, OnOk, Result, refl, sym, ap, subst, append_assoc, append-nil, arith}
 use Rattle.std.specs.List.{AllByRecursion}
 use Rattle.std.specs.Option.{option_map}
 use Rattle.std.specs.Str.Lines.{lines}
@@ -19,7 +19,7 @@ use Rattle.slon_laws.specs.Worlds.{AllPlaces}
 use Rattle.slon_laws.proofs.Opens.{all_map}
 use Rattle.slon_laws.proofs.Growth.{below_more}
 use Rattle.slon_laws.proofs.Worlds.{sound_world_step, spelled_world_step, below_world_step}
-use Rattle.session_text.specs.Reading.{Reading}
+use Rattle.session_text.specs.Reading.{Reading, line_size, session_limit}
 use Rattle.session_text.specs.Handing.{Comes, Hands}
 use Rattle.session_text.specs.declared.line_reader.NextLine.TheVariants.{Line}
 use Rattle.app_store.specs.Base.{Base}
@@ -29,10 +29,10 @@ use Rattle.slon_main.specs.declared.run.Stop.TheVariants.{BadLine, Read, Write, 
 use Rattle.slon_main.specs.Agreed.{Clustered, FitsAll, Agrees, IsReady, HasRoomFor}
 use Rattle.slon_main.specs.Calls.{AllQuiet, StaysQuiet, AllCertain, StaysCertain}
 use Rattle.slon_main.specs.Failing.{IsWithin, Pays}
-use Rattle.slon_main.specs.Running.{NeverFails, NoneArms, ReadsLine, RunsLine, Means, Replies, Ran, RanOn, RunsSession}
+use Rattle.slon_main.specs.Running.{NeverFails, NoneArms, ReadsLine, RunsLine, Means, Replies, Ran, RanOn, IsMaking, IsBeyond, RunsSession}
 use Rattle.slon_main.proofs.Causes.{never_still}
 use Rattle.slon_main.proofs.Moving.{sure_step}
-use Rattle.slon_main.proofs.Places.{too_long_is_bad}
+use Rattle.slon_main.proofs.Places.{Came, next_end, too_long_is_bad}
 
 -- the session with commands before its others
 abbrev behind_commands : List Command → Session → Session
@@ -176,7 +176,7 @@ ran shelf limit bytes number reader files output cluster running none =
     (sym (ap (λ s. s.commands) running.session ∙ ap (λ cs. commands_of running.history ++ cs) none ∙ append-nil (commands_of running.history)))
 
 -- the commands so far are the first ones
-ran_on : (shelf : Shelved) (limit : ℕ) (bytes : List ℕ) (number : ℕ) (reader : Reading) (files : Filed) (output : Option (List ℕ)) (cluster : Clustered) → (running : Running shelf limit bytes number reader files output cluster) → RanOn shelf limit (session_of bytes).commands output cluster
+abbrev ran_on : (shelf : Shelved) (limit : ℕ) (bytes : List ℕ) (number : ℕ) (reader : Reading) (files : Filed) (output : Option (List ℕ)) (cluster : Clustered) → (running : Running shelf limit bytes number reader files output cluster) → RanOn shelf limit (session_of bytes).commands output cluster
 ran_on shelf limit bytes number reader files output cluster running = record {
   first = commands_of running.history;
   others = (session_from number (lines running.rest)).commands;
@@ -194,44 +194,65 @@ ran_nothing shelf limit said output cluster empty agrees = record {
 }
 
 -- no line is left
-pub ran_all : (shelf : Shelved) (limit : ℕ) (bytes : List ℕ) (number : ℕ) (reader : Reading) (files : Filed) (output : Option (List ℕ)) (cluster : Clustered) → (running : Running shelf limit bytes number reader files output cluster) → running.rest ≡ [] → RunsSession shelf limit (session_of bytes) output cluster (Ok tt)
+pub ran_all : (shelf : Shelved) (limit : ℕ) (bytes : List ℕ) (number : ℕ) (reader : Reading) (files : Filed) (output : Option (List ℕ)) (cluster : Clustered) → (running : Running shelf limit bytes number reader files output cluster) → running.rest ≡ [] → RunsSession shelf limit bytes output cluster (Ok tt)
 ran_all shelf limit bytes number reader files output cluster running none =
     (ran shelf limit bytes number reader files output cluster running (ap (λ r. (session_from number (lines r)).commands) none), ap (λ s. s.stop) running.session ∙ ap (λ r. (session_from number (lines r)).stop) none)
 
 -- the next line is bad
 pub ran_to : (shelf : Shelved) (limit : ℕ) (bytes : List ℕ) (number : ℕ) (reader : Reading) (files : Filed) (output : Option (List ℕ)) (cluster : Clustered) → (running : Running shelf limit bytes number reader files output cluster) → (first : List ℕ) (more : List (List ℕ)) → lines running.rest ≡ first ∷ more → meaning first ≡ Bad
-    → RunsSession shelf limit (session_of bytes) output cluster (Err (BadLine number))
+    → RunsSession shelf limit bytes output cluster (Err (BadLine number))
 ran_to shelf limit bytes number reader files output cluster running first more is bad =
     (ran shelf limit bytes number reader files output cluster running (ap (λ s. s.commands) ends), ap (λ s. s.stop) running.session ∙ ap (λ s. s.stop) ends)
   where
     ends : session_from number (lines running.rest) ≡ record { commands = []; stop = Some number }
     ends = ap (session_from number) is ∙ ap (λ m. behind number m (session_from (number + 1) more)) bad
 
+-- the bytes to come are told once
+same_rest : (reader : Reading) (files : Filed) (one other : List ℕ) → Comes reader files one → Comes reader files other → one ≡ other
+same_rest reader files one other (left, top_is, is) (also, top_also, is_also) = let same : left ≡ also = some_same left also (sym top_is ∙ top_also) in is ∙ ap (λ l. reader.unread ++ l) same ∙ sym is_also
+  where
+    some_same : (a b : List ℕ) → Some a ≡ Some b → a ≡ b
+    some_same a b e = cc
+
+-- the next line ends beyond the limit
+beyond_here : (shelf : Shelved) (limit : ℕ) (bytes : List ℕ) (number : ℕ) (reader : Reading) (files : Filed) (output : Option (List ℕ)) (cluster : Clustered) → (running : Running shelf limit bytes number reader files output cluster) → (came : Came bytes number reader files) → reader.taken ≤ session_limit
+    → session_limit < reader.taken + line_size running.rest → IsBeyond bytes (session_from number (lines running.rest)).commands
+beyond_here shelf limit bytes number reader files output cluster running came small more =
+    let same : running.rest ≡ came.rest = same_rest reader files running.rest came.rest running.comes came.comes in
+    let size : line_size running.rest ≡ line_size came.rest = ap line_size same in
+    record {
+      count = came.before;
+      within = omega (arith, small, came.taken);
+      beyond = omega (arith, more, size, next_end bytes number reader files came);
+      behind = ap (λ n. (session_from n (lines running.rest)).commands) came.number_is ∙ ap (λ r. (session_from (came.before + 1) (lines r)).commands) (same ∙ came.left ∙ ap (λ n. drop n bytes) came.taken);
+    }
+
 -- the reading of the next line stops
-pub read_stops : (shelf : Shelved) (limit : ℕ) (bytes : List ℕ) (number : ℕ) (line : List ℕ) (old new : Reading) (before files : Filed) (output : Option (List ℕ)) (cluster : Clustered) → (running : Running shelf limit bytes number old before output cluster) → (stop : Stop) → ReadsLine number line running.rest old new files (Err stop)
-    → RunsSession shelf limit (session_of bytes) output cluster (Err stop)
-read_stops shelf limit bytes number line old new before files output cluster running (BadLine bad) (is, short, whole, more, long, first) =
-    subst (λ n. RunsSession shelf limit (session_of bytes) output cluster (Err (BadLine n))) (sym is) (ran_to shelf limit bytes number old before output cluster running whole more first (too_long_is_bad whole long))
-read_stops shelf limit bytes number line old new before files output cluster running Read reads = ran_on shelf limit bytes number old before output cluster running
-read_stops shelf limit bytes number line old new before files output cluster running Write reads = tt
-read_stops shelf limit bytes number line old new before files output cluster running NoMemory reads = tt
-read_stops shelf limit bytes number line old new before files output cluster running (NoStore name) reads = absurd reads
-read_stops shelf limit bytes number line old new before files output cluster running TooLong reads = ran_on shelf limit bytes number old before output cluster running
+pub read_stops : (shelf : Shelved) (limit : ℕ) (bytes : List ℕ) (number : ℕ) (line : List ℕ) (old new : Reading) (before files : Filed) (output : Option (List ℕ)) (cluster : Clustered) → (running : Running shelf limit bytes number old before output cluster) → Came bytes number old before → old.taken ≤ session_limit → (stop : Stop) → ReadsLine number line running.rest old new files (Err stop)
+    → RunsSession shelf limit bytes output cluster (Err stop)
+read_stops shelf limit bytes number line old new before files output cluster running came small (BadLine bad) (is, short, whole, more, long, first) =
+    subst (λ n. RunsSession shelf limit bytes output cluster (Err (BadLine n))) (sym is) (ran_to shelf limit bytes number old before output cluster running whole more first (too_long_is_bad whole long))
+read_stops shelf limit bytes number line old new before files output cluster running came small Read reads = ran_on shelf limit bytes number old before output cluster running
+read_stops shelf limit bytes number line old new before files output cluster running came small Write reads = tt
+read_stops shelf limit bytes number line old new before files output cluster running came small NoMemory reads = tt
+read_stops shelf limit bytes number line old new before files output cluster running came small (NoStore name) reads = absurd reads
+read_stops shelf limit bytes number line old new before files output cluster running came small TooLong reads = (ran_on shelf limit bytes number old before output cluster running, beyond_here shelf limit bytes number old before output cluster running came small reads)
 
 -- the run of the next line stops
 pub line_stops : (shelf now : Shelved) (limit : ℕ) (bytes : List ℕ) (number : ℕ) (line : List ℕ) (old new : Reading) (before files : Filed) (output written : Option (List ℕ)) (cluster next : Clustered) → (running : Running shelf limit bytes number old before output cluster) → Hands line running.rest old new files Line → (stop : Stop)
-    → RunsLine number (meaning line) now cluster next output written (Err stop) → RunsSession shelf limit (session_of bytes) written next (Err stop)
+    → RunsLine number (meaning line) now cluster next output written (Err stop) → RunsSession shelf limit bytes written next (Err stop)
 line_stops shelf now limit bytes number line old new before files output written cluster next running hands (BadLine bad) (is, means, same, kept) =
-    subst (λ n. RunsSession shelf limit (session_of bytes) written next (Err (BadLine n))) (sym is)
-    (subst (λ o. RunsSession shelf limit (session_of bytes) o next (Err (BadLine number))) (sym same)
-    (subst (λ c. RunsSession shelf limit (session_of bytes) output c (Err (BadLine number))) (sym kept)
+    subst (λ n. RunsSession shelf limit bytes written next (Err (BadLine n))) (sym is)
+    (subst (λ o. RunsSession shelf limit bytes o next (Err (BadLine number))) (sym same)
+    (subst (λ c. RunsSession shelf limit bytes output c (Err (BadLine number))) (sym kept)
     (ran_to shelf limit bytes number old before output cluster running line (lines hands.rest) hands.takes means)))
 line_stops shelf now limit bytes number line old new before files output written cluster next running hands Read runs = absurd runs
 line_stops shelf now limit bytes number line old new before files output written cluster next running hands Write runs = tt
 line_stops shelf now limit bytes number line old new before files output written cluster next running hands NoMemory runs = tt
-line_stops shelf now limit bytes number line old new before files output written cluster next running hands (NoStore name) (same, kept) =
-    subst (λ o. RanOn shelf limit (session_of bytes).commands o next) (sym same)
-    (subst (λ c. RanOn shelf limit (session_of bytes).commands output c) (sym kept) (ran_on shelf limit bytes number old before output cluster running))
+line_stops shelf now limit bytes number line old new before files output written cluster next running hands (NoStore name) (same, kept, means) =
+    subst (λ o. RunsSession shelf limit bytes o next (Err (NoStore name))) (sym same)
+    (subst (λ c. RunsSession shelf limit bytes output c (Err (NoStore name))) (sym kept)
+    (ran_on shelf limit bytes number old before output cluster running, subst (IsMaking name) (sym (ap (λ ls. (session_from number ls).commands) hands.takes ∙ ap (λ m. (behind number m (session_from (number + 1) (lines hands.rest))).commands) means)) refl))
 line_stops shelf now limit bytes number line old new before files output written cluster next running hands TooLong runs = absurd runs
 
 -- a command is obeyed, and its reply is written

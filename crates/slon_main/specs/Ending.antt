@@ -12,7 +12,7 @@ use Rattle.slon_main.specs.declared.status.Status.TheVariants.{Done, Usage, BadL
 use Rattle.slon_main.specs.declared.run.Stop.{Stop}
 use Rattle.slon_main.specs.declared.run.Stop.TheVariants.{BadLine as StopsBad, Read as StopsRead, Write as StopsWrite, NoMemory as StopsShort, NoStore as StopsNoStore, TooLong as StopsLong}
 use Rattle.slon_main.specs.Agreed.{Clustered}
-use Rattle.slon_main.specs.Running.{Counts, Ran, RanOn, IsTooLong}
+use Rattle.slon_main.specs.Running.{Counts, Ran, RanOn, IsMaking, IsBeyond, IsTooLong}
 
 -- a session allows so many databases
 abbrev pub database_limit : ℕ
@@ -125,8 +125,9 @@ is_lost Missing = true
 is_lost TooLong = false
 
 -- What is written and handed back at the end of a session of these bytes, and after the lines before its first bad one:
--- the replies to exactly their commands, as the rules allow, and databases that agree with the rules. Where a file fails,
--- where there is no store and where there are too many bytes, these are the replies to the first commands.
+-- the replies to exactly their commands, as the rules allow, and databases that agree with the rules. Without a store these are
+-- the replies to all commands before the one that was to make the database, where there are too many bytes exactly those of the
+-- lines that end within as many as there may be, and where a file fails those to the first commands.
 abbrev pub EndsRun : Shelved → Status → List ℕ → Option (List ℕ) → Option Clustered → Type 0
 EndsRun shelf Done bytes written None = ⊥
 EndsRun shelf Done bytes written (Some cluster) = Ran shelf database_limit (session_of bytes).commands written cluster × ((session_of bytes).stop ≡ None)
@@ -140,10 +141,11 @@ EndsRun shelf WriteFault bytes written cluster = Unit {0}
 EndsRun shelf NoMemory bytes written cluster = Unit {0}
 EndsRun shelf NoStore bytes written None = ⊥
 EndsRun shelf NoStore bytes written (Some cluster) =
-    (output : List ℕ) × (name : List ℕ) × RanOn shelf database_limit (session_of bytes).commands (Some output) cluster × (written ≡ Some (output ++ store_line name))
+    (output : List ℕ) × (name : List ℕ) × (on : RanOn shelf database_limit (session_of bytes).commands (Some output) cluster) × IsMaking name on.others × (written ≡ Some (output ++ store_line name))
 EndsRun shelf Missing bytes written cluster = Unit {0}
 EndsRun shelf TooLong bytes written None = ⊥
-EndsRun shelf TooLong bytes written (Some cluster) = (output : List ℕ) × RanOn shelf database_limit (session_of bytes).commands (Some output) cluster × (written ≡ Some (output ++ long_line))
+EndsRun shelf TooLong bytes written (Some cluster) =
+    (output : List ℕ) × (on : RanOn shelf database_limit (session_of bytes).commands (Some output) cluster) × IsBeyond bytes on.others × (written ≡ Some (output ++ long_line))
 
 -- Where the run of a session of these bytes ends: at its end, at its first bad line, or where it is too long.
 abbrev pub EndsAt : Status → List ℕ → Type 0

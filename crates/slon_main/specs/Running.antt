@@ -7,8 +7,9 @@ use Rattle.slon_base.specs.Counts.{Rose}
 use Rattle.slon_base.specs.Outside.{Filed}
 use Rattle.slon_base.specs.Shelf.{Shelved}
 use Rattle.slon_model.specs.declared.command.Command.{Command}
+use Rattle.slon_model.specs.declared.command.Command.TheVariants.{Database}
 use Rattle.slon_model.specs.declared.reply.Reply.{Reply}
-use Rattle.slon_model.specs.Lines.{Meaning, Silent, Says, Bad, Session, session_of}
+use Rattle.slon_model.specs.Lines.{Meaning, Silent, Says, Bad, session_from, session_of}
 use Rattle.slon_model.specs.Printed.{reply_line}
 use Rattle.slon_model.specs.World.{World, start, Step, Happening, Leads, IsDue, commands_of, output_of}
 use Rattle.session_text.specs.Reading.{Reading, line_limit, line_size, session_limit}
@@ -122,6 +123,15 @@ pub record Replies (shelf : Shelved) (command : Command) (w : World) (before wri
   pub quiet : StaysQuiet reply old new
   pub pays : Pays shelf.promise command old reply new
 
+-- no store was given to the database that a command was to make
+abbrev pub NamesMade : Command → Stop → Type 0
+NamesMade command (BadLine number) = Unit {0}
+NamesMade command Read = Unit {0}
+NamesMade command Write = Unit {0}
+NamesMade command NoMemory = Unit {0}
+NamesMade command (NoStore name) = command ≡ Database name
+NamesMade command TooLong = Unit {0}
+
 -- what a line that means this does, and what is written then
 abbrev pub Means : Meaning → Shelved → World → Option (List ℕ) → Option (List ℕ) → Clustered → Clustered → Type 0
 Means Silent shelf w before written old new = (written ≡ before) × (new ≡ old)
@@ -134,7 +144,7 @@ RunsLine number meaning shelf old new before written (Err (BadLine bad)) = (bad 
 RunsLine number meaning shelf old new before written (Err Read) = ⊥
 RunsLine number meaning shelf old new before written (Err Write) = Unit {0}
 RunsLine number meaning shelf old new before written (Err NoMemory) = Unit {0}
-RunsLine number meaning shelf old new before written (Err (NoStore name)) = (written ≡ before) × (new ≡ old)
+RunsLine number meaning shelf old new before written (Err (NoStore name)) = (written ≡ before) × (new ≡ old) × (meaning ≡ Says (Database name))
 RunsLine number meaning shelf old new before written (Err TooLong) = ⊥
 
 -- the run of a line ends as at a bad line exactly where it is one
@@ -172,21 +182,38 @@ pub record RanOn (shelf : Shelved) (limit : ℕ) (said : List Command) (output :
   pub parts : said ≡ first ++ others
   pub ran : Ran shelf limit first output cluster
 
--- At its end and at a bad line a run has run all commands before it; at a fault of a file, without a store and at the
--- greatest number of bytes it has run the first ones.
-abbrev pub RunsSession : Shelved → ℕ → Session → Option (List ℕ) → Clustered → Result (Unit {0}) Stop → Type 0
-RunsSession shelf limit session written cluster (Ok u) = Ran shelf limit session.commands written cluster × (session.stop ≡ None)
-RunsSession shelf limit session written cluster (Err (BadLine number)) = Ran shelf limit session.commands written cluster × (session.stop ≡ Some number)
-RunsSession shelf limit session written cluster (Err Read) = RanOn shelf limit session.commands written cluster
-RunsSession shelf limit session written cluster (Err Write) = Unit {0}
-RunsSession shelf limit session written cluster (Err NoMemory) = Unit {0}
-RunsSession shelf limit session written cluster (Err (NoStore name)) = RanOn shelf limit session.commands written cluster
-RunsSession shelf limit session written cluster (Err TooLong) = RanOn shelf limit session.commands written cluster
-
 -- how many bytes the first lines have, so many of them, with their newlines
 abbrev pub end_of : ℕ → List ℕ → ℕ
 end_of zero bytes = 0
 end_of (suc n) bytes = line_size bytes + end_of n (drop (line_size bytes) bytes)
+
+-- the first command is to make a database of this name
+abbrev pub IsMaking : List ℕ → List Command → Type 0
+IsMaking name [] = ⊥
+IsMaking name (command ∷ more) = command ≡ Database name
+
+-- the commands of all lines behind the first ones, so many of them
+abbrev pub commands_behind : ℕ → List ℕ → List Command
+commands_behind count bytes = (session_from (count + 1) (lines (drop (end_of count bytes) bytes))).commands
+
+-- These commands are behind the lines that end within the first bytes, as many as a session may have.
+pub record IsBeyond (bytes : List ℕ) (others : List Command) : Type 0 where
+  pub count : ℕ
+  pub within : end_of count bytes ≤ session_limit
+  pub beyond : session_limit < end_of (suc count) bytes
+  pub behind : others ≡ commands_behind count bytes
+
+-- At its end and at a bad line a run has run all commands before it. Without a store it has run all before the one that was
+-- to make the database, and at the greatest number of bytes exactly those of the lines that end within it. At a fault of a
+-- file it has run the first ones.
+abbrev pub RunsSession : Shelved → ℕ → List ℕ → Option (List ℕ) → Clustered → Result (Unit {0}) Stop → Type 0
+RunsSession shelf limit bytes written cluster (Ok u) = Ran shelf limit (session_of bytes).commands written cluster × ((session_of bytes).stop ≡ None)
+RunsSession shelf limit bytes written cluster (Err (BadLine number)) = Ran shelf limit (session_of bytes).commands written cluster × ((session_of bytes).stop ≡ Some number)
+RunsSession shelf limit bytes written cluster (Err Read) = RanOn shelf limit (session_of bytes).commands written cluster
+RunsSession shelf limit bytes written cluster (Err Write) = Unit {0}
+RunsSession shelf limit bytes written cluster (Err NoMemory) = Unit {0}
+RunsSession shelf limit bytes written cluster (Err (NoStore name)) = (on : RanOn shelf limit (session_of bytes).commands written cluster) × IsMaking name on.others
+RunsSession shelf limit bytes written cluster (Err TooLong) = (on : RanOn shelf limit (session_of bytes).commands written cluster) × IsBeyond bytes on.others
 
 -- a session counts to the end of its first bad line, or to its own end
 abbrev pub counted : List ℕ → Option ℕ → ℕ

@@ -1,7 +1,7 @@
 // The run of a session: its lines are read, obeyed and answered one by one.
 ghost use Rattle.std.specs.Prelude.{◌≡◌, ℕ, ◌<◌, ◌≤◌, ◌++◌, List, length, true, false, Some, None, [], IfOk, IfErr, OnOk};
 ghost use Rattle.slon_base.specs.Outside.{top};
-ghost use Rattle.slon_model.specs.Lines.{meaning, session_of};
+ghost use Rattle.slon_model.specs.Lines.{meaning};
 ghost use Rattle.slon_model.specs.Spoken.{IsSpoken};
 ghost use Rattle.std.specs.Option.{option_map};
 ghost use Rattle.slon_model.specs.Printed.{reply_line};
@@ -15,7 +15,7 @@ ghost use Rattle.slon_main.specs.Clustered.{cluster_of};
 ghost use Rattle.slon_main.specs.Failing.{Pays};
 ghost use Rattle.slon_model.specs.Place.{find_named};
 ghost use Rattle.slon_model.specs.declared.command.Command.TheVariants.{Database as DatabaseCommand};
-ghost use Rattle.slon_main.specs.Running.{Tells, NeverFails, Shelves, HasCause, ReadsLine, Obeys, Replies, RunsLine, RunsSession, BadOnly, StopsAt, is_of_store, is_of_output, is_of_command, is_of_line, is_no_store};
+ghost use Rattle.slon_main.specs.Running.{Tells, NeverFails, Shelves, HasCause, ReadsLine, Obeys, Replies, RunsLine, RunsSession, NamesMade, BadOnly, StopsAt, is_of_store, is_of_output, is_of_command, is_of_line, is_no_store};
 
 use crate::cluster::Cluster;
 use crate::status::NoMemory;
@@ -77,6 +77,7 @@ fn make<S: Shelf>(cluster: &mut Cluster<S::Store>, shelf: &mut S, name: Text) ->
     ensures certain { NeverFails (S.shelved shelf.old) → IfOk result (λ reply. (is_sure_reply reply ≡ true) × (AllCertain (cluster_of S.Store.kept cluster.old) → AllCertain (cluster_of S.Store.kept cluster.new))) }
     ensures quiet { IfOk result (λ reply. StaysQuiet reply (cluster_of S.Store.kept cluster.old) (cluster_of S.Store.kept cluster.new)) }
     ensures pays { find_named name (cluster_of S.Store.kept cluster.old).bases ≡ None → IfOk result (λ reply. Pays (S.shelved shelf.old).promise (DatabaseCommand name) (cluster_of S.Store.kept cluster.old) reply (cluster_of S.Store.kept cluster.new)) }
+    ensures named { IfErr result (NamesMade (DatabaseCommand name)) }
     ensures unmade { IfErr result (λ stop. is_no_store stop ≡ true → cluster_of S.Store.kept cluster.new ≡ cluster_of S.Store.kept cluster.old) }
     ensures stop { IfErr result (λ stop. is_of_store stop ≡ true) }
 {
@@ -109,6 +110,7 @@ fn obey<S: Shelf>(
     ensures certain { NeverFails (S.shelved shelf.old) → IfOk result (λ reply. StaysCertain command.now (cluster_of S.Store.kept cluster.old) reply (cluster_of S.Store.kept cluster.new)) }
     ensures quiet { IfOk result (λ reply. StaysQuiet reply (cluster_of S.Store.kept cluster.old) (cluster_of S.Store.kept cluster.new)) }
     ensures pays { IfOk result (λ reply. Pays (S.shelved shelf.old).promise command.now (cluster_of S.Store.kept cluster.old) reply (cluster_of S.Store.kept cluster.new)) }
+    ensures named { IfErr result (NamesMade command.now) }
     ensures unmade { IfErr result (λ stop. is_no_store stop ≡ true → cluster_of S.Store.kept cluster.new ≡ cluster_of S.Store.kept cluster.old) }
     ensures stop { IfErr result (λ stop. is_of_store stop ≡ true) }
 {
@@ -173,6 +175,7 @@ fn run_command<S: Shelf, O: Sink>(
     ensures cause { (files : ℕ) → HasCause (record { files = files; shelf = (S.shelved shelf.old).faults; out = (O.poured out.old).faults }) (record { files = files; shelf = (S.shelved shelf.new).faults; out = (O.poured out.new).faults }) result }
     ensures stop { IfErr result (λ stop. is_of_command stop ≡ true) }
     ensures runs { Tells (S.shelved shelf.old) → OnOk result ((w : World) → Agrees w (cluster_of S.Store.kept cluster.old) → IsReady w → Replies (S.shelved shelf.old) command.now w (O.poured out.old).written (O.poured out.new).written (cluster_of S.Store.kept cluster.old) (cluster_of S.Store.kept cluster.new)) }
+    ensures named { IfErr result (NamesMade command.now) }
     ensures unmade { IfErr result (λ stop. is_no_store stop ≡ true → ((O.poured out.new).written ≡ (O.poured out.old).written) × (cluster_of S.Store.kept cluster.new ≡ cluster_of S.Store.kept cluster.old)) }
 {
     let reply = obey(alloc, cluster, shelf, command)?;
@@ -220,7 +223,7 @@ pub fn run_session<F: Files, S: Shelf, O: Sink>(
     ensures later { (O.poured out.old).faults ≤ (O.poured out.new).faults }
     ensures cause { HasCause (record { files = (F.filed files.old).faults; shelf = (S.shelved shelf.old).faults; out = (O.poured out.old).faults }) (record { files = (F.filed files.new).faults; shelf = (S.shelved shelf.new).faults; out = (O.poured out.new).faults }) result }
     ensures place { (bytes : List ℕ) → top (F.filed files.old).stack ≡ Some bytes → StopsAt bytes result }
-    ensures runs { (bytes : List ℕ) (limit : ℕ) → top (F.filed files.old).stack ≡ Some bytes → Tells (S.shelved shelf.old) → (O.poured out.old).written ≡ Some [] → Agrees (start limit) (cluster_of S.Store.kept cluster.old) → RunsSession (S.shelved shelf.old) limit (session_of bytes) (O.poured out.new).written (cluster_of S.Store.kept cluster.new) result }
+    ensures runs { (bytes : List ℕ) (limit : ℕ) → top (F.filed files.old).stack ≡ Some bytes → Tells (S.shelved shelf.old) → (O.poured out.old).written ≡ Some [] → Agrees (start limit) (cluster_of S.Store.kept cluster.old) → RunsSession (S.shelved shelf.old) limit bytes (O.poured out.new).written (cluster_of S.Store.kept cluster.new) result }
 {
     let Ok(mut reader) = LineReader::new(alloc) else {
         return Err(Stop::NoMemory);

@@ -24,6 +24,7 @@ returns-in_default-command g c = record {
   certain = search rules;
   quiet = search rules;
   pays = moves_pays (g.S.Shelf.shelved c.args.shelf.now).promise c.args.command.now _ _ _ c.in-Ok.ensures.moves;
+  named = search rules;
   unmade = search rules;
   stop = search rules;
 }

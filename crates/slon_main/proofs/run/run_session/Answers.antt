@@ -1,6 +1,5 @@
 use Rattle.std.proofs.Common.{◌∙◌, sym, subst, arith, rules, Bool, Err}
 use Rattle.std.proofs.lemmas.Result.{err_from_is_err_and}
-use Rattle.slon_model.specs.Lines.{session_of}
 use Rattle.session_text.specs.Handing.{Hands}
 use Rattle.session_text.specs.declared.line_reader.NextLine.TheVariants.{Line}
 use Rattle.session_text.proofs.Moving.{stays_on}
@@ -37,8 +36,8 @@ returns-in_err-read_line-clause-place g c bytes is =
 pub returns-in_err-read_line-clause-runs : goal.returns-in_err-read_line-clause-runs
 returns-in_err-read_line-clause-runs g c bytes limit is tells empty agrees =
     let running = c.loop-line.invariant.runs bytes limit is tells empty agrees in
-    handed_on (RunsSession (g.S.Shelf.shelved c.args.shelf.now) limit (session_of bytes) (g.O.Sink.poured c.loop-line.out).written (cluster_of g.S.Store.Keeper.kept c.loop-line.cluster)) c.from_residual.result (err_from_is_err_and c.from_residual.result c.from_residual.ensures.1)
-    (read_stops (g.S.Shelf.shelved c.args.shelf.now) limit bytes c.loop-line.number c.read_line.new.line.items c.loop-line.reader c.read_line.new.reader (g.F.Files.filed c.loop-line.files) (g.F.Files.filed c.read_line.new.files) _ _ running c.in_err-read_line.field-0.0 (c.in_err-read_line.ensures.reads running.rest running.comes))
+    handed_on (RunsSession (g.S.Shelf.shelved c.args.shelf.now) limit bytes (g.O.Sink.poured c.loop-line.out).written (cluster_of g.S.Store.Keeper.kept c.loop-line.cluster)) c.from_residual.result (err_from_is_err_and c.from_residual.result c.from_residual.ensures.1)
+    (read_stops (g.S.Shelf.shelved c.args.shelf.now) limit bytes c.loop-line.number c.read_line.new.line.items c.loop-line.reader c.read_line.new.reader (g.F.Files.filed c.loop-line.files) (g.F.Files.filed c.read_line.new.files) _ _ running (c.loop-line.invariant.came bytes is) c.loop-line.invariant.limit c.in_err-read_line.field-0.0 (c.in_err-read_line.ensures.reads running.rest running.comes))
 
 pub returns-in_err-run_line-clause-cause : goal.returns-in_err-run_line-clause-cause
 returns-in_err-run_line-clause-cause g c =
@@ -57,7 +56,7 @@ pub returns-in_err-run_line-clause-runs : goal.returns-in_err-run_line-clause-ru
 returns-in_err-run_line-clause-runs g c bytes limit is tells empty agrees =
     let running = c.loop-line.invariant.runs bytes limit is tells empty agrees in
     let hands = subst (λ l. Hands l running.rest c.loop-line.reader c.read_line.new.reader (g.F.Files.filed c.read_line.new.files) Line) (sym c.deref.ensures.value) (rw c.if-branch.true at c.in_ok-read_line.ensures.reads running.rest running.comes) in
-    handed_on (RunsSession (g.S.Shelf.shelved c.args.shelf.now) limit (session_of bytes) (g.O.Sink.poured c.run_line.new.out).written (cluster_of g.S.Store.Keeper.kept c.run_line.new.cluster)) c.from_residual-in_err-run_line.result (err_from_is_err_and c.from_residual-in_err-run_line.result c.from_residual-in_err-run_line.ensures.1)
+    handed_on (RunsSession (g.S.Shelf.shelved c.args.shelf.now) limit bytes (g.O.Sink.poured c.run_line.new.out).written (cluster_of g.S.Store.Keeper.kept c.run_line.new.cluster)) c.from_residual-in_err-run_line.result (err_from_is_err_and c.from_residual-in_err-run_line.result c.from_residual-in_err-run_line.ensures.1)
     (line_stops (g.S.Shelf.shelved c.args.shelf.now) (g.S.Shelf.shelved c.loop-line.shelf) limit bytes _ _ _ _ _ _ _ _ _ _ running hands c.in_err-run_line.field-0.0
     (c.in_err-run_line.ensures.runs (tells_still (g.S.Shelf.shelved c.args.shelf.now) (g.S.Shelf.shelved c.loop-line.shelf) c.loop-line.invariant.shelf.promise tells)))
 
