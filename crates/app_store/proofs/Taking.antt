@@ -1,5 +1,5 @@
 -- The ids of the open transactions, put in order, are those that the rules have.
-use Rattle.std.proofs.Common.{◌≡◌, ℕ, ◌<◌, Bool, true, false, cond, T, List, [], ◌∷◌, map, Option, Some, None, refl, sym, ap, subst, ◌∙◌, arith, ◌⊎◌, inl, inr}
+use Rattle.std.proofs.Common.{◌≡◌, ℕ, ◌<◌, ◌^◌, Bool, true, false, cond, T, List, [], ◌∷◌, map, Option, Some, None, refl, sym, ap, subst, ◌∙◌, arith, ◌⊎◌, inl, inr}
 use Rattle.std.specs.Prelude.{◌==◌, unwrap_or}
 use Rattle.std.specs.List.{AllByRecursion}
 use Rattle.std.specs.Str.{bytes_eq}
@@ -14,9 +14,9 @@ use Rattle.std.proofs.lemmas.Bool.{false≢true, eq-eqb, eqb-true, or_cases, or_
 use Rattle.slon_base.specs.Keeper.{key_cmp}
 use Rattle.slon_model.specs.Rows.{member}
 use Rattle.slon_model.specs.Place.{Place, is_running, IsRunning, IsFallen, IsDoubtful, Standing, find_named, open_xids, taken}
-use Rattle.slon_model.specs.Snapshots.{Snapshot, Rising, first_or}
+use Rattle.slon_model.specs.Snapshots.{Snapshot, IsSnapshot, Rising, first_or}
 use Rattle.slon_laws.specs.Sound.{Sound, AreNamedOnce}
-use Rattle.slon_laws.proofs.Opens.{xids_of, all_map, member_all, bytes_same, bytes_itself, found_member}
+use Rattle.slon_laws.proofs.Opens.{xids_of, all_map, member_all, all_member, bytes_same, bytes_itself, found_member}
 use Rattle.app_store.specs.declared.opens.Transaction.{Transaction}
 use Rattle.app_store.specs.Base.{Base}
 use Rattle.app_store.specs.Fits.{Fits, Runs, StandsAs, OpensAs}
@@ -236,3 +236,14 @@ taken_is b s is p fits sound running = λ i. record { xmin = (first i); xmax = (
 
     first : s.xmin ≡ first_or p.next_xid (open_xids p)
     first = is.first ∙ (λ i. first_or (last i) (lists i))
+
+pub taken_has_form : (b : Base) (s : Snapshot) → IsTakenOf b s → b.next_xid < 2 ^ 63 → (p : Place) → Fits p b → Sound p → is_running p.standing ≡ true → IsSnapshot s
+taken_has_form b s is few p fits sound running = record {
+  first = is.first;
+  rising = is.rising;
+  below = all_member (λ x. x < s.xmax) s.running (λ x among. let opened = sound.opened x (subst (λ q. member x q.running ≡ true) same among) in let last = ap (λ q. q.xmax) same in omega (arith, opened, last));
+  small = (let last = is.last in omega (arith, few, last));
+}
+  where
+    same : s ≡ taken p
+    same = taken_is b s is p fits sound running

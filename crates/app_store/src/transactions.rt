@@ -8,7 +8,7 @@ ghost use Rattle.app_store.specs.Fits.{Fits};
 ghost use Rattle.app_store.specs.Taking.{IsTakenOf};
 ghost use Rattle.slon_laws.specs.Sound.{Sound};
 ghost use Rattle.slon_model.specs.Place.{Place, is_running, taken};
-ghost use Rattle.slon_model.specs.Snapshots.{first_or};
+ghost use Rattle.slon_model.specs.Snapshots.{first_or, IsSnapshot};
 ghost use Rattle.txn_core.specs.Snapshots.{seen_as};
 
 use crate::database::Database;
@@ -199,6 +199,7 @@ impl<K: Keeper> Database<K> {
     pub fn snapshot(&self) -> Result<Snapshot, AllocError>
         ensures lists { IfOk result (λ s. IsTakenOf (base_of K.kept self.now) (seen_as s)) }
         ensures taken { (p : Place) → Fits p (base_of K.kept self.now) → Sound p → is_running p.standing ≡ true → IfOk result (λ s. seen_as s ≡ taken p) }
+        ensures form { (p : Place) → Fits p (base_of K.kept self.now) → Sound p → is_running p.standing ≡ true → IfOk result (λ s. IsSnapshot (seen_as s)) }
     {
         let running = open_xids(self.alloc, &self.opens)?;
         let xmax = self.xids.next();

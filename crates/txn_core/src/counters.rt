@@ -72,6 +72,7 @@ impl Counters {
     pub fn next(&self) -> u64
         ensures value { result ≡ self.now.next }
         ensures within { self.now.next ≤ self.now.ceiling }
+        ensures small { self.now.next < 2 ^ 63 }
     {
         self.next
     }

@@ -8,11 +8,9 @@ ghost use Rattle.txn_core.specs.Snapshots.{seen_as, rises_below, Parses, GetsIds
 use crate::fault::BadSnapshot;
 use crate::snapshot::Snapshot;
 use crate::xid_list::XidList;
+use slon_base::STORED_LIMIT;
 use std::alloc::{AllocError, Global};
 use std::str;
-
-/// The greatest `xmax`.
-const XMAX_LIMIT: u64 = 9_223_372_036_854_775_807;
 
 /// The parts of the text between the bytes that are equal to this one.
 fn split_at(alloc: Global, text: &[u8], byte: u8) -> Result<Vec<&[u8]>, AllocError>
@@ -87,7 +85,7 @@ impl Snapshot {
     {
         let running = self.running.as_slice();
         let first = running.first().copied().unwrap_or(self.xmax);
-        if self.xmax > XMAX_LIMIT {
+        if self.xmax > STORED_LIMIT {
             return false;
         }
         if self.xmin != first {

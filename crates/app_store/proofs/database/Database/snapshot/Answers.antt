@@ -1,7 +1,7 @@
 use Rattle.std.proofs.Common.{◌∙◌, ap}
 use Rattle.app_store.specs.Base.{base_of}
 use Rattle.slon_model.specs.Snapshots.{first_or}
-use Rattle.app_store.proofs.Taking.{taken_of, taken_is}
+use Rattle.app_store.proofs.Taking.{taken_of, taken_is, taken_has_form}
 use Rattle.app_store.proofs.database.Database.snapshot.Goals as goal
 
 pub returns-clause-lists : goal.returns-clause-lists
@@ -9,3 +9,6 @@ returns-clause-lists g c = taken_of (base_of g.K.Keeper.kept c.args.self.now) _ 
 
 pub returns-clause-taken : goal.returns-clause-taken
 returns-clause-taken g c = taken_is (base_of g.K.Keeper.kept c.args.self.now) _ (returns-clause-lists g c)
+
+pub returns-clause-form : goal.returns-clause-form
+returns-clause-form g c = taken_has_form (base_of g.K.Keeper.kept c.args.self.now) _ (returns-clause-lists g c) c.next-xmax.ensures.small

@@ -6,7 +6,7 @@ use Rattle.txn_core.proofs.snapshot.Snapshot.is_canonical.Goals as goal
 
 pub returns : goal.returns
 returns c =
-    let small = c.if-self-gt-XMAX_LIMIT.false in
+    let small = c.if-self-gt-STORED_LIMIT.false in
     let items = c.as_slice-running.ensures in
     let first = c.if-self-first.false ∙ c.unwrap_or-first.ensures ∙ ap (λ o. unwrap_or o c.args.self.now.xmax) (c.copied.ensures ∙ c.first.ensures.value) in
     let result = c.rises_below.ensures in
