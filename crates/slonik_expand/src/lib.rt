@@ -9,8 +9,6 @@ mod laws;
 mod output;
 mod place;
 mod progress;
-#[cfg(test)]
-mod tests;
 
 pub use expanding::expand;
 pub use laws::no_use_comes_out;

@@ -19,8 +19,3 @@ pub use script::{
     Command, CommandList, NodeChoice, NodeLines, Script, Statement, StatementList, TryBlock,
 };
 pub use slonik_tokens::{ParseFault, ScriptRefusal, Sign, Token, tokens};
-
-#[cfg(test)]
-mod parsing_tests;
-#[cfg(test)]
-mod tests;

@@ -5,8 +5,6 @@ mod cut;
 mod fault;
 mod lexeme;
 mod scan;
-#[cfg(test)]
-mod tests;
 mod token;
 
 pub use cut::tokens;
