@@ -118,6 +118,8 @@ fn definitions_may_grow(rt: HostRuntime) -> Result<(), Fail> {
         (15, "@last", "@n14 @n14 @n0", 2, "96"),
         (15, "@last", "DEFINE n @n15 y ; z", 2, "z|"),
         (15, "@last", "DEFINE n @n15 @n15 ; @n", 2, "96"),
+        (70, "@last", "@n70", 2, "96"),
+        (70, "@last", "z", 2, "z|"),
         (1000, "y", "@n1000", 2004, "x|x|y|"),
     ];
     for (names, behind, end, len, front) in table {

@@ -1,19 +1,17 @@
 -- How an expansion goes on.
-use Rattle.std.proofs.Common.{◌≡◌, ℕ, zero, suc, ◌+◌, ◌-◌, ◌<◌, ◌≤◌, List, [], ◌∷◌, length, take, drop, get_or, Option, Some, None, Result, Ok, Err, refl, sym, ap, subst, ◌∙◌, arith, ltb, cond, false}
+use Rattle.std.proofs.Common.{◌≡◌, ℕ, zero, suc, ◌+◌, ◌-◌, ◌<◌, ◌≤◌, List, [], ◌∷◌, length, take, drop, get_or, Option, Some, None, Ok, Err, refl, sym, ap, subst, ◌∙◌, arith, ltb, false}
 use Rattle.std.proofs.lemmas.List.{drop-drop, drop_all, take_all, length-drop}
 use borrow.Author.Tests.{ltb-false}
-use Rattle.std.specs.Str.{bytes_eq}
 use Rattle.std.specs.Borrow.{Bor}
 use Rattle.std.specs.Result.{IsErrOf}
 use Rattle.slon_base.specs.Outside.{Filed}
-use Rattle.slonik_tokens.specs.declared.fault.ScriptRefusal.{ScriptRefusal}
 use Rattle.slonik_tokens.specs.declared.fault.ScriptRefusal.TheVariants.{Depth}
 use Rattle.slonik_tokens.specs.declared.fault.ParseFault.{ParseFault}
 use Rattle.slonik_tokens.specs.declared.fault.ParseFault.TheVariants.{Refused, ReadFault, TooLong, NoMemory}
 use Rattle.slonik_tokens.specs.declared.token.Token.{Token}
 use Rattle.slonik_expand.specs.Ends.{EndsSo, Stays}
-use Rattle.slonik_expand.specs.Expansion.{Making, Ending, Made, Wrong, and_then, expand_from, include_at, include_file, first_of_form, form_at, before_semicolon, defined}
-use Rattle.slonik_expand.specs.Steps.{HaltsSo, Runs, IsMissing}
+use Rattle.slonik_expand.specs.Expansion.{Making, Ending, Made, Wrong, and_then, expand_from, include_at, include_file, first_of_form, form_at, before_semicolon}
+use Rattle.slonik_expand.specs.Steps.{HaltsSo, Runs}
 use Rattle.slonik_expand.proofs.Keeping.{drop_one}
 use Rattle.slonik_expand.proofs.Semicolons.{IsClosed}
 
@@ -144,12 +142,3 @@ run_none include ts whole ending m found e so h =
 pub stays_on : (old now next : Filed) → Stays old now → Stays now next → Stays old next
 stays_on old now next a b =
     record { faults = omega (arith, a.faults, b.faults); names = b.names ∙ a.names; stack = b.stack ∙ a.stack }
-
--- a definition whose names were replaced
-pub defined_so : (name : List ℕ) (found : Result (List Token) (List ℕ)) (tokens whole : List Token) (m : Making) (names : List ℕ → Option (List Token)) → found ≡ Ok whole → tokens ≡ take 65537 whole
-    → ((other : List ℕ) → names other ≡ cond (bytes_eq other name) (Some tokens) (m.names other)) → defined name found m ≡ Made (record m { names = names })
-defined_so name found tokens whole m names e cut says =
-    ap (λ r. defined name r m) e ∙ (λ i. Made (record m { names = λ other. sym (says other ∙ ap (λ l. cond (bytes_eq other name) (Some l) (m.names other)) cut) i }))
-
-pub not_defined : (name : List ℕ) (found : Result (List Token) (List ℕ)) (refusal : ScriptRefusal) (m : Making) → IsMissing found refusal → defined name found m ≡ Wrong refusal m.left
-not_defined name found refusal m h = ap (λ r. defined name r m) h.2 ∙ ap (λ r. Wrong r m.left) (sym h.1)

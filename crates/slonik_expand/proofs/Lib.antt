@@ -4,4 +4,6 @@ mod Keeping
 mod Putting
 mod ReadingOn
 mod Semicolons
+mod SharedDefinitions
 mod Uses
+mod Walking

@@ -1,8 +1,8 @@
 -- No `@name` is among the tokens that come out.
-use Rattle.std.proofs.Common.{◌≡◌, ℕ, zero, suc, ltb, ◌+◌, ◌-◌, cond, Bool, true, false, List, [], ◌∷◌, length, take, Option, Some, None, Result, Ok, Err, refl, subst}
+use Rattle.std.proofs.Common.{◌≡◌, ℕ, zero, suc, ltb, ◌-◌, cond, Bool, true, false, List, [], ◌∷◌, length, Option, Some, None, Result, Ok, Err, refl, subst}
 use Rattle.std.specs.List.{All}
 use Rattle.std.specs.Str.{bytes_eq}
-use Rattle.std.proofs.lemmas.List.Elements.{All-nil, All-cons, All-append, All-take}
+use Rattle.std.proofs.lemmas.List.Elements.{All-nil, All-cons, All-append}
 use Rattle.slonik_tokens.specs.Cut.{cut_of}
 use Rattle.slonik_tokens.specs.declared.fault.ScriptRefusal.TheVariants.{TooMany}
 use Rattle.slonik_tokens.specs.declared.token.Token.{Token}
@@ -79,7 +79,7 @@ clean_defined : (name : List ℕ) (found : Result (List Token) (List ℕ)) (m : 
 clean_defined name (Err missing) m k h = tt
 clean_defined name (Ok ts) m k h = record {
   out = h.out;
-  names = λ other us e. clean_choice (bytes_eq other name) (take (token_limit + 1) ts) us (m.names other) (All-take IsNoUse (token_limit + 1) ts k) (h.names other) e;
+  names = λ other us e. clean_choice (bytes_eq other name) ts us (m.names other) k (h.names other) e;
 }
 
 clean_form : (include : List ℕ → Making → Ending) (t : Token) (form : Form) (m : Making) → Cleanly include → IsNoUse t → Clean m → IsClean (first_of_form include t form m).0

@@ -1,5 +1,5 @@
 -- What the expansion of a script gives.
-use Rattle.std.specs.Prelude.{ℕ, zero, suc, ◌+◌, ◌-◌, ◌&&◌, ◌||◌, if◌then◌else◌, not, nat_lt, Bool, true, false, List, [], ◌∷◌, ◌++◌, length, take, codes, Option, Some, None, Result, Ok, Err}
+use Rattle.std.specs.Prelude.{ℕ, zero, suc, ◌+◌, ◌-◌, ◌&&◌, ◌||◌, if◌then◌else◌, not, nat_lt, Bool, true, false, List, [], ◌∷◌, ◌++◌, length, codes, Option, Some, None, Result, Ok, Err}
 use Rattle.std.specs.Option.{option_map}
 use Rattle.std.specs.Str.{bytes_eq}
 use Rattle.slonik_tokens.specs.Cut.{cut_of}
@@ -93,10 +93,9 @@ abbrev pub replaced : (List ℕ → Option (List Token)) → List Token → Resu
 replaced names [] = Ok []
 replaced names (token ∷ tokens) = joined (replaced_one names token) (replaced names tokens)
 
--- A name stands for these tokens from now on. One token more than the limit is kept of a longer list: its use is refused
--- as that of the whole list would be.
+-- a name stands for these tokens from now on
 abbrev pub define : List ℕ → List Token → Making → Making
-define name tokens m = record m { names = λ other. if bytes_eq other name then Some (take (token_limit + 1) tokens) else m.names other }
+define name tokens m = record m { names = λ other. if bytes_eq other name then Some tokens else m.names other }
 
 -- the end of a definition whose names were replaced
 abbrev pub defined : List ℕ → Result (List Token) (List ℕ) → Making → Ending

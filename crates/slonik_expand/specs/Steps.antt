@@ -1,6 +1,7 @@
 -- What the steps of an expansion do.
-use Rattle.std.specs.Prelude.{◌≡◌, ℕ, ◌+◌, ◌<◌, ◌≤◌, List, ◌++◌, length, take, drop, Option, Some, None, Result, Ok, Err}
+use Rattle.std.specs.Prelude.{◌≡◌, ℕ, ◌<◌, ◌≤◌, List, ◌++◌, if◌then◌else◌, true, length, drop, Option, Some, None, Result, Ok, Err}
 use Rattle.std.specs.Option.{option_map}
+use Rattle.std.specs.Str.{bytes_eq}
 use Rattle.std.specs.Borrow.{Bor}
 use Rattle.indexmap.specs.IndexMap.{get_by_text}
 use Rattle.slonik_tokens.specs.declared.fault.ScriptRefusal.{ScriptRefusal}
@@ -8,17 +9,19 @@ use Rattle.slonik_tokens.specs.declared.fault.ScriptRefusal.TheVariants.{Undefin
 use Rattle.slonik_tokens.specs.declared.fault.ParseFault.{ParseFault}
 use Rattle.slonik_tokens.specs.declared.fault.ParseFault.TheVariants.{Refused, ReadFault, TooLong, NoMemory}
 use Rattle.slonik_tokens.specs.declared.token.Token.{Token}
+use Rattle.slonik_expand.specs.declared.definition.Definition.{Definition as ADefinition}
 use Rattle.slonik_expand.specs.declared.definitions.Definitions.{Definitions}
 use Rattle.slonik_expand.specs.declared.forms.Form as code
 use Rattle.slonik_expand.specs.declared.forms.Form.TheVariants as seen
 use Rattle.slonik_expand.specs.declared.output.Output.{Output}
 use Rattle.slonik_expand.specs.declared.progress.Progress.{Progress}
 use Rattle.slonik_expand.specs.Ends.{EndsSo}
+use Rattle.slonik_expand.specs.Shared.{capped, parts_tokens, meanings, meaning, are_below}
 use Rattle.slonik_expand.specs.Expansion.{Making, Ending, Made, Wrong, and_then, expand_from, place_behind, token_limit, Form, Itself, Use, Definition, Inclusion}
 
 -- what a name stands for
 abbrev pub names_of : Definitions → List ℕ → Option (List Token)
-names_of definitions name = option_map (λ v. v.items) (get_by_text definitions.map name)
+names_of definitions name = option_map (meaning definitions.made.items) (get_by_text definitions.places name)
 
 -- what was made
 abbrev pub making_of : Progress → Making
@@ -31,9 +34,14 @@ form_seen (seen.Use name) = Use name.now
 form_seen (seen.Definition name tokens) = Definition name.now tokens.now
 form_seen (seen.Inclusion path) = Inclusion path.now
 
+-- the tokens came out
+pub record IsBehind (old : Output) (more : List Token) (new : Output) : Type 0 where
+  pub tokens : new.tokens.items ≡ old.tokens.items ++ more
+  pub place : new.place ≡ place_behind more old.place
+
 -- the tokens came out, or there would be too many, or memory ran out
 abbrev pub Puts : Output → List Token → Output → Result (Unit {0}) ParseFault → Type 0
-Puts old tokens new (Ok x) = (new.tokens.items ≡ old.tokens.items ++ tokens) × (new.place ≡ place_behind tokens old.place) × (length new.tokens.items ≤ token_limit)
+Puts old tokens new (Ok x) = IsBehind old tokens new × (length new.tokens.items ≤ token_limit)
 Puts old tokens new (Err (Refused refusal)) = (refusal ≡ TooMany) × (token_limit < length (old.tokens.items ++ tokens))
 Puts old tokens new (Err ReadFault) = ⊥
 Puts old tokens new (Err TooLong) = ⊥
@@ -43,21 +51,44 @@ Puts old tokens new (Err NoMemory) = Unit {0}
 abbrev pub IsMissing : Result (List Token) (List ℕ) → ScriptRefusal → Type 0
 IsMissing replaced refusal = (name : List ℕ) × (refusal ≡ Undefined name) × (replaced ≡ Err name)
 
--- what was found is kept too, or a name stands for nothing, or memory ran out
-abbrev pub Keeps : Result (List Token) (List ℕ) → List Token → List Token → Result (Unit {0}) ParseFault → Type 0
-Keeps found old new (Ok x) = (tokens : List Token) × (found ≡ Ok tokens) × (new ≡ take (token_limit + 1) (old ++ tokens))
-Keeps found old new (Err (Refused refusal)) = IsMissing found refusal
-Keeps found old new (Err ReadFault) = ⊥
-Keeps found old new (Err TooLong) = ⊥
-Keeps found old new (Err NoMemory) = Unit {0}
+-- A definition stands for these tokens, where these were made before it.
+pub record Means (made : List ADefinition) (definition : ADefinition) (tokens : List Token) : Type 0 where
+  pub parts : parts_tokens (meanings made) definition.parts.items ≡ tokens
+  pub len : definition.len ≡ capped (length tokens)
+  pub below : are_below (length made) definition.parts.items ≡ true
 
--- what was answered, seen by `view`, is the kept front of the tokens with their names replaced, unless memory runs out
-abbrev pub Replaces : {X : Type 0} → (X → List Token) → Result (List Token) (List ℕ) → Result X ParseFault → Type 0
-Replaces view replaced (Ok x) = (whole : List Token) × (replaced ≡ Ok whole) × (view x ≡ take (token_limit + 1) whole)
-Replaces view replaced (Err (Refused refusal)) = IsMissing replaced refusal
-Replaces view replaced (Err ReadFault) = ⊥
-Replaces view replaced (Err TooLong) = ⊥
-Replaces view replaced (Err NoMemory) = Unit {0}
+-- what was found is added to what a definition stands for, or a name stands for nothing, or memory ran out
+abbrev pub Adds : List ADefinition → Result (List Token) (List ℕ) → ADefinition → ADefinition → Result (Unit {0}) ParseFault → Type 0
+Adds made found old new (Ok x) =
+    (more : List Token) × (found ≡ Ok more) × ((tokens : List Token) → Means made old tokens → Means made new (tokens ++ more))
+Adds made found old new (Err (Refused refusal)) = IsMissing found refusal
+Adds made found old new (Err ReadFault) = ⊥
+Adds made found old new (Err TooLong) = ⊥
+Adds made found old new (Err NoMemory) = Unit {0}
+
+-- what was answered stands for the tokens with their names replaced, unless memory runs out
+abbrev pub AddsAll : List ADefinition → Result (List Token) (List ℕ) → Result ADefinition ParseFault → Type 0
+AddsAll made found (Ok definition) = (tokens : List Token) × (found ≡ Ok tokens) × Means made definition tokens
+AddsAll made found (Err (Refused refusal)) = IsMissing found refusal
+AddsAll made found (Err ReadFault) = ⊥
+AddsAll made found (Err TooLong) = ⊥
+AddsAll made found (Err NoMemory) = Unit {0}
+
+-- The definition at the place stands for what this one does, and those that were made before for what they did.
+pub record Settles (old : List ADefinition) (definition : ADefinition) (new : List ADefinition) (place : ℕ) : Type 0 where
+  pub within : place < length new
+  pub stands : meaning new place ≡ parts_tokens (meanings old) definition.parts.items
+  pub more : length old ≤ length new
+  pub others : (other : ℕ) → other < length old → meaning new other ≡ meaning old other
+
+-- the name stands for the tokens with their names replaced, and the others for what they did, unless memory runs out
+abbrev pub Defines : (List ℕ → Option (List Token)) → List ℕ → Result (List Token) (List ℕ) → (List ℕ → Option (List Token)) → Result (Unit {0}) ParseFault → Type 0
+Defines old name found new (Ok x) =
+    (tokens : List Token) × (found ≡ Ok tokens) × ((other : List ℕ) → new other ≡ (if bytes_eq other name then Some tokens else old other))
+Defines old name found new (Err (Refused refusal)) = IsMissing found refusal
+Defines old name found new (Err ReadFault) = ⊥
+Defines old name found new (Err TooLong) = ⊥
+Defines old name found new (Err NoMemory) = Unit {0}
 
 -- the ending is this fault, unless memory runs out, where no file is read
 abbrev pub HaltsSo : Ending → ℕ → ParseFault → Type 0

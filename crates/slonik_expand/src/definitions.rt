@@ -1,104 +1,148 @@
 // What names stand for.
-ghost use Rattle.std.specs.Prelude.{◌≡◌, ◌++◌, ◌≤◌, if◌then◌else◌, ℕ, List, None, Some, IfOk, length, take};
-ghost use Rattle.std.specs.Option.{option_map};
-ghost use Rattle.std.specs.Str.{bytes_eq};
-ghost use Rattle.slonik_expand.specs.Expansion.{replaced, replaced_one};
-ghost use Rattle.slonik_expand.specs.Steps.{names_of, Keeps, Replaces};
+ghost use Rattle.std.specs.Prelude.{◌≡◌, ◌<◌, ℕ, List, Some, true, length, map};
+ghost use Rattle.indexmap.specs.IndexMap.{get_by_text};
+ghost use Rattle.slonik_expand.specs.Shared.{capped, meanings, are_ordered};
 
-use crate::output::TOKEN_LIMIT;
+use crate::definition::{Definition, Part};
 use indexmap::IndexMap;
 use slon_base::Text;
 use slonik_tokens::{ParseFault, ScriptRefusal, Token};
 use std::alloc::{AllocError, Global};
-use std::slice;
 
-/// So many tokens of a definition are kept: one that has them is too long to be used.
-const KEPT_LEN: usize = TOKEN_LIMIT + 1;
-
-/// What names stand for.
+/// What names stand for. A definition that uses another shares it, so what is kept grows with the text of the definitions
+/// and not with the tokens that they stand for.
 #[derive(Drop)]
 pub(crate) struct Definitions {
-    map: IndexMap<String, Vec<Token>>,
-}
-
-/// Adds as many of the tokens as a definition keeps.
-fn keep(alloc: Global, kept: &mut Vec<Token>, tokens: &[Token]) -> Result<(), ParseFault>
-    requires { length kept.old.items ≤ KEPT_LEN }
-    ensures room { IfOk result (λ _. length kept.new.items ≤ KEPT_LEN) }
-    ensures kept { Keeps (Ok tokens.now) kept.old.items kept.new.items result }
-{
-    let room = KEPT_LEN - kept.len();
-    for token in &tokens[..tokens.len().min(room)] {
-        kept.push(token.copy(alloc)?)?;
-    }
-    Ok(())
+    // each that was made, also those whose name stands for another one since
+    made: Vec<Definition>,
+    // the place of the definition that a name stands for
+    places: IndexMap<String, usize>,
+    ghost ordered: { are_ordered 0 made.items ≡ true },
+    ghost counted: { map (λ d. d.len) made.items ≡ map (λ tokens. capped (length tokens)) (meanings made.items) },
+    ghost placed: { (name : List ℕ) (place : ℕ) → get_by_text places name ≡ Some place → place < length made.items },
 }
 
 impl Definitions {
+    ghost use Rattle.std.specs.Prelude.{◌++◌, None, OnOk, IfOk};
+    ghost use Rattle.slonik_expand.specs.Expansion.{replaced, replaced_one};
+    ghost use Rattle.slonik_tokens.specs.declared.token.Token.{Token as AToken};
+    ghost use Rattle.slonik_expand.specs.Shared.{meaning, parts_at, parts_tokens};
+    ghost use Rattle.slonik_expand.specs.Steps.{names_of, Means, Adds, AddsAll, Settles, Defines};
+
     /// No name stands for anything.
     pub(crate) fn new(alloc: Global) -> Definitions
         ensures { (name : List ℕ) → names_of result name ≡ None }
     {
         Definitions {
-            map: IndexMap::new(alloc),
+            made: Vec::new(alloc),
+            places: IndexMap::new(alloc),
         }
     }
 
-    /// What a name stands for.
-    pub(crate) fn get(&self, name: &Text) -> Option<&[Token]>
-        ensures { option_map (λ tokens. tokens.now) result ≡ names_of self.now name.now }
+    /// The place of the definition that a name stands for.
+    pub(crate) fn find(&self, name: &Text) -> Option<usize>
+        ensures { result ≡ get_by_text self.now.places name.now }
     {
-        match self.map.get(name.as_str()) {
-            Some(tokens) => Some(tokens.as_slice()),
-            None => None,
+        self.places.get(name.as_str()).copied()
+    }
+
+    /// The parts of the definition at a place.
+    pub(crate) fn parts(&self, place: usize) -> &[Part]
+        ensures { result.now ≡ parts_at self.now.made.items place }
+    {
+        match self.made.get(place) {
+            Some(definition) => definition.parts.as_slice(),
+            None => &[],
         }
     }
 
-    /// A name stands for these tokens from now on.
-    pub(crate) fn insert(
-        &mut self,
-        alloc: Global,
-        name: &Text,
-        tokens: Vec<Token>,
-    ) -> Result<(), AllocError>
-        ensures { IfOk result (λ _. (other : List ℕ) → names_of self.new other ≡ (if bytes_eq other name.now then Some tokens.items else names_of self.old other)) }
+    /// How many tokens the definition at a place stands for, up to the last value of a `usize`.
+    pub(crate) fn len(&self, place: usize) -> usize
+        ensures { result ≡ capped (length (meaning self.now.made.items place)) }
     {
-        let name = String::from_str(alloc, name.as_str())?;
-        self.map.insert(name, tokens)?;
-        Ok(())
+        match self.made.get(place) {
+            Some(definition) => definition.len,
+            None => 0,
+        }
     }
 
-    /// Adds a token, or what its name stands for, as far as a definition keeps it.
-    fn keep_replaced(
+    /// Adds a token, or the definition that its name stands for.
+    fn add(
         &self,
         alloc: Global,
-        kept: &mut Vec<Token>,
+        definition: &mut Definition,
         token: &Token,
     ) -> Result<(), ParseFault>
-        requires { length kept.old.items ≤ KEPT_LEN }
-        ensures room { IfOk result (λ _. length kept.new.items ≤ KEPT_LEN) }
-        ensures keeps { Keeps (replaced_one (names_of self.now) token.now) kept.old.items kept.new.items result }
+        ensures { Adds self.now.made.items (replaced_one (names_of self.now) token.now) definition.old definition.new result }
     {
         match token {
-            Token::NameUse(name) => match self.get(name) {
-                Some(found) => keep(alloc, kept, found),
+            Token::NameUse(name) => match self.find(name) {
+                Some(place) => {
+                    self.add_earlier(definition, place)?;
+                    Ok(())
+                }
                 None => {
                     let name = name.copy(alloc)?;
                     Err(ParseFault::Refused(ScriptRefusal::Undefined { name }))
                 }
             },
-            _ => keep(alloc, kept, slice::from_ref(token)),
+            _ => {
+                definition.push(Part::Single(token.copy(alloc)?), 1)?;
+                Ok(())
+            }
+        }
+    }
+    /// Adds an earlier definition, unless that stands for nothing.
+    fn add_earlier(&self, definition: &mut Definition, place: usize) -> Result<(), AllocError>
+        requires { place < length self.now.made.items }
+        ensures { OnOk result ((tokens : List AToken) → Means self.now.made.items definition.old tokens → Means self.now.made.items definition.new (tokens ++ meaning self.now.made.items place)) }
+    {
+        let len = self.len(place);
+        if len > 0 {
+            definition.push(Part::Earlier(place), len)?;
+        }
+        Ok(())
+    }
+
+    /// The definition of these tokens.
+    fn definition_of(&self, alloc: Global, tokens: &[Token]) -> Result<Definition, ParseFault>
+        ensures { AddsAll self.now.made.items (replaced (names_of self.now) tokens.now) result }
+    {
+        let mut definition = Definition::new(alloc);
+        for token in tokens {
+            self.add(alloc, &mut definition, token)?;
+        }
+        Ok(definition)
+    }
+
+    /// The place of a definition that stands for the same as this one, which is made here unless it is an earlier one.
+    fn settle(&mut self, definition: Definition) -> Result<usize, AllocError>
+        requires { Means self.old.made.items definition (parts_tokens (meanings self.old.made.items) definition.parts.items) }
+        ensures settles { IfOk result (λ place. Settles self.old.made.items definition self.new.made.items place) }
+        ensures places { self.new.places ≡ self.old.places }
+    {
+        match definition.only_earlier() {
+            Some(place) => Ok(place),
+            None => {
+                self.made.push(definition)?;
+                Ok(self.made.len() - 1)
+            }
         }
     }
 
-    /// The tokens with each name replaced by what it stands for, as many as a definition keeps.
-    pub(crate) fn replaced(&self, alloc: Global, tokens: &[Token]) -> Result<Vec<Token>, ParseFault>
-        ensures { Replaces (λ v. v.items) (replaced (names_of self.now) tokens.now) result }
+    /// A name stands for these tokens from now on, with the names in them replaced.
+    pub(crate) fn define(
+        &mut self,
+        alloc: Global,
+        name: &Text,
+        tokens: &[Token],
+    ) -> Result<(), ParseFault>
+        ensures { Defines (names_of self.old) name.now (replaced (names_of self.old) tokens.now) (names_of self.new) result }
     {
-        let mut kept = Vec::new(alloc);
-        for token in tokens {
-            self.keep_replaced(alloc, &mut kept, token)?;
-        }
-        Ok(kept)
+        let definition = self.definition_of(alloc, tokens)?;
+        let place = self.settle(definition)?;
+        let name = String::from_str(alloc, name.as_str())?;
+        self.places.insert(name, place)?;
+        Ok(())
     }
 }

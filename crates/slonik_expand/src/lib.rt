@@ -1,6 +1,7 @@
 //! The expansion of a slonik script: names are replaced by what they stand for, and files are included.
 #![tactic(auto)]
 
+mod definition;
 mod definitions;
 mod expanding;
 mod file;

@@ -9,7 +9,6 @@ use crate::output::Output;
 use slon_base::Text;
 use slonik_tokens::{ParseFault, ScriptRefusal, Token};
 use std::alloc::Global;
-use std::slice;
 
 /// What was made so far, and how many bytes the included files may still hold. Contracts see it by `making_of`.
 #[derive(Drop)]
@@ -35,15 +34,15 @@ impl Progress {
     fn put(&mut self, alloc: Global, token: &Token) -> Result<(), ParseFault>
         ensures { Goes (within_limit (put_all (token.now ∷ []) (making_of self.old))) (making_of self.new) result }
     {
-        self.output.put_all(alloc, slice::from_ref(token))
+        self.output.put(alloc, token)
     }
 
     /// A name is replaced by what it stands for.
     fn put_named(&mut self, alloc: Global, name: &Text) -> Result<(), ParseFault>
         ensures { Goes (used name.now ((making_of self.old).names name.now) (making_of self.old)) (making_of self.new) result }
     {
-        match self.definitions.get(name) {
-            Some(tokens) => self.output.put_all(alloc, tokens),
+        match self.definitions.find(name) {
+            Some(place) => self.output.put_definition(alloc, &self.definitions, place),
             None => {
                 let name = name.copy(alloc)?;
                 Err(ParseFault::Refused(ScriptRefusal::Undefined { name }))
@@ -55,9 +54,7 @@ impl Progress {
     fn define(&mut self, alloc: Global, name: &Text, tokens: &[Token]) -> Result<(), ParseFault>
         ensures { Goes (defined name.now (replaced (making_of self.old).names tokens.now) (making_of self.old)) (making_of self.new) result }
     {
-        let tokens = self.definitions.replaced(alloc, tokens)?;
-        self.definitions.insert(alloc, name, tokens)?;
-        Ok(())
+        self.definitions.define(alloc, name, tokens)
     }
 
     /// Expands the tokens from a place on up to the next INCLUDE, and gives the place behind it and its path, or `None` at the
