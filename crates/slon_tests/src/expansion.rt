@@ -95,7 +95,8 @@ fn names_are_replaced(rt: HostRuntime) -> Result<(), Fail> {
     Ok(())
 }
 
-/// A script that defines `n0`, and each of the next names by the name before it, which is `last` too, and what stands behind it.
+/// A script that defines `n0`, and each of the next names by the name before it, which is `last` too, and what stands
+/// behind it.
 fn chain(rt: &HostRuntime, names: u32, behind: &str, end: &str) -> Result<String, Fail> {
     let mut script = String::from_str(rt.alloc(), "DEFINE n0 x x ; ")?;
     for n in 0..names {

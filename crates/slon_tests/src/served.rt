@@ -1,7 +1,8 @@
 // Files that are given with their names.
 use slon_base::{Files, OutFault};
 
-/// Files of which one is entered at a time. A read hands over at most `piece` bytes, and only the first `reads` reads succeed.
+/// Files of which one is entered at a time. A read hands over at most `piece` bytes, and only the first `reads` reads
+/// succeed.
 #[derive(Drop)]
 pub struct Served<'a> {
     files: &'a [(&'a str, &'a str)],
@@ -43,7 +44,11 @@ impl Files for Served<'_> {
     ghost use Rattle.std.specs.Prelude.{if◌then◌else◌, None, [], ◌∷◌};
     ghost use Rattle.std.specs.Option.{is_some};
 
-    ghost filed = { λ f. record { names = None; stack = (if is_some f.entered then None ∷ [] else []); faults = f.faults } };
+    ghost filed = { λ f. record {
+      names = None;
+      stack = (if is_some f.entered then None ∷ [] else []);
+      faults = f.faults;
+    } };
 
     fn enter(&mut self, name: &[u8]) -> Result<bool, OutFault> {
         if self.entered.is_some() {

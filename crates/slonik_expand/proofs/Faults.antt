@@ -12,7 +12,9 @@ pub rose_since : (old mid new : ℕ) → old ≤ mid → Rose mid new → Rose o
 rose_since old mid new h (inl more) = inl (omega arith)
 rose_since old mid new h (inr last) = inr last
 
-pub failed_since : {T X : Type 0} (old mid new : ℕ) (fault : OutFault) → old ≤ mid → (IsErrOf {T = T} (Err fault) Failed → Rose mid new) → IsErrOf {T = X} (Err (fault_of fault)) ReadFault → Rose old new
+pub failed_since : {T X : Type 0} (old mid new : ℕ) (fault : OutFault) → old ≤ mid
+    → (IsErrOf {T = T} (Err fault) Failed → Rose mid new) → IsErrOf {T = X} (Err (fault_of fault)) ReadFault
+    → Rose old new
 failed_since old mid new Failed h rose e = rose_since old mid new h (rose refl)
 failed_since old mid new OutOfMemory h rose e = cc
 

@@ -21,7 +21,8 @@ too_many : (m : Making) → token_limit < length m.out → within_limit m ≡ Wr
 too_many m h = grind (arith, nat_tests)
 
 -- tokens came out
-pub put_gives : (p : Progress) (ts : List Token) (new : Output) (r : Result (Unit {0}) ParseFault) → Puts p.output ts new r
+pub put_gives : (p : Progress) (ts : List Token) (new : Output) (r : Result (Unit {0}) ParseFault)
+    → Puts p.output ts new r
     → Goes (within_limit (put_all ts (making_of p))) (making_of (record p { output = new })) r
 put_gives p ts new (Ok x) h =
     let m : Making = put_all ts (making_of p) in
@@ -34,18 +35,25 @@ put_gives p ts new (Err TooLong) h = absurd h
 put_gives p ts new (Err NoMemory) h = tt
 
 -- what a name stands for came out
-pub named_gives : (p : Progress) (name : List ℕ) (found : Option ℕ) (place : ℕ) (new : Output) (r : Result (Unit {0}) ParseFault)
-    → found ≡ get_by_text p.definitions.places name → found ≡ Some place → Puts p.output (meaning p.definitions.made.items place) new r
+pub named_gives : (p : Progress) (name : List ℕ) (found : Option ℕ) (place : ℕ) (new : Output)
+    (r : Result (Unit {0}) ParseFault)
+    → found ≡ get_by_text p.definitions.places name → found ≡ Some place
+    → Puts p.output (meaning p.definitions.made.items place) new r
     → Goes (used name (names_of p.definitions name) (making_of p)) (making_of (record p { output = new })) r
 named_gives p name found place new r e there h =
-    let is : Some (meaning p.definitions.made.items place) ≡ names_of p.definitions name = ap (option_map (meaning p.definitions.made.items)) (sym there ∙ e) in
-    subst (λ o. Goes (used name o (making_of p)) (making_of (record p { output = new })) r) is (put_gives p (meaning p.definitions.made.items place) new r h)
+    let is : Some (meaning p.definitions.made.items place) ≡ names_of p.definitions name =
+    ap (option_map (meaning p.definitions.made.items)) (sym there ∙ e) in
+    subst (λ o. Goes (used name o (making_of p)) (making_of (record p { output = new })) r) is
+    (put_gives p (meaning p.definitions.made.items place) new r h)
 
 -- a definition whose names were replaced
-pub defined_gives : (p : Progress) (name : List ℕ) (found : Result (List Token) (List ℕ)) (new : Definitions) (r : Result (Unit {0}) ParseFault)
-    → Defines (names_of p.definitions) name found (names_of new) r → Goes (defined name found (making_of p)) (making_of (record p { definitions = new })) r
+pub defined_gives : (p : Progress) (name : List ℕ) (found : Result (List Token) (List ℕ)) (new : Definitions)
+    (r : Result (Unit {0}) ParseFault)
+    → Defines (names_of p.definitions) name found (names_of new) r
+    → Goes (defined name found (making_of p)) (making_of (record p { definitions = new })) r
 defined_gives p name found new (Ok x) h =
-    ap (λ f. defined name f (making_of p)) h.1 ∙ (λ i. Made (record (making_of p) { names = λ other. sym (h.2 other) i }))
+    ap (λ f. defined name f (making_of p)) h.1 ∙ (λ i.
+    Made (record (making_of p) { names = λ other. sym (h.2 other) i }))
 defined_gives p name found new (Err (Refused refusal)) h =
     ap (λ f. defined name f (making_of p)) h.2 ∙ ap (λ refused. Wrong refused p.left) (sym h.1)
 defined_gives p name found new (Err ReadFault) h = absurd h

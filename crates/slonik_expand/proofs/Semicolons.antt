@@ -1,5 +1,6 @@
 -- Where the tokens before a `;` end.
-use Rattle.std.proofs.Common.{◌≡◌, ℕ, ◌+◌, ◌<◌, ◌≤◌, ltb, cond, not, Bool, true, false, List, [], ◌∷◌, ◌++◌, length, take, drop, get_or, Some, None, refl, ap, ◌∙◌, arith, inl, inr}
+use Rattle.std.proofs.Common.{◌≡◌, ℕ, ◌+◌, ◌<◌, ◌≤◌, ltb, cond, not, Bool, true, false, List, [], ◌∷◌, ◌++◌, length}
+use Rattle.std.proofs.Common.{take, drop, get_or, Some, None, refl, ap, ◌∙◌, arith, inl, inr}
 use Rattle.std.proofs.Math.Numerals.{one-add}
 use Rattle.std.proofs.lemmas.Bool.{cases_lt}
 use Rattle.std.proofs.lemmas.Bool.Decides.{nat_tests}
@@ -12,17 +13,22 @@ use Rattle.slonik_tokens.specs.declared.token.Token.{Token}
 use Rattle.slonik_expand.specs.Expansion.{before_semicolon}
 use Rattle.slonik_expand.proofs.Keeping.{take_one}
 
-before_step : (t : Token) (ts : List Token) (n : ℕ) (b : Bool) → before_semicolon ts ≡ option_map (λ i. take i ts) (cond (ltb n (length ts)) (Some n) None)
-    → cond b (Some []) (option_map (λ front. t ∷ front) (before_semicolon ts)) ≡ option_map (λ i. take i (t ∷ ts)) (cond (ltb (cond (not b) (1 + n) 0) (length (t ∷ ts))) (Some (cond (not b) (1 + n) 0)) None)
+before_step : (t : Token) (ts : List Token) (n : ℕ) (b : Bool)
+    → before_semicolon ts ≡ option_map (λ i. take i ts) (cond (ltb n (length ts)) (Some n) None)
+    → cond b (Some []) (option_map (λ front. t ∷ front) (before_semicolon ts))
+    ≡ option_map (λ i. take i (t ∷ ts)) (cond (ltb (cond (not b) (1 + n) 0) (length (t ∷ ts)))
+    (Some (cond (not b) (1 + n) 0)) None)
 before_step t ts n true h = grind (arith, nat_tests)
 before_step t ts n false h = rw (one-add, h) (grind (arith, nat_tests))
 
-pub before_is : (ts : List Token) → before_semicolon ts ≡ option_map (λ i. take i ts) (position (λ t. is_sign Semicolon t) ts)
+pub before_is : (ts : List Token)
+    → before_semicolon ts ≡ option_map (λ i. take i ts) (position (λ t. is_sign Semicolon t) ts)
 before_is [] = refl
 before_is (t ∷ ts) =
     before_step t ts (position_or_len (λ t. is_sign Semicolon t) ts) (is_sign Semicolon t) (before_is ts)
 
-before_none : (xs : List Token) (t : Token) → before_semicolon xs ≡ None → is_sign Semicolon t ≡ false → before_semicolon (xs ++ t ∷ []) ≡ None
+before_none : (xs : List Token) (t : Token) → before_semicolon xs ≡ None → is_sign Semicolon t ≡ false
+    → before_semicolon (xs ++ t ∷ []) ≡ None
 before_none [] t h other = grind (arith, nat_tests)
 before_none (x ∷ xs) t h other = grind (arith, nat_tests, before_none xs t)
 
@@ -36,14 +42,16 @@ longer xs n t h = omega (arith, length-append xs (t ∷ []))
 past : (ts : List Token) (n : ℕ) → length ts ≤ n → before_semicolon (drop n ts) ≡ None
 past ts n h = ap before_semicolon (drop_all n ts h)
 
-other_by : (xs : List Token) (n : ℕ) (t : Token) → is_sign Semicolon t ≡ false → before_semicolon (drop n xs) ≡ None → before_semicolon (drop n (xs ++ t ∷ [])) ≡ None
+other_by : (xs : List Token) (n : ℕ) (t : Token) → is_sign Semicolon t ≡ false → before_semicolon (drop n xs) ≡ None
+    → before_semicolon (drop n (xs ++ t ∷ [])) ≡ None
 other_by xs n t other h =
     elim (cases_lt (length xs) n) [
       | inl more ↦ past (xs ++ t ∷ []) n (longer xs n t more)
       | inr less ↦ ap before_semicolon (drop-append-le n xs (t ∷ []) less) ∙ before_none (drop n xs) t h other
     ]
 
-pub closed_other : (ts : List Token) (i len : ℕ) (t : Token) → i < length ts → t ≡ get_or ts i t → is_sign Semicolon t ≡ false → IsClosed (take i ts) len → IsClosed (take (i + 1) ts) len
+pub closed_other : (ts : List Token) (i len : ℕ) (t : Token) → i < length ts → t ≡ get_or ts i t
+    → is_sign Semicolon t ≡ false → IsClosed (take i ts) len → IsClosed (take (i + 1) ts) len
 closed_other ts i len t within is other closed n h =
     ap (λ l. before_semicolon (drop n l)) (take_one ts i t within is) ∙ other_by (take i ts) n t other (closed n h)
 

@@ -1,5 +1,7 @@
 -- What definitions stand for whose parts are tokens and earlier definitions.
-use Rattle.std.proofs.Common.{◌≡◌, ℕ, zero, suc, if◌then◌else◌, ◌+◌, ◌-◌, ◌<◌, ◌≤◌, ltb, ◌&&◌, Bool, true, false, List, [], ◌∷◌, ◌++◌, map, length, get_or, slice_get, Option, Some, None, Result, Ok, Err, OnOk, OnErr, cond, refl, sym, ap, subst, ◌∙◌, arith, append_assoc}
+use Rattle.std.proofs.Common.{◌≡◌, ℕ, zero, suc, if◌then◌else◌, ◌+◌, ◌-◌, ◌<◌, ◌≤◌, ltb, ◌&&◌, Bool, true, false, List}
+use Rattle.std.proofs.Common.{[], ◌∷◌, ◌++◌, map, length, get_or, slice_get, Option, Some, None, Result, Ok, Err, OnOk}
+use Rattle.std.proofs.Common.{OnErr, cond, refl, sym, ap, subst, ◌∙◌, arith, append_assoc}
 use Rattle.std.proofs.Math.ListN.{get_or-append}
 use Rattle.std.proofs.Math.Seq.{get_or-append_seam}
 use Rattle.std.proofs.lemmas.Bool.{ltb-true}
@@ -12,7 +14,8 @@ use Rattle.slonik_expand.specs.declared.definition.Part.{Part}
 use Rattle.slonik_expand.specs.declared.definition.Part.TheVariants.{Single, Earlier}
 use Rattle.slonik_expand.specs.declared.definition.Definition.{Definition}
 use Rattle.slonik_expand.specs.Steps.{Means, Settles}
-use Rattle.slonik_expand.specs.Shared.{capped, part_tokens, parts_tokens, values_behind, meanings, meaning, is_below, are_below, are_ordered, parts_at}
+use Rattle.slonik_expand.specs.Shared.{capped, part_tokens, parts_tokens, values_behind, meanings, meaning, is_below}
+use Rattle.slonik_expand.specs.Shared.{are_below, are_ordered, parts_at}
 
 pub both : (a b : Bool) → (a && b) ≡ true → (a ≡ true) × (b ≡ true)
 both true b h = (refl, h)
@@ -30,17 +33,20 @@ behind_is value xs (d ∷ ds) =
 
 -- the value of one more definition
 pub behind_one : {X : Type 0} (value : List X → List Part → X) (xs : List X) (ds : List Definition) (d : Definition)
-    → values_behind value xs (ds ++ d ∷ []) ≡ values_behind value xs ds ++ value (values_behind value xs ds) d.parts.items ∷ []
+    → values_behind value xs (ds ++ d ∷ []) ≡ values_behind value xs ds
+    ++ value (values_behind value xs ds) d.parts.items ∷ []
 unfolding values_behind
 behind_one value xs [] d = refl
 behind_one value xs (e ∷ ds) d = behind_one value (xs ++ value xs e.parts.items ∷ []) ds d
 
 -- a value that more of the table does not change
 abbrev pub IsSteady : {X : Type 0} → (List X → List Part → X) → Type 0
-IsSteady {X} value = (xs ys : List X) (ps : List Part) → are_below (length xs) ps ≡ true → value (xs ++ ys) ps ≡ value xs ps
+IsSteady {X} value = (xs ys : List X) (ps : List Part) → are_below (length xs) ps ≡ true
+    → value (xs ++ ys) ps ≡ value xs ps
 
 -- the value of a definition is that of its parts in the whole table
-pub value_at : {X : Type 0} (value : List X → List Part → X) (x : X) → IsSteady value → ((table : List X) → value table [] ≡ x)
+pub value_at : {X : Type 0} (value : List X → List Part → X) (x : X) → IsSteady value
+    → ((table : List X) → value table [] ≡ x)
     → (xs : List X) (ds : List Definition) (i : ℕ) → are_ordered (length xs) ds ≡ true
     → get_or (values_behind value xs ds) (length xs + i) x ≡ value (values_behind value xs ds) (parts_at ds i)
 unfolding values_behind are_ordered
@@ -49,19 +55,25 @@ value_at value x steady none xs (d ∷ ds) zero h =
     let y = value xs d.parts.items in
     let more = behind_is value (xs ++ y ∷ []) ds in
     let whole : values_behind value (xs ++ y ∷ []) ds ≡ xs ++ y ∷ more.0 = more.1 ∙ append_assoc xs (y ∷ []) more.0 in
-    let below : are_below (length xs) d.parts.items ≡ true = (both (are_below (length xs) d.parts.items) (are_ordered (length xs + 1) ds) h).0 in
+    let below : are_below (length xs) d.parts.items ≡ true =
+    (both (are_below (length xs) d.parts.items) (are_ordered (length xs + 1) ds) h).0 in
     let here : length xs + 0 ≡ length xs = omega arith in
-    ap (λ l. get_or l (length xs + 0) x) whole ∙ ap (λ n. get_or (xs ++ y ∷ more.0) n x) here ∙ get_or-append_seam xs y more.0 x
+    ap (λ l. get_or l (length xs + 0) x) whole ∙ ap (λ n. get_or (xs ++ y ∷ more.0) n x) here
+    ∙ get_or-append_seam xs y more.0 x
     ∙ sym (ap (λ l. value l d.parts.items) whole ∙ steady xs (y ∷ more.0) d.parts.items below)
 value_at value x steady none xs (d ∷ ds) (suc i) h =
     let y = value xs d.parts.items in
     let long : length (xs ++ y ∷ []) ≡ length xs + 1 = length-append xs (y ∷ []) in
-    let order : are_ordered (length (xs ++ y ∷ [])) ds ≡ true = ap (λ n. are_ordered n ds) long ∙ (both (are_below (length xs) d.parts.items) (are_ordered (length xs + 1) ds) h).1 in
+    let order : are_ordered (length (xs ++ y ∷ [])) ds ≡ true =
+    ap (λ n. are_ordered n ds) long ∙ (both (are_below (length xs) d.parts.items) (are_ordered (length xs + 1) ds)
+    h).1 in
     let place : length xs + suc i ≡ length (xs ++ y ∷ []) + i = omega (arith, long) in
-    ap (λ n. get_or (values_behind value (xs ++ y ∷ []) ds) n x) place ∙ value_at value x steady none (xs ++ y ∷ []) ds i order
+    ap (λ n. get_or (values_behind value (xs ++ y ∷ []) ds) n x) place
+    ∙ value_at value x steady none (xs ++ y ∷ []) ds i order
 
 -- the parts of the new definition speak of those before it
-ordered_one : (n : ℕ) (ds : List Definition) (d : Definition) → are_ordered n ds ≡ true → are_below (n + length ds) d.parts.items ≡ true
+ordered_one : (n : ℕ) (ds : List Definition) (d : Definition) → are_ordered n ds ≡ true
+    → are_below (n + length ds) d.parts.items ≡ true
     → are_ordered n (ds ++ d ∷ []) ≡ true
 unfolding are_ordered
 ordered_one n [] d h below =
@@ -73,14 +85,16 @@ ordered_one n (e ∷ ds) d h below =
     ap (λ b. b && are_ordered (n + 1) (ds ++ d ∷ [])) parts.0
     ∙ ordered_one (n + 1) ds d parts.1 (ap (λ k. are_below k d.parts.items) there ∙ below)
 
-pub ordered_new : (ds : List Definition) (d : Definition) → are_ordered 0 ds ≡ true → are_below (length ds) d.parts.items ≡ true
+pub ordered_new : (ds : List Definition) (d : Definition) → are_ordered 0 ds ≡ true
+    → are_below (length ds) d.parts.items ≡ true
     → are_ordered 0 (ds ++ d ∷ []) ≡ true
 ordered_new ds d h below =
     let all : 0 + length ds ≡ length ds = omega arith in
     ordered_one 0 ds d h (ap (λ n. are_below n d.parts.items) all ∙ below)
 
 -- what parts stand for does not depend on definitions that came later
-steady_tokens : (xs ys : List (List Token)) (ps : List Part) → are_below (length xs) ps ≡ true → parts_tokens (xs ++ ys) ps ≡ parts_tokens xs ps
+steady_tokens : (xs ys : List (List Token)) (ps : List Part) → are_below (length xs) ps ≡ true
+    → parts_tokens (xs ++ ys) ps ≡ parts_tokens xs ps
 unfolding parts_tokens part_tokens are_below is_below
 steady_tokens xs ys [] h = refl
 steady_tokens xs ys (Single t ∷ ps) h = ap (λ l. t ∷ l) (steady_tokens xs ys ps h)
@@ -89,7 +103,8 @@ steady_tokens xs ys (Earlier i ∷ ps) h =
     ap (λ l. l ++ parts_tokens (xs ++ ys) ps) (get_or-append xs ys [] i (ltb-true i (length xs) parts.0))
     ∙ ap (λ l. get_or xs i [] ++ l) (steady_tokens xs ys ps parts.1)
 
-pub meaning_at : (made : List Definition) (place : ℕ) → are_ordered 0 made ≡ true → meaning made place ≡ parts_tokens (meanings made) (parts_at made place)
+pub meaning_at : (made : List Definition) (place : ℕ) → are_ordered 0 made ≡ true
+    → meaning made place ≡ parts_tokens (meanings made) (parts_at made place)
 unfolding meaning meanings parts_tokens
 meaning_at made place h =
     let there : place ≡ 0 + place = omega arith in
@@ -101,13 +116,16 @@ meanings_length made =
     let all = behind_is parts_tokens [] made in
     ap length all.1 ∙ all.2
 
-parts_more : (table : List (List Token)) (ps qs : List Part) → parts_tokens table (ps ++ qs) ≡ parts_tokens table ps ++ parts_tokens table qs
+parts_more : (table : List (List Token)) (ps qs : List Part)
+    → parts_tokens table (ps ++ qs) ≡ parts_tokens table ps ++ parts_tokens table qs
 unfolding parts_tokens
 parts_more table [] qs = refl
 parts_more table (p ∷ ps) qs =
-    ap (λ l. part_tokens table p ++ l) (parts_more table ps qs) ∙ sym (append_assoc (part_tokens table p) (parts_tokens table ps) (parts_tokens table qs))
+    ap (λ l. part_tokens table p ++ l) (parts_more table ps qs)
+    ∙ sym (append_assoc (part_tokens table p) (parts_tokens table ps) (parts_tokens table qs))
 
-below_more : (n : ℕ) (ps : List Part) (p : Part) → are_below n ps ≡ true → is_below n p ≡ true → are_below n (ps ++ p ∷ []) ≡ true
+below_more : (n : ℕ) (ps : List Part) (p : Part) → are_below n ps ≡ true → is_below n p ≡ true
+    → are_below n (ps ++ p ∷ []) ≡ true
 unfolding are_below
 below_more n [] p h one = ap (λ b. b && true) one
 below_more n (q ∷ ps) p h one =
@@ -127,24 +145,30 @@ capped_sum : (a b n m : ℕ) → n ≡ capped a → m ≡ capped b → capped (n
 capped_sum a b n m e f = grind (arith, nat_tests, e, f)
 
 -- a part is added
-pub means_more : (made : List Definition) (old new : Definition) (p : Part) (len : ℕ) → new.parts.items ≡ old.parts.items ++ p ∷ []
-    → new.len ≡ capped (old.len + len) → len ≡ capped (length (part_tokens (meanings made) p)) → is_below (length made) p ≡ true
+pub means_more : (made : List Definition) (old new : Definition) (p : Part) (len : ℕ)
+    → new.parts.items ≡ old.parts.items ++ p ∷ []
+    → new.len ≡ capped (old.len + len) → len ≡ capped (length (part_tokens (meanings made) p))
+    → is_below (length made) p ≡ true
     → (tokens : List Token) → Means made old tokens → Means made new (tokens ++ part_tokens (meanings made) p)
 unfolding parts_tokens
 means_more made old new p len parts counted size below tokens h = record {
-  parts = ap (parts_tokens (meanings made)) parts ∙ parts_more (meanings made) old.parts.items (p ∷ []) ∙ ap (λ l. l ++ parts_tokens (meanings made) (p ∷ [])) h.parts
+  parts = ap (parts_tokens (meanings made)) parts ∙ parts_more (meanings made) old.parts.items (p ∷ [])
+      ∙ ap (λ l. l ++ parts_tokens (meanings made) (p ∷ [])) h.parts
       ∙ ap (λ l. tokens ++ l) (append-nil (part_tokens (meanings made) p));
   len = counted ∙ capped_sum (length tokens) (length (part_tokens (meanings made) p)) old.len len h.len size
       ∙ ap capped (sym (length-append tokens (part_tokens (meanings made) p)));
   below = ap (are_below (length made)) parts ∙ below_more (length made) old.parts.items p h.below below;
 }
 
-pub means_token : (made : List Definition) (old new : Definition) (t : Token) → new.parts.items ≡ old.parts.items ++ Single t ∷ []
+pub means_token : (made : List Definition) (old new : Definition) (t : Token)
+    → new.parts.items ≡ old.parts.items ++ Single t ∷ []
     → new.len ≡ capped (old.len + 1) → (tokens : List Token) → Means made old tokens → Means made new (tokens ++ t ∷ [])
 unfolding part_tokens is_below
-means_token made old new t parts counted tokens h = means_more made old new (Single t) 1 parts counted refl refl tokens h
+means_token made old new t parts counted tokens h =
+    means_more made old new (Single t) 1 parts counted refl refl tokens h
 
-pub means_earlier : (made : List Definition) (old new : Definition) (place len : ℕ) → new.parts.items ≡ old.parts.items ++ Earlier place ∷ []
+pub means_earlier : (made : List Definition) (old new : Definition) (place len : ℕ)
+    → new.parts.items ≡ old.parts.items ++ Earlier place ∷ []
     → new.len ≡ capped (old.len + len) → len ≡ capped (length (meaning made place)) → place < length made
     → (tokens : List Token) → Means made old tokens → Means made new (tokens ++ meaning made place)
 unfolding part_tokens is_below meaning
@@ -153,11 +177,13 @@ means_earlier made old new place len parts counted size within tokens h =
     means_more made old new (Earlier place) len parts counted size below tokens h
 
 -- a definition that stands for nothing is left out
-pub means_same : (made : List Definition) (old : Definition) (place len : ℕ) → len ≤ 0 → len ≡ capped (length (meaning made place))
+pub means_same : (made : List Definition) (old : Definition) (place len : ℕ) → len ≤ 0
+    → len ≡ capped (length (meaning made place))
     → (tokens : List Token) → Means made old tokens → Means made old (tokens ++ meaning made place)
 means_same made old place len none size tokens h =
     let short : length (meaning made place) ≡ 0 = grind (arith, nat_tests, size) in
-    let same : tokens ++ meaning made place ≡ tokens = ap (λ l. tokens ++ l) (nil_from_length (meaning made place) short) ∙ append-nil tokens in
+    let same : tokens ++ meaning made place ≡ tokens =
+    ap (λ l. tokens ++ l) (nil_from_length (meaning made place) short) ∙ append-nil tokens in
     subst (Means made old) (sym same) h
 
 -- how many tokens a definition counts, if there is one
@@ -165,34 +191,40 @@ abbrev pub len_in : Option Definition → ℕ
 len_in None = 0
 len_in (Some d) = d.len
 
-len_of : (found : Option Definition) (tokens : Option (List Token)) → option_map (λ d. d.len) found ≡ option_map (λ ts. capped (length ts)) tokens
+len_of : (found : Option Definition) (tokens : Option (List Token))
+    → option_map (λ d. d.len) found ≡ option_map (λ ts. capped (length ts)) tokens
     → len_in found ≡ capped (length (unwrap_or tokens []))
 len_of None None e = refl
 len_of None (Some ts) e = cc
 len_of (Some d) None e = cc
 len_of (Some d) (Some ts) e = cc
 
-pub len_at : (made : List Definition) (place : ℕ) → map (λ d. d.len) made ≡ map (λ ts. capped (length ts)) (meanings made)
+pub len_at : (made : List Definition) (place : ℕ)
+    → map (λ d. d.len) made ≡ map (λ ts. capped (length ts)) (meanings made)
     → len_in (slice_get made place) ≡ capped (length (meaning made place))
 unfolding meaning
 len_at made place e =
     len_of (slice_get made place) (slice_get (meanings made) place)
-    (sym (slice_get-map (λ d. d.len) made place) ∙ ap (λ l. slice_get l place) e ∙ slice_get-map (λ ts. capped (length ts)) (meanings made) place)
+    (sym (slice_get-map (λ d. d.len) made place) ∙ ap (λ l. slice_get l place) e
+    ∙ slice_get-map (λ ts. capped (length ts)) (meanings made) place)
     ∙ ap (λ l. capped (length l)) (unwrap_or-slice_get (meanings made) place [])
 
 -- a new definition counts its tokens
-pub counted_one : (made : List Definition) (d : Definition) → map (λ d. d.len) made ≡ map (λ ts. capped (length ts)) (meanings made)
+pub counted_one : (made : List Definition) (d : Definition)
+    → map (λ d. d.len) made ≡ map (λ ts. capped (length ts)) (meanings made)
     → Means made d (parts_tokens (meanings made) d.parts.items)
     → map (λ d. d.len) (made ++ d ∷ []) ≡ map (λ ts. capped (length ts)) (meanings (made ++ d ∷ []))
 unfolding meanings
 counted_one made d e h =
     let count : List Token → ℕ = λ ts. capped (length ts) in
     let tokens = parts_tokens (meanings made) d.parts.items in
-    map-append (λ d. d.len) made (d ∷ []) ∙ ap (λ l. l ++ d.len ∷ []) e ∙ ap (λ n. map count (meanings made) ++ n ∷ []) h.len
+    map-append (λ d. d.len) made (d ∷ []) ∙ ap (λ l. l ++ d.len ∷ []) e
+    ∙ ap (λ n. map count (meanings made) ++ n ∷ []) h.len
     ∙ sym (map-append count (meanings made) (tokens ∷ [])) ∙ ap (map count) (sym (behind_one parts_tokens [] made d))
 
 -- a new definition settles behind the others
-pub settles_new : (made now : List Definition) (d : Definition) (place : ℕ) → now ≡ made ++ d ∷ [] → place ≡ length now - 1 → Settles made d now place
+pub settles_new : (made now : List Definition) (d : Definition) (place : ℕ) → now ≡ made ++ d ∷ []
+    → place ≡ length now - 1 → Settles made d now place
 unfolding meaning meanings
 settles_new made now d place e at =
     let long : length now ≡ length made + 1 = ap length e ∙ length-append made (d ∷ []) in
@@ -201,9 +233,11 @@ settles_new made now d place e at =
     let table : meanings now ≡ meanings made ++ tokens ∷ [] = ap meanings e ∙ behind_one parts_tokens [] made d in
     record {
       within = omega (arith, at, long);
-      stands = ap (λ l. get_or l place []) table ∙ ap (λ n. get_or (meanings made ++ tokens ∷ []) n []) here ∙ get_or-append_seam (meanings made) tokens [] [];
+      stands = ap (λ l. get_or l place []) table ∙ ap (λ n. get_or (meanings made ++ tokens ∷ []) n []) here
+          ∙ get_or-append_seam (meanings made) tokens [] [];
       more = omega (arith, long);
-      others = λ other h. ap (λ l. get_or l other []) table ∙ get_or-append (meanings made) (tokens ∷ []) [] other (omega (arith, h, meanings_length made));
+      others = λ other h. ap (λ l. get_or l other []) table
+          ∙ get_or-append (meanings made) (tokens ∷ []) [] other (omega (arith, h, meanings_length made));
     }
 
 -- a definition that is another one settles there
@@ -220,8 +254,10 @@ settles_earlier made d place e h =
     }
 
 -- what the other names stand for
-pub names_stay : (old new : List Definition) (found : Option ℕ) → ((place : ℕ) → found ≡ Some place → place < length old)
-    → ((place : ℕ) → place < length old → meaning new place ≡ meaning old place) → option_map (meaning new) found ≡ option_map (meaning old) found
+pub names_stay : (old new : List Definition) (found : Option ℕ)
+    → ((place : ℕ) → found ≡ Some place → place < length old)
+    → ((place : ℕ) → place < length old → meaning new place ≡ meaning old place)
+    → option_map (meaning new) found ≡ option_map (meaning old) found
 names_stay old new None within same = refl
 names_stay old new (Some place) within same = ap Some (same place (within place refl))
 
@@ -232,14 +268,17 @@ kept_if P true made now d e h more = subst P (sym e) more
 kept_if P false made now d e h more = subst P (sym e) h
 
 -- a name was defined, or memory ran out
-pub placed_if : {T E : Type 0} (r : Result T E) (same : Bool) (place found n : ℕ) (new old : Option ℕ) → OnOk r (new ≡ cond same (Some place) old)
+pub placed_if : {T E : Type 0} (r : Result T E) (same : Bool) (place found n : ℕ) (new old : Option ℕ)
+    → OnOk r (new ≡ cond same (Some place) old)
     → OnErr r (new ≡ old) → place < n → (old ≡ Some found → found < n) → new ≡ Some found → found < n
-placed_if (Ok x) true place found n new old ok err here before e = let is : place ≡ found = cc in subst (λ i. i < n) is here
+placed_if (Ok x) true place found n new old ok err here before e = let is : place ≡ found =
+    cc in subst (λ i. i < n) is here
 placed_if (Ok x) false place found n new old ok err here before e = before (sym ok ∙ e)
 placed_if (Err x) same place found n new old ok err here before e = before (sym err ∙ e)
 
 -- what a name stands for when one was defined
-pub defined_name : (same : Bool) (old new : List Definition) (place : ℕ) (tokens : List Token) (now before : Option ℕ) → now ≡ (if same then Some place else before)
+pub defined_name : (same : Bool) (old new : List Definition) (place : ℕ) (tokens : List Token) (now before : Option ℕ)
+    → now ≡ (if same then Some place else before)
     → meaning new place ≡ tokens → option_map (meaning new) before ≡ option_map (meaning old) before
     → option_map (meaning new) now ≡ (if same then Some tokens else option_map (meaning old) before)
 defined_name true old new place tokens now before e stands others = ap (option_map (meaning new)) e ∙ ap Some stands

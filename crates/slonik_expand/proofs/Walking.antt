@@ -1,5 +1,6 @@
 -- The tokens of a definition come out one by one.
-use Rattle.std.proofs.Common.{◌≡◌, ℕ, ◌+◌, ◌<◌, List, [], ◌∷◌, ◌++◌, length, get_or, refl, sym, ap, ◌∙◌, arith, ltb, true, append_assoc}
+use Rattle.std.proofs.Common.{◌≡◌, ℕ, ◌+◌, ◌<◌, List, [], ◌∷◌, ◌++◌, length, get_or, refl, sym, ap, ◌∙◌, arith, ltb}
+use Rattle.std.proofs.Common.{true, append_assoc}
 use Rattle.std.proofs.Math.ListN.{get_or-append}
 use Rattle.std.proofs.lemmas.Bool.{ltb-true}
 use Rattle.std.proofs.lemmas.List.{append-nil, nil_from_length}
@@ -10,7 +11,8 @@ use Rattle.slonik_expand.specs.declared.definition.Part.TheVariants.{Single, Ear
 use Rattle.slonik_expand.specs.declared.definition.Definition.{Definition}
 use Rattle.slonik_expand.specs.declared.output.Output.{Output}
 use Rattle.slonik_expand.specs.Expansion.{place_behind}
-use Rattle.slonik_expand.specs.Shared.{part_tokens, parts_tokens, values_behind, meanings, meaning, is_below, are_below, are_ordered, parts_at}
+use Rattle.slonik_expand.specs.Shared.{part_tokens, parts_tokens, values_behind, meanings, meaning, is_below, are_below}
+use Rattle.slonik_expand.specs.Shared.{are_ordered, parts_at}
 use Rattle.slonik_expand.specs.Steps.{IsBehind}
 use Rattle.slonik_expand.proofs.SharedDefinitions.{both, value_at, meaning_at}
 
@@ -51,7 +53,8 @@ unfolding pending_steps
 steps_one table [] parts = refl
 steps_one table (other ∷ pending) parts = omega (arith, steps_one table pending parts)
 
-steady_steps : (xs ys : List ℕ) (ps : List Part) → are_below (length xs) ps ≡ true → parts_steps (xs ++ ys) ps ≡ parts_steps xs ps
+steady_steps : (xs ys : List ℕ) (ps : List Part) → are_below (length xs) ps ≡ true
+    → parts_steps (xs ++ ys) ps ≡ parts_steps xs ps
 unfolding part_steps parts_steps are_below is_below
 steady_steps xs ys [] h = refl
 steady_steps xs ys (Single t ∷ ps) h = ap (λ n. 1 + n) (steady_steps xs ys ps h)
@@ -59,16 +62,28 @@ steady_steps xs ys (Earlier i ∷ ps) h =
     let parts = both (ltb i (length xs)) (are_below (length xs) ps) h in
     omega (arith, get_or-append xs ys 0 i (ltb-true i (length xs) parts.0), steady_steps xs ys ps parts.1)
 
-steps_at : (made : List Definition) (place : ℕ) → are_ordered 0 made ≡ true → get_or (steps_of made) place 0 ≡ parts_steps (steps_of made) (parts_at made place)
+steps_at : (made : List Definition) (place : ℕ) → are_ordered 0 made ≡ true
+    → get_or (steps_of made) place 0 ≡ parts_steps (steps_of made) (parts_at made place)
 unfolding steps_of parts_steps
 steps_at made place h =
     let there : place ≡ 0 + place = omega arith in
     ap (λ n. get_or (steps_of made) n 0) there ∙ value_at parts_steps 0 steady_steps (λ table. refl) [] made place h
 
 -- What came out and what is pending are all that a definition stands for.
-pub record Walks (made : List Definition) (old : Output) (place : ℕ) (now : Output) (pending : List (Bor (List Part))) : Type 0 where
+pub record Walks (made : List Definition) (old : Output) (place : ℕ) (now : Output)
+    (pending : List (Bor (List Part))) : Type 0 where
   pub tokens : old.tokens.items ++ meaning made place ≡ now.tokens.items ++ pending_tokens (meanings made) pending
-  pub places : place_behind (meaning made place) old.place ≡ place_behind (pending_tokens (meanings made) pending) now.place
+  pub places : place_behind (meaning made place) old.place
+      ≡ place_behind (pending_tokens (meanings made) pending) now.place
+
+-- what is pending stands for the same
+pub walks_on : (made : List Definition) (old now : Output) (place : ℕ) (before after : List (Bor (List Part)))
+    → Walks made old place now before → pending_tokens (meanings made) before ≡ pending_tokens (meanings made) after
+    → Walks made old place now after
+walks_on made old now place before after w e = record {
+  tokens = w.tokens ∙ ap (λ l. now.tokens.items ++ l) e;
+  places = w.places ∙ ap (λ l. place_behind l now.place) e;
+}
 
 -- The first part of the last pending parts is taken.
 pub record Pops (before : List (Bor (List Part))) (part : Part) (after : List (Bor (List Part))) : Type 0 where
@@ -79,7 +94,8 @@ pub record Pops (before : List (Bor (List Part))) (part : Part) (after : List (B
   pub first : parts.now ≡ part ∷ rest.now
   pub now : after ≡ popped ++ rest ∷ []
 
-pub pops : (before popped after : List (Bor (List Part))) (parts rest : Bor (List Part)) (first part : Part) → before ≡ popped ++ parts ∷ []
+pub pops : (before popped after : List (Bor (List Part))) (parts rest : Bor (List Part)) (first part : Part)
+    → before ≡ popped ++ parts ∷ []
     → parts.now ≡ first ∷ rest.now → first ≡ part → after ≡ popped ++ rest ∷ [] → Pops before part after
 pops before popped after parts rest first part was e is now =
     record { popped = popped; parts = parts; rest = rest; was = was; first = e ∙ ap (λ p. p ∷ rest.now) is; now = now }
@@ -88,7 +104,8 @@ pops_tokens : (table : List (List Token)) (before after : List (Bor (List Part))
     → pending_tokens table before ≡ part_tokens table part ++ pending_tokens table after
 unfolding parts_tokens
 pops_tokens table before after part p =
-    ap (pending_tokens table) p.was ∙ pending_one table p.popped p.parts ∙ ap (λ l. parts_tokens table l ++ pending_tokens table p.popped) p.first
+    ap (pending_tokens table) p.was ∙ pending_one table p.popped p.parts
+    ∙ ap (λ l. parts_tokens table l ++ pending_tokens table p.popped) p.first
     ∙ append_assoc (part_tokens table part) (parts_tokens table p.rest.now) (pending_tokens table p.popped)
     ∙ ap (λ l. part_tokens table part ++ l) (sym (ap (pending_tokens table) p.now ∙ pending_one table p.popped p.rest))
 
@@ -96,21 +113,27 @@ pops_steps : (table : List ℕ) (before after : List (Bor (List Part))) (part : 
     → pending_steps table before ≡ part_steps table part + pending_steps table after
 unfolding parts_steps
 pops_steps table before after part p =
-    let front : pending_steps table before ≡ 1 + parts_steps table p.parts.now + pending_steps table p.popped = ap (pending_steps table) p.was ∙ steps_one table p.popped p.parts in
-    let back : pending_steps table after ≡ 1 + parts_steps table p.rest.now + pending_steps table p.popped = ap (pending_steps table) p.now ∙ steps_one table p.popped p.rest in
+    let front : pending_steps table before ≡ 1 + parts_steps table p.parts.now + pending_steps table p.popped =
+    ap (pending_steps table) p.was ∙ steps_one table p.popped p.parts in
+    let back : pending_steps table after ≡ 1 + parts_steps table p.rest.now + pending_steps table p.popped =
+    ap (pending_steps table) p.now ∙ steps_one table p.popped p.rest in
     omega (arith, front, back, ap (parts_steps table) p.first)
 
 -- a token comes out
-pub walks_single : (made : List Definition) (old now next : Output) (place : ℕ) (before after : List (Bor (List Part))) (t : Token) → Walks made old place now before
+pub walks_single : (made : List Definition) (old now next : Output) (place : ℕ) (before after : List (Bor (List Part)))
+    (t : Token) → Walks made old place now before
     → Pops before (Single t) after → IsBehind now (t ∷ []) next → Walks made old place next after
 unfolding part_tokens
 walks_single made old now next place before after t w p b =
     let table = meanings made in
-    let e : pending_tokens table before ≡ t ∷ pending_tokens table after = pops_tokens table before after (Single t) p in
+    let e : pending_tokens table before ≡ t ∷ pending_tokens table after =
+    pops_tokens table before after (Single t) p in
     record {
-      tokens = w.tokens ∙ ap (λ l. now.tokens.items ++ l) e ∙ sym (append_assoc now.tokens.items (t ∷ []) (pending_tokens table after))
+      tokens = w.tokens ∙ ap (λ l. now.tokens.items ++ l) e
+          ∙ sym (append_assoc now.tokens.items (t ∷ []) (pending_tokens table after))
           ∙ ap (λ l. l ++ pending_tokens table after) (sym b.tokens);
-      places = w.places ∙ ap (λ l. place_behind l now.place) e ∙ ap (place_behind (pending_tokens table after)) (sym b.place);
+      places = w.places ∙ ap (λ l. place_behind l now.place) e
+          ∙ ap (place_behind (pending_tokens table after)) (sym b.place);
     }
 
 pub single_steps : (table : List ℕ) (before after : List (Bor (List Part))) (t : Token) → Pops before (Single t) after
@@ -119,56 +142,69 @@ unfolding part_steps
 single_steps table before after t p = omega (arith, pops_steps table before after (Single t) p)
 
 -- an earlier definition is entered
-pub walks_earlier : (made : List Definition) (old now : Output) (place : ℕ) (before mid after : List (Bor (List Part))) (other : ℕ) (parts : Bor (List Part))
-    → are_ordered 0 made ≡ true → Walks made old place now before → Pops before (Earlier other) mid → parts.now ≡ parts_at made other
-    → after ≡ mid ++ parts ∷ [] → Walks made old place now after
+pub earlier_same : (made : List Definition) (before mid after : List (Bor (List Part))) (other : ℕ)
+    (parts : Bor (List Part)) → are_ordered 0 made ≡ true → Pops before (Earlier other) mid
+    → parts.now ≡ parts_at made other → after ≡ mid ++ parts ∷ []
+    → pending_tokens (meanings made) before ≡ pending_tokens (meanings made) after
 unfolding part_tokens meaning
-walks_earlier made old now place before mid after other parts order w p is e =
+earlier_same made before mid after other parts order p is e =
     let table = meanings made in
     let entered : pending_tokens table after ≡ meaning made other ++ pending_tokens table mid =
-    ap (pending_tokens table) e ∙ pending_one table mid parts ∙ ap (λ l. l ++ pending_tokens table mid) (ap (parts_tokens table) is ∙ sym (meaning_at made other order)) in
-    let same : pending_tokens table before ≡ pending_tokens table after = pops_tokens table before mid (Earlier other) p ∙ sym entered in
-    record { tokens = w.tokens ∙ ap (λ l. now.tokens.items ++ l) same; places = w.places ∙ ap (λ l. place_behind l now.place) same }
+    ap (pending_tokens table) e ∙ pending_one table mid parts
+    ∙ ap (λ l. l ++ pending_tokens table mid) (ap (parts_tokens table) is ∙ sym (meaning_at made other order)) in
+    pops_tokens table before mid (Earlier other) p ∙ sym entered
 
-pub earlier_steps : (made : List Definition) (before mid after : List (Bor (List Part))) (other : ℕ) (parts : Bor (List Part)) → are_ordered 0 made ≡ true
+pub earlier_steps : (made : List Definition) (before mid after : List (Bor (List Part))) (other : ℕ)
+    (parts : Bor (List Part)) → are_ordered 0 made ≡ true
     → Pops before (Earlier other) mid → parts.now ≡ parts_at made other → after ≡ mid ++ parts ∷ []
     → pending_steps (steps_of made) after < pending_steps (steps_of made) before
 unfolding part_steps
 earlier_steps made before mid after other parts order p is e =
     let table = steps_of made in
-    let entered : pending_steps table after ≡ 1 + parts_steps table parts.now + pending_steps table mid = ap (pending_steps table) e ∙ steps_one table mid parts in
-    omega (arith, pops_steps table before mid (Earlier other) p, entered, ap (parts_steps table) is, steps_at made other order)
+    let entered : pending_steps table after ≡ 1 + parts_steps table parts.now + pending_steps table mid =
+    ap (pending_steps table) e ∙ steps_one table mid parts in
+    omega (
+      arith,
+      pops_steps table before mid (Earlier other) p,
+      entered,
+      ap (parts_steps table) is,
+      steps_at made other order,
+    )
 
 -- parts of which none is left
-pub walks_past : (made : List Definition) (old now : Output) (place : ℕ) (before after : List (Bor (List Part))) (parts : Bor (List Part)) → Walks made old place now before
-    → before ≡ after ++ parts ∷ [] → length parts.now ≡ 0 → Walks made old place now after
+pub past_same : (table : List (List Token)) (before after : List (Bor (List Part))) (parts : Bor (List Part))
+    → before ≡ after ++ parts ∷ [] → length parts.now ≡ 0 → pending_tokens table before ≡ pending_tokens table after
 unfolding parts_tokens
-walks_past made old now place before after parts w e none =
-    let table = meanings made in
-    let same : pending_tokens table before ≡ pending_tokens table after =
-    ap (pending_tokens table) e ∙ pending_one table after parts ∙ ap (λ l. parts_tokens table l ++ pending_tokens table after) (nil_from_length parts.now none) in
-    record { tokens = w.tokens ∙ ap (λ l. now.tokens.items ++ l) same; places = w.places ∙ ap (λ l. place_behind l now.place) same }
+past_same table before after parts e none =
+    ap (pending_tokens table) e ∙ pending_one table after parts
+    ∙ ap (λ l. parts_tokens table l ++ pending_tokens table after) (nil_from_length parts.now none)
 
-pub past_steps : (table : List ℕ) (before after : List (Bor (List Part))) (parts : Bor (List Part)) → before ≡ after ++ parts ∷ []
+pub past_steps : (table : List ℕ) (before after : List (Bor (List Part))) (parts : Bor (List Part))
+    → before ≡ after ++ parts ∷ []
     → pending_steps table after < pending_steps table before
 past_steps table before after parts e = omega (arith, ap (pending_steps table) e, steps_one table after parts)
 
 -- nothing is pending
-pub walks_over : (made : List Definition) (old now : Output) (place : ℕ) (pending : List (Bor (List Part))) → Walks made old place now pending → length pending ≡ 0
+pub walks_over : (made : List Definition) (old now : Output) (place : ℕ) (pending : List (Bor (List Part)))
+    → Walks made old place now pending → length pending ≡ 0
     → IsBehind old (meaning made place) now
 unfolding pending_tokens
 walks_over made old now place pending w none =
-    let over : pending_tokens (meanings made) pending ≡ [] = ap (pending_tokens (meanings made)) (nil_from_length pending none) in
+    let over : pending_tokens (meanings made) pending ≡ [] =
+    ap (pending_tokens (meanings made)) (nil_from_length pending none) in
     record {
       tokens = sym (w.tokens ∙ ap (λ l. now.tokens.items ++ l) over ∙ append-nil now.tokens.items);
       place = sym (w.places ∙ ap (λ l. place_behind l now.place) over);
     }
 
-pub walks_first : (made : List Definition) (old : Output) (place : ℕ) (parts : Bor (List Part)) (pending : List (Bor (List Part)))
-    → are_ordered 0 made ≡ true → parts.now ≡ parts_at made place → pending ≡ [] ++ parts ∷ [] → Walks made old place old pending
+pub walks_first : (made : List Definition) (old : Output) (place : ℕ) (parts : Bor (List Part))
+    (pending : List (Bor (List Part)))
+    → are_ordered 0 made ≡ true → parts.now ≡ parts_at made place → pending ≡ [] ++ parts ∷ []
+    → Walks made old place old pending
 unfolding pending_tokens
 walks_first made old place parts pending order is e =
     let all : meaning made place ≡ pending_tokens (meanings made) pending =
-    meaning_at made place order ∙ ap (parts_tokens (meanings made)) (sym is) ∙ sym (append-nil (parts_tokens (meanings made) parts.now))
+    meaning_at made place order ∙ ap (parts_tokens (meanings made)) (sym is)
+    ∙ sym (append-nil (parts_tokens (meanings made) parts.now))
     ∙ sym (pending_one (meanings made) [] parts) ∙ ap (pending_tokens (meanings made)) (sym e) in
     record { tokens = ap (λ l. old.tokens.items ++ l) all; places = ap (λ l. place_behind l old.place) all }

@@ -1,5 +1,6 @@
 -- What the expansion of a script gives.
-use Rattle.std.specs.Prelude.{ℕ, zero, suc, ◌+◌, ◌-◌, ◌&&◌, ◌||◌, if◌then◌else◌, not, nat_lt, Bool, true, false, List, [], ◌∷◌, ◌++◌, length, codes, Option, Some, None, Result, Ok, Err}
+use Rattle.std.specs.Prelude.{ℕ, zero, suc, ◌+◌, ◌-◌, ◌&&◌, ◌||◌, if◌then◌else◌, not, nat_lt, Bool, true, false, List}
+use Rattle.std.specs.Prelude.{[], ◌∷◌, ◌++◌, length, codes, Option, Some, None, Result, Ok, Err}
 use Rattle.std.specs.Option.{option_map}
 use Rattle.std.specs.Str.{bytes_eq}
 use Rattle.slonik_tokens.specs.Cut.{cut_of}
@@ -19,7 +20,8 @@ token_limit = 65536
 abbrev pub level_limit : ℕ
 level_limit = 8
 
--- A place tells where the next token of a script comes to stand: whether it is the first one or follows `;`, `{` or `}`,
+-- A place tells where the next token of a script comes to stand: whether it is the first one or follows `;`, `{` or
+-- `}`,
 -- whether it follows a TRY that starts a statement, and whether it stands in a try block. This is the first one's.
 abbrev pub first_place : Place
 first_place = record { starts = true; tries = false; inside = false }
@@ -33,7 +35,8 @@ abbrev pub place_after : Token → Place → Place
 place_after token place = record {
   starts = ends_statement token;
   tries = place.starts && is_word (codes "try") token;
-  inside = if is_sign CloseBrace token then false else (if is_sign OpenBrace token then place.inside || place.tries else place.inside);
+  inside = if is_sign CloseBrace token then false else (if is_sign OpenBrace token then place.inside
+      || place.tries else place.inside);
 }
 
 -- What was made so far: the tokens that came out, the place of the next one, what each name stands for, and how many
@@ -110,7 +113,8 @@ used name (Some tokens) m = within_limit (put_all tokens m)
 -- the tokens before the first `;`, if there is one
 abbrev pub before_semicolon : List Token → Option (List Token)
 before_semicolon [] = None
-before_semicolon (token ∷ tokens) = if is_sign Semicolon token then Some [] else option_map (λ front. token ∷ front) (before_semicolon tokens)
+before_semicolon (token ∷ tokens) =
+    if is_sign Semicolon token then Some [] else option_map (λ front. token ∷ front) (before_semicolon tokens)
 
 -- What the first of some tokens begins.
 pub data Form : Type 0 where
@@ -174,14 +178,16 @@ of_file expand (Err line) m = Wrong (BadToken line) m.left
 -- a file with these bytes is included, if so many are left
 abbrev pub include_bytes : (List Token → Making → Ending) → List ℕ → Making → Ending
 include_bytes expand bytes m =
-    if nat_lt m.left (length bytes) then Long else of_file expand (cut_of bytes) (record m { left = m.left - length bytes })
+    if nat_lt m.left (length bytes) then Long else of_file expand (cut_of bytes)
+    (record m { left = m.left - length bytes })
 
 -- the file of a path is included, if there is one
 abbrev pub include_file : (List Token → Making → Ending) → List ℕ → Option (List ℕ) → Making → Ending
 include_file expand path None m = Wrong (NoFile path) m.left
 include_file expand path (Some bytes) m = include_bytes expand bytes m
 
--- What an INCLUDE of a path gives over the files that these names have, where so many levels of files may still be included.
+-- What an INCLUDE of a path gives over the files that these names have, where so many levels of files may still be
+-- included.
 unfoldable pub include_at : (List ℕ → Option (List ℕ)) → ℕ → List ℕ → Making → Ending
 include_at files zero path m = Wrong (Depth path) m.left
 include_at files (suc levels) path m = include_file (expand_from (include_at files levels) 0) path (files path) m

@@ -1,5 +1,6 @@
 -- What definitions stand for whose parts are tokens and earlier definitions.
-use Rattle.std.specs.Prelude.{ℕ, ◌+◌, ◌-◌, ◌^◌, min, nat_lt, ◌&&◌, Bool, true, List, [], ◌∷◌, ◌++◌, slice_get, slice_index_or, Option, Some, None}
+use Rattle.std.specs.Prelude.{ℕ, ◌+◌, ◌-◌, ◌^◌, min, nat_lt, ◌&&◌, Bool, true, List, [], ◌∷◌, ◌++◌, slice_get}
+use Rattle.std.specs.Prelude.{slice_index_or, Option, Some, None}
 use Rattle.slonik_tokens.specs.declared.token.Token.{Token}
 use Rattle.slonik_expand.specs.declared.definition.Part.{Part}
 use Rattle.slonik_expand.specs.declared.definition.Part.TheVariants.{Single, Earlier}
@@ -19,11 +20,13 @@ unfoldable pub parts_tokens : List (List Token) → List Part → List Token
 parts_tokens table [] = []
 parts_tokens table (part ∷ parts) = part_tokens table part ++ parts_tokens table parts
 
--- The values of some definitions, behind those of the definitions before them. A definition's value is made of its parts and
+-- The values of some definitions, behind those of the definitions before them. A definition's value is made of its
+-- parts and
 -- of the values before it.
 unfoldable pub values_behind : {X : Type 0} → (List X → List Part → X) → List X → List Definition → List X
 values_behind value table [] = table
-values_behind value table (definition ∷ made) = values_behind value (table ++ value table definition.parts.items ∷ []) made
+values_behind value table (definition ∷ made) =
+    values_behind value (table ++ value table definition.parts.items ∷ []) made
 
 -- what each definition stands for
 unfoldable pub meanings : List Definition → List (List Token)

@@ -9,8 +9,8 @@ use slon_base::Text;
 use slonik_tokens::{ParseFault, ScriptRefusal, Token};
 use std::alloc::{AllocError, Global};
 
-/// What names stand for. A definition that uses another shares it, so what is kept grows with the text of the definitions
-/// and not with the tokens that they stand for.
+/// What names stand for. A definition that uses another shares it, so what is kept grows with the text of the
+/// definitions and not with the tokens that they stand for.
 #[derive(Drop)]
 pub(crate) struct Definitions {
     // each that was made, also those whose name stands for another one since
@@ -73,7 +73,8 @@ impl Definitions {
         definition: &mut Definition,
         token: &Token,
     ) -> Result<(), ParseFault>
-        ensures { Adds self.now.made.items (replaced_one (names_of self.now) token.now) definition.old definition.new result }
+        ensures { Adds self.now.made.items (replaced_one (names_of self.now) token.now) definition.old definition.new
+            result }
     {
         match token {
             Token::NameUse(name) => match self.find(name) {
@@ -95,7 +96,8 @@ impl Definitions {
     /// Adds an earlier definition, unless that stands for nothing.
     fn add_earlier(&self, definition: &mut Definition, place: usize) -> Result<(), AllocError>
         requires { place < length self.now.made.items }
-        ensures { OnOk result ((tokens : List AToken) → Means self.now.made.items definition.old tokens → Means self.now.made.items definition.new (tokens ++ meaning self.now.made.items place)) }
+        ensures { OnOk result ((tokens : List AToken) → Means self.now.made.items definition.old tokens
+            → Means self.now.made.items definition.new (tokens ++ meaning self.now.made.items place)) }
     {
         let len = self.len(place);
         if len > 0 {
@@ -117,7 +119,8 @@ impl Definitions {
 
     /// The place of a definition that stands for the same as this one, which is made here unless it is an earlier one.
     fn settle(&mut self, definition: Definition) -> Result<usize, AllocError>
-        requires { Means self.old.made.items definition (parts_tokens (meanings self.old.made.items) definition.parts.items) }
+        requires { Means self.old.made.items definition
+            (parts_tokens (meanings self.old.made.items) definition.parts.items) }
         ensures settles { IfOk result (λ place. Settles self.old.made.items definition self.new.made.items place) }
         ensures places { self.new.places ≡ self.old.places }
     {
@@ -137,7 +140,8 @@ impl Definitions {
         name: &Text,
         tokens: &[Token],
     ) -> Result<(), ParseFault>
-        ensures { Defines (names_of self.old) name.now (replaced (names_of self.old) tokens.now) (names_of self.new) result }
+        ensures { Defines (names_of self.old) name.now (replaced (names_of self.old) tokens.now) (names_of self.new)
+            result }
     {
         let definition = self.definition_of(alloc, tokens)?;
         let place = self.settle(definition)?;

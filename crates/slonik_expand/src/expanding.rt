@@ -24,7 +24,8 @@ fn included_tokens<F: Files>(
 ) -> Result<Vec<Token>, ParseFault>
     ensures ends { (names : List ℕ → Option (List ℕ)) → (F.filed files.old).names ≡ Some names
         → (expand : List Token → Making → Ending)
-        → Includes (λ v. v.items) expand (include_file expand path.now (names path.now) (making_of progress.old)) (making_of progress.new) result }
+        → Includes (λ v. v.items) expand (include_file expand path.now (names path.now) (making_of progress.old))
+        (making_of progress.new) result }
     ensures cause { IsErrOf result ParseFault.ReadFault → Rose (F.filed files.old).faults (F.filed files.new).faults }
     ensures files { Stays (F.filed files.old) (F.filed files.new) }
 {
@@ -67,13 +68,14 @@ fn expand_text<F: Files>(
     Ok(())
 }
 
-/// The tokens of a script with its names replaced and its files included. `left` is how many bytes the included files may
-/// still hold; the bytes of each file that is read are taken off it. The files are left as they were entered before.
+/// The tokens of a script with its names replaced and its files included. `left` is how many bytes the included files
+/// may still hold; the bytes of each file that is read are taken off it. The files are left as they were entered
+/// before.
 ///
 /// # Errors
 ///
-/// `Refused` where the script is wrong, `TooLong` where the included files hold more than `left` bytes, `ReadFault` where the
-/// files failed, `NoMemory` where there is none.
+/// `Refused` where the script is wrong, `TooLong` where the included files hold more than `left` bytes, `ReadFault`
+/// where the files failed, `NoMemory` where there is none.
 pub fn expand<F: Files>(
     alloc: Global,
     tokens: Vec<Token>,

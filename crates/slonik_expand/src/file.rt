@@ -18,7 +18,8 @@ fn read_entered<F: Files>(alloc: Global, files: &mut F, limit: u64) -> Result<Ve
     ensures files { KeepsOthers (F.filed files.old) (F.filed files.new) }
     ensures cause { IsErrOf result ParseFault.ReadFault → Rose (F.filed files.old).faults (F.filed files.new).faults }
     ensures limit { IfOk result (λ v. length v.items ≤ limit) }
-    ensures whole { (bytes : List ℕ) → top (F.filed files.old).stack ≡ Some bytes → IsWhole (λ v. v.items) bytes limit result }
+    ensures whole { (bytes : List ℕ) → top (F.filed files.old).stack ≡ Some bytes
+        → IsWhole (λ v. v.items) bytes limit result }
 {
     let mut buffer = vec![in alloc; 0; BUFFER_LEN]?;
     let mut bytes = Vec::new(alloc);
@@ -46,7 +47,8 @@ pub(crate) fn read_file<F: Files>(
     ensures files { Stays (F.filed files.old) (F.filed files.new) }
     ensures cause { IsErrOf result ParseFault.ReadFault → Rose (F.filed files.old).faults (F.filed files.new).faults }
     ensures limit { IfOk result (λ found. IfSome found (λ v. length v.items ≤ limit)) }
-    ensures file { (names : List ℕ → Option (List ℕ)) → (F.filed files.old).names ≡ Some names → IsFile (λ v. v.items) (names path.now) limit result }
+    ensures file { (names : List ℕ → Option (List ℕ)) → (F.filed files.old).names ≡ Some names
+        → IsFile (λ v. v.items) (names path.now) limit result }
 {
     if !files.enter(path.as_slice())? {
         return Ok(None);

@@ -77,8 +77,8 @@ fn inclusion_in<'a>(rest: &'a [Token]) -> Form<'a>
     }
 }
 
-/// What begins with this token at this place and goes on so, where `closes` may be false only if no `;` stands behind the
-/// next token.
+/// What begins with this token at this place and goes on so, where `closes` may be false only if no `;` stands behind
+/// the next token.
 pub(crate) fn form_at<'a>(
     place: Place,
     token: &'a Token,

@@ -7,5 +7,6 @@ ghost use Rattle.slonik_expand.specs.Uses.{IsNoUse};
 
 /// No `@name` is among the tokens that come out.
 pub fn no_use_comes_out()
-    ensures { (names : List ℕ → Option (List ℕ)) (left : ℕ) (tokens : List Token) (making : Making) → expansion_of names left tokens ≡ Made making → All IsNoUse making.out }
+    ensures { (names : List ℕ → Option (List ℕ)) (left : ℕ) (tokens : List Token) (making : Making)
+        → expansion_of names left tokens ≡ Made making → All IsNoUse making.out }
 {}

@@ -68,8 +68,8 @@ impl Output {
         Ok(())
     }
 
-    /// All that the definition at a place stands for comes out. Definitions may use one another in a chain of any length, so
-    /// what is still to come out is kept in a list.
+    /// All that the definition at a place stands for comes out. Definitions may use one another in a chain of any
+    /// length, so what is still to come out is kept in a list.
     fn emit_definition(
         &mut self,
         alloc: Global,

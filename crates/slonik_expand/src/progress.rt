@@ -1,6 +1,7 @@
 // What was made of a script so far.
 ghost use Rattle.std.specs.Prelude.{◌≡◌, ◌<◌, ◌≤◌, ℕ, List, [], ◌∷◌, drop, length, None, IfOk, IfSome};
-ghost use Rattle.slonik_expand.specs.Expansion.{Making, Ending, nothing_made, put_all, within_limit, used, defined, replaced, before_semicolon, expand_from};
+ghost use Rattle.slonik_expand.specs.Expansion.{Making, Ending, nothing_made, put_all, within_limit, used, defined};
+ghost use Rattle.slonik_expand.specs.Expansion.{replaced, before_semicolon, expand_from};
 ghost use Rattle.slonik_expand.specs.Steps.{names_of, making_of, Goes, Runs};
 
 use crate::definitions::Definitions;
@@ -39,7 +40,8 @@ impl Progress {
 
     /// A name is replaced by what it stands for.
     fn put_named(&mut self, alloc: Global, name: &Text) -> Result<(), ParseFault>
-        ensures { Goes (used name.now ((making_of self.old).names name.now) (making_of self.old)) (making_of self.new) result }
+        ensures { Goes (used name.now ((making_of self.old).names name.now) (making_of self.old)) (making_of self.new)
+            result }
     {
         match self.definitions.find(name) {
             Some(place) => self.output.put_definition(alloc, &self.definitions, place),
@@ -52,13 +54,14 @@ impl Progress {
 
     /// A name stands for these tokens from now on, with the names in them replaced.
     fn define(&mut self, alloc: Global, name: &Text, tokens: &[Token]) -> Result<(), ParseFault>
-        ensures { Goes (defined name.now (replaced (making_of self.old).names tokens.now) (making_of self.old)) (making_of self.new) result }
+        ensures { Goes (defined name.now (replaced (making_of self.old).names tokens.now) (making_of self.old))
+            (making_of self.new) result }
     {
         self.definitions.define(alloc, name, tokens)
     }
 
-    /// Expands the tokens from a place on up to the next INCLUDE, and gives the place behind it and its path, or `None` at the
-    /// end. No `;` stands at `closed` or behind it.
+    /// Expands the tokens from a place on up to the next INCLUDE, and gives the place behind it and its path, or
+    /// `None` at the end. No `;` stands at `closed` or behind it.
     pub(crate) fn run<'a>(
         &mut self,
         alloc: Global,
@@ -67,7 +70,9 @@ impl Progress {
         closed: usize,
     ) -> Result<Option<(usize, &'a Text)>, ParseFault>
         requires { (n : ℕ) → closed ≤ n → before_semicolon (drop n tokens.now) ≡ None }
-        ensures runs { (include : List ℕ → Making → Ending) → Runs include tokens.now (expand_from include 0 (drop start tokens.now) (making_of self.old)) (making_of self.new) result }
+        ensures runs { (include : List ℕ → Making → Ending)
+            → Runs include tokens.now (expand_from include 0 (drop start tokens.now) (making_of self.old))
+            (making_of self.new) result }
         ensures moves { IfOk result (λ found. IfSome found (λ f. (start < length tokens.now) × (start < f.0))) }
     {
         let mut at = start;

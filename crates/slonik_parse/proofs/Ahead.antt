@@ -1,5 +1,6 @@
 -- How little a step looks ahead.
-use Rattle.std.proofs.Common.{◌≡◌, ◌⊎◌, ℕ, ◌==◌, ◌&&◌, ◌||◌, Bool, true, false, List, [], ◌∷◌, length, codes, Option, Some, None, Result, Ok, Err, cond, if◌then◌else◌, refl, ap, ◌∙◌, inl, inr}
+use Rattle.std.proofs.Common.{◌≡◌, ◌⊎◌, ℕ, ◌==◌, ◌&&◌, ◌||◌, Bool, true, false, List, [], ◌∷◌, length, codes, Option}
+use Rattle.std.proofs.Common.{Some, None, Result, Ok, Err, cond, if◌then◌else◌, refl, ap, ◌∙◌, inl, inr}
 use Rattle.slonik_tokens.specs.declared.token.Sign.TheVariants.{Semicolon, OpenBrace, CloseBrace}
 use Rattle.slonik_tokens.specs.declared.token.Token.{Token}
 use Rattle.slonik_tokens.specs.declared.token.Token.TheVariants.{Word, Number, Quoted, Mark, NameUse, Path}
@@ -17,8 +18,10 @@ use Rattle.slonik_parse.specs.declared.state.Goal.TheVariants as goal
 use Rattle.slonik_parse.specs.declared.state.Handler.TheVariants.{Error, Success}
 use Rattle.slonik_parse.specs.declared.state.State.{State}
 use Rattle.slonik_parse.specs.declared.state.State.TheVariants.{Awaits, At}
-use Rattle.slonik_parse.specs.Choices.{is_left_out, is_not_in_try, is_option_left_out, verb_at, store_at, drop_at, goes_on_with, option_at}
-use Rattle.slonik_parse.specs.Machine.{step, goal_step, command_step, begin_in, begin_outside, begin_tried, any_command, begin_verb, option_step, begin_option, after_try, sign_then, lower, close}
+use Rattle.slonik_parse.specs.Choices.{is_left_out, is_not_in_try, is_option_left_out, verb_at, store_at, drop_at}
+use Rattle.slonik_parse.specs.Choices.{goes_on_with, option_at}
+use Rattle.slonik_parse.specs.Machine.{step, goal_step, command_step, begin_in, begin_outside, begin_tried, any_command}
+use Rattle.slonik_parse.specs.Machine.{begin_verb, option_step, begin_option, after_try, sign_then, lower, close}
 use Rattle.slonik_parse.specs.Scripts.{with_statement, lacks}
 use Rattle.slonik_parse.proofs.Pieces.{first_of}
 
@@ -26,7 +29,8 @@ use Rattle.slonik_parse.proofs.Pieces.{first_of}
 abbrev pub Errs : Result State Misparse → Type 0
 Errs made = (misparse : Misparse) × (made ≡ Err misparse)
 
--- An answer with other tokens ahead: the same, or an error, where the first of them is the same; and where the one is no
+-- An answer with other tokens ahead: the same, or an error, where the first of them is the same; and where the one is
+-- no
 -- fit, the other is an error.
 pub record Alike (ts us : List Token) (one other : Result State Misparse) : Type 0 where
   pub same : first_of us ≡ first_of ts → (next : State) → one ≡ Ok next → (other ≡ Ok next) ⊎ Errs other
@@ -36,21 +40,28 @@ alike_same : (ts us : List Token) (made : Result State Misparse) → Alike ts us
 alike_same ts us made = record { same = λ e next h. inl h; errs = λ h. (Misfit, h) }
 
 -- a refusal before, by what is ahead
-alike_refused : (ts us : List Token) (a b : Bool) (misparse : Misparse) (one other : Result State Misparse) → (misparse ≡ Misfit → ⊥) → Alike ts us one other → Alike ts us (cond a (Err misparse) one) (cond b (Err misparse) other)
-alike_refused ts us true true misparse one other differs al = record { same = λ e next h. inr (misparse, refl); errs = λ h. (misparse, refl) }
-alike_refused ts us true false misparse one other differs al = record { same = λ e next h. cc; errs = λ h. absurd (differs (cc)) }
-alike_refused ts us false true misparse one other differs al = record { same = λ e next h. inr (misparse, refl); errs = λ h. (misparse, refl) }
+alike_refused : (ts us : List Token) (a b : Bool) (misparse : Misparse) (one other : Result State Misparse)
+    → (misparse ≡ Misfit → ⊥) → Alike ts us one other
+    → Alike ts us (cond a (Err misparse) one) (cond b (Err misparse) other)
+alike_refused ts us true true misparse one other differs al =
+    record { same = λ e next h. inr (misparse, refl); errs = λ h. (misparse, refl) }
+alike_refused ts us true false misparse one other differs al =
+    record { same = λ e next h. cc; errs = λ h. absurd (differs (cc)) }
+alike_refused ts us false true misparse one other differs al =
+    record { same = λ e next h. inr (misparse, refl); errs = λ h. (misparse, refl) }
 alike_refused ts us false false misparse one other differs al = al
 
 -- two refusals
-one_of : (ts us : List Token) (a b : Bool) (m n : Misparse) → (m ≡ Misfit → ⊥) → (n ≡ Misfit → ⊥) → Alike ts us (cond a (Err m) (Err n)) (cond b (Err m) (Err n))
+one_of : (ts us : List Token) (a b : Bool) (m n : Misparse) → (m ≡ Misfit → ⊥) → (n ≡ Misfit → ⊥)
+    → Alike ts us (cond a (Err m) (Err n)) (cond b (Err m) (Err n))
 one_of ts us true true m n f g = alike_same ts us (Err m)
 one_of ts us false false m n f g = alike_same ts us (Err n)
 one_of ts us true false m n f g = record { same = λ e next h. cc; errs = λ h. (n, refl) }
 one_of ts us false true m n f g = record { same = λ e next h. cc; errs = λ h. (m, refl) }
 
 -- a test that does not look ahead
-alike_cond : (ts us : List Token) (b : Bool) (here one other : Result State Misparse) → Alike ts us one other → Alike ts us (cond b here one) (cond b here other)
+alike_cond : (ts us : List Token) (b : Bool) (here one other : Result State Misparse) → Alike ts us one other
+    → Alike ts us (cond b here one) (cond b here other)
 alike_cond ts us true here one other al = alike_same ts us here
 alike_cond ts us false here one other al = al
 
@@ -59,14 +70,16 @@ found word None = false
 found word (Some token) = is_word word token
 
 -- the first token ahead decides what follows a word
-goes_on_same : (word : List ℕ) (token : Token) (ts us : List Token) → first_of us ≡ first_of ts → goes_on_with word (token ∷ us) ≡ goes_on_with word (token ∷ ts)
+goes_on_same : (word : List ℕ) (token : Token) (ts us : List Token) → first_of us ≡ first_of ts
+    → goes_on_with word (token ∷ us) ≡ goes_on_with word (token ∷ ts)
 unfolding goes_on_with
 goes_on_same word token [] [] e = refl
 goes_on_same word token [] (u ∷ us) e = cc
 goes_on_same word token (t ∷ ts) [] e = cc
 goes_on_same word token (t ∷ ts) (u ∷ us) e = ap (λ o. found word o) e
 
-verb_same : (token : Token) (ts us : List Token) → first_of us ≡ first_of ts → verb_at token (token ∷ us) ≡ verb_at token (token ∷ ts)
+verb_same : (token : Token) (ts us : List Token) → first_of us ≡ first_of ts
+    → verb_at token (token ∷ us) ≡ verb_at token (token ∷ ts)
 unfolding verb_at store_at drop_at
 verb_same token ts us e = simp (goes_on_same (codes "path") token ts us e, goes_on_same (codes "set") token ts us e)
 
@@ -92,32 +105,43 @@ unfolding begin_verb
 begun block None h = refl
 begun block (Some x) h = cc
 
-alike_verb : (block : Block) (token : Token) (ts us : List Token) → Alike ts us (begin_verb block (verb_at token (token ∷ ts))) (begin_verb block (verb_at token (token ∷ us)))
+alike_verb : (block : Block) (token : Token) (ts us : List Token)
+    → Alike ts us (begin_verb block (verb_at token (token ∷ ts))) (begin_verb block (verb_at token (token ∷ us)))
 unfolding begin_verb
 alike_verb block token ts us = record {
   same = λ e next h. inl (ap (begin_verb block) (verb_same token ts us e) ∙ h);
-  errs = λ h. (Misfit, ap (begin_verb block) (verb_none token (token ∷ ts) (token ∷ us) (begun block (verb_at token (token ∷ ts)) h)));
+  errs = λ h. (
+    Misfit,
+    ap (begin_verb block) (verb_none token (token ∷ ts) (token ∷ us)
+        (begun block (verb_at token (token ∷ ts)) h)),
+  );
 }
 
-alike_any : (block : Block) (text : List ℕ) (token : Token) (ts us : List Token) → Alike ts us (any_command block text token (token ∷ ts)) (any_command block text token (token ∷ us))
+alike_any : (block : Block) (text : List ℕ) (token : Token) (ts us : List Token)
+    → Alike ts us (any_command block text token (token ∷ ts)) (any_command block text token (token ∷ us))
 unfolding any_command
 alike_any block text token ts us =
     alike_refused ts us (is_left_out (token ∷ ts)) (is_left_out (token ∷ us)) (NotInProfile (lower text)) _ _ (λ e. cc)
     (alike_cond ts us (is_word (codes "echo") token) (Ok (At (goal.EchoText block))) _ _
-    (alike_cond ts us (is_word (codes "exit") token) (Ok (At (goal.ExitStatus block))) _ _ (alike_verb block token ts us)))
+    (alike_cond ts us (is_word (codes "exit") token) (Ok (At (goal.ExitStatus block))) _ _
+    (alike_verb block token ts us)))
 
-alike_block : (block : Block) (text : List ℕ) (token : Token) (ts us : List Token) → Alike ts us (begin_in block text token (token ∷ ts)) (begin_in block text token (token ∷ us))
+alike_block : (block : Block) (text : List ℕ) (token : Token) (ts us : List Token)
+    → Alike ts us (begin_in block text token (token ∷ ts)) (begin_in block text token (token ∷ us))
 unfolding begin_in begin_outside begin_tried
 alike_block (Outside script) text token ts us =
     alike_cond ts us (is_word (codes "node") token && length script.statements == 0) (Ok (At (goal.NodeId script))) _ _
-    (alike_cond ts us (is_word (codes "try") token) (Ok (sign_then OpenBrace (goal.Command (InTry script [])))) _ _ (alike_any (Outside script) text token ts us))
+    (alike_cond ts us (is_word (codes "try") token) (Ok (sign_then OpenBrace (goal.Command (InTry script [])))) _ _
+    (alike_any (Outside script) text token ts us))
 alike_block (InTry script commands) text token ts us =
     alike_refused ts us (is_left_out (token ∷ ts)) (is_left_out (token ∷ us)) (NotInProfile (lower text)) _ _ (λ e. cc)
     (alike_refused ts us (is_not_in_try (token ∷ ts)) (is_not_in_try (token ∷ us)) (NotInTry (lower text)) _ _ (λ e. cc)
     (alike_cond ts us (is_word (codes "wait") token) (Err Misfit) _ _ (alike_verb (InTry script commands) token ts us)))
-alike_block (InHandler script tried handler commands) text token ts us = alike_any (InHandler script tried handler commands) text token ts us
+alike_block (InHandler script tried handler commands) text token ts us =
+    alike_any (InHandler script tried handler commands) text token ts us
 
-alike_command : (block : Block) (token : Token) (ts us : List Token) → Alike ts us (command_step block token (token ∷ ts)) (command_step block token (token ∷ us))
+alike_command : (block : Block) (token : Token) (ts us : List Token)
+    → Alike ts us (command_step block token (token ∷ ts)) (command_step block token (token ∷ us))
 unfolding command_step
 alike_command block (Word text) ts us = alike_block block text (Word text) ts us
 alike_command block (Number text) ts us = alike_same ts us (Err Misfit)
@@ -126,21 +150,28 @@ alike_command block (Mark sign) ts us = alike_same ts us (if same_sign sign Clos
 alike_command block (NameUse name) ts us = alike_same ts us (Err Misfit)
 alike_command block (Path path) ts us = alike_same ts us (Err Misfit)
 
-alike_begun : (block : Block) (v : Verb) (given : Given) (text : List ℕ) (ts us tokens others : List Token) (option : Option OptionName) → Alike ts us (begin_option block v given text tokens option) (begin_option block v given text others option)
+alike_begun : (block : Block) (v : Verb) (given : Given) (text : List ℕ) (ts us tokens others : List Token)
+    (option : Option OptionName) → Alike ts us (begin_option block v given text tokens option)
+    (begin_option block v given text others option)
 unfolding begin_option
 alike_begun block v given text ts us tokens others (Some option) = alike_same ts us _
-alike_begun block v given text ts us tokens others None = one_of ts us (is_option_left_out v tokens) (is_option_left_out v others) (NotInProfile (lower text)) (UnknownOption (lower text)) (λ e. cc) (λ e. cc)
+alike_begun block v given text ts us tokens others None =
+    one_of ts us (is_option_left_out v tokens) (is_option_left_out v others) (NotInProfile (lower text))
+    (UnknownOption (lower text)) (λ e. cc) (λ e. cc)
 
-alike_option : (block : Block) (v : Verb) (given : Given) (token : Token) (ts us : List Token) → Alike ts us (option_step block v given token (token ∷ ts)) (option_step block v given token (token ∷ us))
+alike_option : (block : Block) (v : Verb) (given : Given) (token : Token) (ts us : List Token)
+    → Alike ts us (option_step block v given token (token ∷ ts)) (option_step block v given token (token ∷ us))
 unfolding option_step
-alike_option block v given (Word text) ts us = alike_begun block v given text ts us (Word text ∷ ts) (Word text ∷ us) (option_at v (Word text))
+alike_option block v given (Word text) ts us =
+    alike_begun block v given text ts us (Word text ∷ ts) (Word text ∷ us) (option_at v (Word text))
 alike_option block v given (Number text) ts us = alike_same ts us _
 alike_option block v given (Quoted text) ts us = alike_same ts us _
 alike_option block v given (Mark sign) ts us = alike_same ts us _
 alike_option block v given (NameUse name) ts us = alike_same ts us _
 alike_option block v given (Path path) ts us = alike_same ts us _
 
-alike_goal : (g : Goal) (token : Token) (ts us : List Token) → Alike ts us (goal_step g token (token ∷ ts)) (goal_step g token (token ∷ us))
+alike_goal : (g : Goal) (token : Token) (ts us : List Token)
+    → Alike ts us (goal_step g token (token ∷ ts)) (goal_step g token (token ∷ us))
 unfolding goal_step after_try
 alike_goal goal.ClusterName token ts us = alike_same ts us _
 alike_goal (goal.NodeId script) token ts us = alike_same ts us _
@@ -152,13 +183,16 @@ alike_goal (goal.AfterOption block v given) token ts us = alike_same ts us _
 alike_goal (goal.EchoText block) token ts us = alike_same ts us _
 alike_goal (goal.ExitStatus block) token ts us = alike_same ts us _
 alike_goal (goal.AfterTry script tried) token ts us =
-    alike_cond ts us (is_sign Semicolon token) (Ok (At (goal.Command (Outside (with_statement (Tried tried) script))))) _ _
-    (alike_cond ts us (is_word (codes "on") token && (lacks Error tried || lacks Success tried)) (Ok (At (goal.AfterOn script tried))) _ _
+    alike_cond ts us (is_sign Semicolon token) (Ok (At (goal.Command (Outside (with_statement (Tried tried) script)))))
+    _ _
+    (alike_cond ts us (is_word (codes "on") token && (lacks Error tried || lacks Success tried))
+    (Ok (At (goal.AfterOn script tried))) _ _
     (alike_command (Outside (with_statement (Tried tried) script)) token ts us))
 alike_goal (goal.AfterOn script tried) token ts us = alike_same ts us _
 
 -- a step with other tokens ahead
-pub alike : (state : State) (token : Token) (ts us : List Token) → Alike ts us (step state token (token ∷ ts)) (step state token (token ∷ us))
+pub alike : (state : State) (token : Token) (ts us : List Token)
+    → Alike ts us (step state token (token ∷ ts)) (step state token (token ∷ us))
 unfolding step
 alike (Awaits phrase at sign g) token ts us = alike_same ts us _
 alike (At g) token ts us = alike_goal g token ts us

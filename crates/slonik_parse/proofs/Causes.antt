@@ -1,5 +1,6 @@
 -- What the grammar refuses is refused so.
-use Rattle.std.proofs.Common.{◌≡◌, ℕ, ◌+◌, ◌-◌, ◌&&◌, ◌||◌, Bool, true, false, List, [], ◌∷◌, ◌++◌, length, drop, codes, None, Err, cond, refl, ap, sym, ◌∙◌, subst, arith}
+use Rattle.std.proofs.Common.{◌≡◌, ℕ, ◌+◌, ◌-◌, ◌&&◌, ◌||◌, Bool, true, false, List, [], ◌∷◌, ◌++◌, length, drop, codes}
+use Rattle.std.proofs.Common.{None, Err, cond, refl, ap, sym, ◌∙◌, subst, arith}
 use Rattle.std.proofs.lemmas.Bool.{and_right}
 use Rattle.slonik_tokens.specs.declared.fault.ScriptRefusal.{ScriptRefusal}
 use Rattle.slonik_tokens.specs.declared.fault.ScriptRefusal.TheVariants as refusal
@@ -10,7 +11,8 @@ use Rattle.slonik_tokens.specs.Tokens.{is_word}
 use Rattle.slonik_parse.specs.declared.form.Verb.{Verb}
 use Rattle.slonik_parse.specs.declared.form.Verb.TheVariants as verb
 use Rattle.slonik_parse.specs.declared.misparse.Misparse.{Misparse}
-use Rattle.slonik_parse.specs.declared.misparse.Misparse.TheVariants.{UnknownOption, MissingOption, NotInProfile, NotInTry}
+use Rattle.slonik_parse.specs.declared.misparse.Misparse.TheVariants.{UnknownOption, MissingOption, NotInProfile}
+use Rattle.slonik_parse.specs.declared.misparse.Misparse.TheVariants.{NotInTry}
 use Rattle.slonik_parse.specs.declared.script.Command.{Command}
 use Rattle.slonik_parse.specs.declared.script.Script.{Script}
 use Rattle.slonik_parse.specs.declared.state.Block.{Block}
@@ -18,11 +20,15 @@ use Rattle.slonik_parse.specs.declared.state.Block.TheVariants.{Outside, Try as 
 use Rattle.slonik_parse.specs.declared.state.Goal.TheVariants as goal
 use Rattle.slonik_parse.specs.declared.state.State.{State}
 use Rattle.slonik_parse.specs.declared.state.State.TheVariants.{At}
-use Rattle.slonik_parse.specs.Choices.{begins_with, is_left_out, is_not_in_try, is_option_left_out, option_at, begins_option}
+use Rattle.slonik_parse.specs.Choices.{begins_with, is_left_out, is_not_in_try, is_option_left_out, option_at}
+use Rattle.slonik_parse.specs.Choices.{begins_option}
 use Rattle.slonik_parse.specs.Forms.{options_of, option_words}
-use Rattle.slonik_parse.specs.Machine.{run, step, goal_step, command_step, begin_in, begin_outside, begin_tried, any_command, option_step, begin_option, after_option, missing, lower, behind_preamble}
+use Rattle.slonik_parse.specs.Machine.{run, step, goal_step, command_step, begin_in, begin_outside, begin_tried}
+use Rattle.slonik_parse.specs.Machine.{any_command, option_step, begin_option, after_option, missing, lower}
+use Rattle.slonik_parse.specs.Machine.{behind_preamble}
 use Rattle.slonik_parse.specs.Outcomes.{script_in, placed, refused_at}
-use Rattle.slonik_parse.specs.Refusals.{IsRefused, preamble, no_preamble, command_left_out, option_left_out, unknown_option, not_in_try, missing_option, missing_option_there}
+use Rattle.slonik_parse.specs.Refusals.{IsRefused, preamble, no_preamble, command_left_out, option_left_out}
+use Rattle.slonik_parse.specs.Refusals.{unknown_option, not_in_try, missing_option, missing_option_there}
 use Rattle.slonik_parse.proofs.Words.{other_word, other_sign, sign_is}
 use Rattle.slonik_parse.proofs.Pieces.{run-err}
 use Rattle.slonik_parse.proofs.Reaching.{NotOn}
@@ -51,77 +57,99 @@ both true false h = (refl, h)
 both false b h = (h, cc)
 
 -- a script behind its preamble
-pub script_in-run : (tokens : List Token) → begins_with preamble tokens ≡ true → script_in tokens ≡ placed (length tokens) (run (drop 2 tokens) behind_preamble)
+pub script_in-run : (tokens : List Token) → begins_with preamble tokens ≡ true
+    → script_in tokens ≡ placed (length tokens) (run (drop 2 tokens) behind_preamble)
 unfolding script_in
 script_in-run [] h = cc
 script_in-run (first ∷ []) h = let e = and_right (is_word (codes "cluster") first) false refl in cc
 script_in-run (first ∷ second ∷ tokens) h =
     let words = both (is_word (codes "cluster") first) (is_word (codes "name") second) h in
     let two : length tokens + 2 ≡ length (first ∷ second ∷ tokens) = omega arith in
-    ap (λ b. cond (b && is_word (codes "name") second) (placed (length tokens + 2) (run tokens behind_preamble)) (Err refusal.NoPreamble)) words.0
+    ap (λ b. cond (b && is_word (codes "name") second) (placed (length tokens + 2) (run tokens behind_preamble))
+    (Err refusal.NoPreamble)) words.0
     ∙ ap (λ b. cond b (placed (length tokens + 2) (run tokens behind_preamble)) (Err refusal.NoPreamble)) words.1
     ∙ ap (λ n. placed n (run tokens behind_preamble)) two
 
-pub without_preamble : (tokens : List Token) → begins_with preamble tokens ≡ false → script_in tokens ≡ Err refusal.NoPreamble
+pub without_preamble : (tokens : List Token) → begins_with preamble tokens ≡ false
+    → script_in tokens ≡ Err refusal.NoPreamble
 unfolding script_in
 without_preamble [] h = refl
 without_preamble (first ∷ []) h = refl
 without_preamble (first ∷ second ∷ tokens) h =
-    ap (λ b. cond b (placed (length tokens + 2) (run tokens behind_preamble)) (Err refusal.NoPreamble)) (neither (is_word (codes "cluster") first) (is_word (codes "name") second) h)
+    ap (λ b. cond b (placed (length tokens + 2) (run tokens behind_preamble)) (Err refusal.NoPreamble))
+    (neither (is_word (codes "cluster") first) (is_word (codes "name") second) h)
 
 -- what is left out begins with none of the words of what is not
-left_out_other : (text : List ℕ) (rest : List Token) (word : List ℕ) → is_left_out (Word text ∷ rest) ≡ true → (is_word word (Word text) ≡ true → is_left_out (Word text ∷ rest) ≡ false) → is_word word (Word text) ≡ false
+left_out_other : (text : List ℕ) (rest : List Token) (word : List ℕ) → is_left_out (Word text ∷ rest) ≡ true
+    → (is_word word (Word text) ≡ true → is_left_out (Word text ∷ rest) ≡ false) → is_word word (Word text) ≡ false
 left_out_other text rest word h other = false_unless (is_word word (Word text)) (λ w. let e = other w in cc)
 
-not_node : (text : List ℕ) (rest : List Token) → is_word (codes "node") (Word text) ≡ true → is_left_out (Word text ∷ rest) ≡ false
+not_node : (text : List ℕ) (rest : List Token) → is_word (codes "node") (Word text) ≡ true
+    → is_left_out (Word text ∷ rest) ≡ false
 unfolding is_left_out
 not_node text rest w = simp (other_word (codes "node") (Word text) w)
 
-not_try : (text : List ℕ) (rest : List Token) → is_word (codes "try") (Word text) ≡ true → is_left_out (Word text ∷ rest) ≡ false
+not_try : (text : List ℕ) (rest : List Token) → is_word (codes "try") (Word text) ≡ true
+    → is_left_out (Word text ∷ rest) ≡ false
 unfolding is_left_out
 not_try text rest w = simp (other_word (codes "try") (Word text) w)
 
-not_on : (text : List ℕ) (rest : List Token) → is_word (codes "on") (Word text) ≡ true → is_left_out (Word text ∷ rest) ≡ false
+not_on : (text : List ℕ) (rest : List Token) → is_word (codes "on") (Word text) ≡ true
+    → is_left_out (Word text ∷ rest) ≡ false
 unfolding is_left_out
 not_on text rest w = simp (other_word (codes "on") (Word text) w)
 
-any_left_out : (block : Block) (text : List ℕ) (token : Token) (tokens : List Token) → is_left_out tokens ≡ true → any_command block text token tokens ≡ Err (NotInProfile (lower text))
+any_left_out : (block : Block) (text : List ℕ) (token : Token) (tokens : List Token) → is_left_out tokens ≡ true
+    → any_command block text token tokens ≡ Err (NotInProfile (lower text))
 unfolding any_command
 any_left_out block text token tokens h = simp h
 
 -- a command that is left out is refused in each block
-left_out_step : (block : Block) (text : List ℕ) (rest : List Token) → is_left_out (Word text ∷ rest) ≡ true → begin_in block text (Word text) (Word text ∷ rest) ≡ Err (NotInProfile (lower text))
+left_out_step : (block : Block) (text : List ℕ) (rest : List Token) → is_left_out (Word text ∷ rest) ≡ true
+    → begin_in block text (Word text) (Word text ∷ rest) ≡ Err (NotInProfile (lower text))
 unfolding begin_in begin_outside begin_tried
 left_out_step (Outside script) text rest h =
-    simp (left_out_other text rest (codes "node") h (not_node text rest), left_out_other text rest (codes "try") h (not_try text rest), any_left_out (Outside script) text (Word text) (Word text ∷ rest) h)
+    simp (
+      left_out_other text rest (codes "node") h (not_node text rest),
+      left_out_other text rest (codes "try") h (not_try text rest),
+      any_left_out (Outside script) text (Word text) (Word text ∷ rest) h,
+    )
 left_out_step (InTry script commands) text rest h = simp h
-left_out_step (InHandler script tried handler commands) text rest h = any_left_out (InHandler script tried handler commands) text (Word text) (Word text ∷ rest) h
+left_out_step (InHandler script tried handler commands) text rest h =
+    any_left_out (InHandler script tried handler commands) text (Word text) (Word text ∷ rest) h
 
-first_word : (word : List ℕ) (words : List (List ℕ)) (token : Token) (rest : List Token) → begins_with (word ∷ words) (token ∷ rest) ≡ true → is_word word token ≡ true
+first_word : (word : List ℕ) (words : List (List ℕ)) (token : Token) (rest : List Token)
+    → begins_with (word ∷ words) (token ∷ rest) ≡ true → is_word word token ≡ true
 first_word word words token rest h = and_left (is_word word token) (begins_with words rest) h
 
-kept_wait : (text : List ℕ) (rest : List Token) → is_word (codes "wait") (Word text) ≡ true → is_left_out (Word text ∷ rest) ≡ false
+kept_wait : (text : List ℕ) (rest : List Token) → is_word (codes "wait") (Word text) ≡ true
+    → is_left_out (Word text ∷ rest) ≡ false
 unfolding is_left_out
 kept_wait text rest w = simp (other_word (codes "wait") (Word text) w)
 
-kept_sleep : (text : List ℕ) (rest : List Token) → is_word (codes "sleep") (Word text) ≡ true → is_left_out (Word text ∷ rest) ≡ false
+kept_sleep : (text : List ℕ) (rest : List Token) → is_word (codes "sleep") (Word text) ≡ true
+    → is_left_out (Word text ∷ rest) ≡ false
 unfolding is_left_out
 kept_sleep text rest w = simp (other_word (codes "sleep") (Word text) w)
 
-kept_echo : (text : List ℕ) (rest : List Token) → is_word (codes "echo") (Word text) ≡ true → is_left_out (Word text ∷ rest) ≡ false
+kept_echo : (text : List ℕ) (rest : List Token) → is_word (codes "echo") (Word text) ≡ true
+    → is_left_out (Word text ∷ rest) ≡ false
 unfolding is_left_out
 kept_echo text rest w = simp (other_word (codes "echo") (Word text) w)
 
-kept_exit : (text : List ℕ) (rest : List Token) → is_word (codes "exit") (Word text) ≡ true → is_left_out (Word text ∷ rest) ≡ false
+kept_exit : (text : List ℕ) (rest : List Token) → is_word (codes "exit") (Word text) ≡ true
+    → is_left_out (Word text ∷ rest) ≡ false
 unfolding is_left_out
 kept_exit text rest w = simp (other_word (codes "exit") (Word text) w)
 
-kept_failover : (text : List ℕ) (rest : List Token) → is_word (codes "failover") (Word text) ≡ true → is_left_out (Word text ∷ rest) ≡ false
+kept_failover : (text : List ℕ) (rest : List Token) → is_word (codes "failover") (Word text) ≡ true
+    → is_left_out (Word text ∷ rest) ≡ false
 unfolding is_left_out
 kept_failover text rest w = simp (other_word (codes "failover") (Word text) w)
 
 -- what is not allowed in a try block is not left out
-try_kept : (text : List ℕ) (rest : List Token) → is_not_in_try (Word text ∷ rest) ≡ true → is_left_out (Word text ∷ rest) ≡ false
+try_kept : (text : List ℕ) (rest : List Token) → is_not_in_try (Word text ∷ rest) ≡ true
+    → is_left_out (Word text ∷ rest) ≡ false
 unfolding is_not_in_try
 try_kept text rest h =
     let a = begins_with (codes "wait" ∷ codes "for" ∷ codes "event" ∷ []) (Word text ∷ rest) in
@@ -142,7 +170,9 @@ try_kept text rest h =
     (λ t. kept_failover text rest (first_word (codes "failover") [] (Word text) rest t)))
     (λ t. not_try text rest (first_word (codes "try") [] (Word text) rest t))
 
-not_in_try_step : (script : Script) (commands : List Command) (text : List ℕ) (rest : List Token) → is_not_in_try (Word text ∷ rest) ≡ true → begin_in (InTry script commands) text (Word text) (Word text ∷ rest) ≡ Err (NotInTry (lower text))
+not_in_try_step : (script : Script) (commands : List Command) (text : List ℕ) (rest : List Token)
+    → is_not_in_try (Word text ∷ rest) ≡ true
+    → begin_in (InTry script commands) text (Word text) (Word text ∷ rest) ≡ Err (NotInTry (lower text))
 unfolding begin_in begin_tried
 not_in_try_step script commands text rest h = simp (try_kept text rest h, h)
 
@@ -151,7 +181,8 @@ omit_none : (text : List ℕ) → is_word (codes "omit") (Word text) ≡ true �
 unfolding option_at options_of begins_option option_words
 omit_none text w = simp (other_word (codes "omit") (Word text) w)
 
-tables_none : (text : List ℕ) → is_word (codes "tables") (Word text) ≡ true → option_at verb.SetAddTable (Word text) ≡ None
+tables_none : (text : List ℕ) → is_word (codes "tables") (Word text) ≡ true
+    → option_at verb.SetAddTable (Word text) ≡ None
 unfolding option_at options_of begins_option option_words
 tables_none text w = simp (other_word (codes "tables") (Word text) w)
 
@@ -159,11 +190,14 @@ add_none : (text : List ℕ) → is_word (codes "add") (Word text) ≡ true → 
 unfolding option_at options_of begins_option option_words
 add_none text w = simp (other_word (codes "add") (Word text) w)
 
-left_out_none : (v : Verb) (text : List ℕ) (rest : List Token) → is_option_left_out v (Word text ∷ rest) ≡ true → option_at v (Word text) ≡ None
+left_out_none : (v : Verb) (text : List ℕ) (rest : List Token) → is_option_left_out v (Word text ∷ rest) ≡ true
+    → option_at v (Word text) ≡ None
 unfolding is_option_left_out
-left_out_none verb.SubscribeSet text rest h = omit_none text (first_word (codes "omit") (codes "copy" ∷ []) (Word text) rest h)
+left_out_none verb.SubscribeSet text rest h =
+    omit_none text (first_word (codes "omit") (codes "copy" ∷ []) (Word text) rest h)
 left_out_none verb.SetAddTable text rest h =
-    or_cases (begins_with (codes "tables" ∷ []) (Word text ∷ rest)) (begins_with (codes "add" ∷ codes "sequences" ∷ []) (Word text ∷ rest)) h
+    or_cases (begins_with (codes "tables" ∷ []) (Word text ∷ rest))
+    (begins_with (codes "add" ∷ codes "sequences" ∷ []) (Word text ∷ rest)) h
     (λ t. tables_none text (first_word (codes "tables") [] (Word text) rest t))
     (λ t. add_none text (first_word (codes "add") (codes "sequences" ∷ []) (Word text) rest t))
 left_out_none verb.InitCluster text rest h = cc
@@ -182,17 +216,22 @@ left_out_none verb.Sync text rest h = cc
 left_out_none verb.WaitForEvent text rest h = cc
 left_out_none verb.Sleep text rest h = cc
 
-not_in_try_on : (text : List ℕ) (rest : List Token) → is_word (codes "on") (Word text) ≡ true → is_not_in_try (Word text ∷ rest) ≡ false
+not_in_try_on : (text : List ℕ) (rest : List Token) → is_word (codes "on") (Word text) ≡ true
+    → is_not_in_try (Word text ∷ rest) ≡ false
 unfolding is_not_in_try
 not_in_try_on text rest w = simp (other_word (codes "on") (Word text) w)
 
-try_not_on_word : (text : List ℕ) (rest : List Token) → is_not_in_try (Word text ∷ rest) ≡ true → is_word (codes "on") (Word text) ≡ false
-try_not_on_word text rest h = false_unless (is_word (codes "on") (Word text)) (λ w. let e = not_in_try_on text rest w in cc)
+try_not_on_word : (text : List ℕ) (rest : List Token) → is_not_in_try (Word text ∷ rest) ≡ true
+    → is_word (codes "on") (Word text) ≡ false
+try_not_on_word text rest h =
+    false_unless (is_word (codes "on") (Word text)) (λ w. let e = not_in_try_on text rest w in cc)
 
 -- a refusal at a token that is reached
-refused_there : (front : List Token) (state : State) (Kind : List Token → Type 0) (token : Token) (rest : List Token) (misparse : Misparse) → ReadTo front state Kind → Kind (token ∷ rest)
+refused_there : (front : List Token) (state : State) (Kind : List Token → Type 0) (token : Token) (rest : List Token)
+    (misparse : Misparse) → ReadTo front state Kind → Kind (token ∷ rest)
     → step state token (token ∷ rest) ≡ Err misparse
-    → script_in (front ++ token ∷ rest) ≡ Err (refused_at (length (front ++ token ∷ rest) + 1 - (length rest + 1)) misparse)
+    → script_in (front ++ token ∷ rest) ≡ Err (refused_at (length (front ++ token ∷ rest) + 1 - (length rest + 1))
+    misparse)
 refused_there front state Kind token rest misparse r kind h =
     script_in-run (front ++ token ∷ rest) (r.preamble (token ∷ rest))
     ∙ ap (placed (length (front ++ token ∷ rest))) (r.ran (token ∷ rest) kind ∙ run-err state misparse token rest h)
@@ -201,23 +240,31 @@ refused_there front state Kind token rest misparse r kind h =
 pub refused : (tokens : List Token) (r : ScriptRefusal) → IsRefused tokens r → script_in tokens ≡ Err r
 refused tokens r (no_preamble _ h) = without_preamble tokens h
 refused tokens r (command_left_out front rest block text stands h) =
-    refused_there front (At (goal.Command block)) NotOn (Word text) rest (NotInProfile (lower text)) (stands_read block front stands) (refl, left_out_other text rest (codes "on") h (not_on text rest))
+    refused_there front (At (goal.Command block)) NotOn (Word text) rest (NotInProfile (lower text))
+    (stands_read block front stands) (refl, left_out_other text rest (codes "on") h (not_on text rest))
     (unfold step in unfold goal_step in unfold command_step in left_out_step block text rest h)
 refused tokens r (option_left_out front rest block v given text stands h) =
-    refused_there front (At (goal.Option block v given)) Anything (Word text) rest (NotInProfile (lower text)) (option_stands_read block v given front stands) tt
+    refused_there front (At (goal.Option block v given)) Anything (Word text) rest (NotInProfile (lower text))
+    (option_stands_read block v given front stands) tt
     (unfold step in unfold goal_step in unfold option_step in unfold begin_option in
-    ap (begin_option block v given text (Word text ∷ rest)) (left_out_none v text rest h) ∙ ap (λ b. cond b (Err (NotInProfile (lower text))) (Err (UnknownOption (lower text)))) h)
+    ap (begin_option block v given text (Word text ∷ rest)) (left_out_none v text rest h)
+    ∙ ap (λ b. cond b (Err (NotInProfile (lower text))) (Err (UnknownOption (lower text)))) h)
 refused tokens r (unknown_option front rest block v given text stands none h) =
-    refused_there front (At (goal.Option block v given)) Anything (Word text) rest (UnknownOption (lower text)) (option_stands_read block v given front stands) tt
+    refused_there front (At (goal.Option block v given)) Anything (Word text) rest (UnknownOption (lower text))
+    (option_stands_read block v given front stands) tt
     (unfold step in unfold goal_step in unfold option_step in unfold begin_option in
-    ap (begin_option block v given text (Word text ∷ rest)) none ∙ ap (λ b. cond b (Err (NotInProfile (lower text))) (Err (UnknownOption (lower text)))) h)
+    ap (begin_option block v given text (Word text ∷ rest)) none
+    ∙ ap (λ b. cond b (Err (NotInProfile (lower text))) (Err (UnknownOption (lower text)))) h)
 refused tokens r (not_in_try front rest script commands text stands h) =
-    refused_there front (At (goal.Command (InTry script commands))) NotOn (Word text) rest (NotInTry (lower text)) (stands_read (InTry script commands) front stands) (refl, try_not_on_word text rest h)
+    refused_there front (At (goal.Command (InTry script commands))) NotOn (Word text) rest (NotInTry (lower text))
+    (stands_read (InTry script commands) front stands) (refl, try_not_on_word text rest h)
     (unfold step in unfold goal_step in unfold command_step in not_in_try_step script commands text rest h)
 refused tokens r (missing_option front rest block v given closes name ends h makes) =
-    refused_there front (At (goal.AfterOption block v given)) Anything closes rest (MissingOption name) (option_ends_read block v given front ends) tt
+    refused_there front (At (goal.AfterOption block v given)) Anything closes rest (MissingOption name)
+    (option_ends_read block v given front ends) tt
     (unfold step in unfold goal_step in unfold after_option in simp (other_sign CloseBracket Comma closes h, h, makes))
 refused tokens r (missing_option_there front rest block v given closes name stands h makes) =
     subst (λ t. script_in (front ++ t ∷ rest) ≡ Err r) (sym (sign_is CloseBracket closes h))
-    (refused_there front (At (goal.Option block v given)) Anything (Mark CloseBracket) rest (MissingOption name) (option_stands_read block v given front stands) tt
+    (refused_there front (At (goal.Option block v given)) Anything (Mark CloseBracket) rest (MissingOption name)
+    (option_stands_read block v given front stands) tt
     (unfold step in unfold goal_step in unfold option_step in ap missing makes))

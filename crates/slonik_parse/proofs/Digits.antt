@@ -1,5 +1,6 @@
 -- Numbers, read digit by digit.
-use Rattle.std.proofs.Common.{◌≡◌, ℕ, ◌+◌, ◌-◌, ◌*◌, ◌<◌, ◌≤◌, leb, cond, false, List, [], ◌∷◌, length, drop, get_or, Some, None, ap, arith}
+use Rattle.std.proofs.Common.{◌≡◌, ℕ, ◌+◌, ◌-◌, ◌*◌, ◌<◌, ◌≤◌, leb, cond, false, List, [], ◌∷◌, length, drop, get_or}
+use Rattle.std.proofs.Common.{Some, None, ap, arith}
 use Rattle.std.proofs.lemmas.Bool.{and_right}
 use Rattle.std.proofs.lemmas.Bool.Decides.{nat_tests}
 use Rattle.std.proofs.lemmas.List.{at_drop_more}
@@ -13,10 +14,12 @@ value_from-ge n (d ∷ ds) = omega (arith, value_from-ge (10 * n + (d - 48)) ds)
 past_high : (high : ℕ) (digits : List ℕ) → high < value_from 0 digits → magnitude high digits ≡ None
 past_high high digits h =
     let no : leb (value_from 0 digits) high ≡ false = grind (arith, nat_tests) in
-    ap (λ b. cond b (Some (value_from 0 digits)) None) (and_right (are_digits digits) (leb (value_from 0 digits) high) no)
+    ap (λ b. cond b (Some (value_from 0 digits)) None)
+    (and_right (are_digits digits) (leb (value_from 0 digits) high) no)
 
 -- one more digit passes the highest number
-pub number_past : (high n i digit : ℕ) (digits : List ℕ) → value_from n (drop i digits) ≡ value_from 0 digits → i < length digits → digit ≡ get_or digits i 0 - 48 → high < 10 * n + digit → magnitude high digits ≡ None
+pub number_past : (high n i digit : ℕ) (digits : List ℕ) → value_from n (drop i digits) ≡ value_from 0 digits
+    → i < length digits → digit ≡ get_or digits i 0 - 48 → high < 10 * n + digit → magnitude high digits ≡ None
 number_past high n i digit digits e within d h =
     let step = at_drop_more (value_from n) digits i 0 within in
     past_high high digits (omega (arith, step, value_from-ge (10 * n + (get_or digits i 0 - 48)) (drop (i + 1) digits)))

@@ -1,5 +1,6 @@
 -- What the tokens so far are, where a state is reached.
-use Rattle.std.proofs.Common.{◌≡◌, ℕ, ◌||◌, Bool, true, false, List, [], ◌∷◌, ◌++◌, drop, codes, Option, Some, None, Result, Ok, Err, cond, refl, subst, ◌⊎◌, inl, inr}
+use Rattle.std.proofs.Common.{◌≡◌, ℕ, ◌||◌, Bool, true, false, List, [], ◌∷◌, ◌++◌, drop, codes, Option, Some, None}
+use Rattle.std.proofs.Common.{Result, Ok, Err, cond, refl, subst, ◌⊎◌, inl, inr}
 use Rattle.std.proofs.lemmas.List.{append-nil}
 use Rattle.slonik_tokens.specs.declared.token.Sign.{Sign}
 use Rattle.slonik_tokens.specs.declared.token.Sign.TheVariants.{Equals}
@@ -28,7 +29,8 @@ use Rattle.slonik_parse.specs.Values.{id_in}
 
 -- CLUSTER NAME and `=`
 pub data NamesCluster : List Token → Type 0 where
-  names_cluster : (first second equals : Token) → is_word (codes "cluster") first ≡ true → is_word (codes "name") second ≡ true
+  names_cluster : (first second equals : Token) → is_word (codes "cluster") first ≡ true
+      → is_word (codes "name") second ≡ true
       → is_sign Equals equals ≡ true → NamesCluster (first ∷ second ∷ equals ∷ [])
 
 -- a script with no statement, and NODE
@@ -38,7 +40,8 @@ pub data BeginsNode (script : Script) : List Token → Type 0 where
 
 -- a script with no statement, and a NODE line up to its `=`
 pub data NamesNode (script : Script) (id : ℕ) : List Token → Type 0 where
-  names_node : (front : List Token) (word number admin conninfo equals : Token) → IsScript front script → script.statements ≡ []
+  names_node : (front : List Token) (word number admin conninfo equals : Token) → IsScript front script
+      → script.statements ≡ []
       → is_word (codes "node") word ≡ true → id_in number ≡ Some id
       → AreWords (codes "admin" ∷ codes "conninfo" ∷ []) (admin ∷ conninfo ∷ []) → is_sign Equals equals ≡ true
       → NamesNode script id (front ++ word ∷ number ∷ admin ∷ conninfo ∷ equals ∷ [])
@@ -56,7 +59,8 @@ pub data BeginsWith (block : Block) (name : List ℕ) : List Token → Type 0 wh
 
 -- a script and a try block
 pub data HasTried (script : Script) (tried : TryBlock) : List Token → Type 0 where
-  has_tried : (front tokens : List Token) → IsScript front script → IsTry tokens tried → HasTried script tried (front ++ tokens)
+  has_tried : (front tokens : List Token) → IsScript front script → IsTry tokens tried
+      → HasTried script tried (front ++ tokens)
 
 -- a script, a try block and ON, where a block may come behind that
 pub data BeginsHandler (script : Script) (tried : TryBlock) : List Token → Type 0 where
@@ -82,19 +86,23 @@ Leads (goal.AfterOn script tried) front = BeginsHandler script tried front
 abbrev pub Means : State → List Token → Type 0
 Means (At goal) front = Leads goal front
 Means (Awaits phrase at sign goal) front =
-    (words : List Token) (token : Token) → AreWords (drop at (phrase_words phrase)) words → is_sign sign token ≡ true → Leads goal (front ++ words ++ token ∷ [])
+    (words : List Token) (token : Token) → AreWords (drop at (phrase_words phrase)) words → is_sign sign token ≡ true
+    → Leads goal (front ++ words ++ token ∷ [])
 
 -- where no words are awaited, the sign leads to the goal
 pub means_sign : (sign : Sign) (goal : Goal) (front : List Token)
-    → ((token : Token) → is_sign sign token ≡ true → Leads goal (front ++ token ∷ [])) → Means (sign_then sign goal) front
+    → ((token : Token) → is_sign sign token ≡ true → Leads goal (front ++ token ∷ []))
+    → Means (sign_then sign goal) front
 unfolding phrase_words
 means_sign sign goal front leads [] token fits h = subst (λ tokens. Leads goal tokens) (simp append-nil) (leads token h)
 means_sign sign goal front leads (word ∷ words) token fits h = absurd fits
 
 -- behind CLUSTER NAME
-pub means_start : (first second : Token) → is_word (codes "cluster") first ≡ true → is_word (codes "name") second ≡ true → Means behind_preamble (first ∷ second ∷ [])
+pub means_start : (first second : Token) → is_word (codes "cluster") first ≡ true → is_word (codes "name") second ≡ true
+    → Means behind_preamble (first ∷ second ∷ [])
 means_start first second is_first is_second =
-    means_sign Equals goal.ClusterName (first ∷ second ∷ []) (λ equals h. names_cluster first second equals is_first is_second h)
+    means_sign Equals goal.ClusterName (first ∷ second ∷ [])
+    (λ equals h. names_cluster first second equals is_first is_second h)
 
 -- a test that led to a value
 pub if_ok : {A E : Type 0} (b : Bool) (x y : A) (e : E) → cond b (Ok x) (Err e) ≡ Ok y → (b ≡ true) × (x ≡ y)
@@ -107,11 +115,13 @@ if_is true x y z h = inl (refl, h)
 if_is false x y z h = inr (refl, h)
 
 -- a reading that led to a value
-pub and_then_ok : {S T : Type 0} (read : Result S Misparse) (more : S → T) (y : T) → and_then read (λ x. Ok (more x)) ≡ Ok y → (x : S) × (read ≡ Ok x) × (more x ≡ y)
+pub and_then_ok : {S T : Type 0} (read : Result S Misparse) (more : S → T) (y : T)
+    → and_then read (λ x. Ok (more x)) ≡ Ok y → (x : S) × (read ≡ Ok x) × (more x ≡ y)
 and_then_ok (Ok x) more y h = (x, refl, cc)
 and_then_ok (Err e) more y h = cc
 
 -- the value that was there
-pub fit_ok : {S T : Type 0} (found : Option S) (more : S → T) (y : T) → and_then (fit found) (λ x. Ok (more x)) ≡ Ok y → (x : S) × (found ≡ Some x) × (more x ≡ y)
+pub fit_ok : {S T : Type 0} (found : Option S) (more : S → T) (y : T) → and_then (fit found) (λ x. Ok (more x)) ≡ Ok y
+    → (x : S) × (found ≡ Some x) × (more x ≡ y)
 fit_ok (Some x) more y h = (x, refl, cc)
 fit_ok None more y h = cc

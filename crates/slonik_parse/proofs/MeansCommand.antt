@@ -1,5 +1,6 @@
 -- A token that begins a command keeps what the tokens so far are.
-use Rattle.std.proofs.Common.{arith, ◌≡◌, ℕ, ◌==◌, ◌&&◌, Bool, true, false, List, [], ◌∷◌, ◌++◌, length, codes, Option, Some, None, Ok, Err, cond, refl, subst, append_assoc, inl, inr}
+use Rattle.std.proofs.Common.{arith, ◌≡◌, ℕ, ◌==◌, ◌&&◌, Bool, true, false, List, [], ◌∷◌, ◌++◌, length, codes, Option}
+use Rattle.std.proofs.Common.{Some, None, Ok, Err, cond, refl, subst, append_assoc, inl, inr}
 use Rattle.std.proofs.lemmas.Bool.{cond_both, and_parts}
 use Rattle.std.proofs.lemmas.List.{append-nil, nil_from_length}
 use Rattle.std.proofs.lemmas.Bool.Decides.{nat_tests}
@@ -8,7 +9,10 @@ use Rattle.slonik_tokens.specs.declared.token.Token.{Token}
 use Rattle.slonik_tokens.specs.declared.token.Token.TheVariants.{Word, Number, Quoted, Mark, NameUse, Path}
 use Rattle.slonik_tokens.specs.Tokens.{is_word, is_sign, same_sign}
 use Rattle.slonik_parse.specs.declared.form.Verb.{Verb}
-use Rattle.slonik_parse.specs.declared.form.Verb.TheVariants.{InitCluster, StoreNode, DropNode, StorePath, DropPath, CreateSet, DropSet, SetAddTable, SubscribeSet, UnsubscribeSet, LockSet, UnlockSet, MoveSet, Failover, Sync, WaitForEvent, Sleep}
+use Rattle.slonik_parse.specs.declared.form.Verb.TheVariants.{InitCluster, StoreNode, DropNode, StorePath, DropPath}
+use Rattle.slonik_parse.specs.declared.form.Verb.TheVariants.{CreateSet, DropSet, SetAddTable, SubscribeSet}
+use Rattle.slonik_parse.specs.declared.form.Verb.TheVariants.{UnsubscribeSet, LockSet, UnlockSet, MoveSet, Failover}
+use Rattle.slonik_parse.specs.declared.form.Verb.TheVariants.{Sync, WaitForEvent, Sleep}
 use Rattle.slonik_parse.specs.declared.misparse.Misparse.TheVariants.{Misfit, NotInProfile, NotInTry}
 use Rattle.slonik_parse.specs.declared.script.Command.{Command}
 use Rattle.slonik_parse.specs.declared.script.Script.{Script}
@@ -18,80 +22,114 @@ use Rattle.slonik_parse.specs.declared.state.Goal.TheVariants as goal
 use Rattle.slonik_parse.specs.declared.state.Phrase.TheVariants as phrase
 use Rattle.slonik_parse.specs.declared.state.State.{State}
 use Rattle.slonik_parse.specs.declared.state.State.TheVariants.{Awaits, At}
-use Rattle.slonik_parse.specs.Choices.{is_left_out, is_not_in_try, begins_so, verb_at, store_at, drop_at, set_verb_at, goes_on_with}
+use Rattle.slonik_parse.specs.Choices.{is_left_out, is_not_in_try, begins_so, verb_at, store_at, drop_at, set_verb_at}
+use Rattle.slonik_parse.specs.Choices.{goes_on_with}
 use Rattle.slonik_parse.specs.Forms.{verb_words}
 use Rattle.slonik_parse.specs.Given.{nothing_given}
 use Rattle.slonik_parse.specs.Grammar.{IsScript, no_commands, tried_block, handled_block, may_stand}
-use Rattle.slonik_parse.specs.Machine.{phrase_words, lower, sign_then, begin_verb, any_command, begin_outside, begin_tried, begin_in, close, command_step}
-use Rattle.slonik_parse.specs.Places.{is_tried, Stands, outside, in_try, in_handler, no_options, opened, OptionStands, option_stands}
+use Rattle.slonik_parse.specs.Machine.{phrase_words, lower, sign_then, begin_verb, any_command, begin_outside}
+use Rattle.slonik_parse.specs.Machine.{begin_tried, begin_in, close, command_step}
+use Rattle.slonik_parse.specs.Places.{is_tried, Stands, outside, in_try, in_handler, no_options, opened, OptionStands}
+use Rattle.slonik_parse.specs.Places.{option_stands}
 use Rattle.slonik_parse.specs.Scripts.{try_of, with_handler}
 use Rattle.slonik_parse.proofs.Words.{other_word}
 use Rattle.slonik_parse.proofs.Means.{begins_node, begins_with_word, HasTried, has_tried, Means, means_sign, if_is}
 use Rattle.slonik_parse.proofs.MeansOptions.{words_join}
 
 -- the command that a test found, or another
-chosen : (b : Bool) (verb found : Verb) (more : Option Verb) (P : Verb → Type 0) → cond b (Some verb) more ≡ Some found → (b ≡ true → P verb) → (more ≡ Some found → P found) → P found
+chosen : (b : Bool) (verb found : Verb) (more : Option Verb) (P : Verb → Type 0) → cond b (Some verb) more ≡ Some found
+    → (b ≡ true → P verb) → (more ≡ Some found → P found) → P found
 chosen true verb found more P h this that = let same : verb ≡ found = cc in subst P same (this refl)
 chosen false verb found more P h this that = that h
 
-set_verb_begins : (token : Token) (verb : Verb) → set_verb_at token ≡ Some verb → begins_so token (verb_words verb) ≡ true
+set_verb_begins : (token : Token) (verb : Verb) → set_verb_at token ≡ Some verb
+    → begins_so token (verb_words verb) ≡ true
 unfolding set_verb_at verb_words
 set_verb_begins token verb h =
-    chosen (is_word (codes "create") token) CreateSet verb _ (λ v. begins_so token (verb_words v) ≡ true) h (λ is. is) (λ h.
-    chosen (is_word (codes "set") token) SetAddTable verb _ (λ v. begins_so token (verb_words v) ≡ true) h (λ is. is) (λ h.
-    chosen (is_word (codes "subscribe") token) SubscribeSet verb _ (λ v. begins_so token (verb_words v) ≡ true) h (λ is. is) (λ h.
-    chosen (is_word (codes "unsubscribe") token) UnsubscribeSet verb _ (λ v. begins_so token (verb_words v) ≡ true) h (λ is. is) (λ h.
+    chosen (is_word (codes "create") token) CreateSet verb _ (λ v. begins_so token (verb_words v) ≡ true) h (λ is. is)
+    (λ h.
+    chosen (is_word (codes "set") token) SetAddTable verb _ (λ v. begins_so token (verb_words v) ≡ true) h (λ is. is)
+    (λ h.
+    chosen (is_word (codes "subscribe") token) SubscribeSet verb _ (λ v. begins_so token (verb_words v) ≡ true) h
+    (λ is. is) (λ h.
+    chosen (is_word (codes "unsubscribe") token) UnsubscribeSet verb _ (λ v. begins_so token (verb_words v) ≡ true) h
+    (λ is. is) (λ h.
     chosen (is_word (codes "lock") token) LockSet verb _ (λ v. begins_so token (verb_words v) ≡ true) h (λ is. is) (λ h.
-    chosen (is_word (codes "unlock") token) UnlockSet verb _ (λ v. begins_so token (verb_words v) ≡ true) h (λ is. is) (λ h.
-    chosen (is_word (codes "move") token) MoveSet verb None (λ v. begins_so token (verb_words v) ≡ true) h (λ is. is) (λ h. cc)))))))
+    chosen (is_word (codes "unlock") token) UnlockSet verb _ (λ v. begins_so token (verb_words v) ≡ true) h (λ is. is)
+    (λ h.
+    chosen (is_word (codes "move") token) MoveSet verb None (λ v. begins_so token (verb_words v) ≡ true) h (λ is. is)
+    (λ h. cc)))))))
 
-store_begins : (token : Token) (tokens : List Token) → is_word (codes "store") token ≡ true → begins_so token (verb_words (store_at tokens)) ≡ true
+store_begins : (token : Token) (tokens : List Token) → is_word (codes "store") token ≡ true
+    → begins_so token (verb_words (store_at tokens)) ≡ true
 unfolding store_at verb_words
-store_begins token tokens h = cond_both (goes_on_with (codes "path") tokens) StorePath StoreNode (λ v. begins_so token (verb_words v) ≡ true) (λ _. h) (λ _. h)
+store_begins token tokens h =
+    cond_both (goes_on_with (codes "path") tokens) StorePath StoreNode (λ v. begins_so token (verb_words v) ≡ true)
+    (λ _. h) (λ _. h)
 
-drop_begins : (token : Token) (tokens : List Token) → is_word (codes "drop") token ≡ true → begins_so token (verb_words (drop_at tokens)) ≡ true
+drop_begins : (token : Token) (tokens : List Token) → is_word (codes "drop") token ≡ true
+    → begins_so token (verb_words (drop_at tokens)) ≡ true
 unfolding drop_at verb_words
 drop_begins token tokens h =
-    cond_both (goes_on_with (codes "path") tokens) DropPath (cond (goes_on_with (codes "set") tokens) DropSet DropNode) (λ v. begins_so token (verb_words v) ≡ true) (λ _. h)
-    (λ _. cond_both (goes_on_with (codes "set") tokens) DropSet DropNode (λ v. begins_so token (verb_words v) ≡ true) (λ _. h) (λ _. h))
+    cond_both (goes_on_with (codes "path") tokens) DropPath (cond (goes_on_with (codes "set") tokens) DropSet DropNode)
+    (λ v. begins_so token (verb_words v) ≡ true) (λ _. h)
+    (λ _. cond_both (goes_on_with (codes "set") tokens) DropSet DropNode (λ v. begins_so token (verb_words v) ≡ true)
+    (λ _. h) (λ _. h))
 
 -- a command that was found begins with the token
-pub verb_begins : (token : Token) (tokens : List Token) (verb : Verb) → verb_at token tokens ≡ Some verb → begins_so token (verb_words verb) ≡ true
+pub verb_begins : (token : Token) (tokens : List Token) (verb : Verb) → verb_at token tokens ≡ Some verb
+    → begins_so token (verb_words verb) ≡ true
 unfolding verb_at verb_words
 verb_begins token tokens verb h =
-    chosen (is_word (codes "init") token) InitCluster verb _ (λ v. begins_so token (verb_words v) ≡ true) h (λ is. is) (λ h.
-    chosen (is_word (codes "store") token) (store_at tokens) verb _ (λ v. begins_so token (verb_words v) ≡ true) h (λ is. store_begins token tokens is) (λ h.
-    chosen (is_word (codes "drop") token) (drop_at tokens) verb _ (λ v. begins_so token (verb_words v) ≡ true) h (λ is. drop_begins token tokens is) (λ h.
-    chosen (is_word (codes "failover") token) Failover verb _ (λ v. begins_so token (verb_words v) ≡ true) h (λ is. is) (λ h.
+    chosen (is_word (codes "init") token) InitCluster verb _ (λ v. begins_so token (verb_words v) ≡ true) h (λ is. is)
+    (λ h.
+    chosen (is_word (codes "store") token) (store_at tokens) verb _ (λ v. begins_so token (verb_words v) ≡ true) h
+    (λ is. store_begins token tokens is) (λ h.
+    chosen (is_word (codes "drop") token) (drop_at tokens) verb _ (λ v. begins_so token (verb_words v) ≡ true) h
+    (λ is. drop_begins token tokens is) (λ h.
+    chosen (is_word (codes "failover") token) Failover verb _ (λ v. begins_so token (verb_words v) ≡ true) h (λ is. is)
+    (λ h.
     chosen (is_word (codes "sync") token) Sync verb _ (λ v. begins_so token (verb_words v) ≡ true) h (λ is. is) (λ h.
-    chosen (is_word (codes "wait") token) WaitForEvent verb _ (λ v. begins_so token (verb_words v) ≡ true) h (λ is. is) (λ h.
-    chosen (is_word (codes "sleep") token) Sleep verb (set_verb_at token) (λ v. begins_so token (verb_words v) ≡ true) h (λ is. is) (λ h.
+    chosen (is_word (codes "wait") token) WaitForEvent verb _ (λ v. begins_so token (verb_words v) ≡ true) h (λ is. is)
+    (λ h.
+    chosen (is_word (codes "sleep") token) Sleep verb (set_verb_at token) (λ v. begins_so token (verb_words v) ≡ true) h
+    (λ is. is) (λ h.
     set_verb_begins token verb h)))))))
 
 -- a command with options begins
-means_verb : (block : Block) (verb : Verb) (first : Token) (front : List Token) → Stands block front → may_stand (is_tried block) verb ≡ true
-    → begins_so first (verb_words verb) ≡ true → Means (Awaits (phrase.Verb verb) 1 OpenBracket (goal.Option block verb nothing_given)) (front ++ first ∷ [])
+means_verb : (block : Block) (verb : Verb) (first : Token) (front : List Token) → Stands block front
+    → may_stand (is_tried block) verb ≡ true
+    → begins_so first (verb_words verb) ≡ true
+    → Means (Awaits (phrase.Verb verb) 1 OpenBracket (goal.Option block verb nothing_given)) (front ++ first ∷ [])
 unfolding phrase_words
 means_verb block verb first front stands may begins words opens fits ends =
     subst (λ tokens. OptionStands block verb nothing_given tokens) (simp (append_assoc, append-nil))
-    (option_stands (front ++ first ∷ words ++ opens ∷ []) [] (opened front words first opens stands may (words_join (verb_words verb) first words begins fits) ends) no_options)
+    (option_stands (front ++ first ∷ words ++ opens ∷ []) []
+    (opened front words first opens stands may (words_join (verb_words verb) first words begins fits) ends)
+    no_options)
 
-verb_begun : (block : Block) (first : Token) (ahead front : List Token) (next : State) (found : Option Verb) → verb_at first ahead ≡ found → Stands block front
-    → ((verb : Verb) → verb_at first ahead ≡ Some verb → may_stand (is_tried block) verb ≡ true) → begin_verb block found ≡ Ok next → Means next (front ++ first ∷ [])
+verb_begun : (block : Block) (first : Token) (ahead front : List Token) (next : State) (found : Option Verb)
+    → verb_at first ahead ≡ found → Stands block front
+    → ((verb : Verb) → verb_at first ahead ≡ Some verb → may_stand (is_tried block) verb ≡ true)
+    → begin_verb block found ≡ Ok next → Means next (front ++ first ∷ [])
 unfolding begin_verb
 verb_begun block first ahead front next None e stands may h = cc
 verb_begun block first ahead front next (Some verb) e stands may h =
     let same : Awaits (phrase.Verb verb) 1 OpenBracket (goal.Option block verb nothing_given) ≡ next = cc in
-    subst (λ state. Means state (front ++ first ∷ [])) same (means_verb block verb first front stands (may verb e) (verb_begins first ahead verb e))
+    subst (λ state. Means state (front ++ first ∷ [])) same
+    (means_verb block verb first front stands (may verb e) (verb_begins first ahead verb e))
 
 -- any command may stand where no try block is
 may_outside : (tried : Bool) (verb : Verb) → tried ≡ false → may_stand tried verb ≡ true
 may_outside false verb h = refl
 may_outside true verb h = cc
 
-any_tested : (block : Block) (text : List ℕ) (first : Token) (ahead front : List Token) (next : State) (out echo exit : Bool)
-    → is_word (codes "echo") first ≡ echo → is_word (codes "exit") first ≡ exit → Stands block front → is_tried block ≡ false
-    → cond out (Err (NotInProfile (lower text))) (cond echo (Ok (At (goal.EchoText block))) (cond exit (Ok (At (goal.ExitStatus block))) (begin_verb block (verb_at first ahead)))) ≡ Ok next
+any_tested : (block : Block) (text : List ℕ) (first : Token) (ahead front : List Token) (next : State)
+    (out echo exit : Bool)
+    → is_word (codes "echo") first ≡ echo → is_word (codes "exit") first ≡ exit → Stands block front
+    → is_tried block ≡ false
+    → cond out (Err (NotInProfile (lower text))) (cond echo (Ok (At (goal.EchoText block)))
+    (cond exit (Ok (At (goal.ExitStatus block))) (begin_verb block (verb_at first ahead)))) ≡ Ok next
     → Means next (front ++ first ∷ [])
 any_tested block text first ahead front next true echo exit i j stands tried h = cc
 any_tested block text first ahead front next false true exit i j stands tried h =
@@ -101,16 +139,20 @@ any_tested block text first ahead front next false false true i j stands tried h
     let same : At (goal.ExitStatus block) ≡ next = cc in
     subst (λ state. Means state (front ++ first ∷ [])) same (begins_with_word front first stands tried j)
 any_tested block text first ahead front next false false false i j stands tried h =
-    verb_begun block first ahead front next (verb_at first ahead) refl stands (λ verb _. may_outside (is_tried block) verb tried) h
+    verb_begun block first ahead front next (verb_at first ahead) refl stands
+    (λ verb _. may_outside (is_tried block) verb tried) h
 
 -- a command that begins where no try block is
-any_begun : (block : Block) (text : List ℕ) (first : Token) (ahead front : List Token) (next : State) → Stands block front → is_tried block ≡ false
+any_begun : (block : Block) (text : List ℕ) (first : Token) (ahead front : List Token) (next : State)
+    → Stands block front → is_tried block ≡ false
     → any_command block text first ahead ≡ Ok next → Means next (front ++ first ∷ [])
 unfolding any_command
 any_begun block text first ahead front next stands tried h =
-    any_tested block text first ahead front next (is_left_out ahead) (is_word (codes "echo") first) (is_word (codes "exit") first) refl refl stands tried h
+    any_tested block text first ahead front next (is_left_out ahead) (is_word (codes "echo") first)
+    (is_word (codes "exit") first) refl refl stands tried h
 
-step_close : (block : Block) (next : State) (front : List Token) (token : Token) → Stands block front → is_sign CloseBrace token ≡ true → close block ≡ Ok next
+step_close : (block : Block) (next : State) (front : List Token) (token : Token) → Stands block front
+    → is_sign CloseBrace token ≡ true → close block ≡ Ok next
     → Means next (front ++ token ∷ [])
 unfolding close
 step_close _ next _ token (outside script front is) h e = cc
@@ -118,23 +160,29 @@ step_close _ next _ token (in_try script front tokens commands word opens is i j
     let same : At (goal.AfterTry script (try_of commands)) ≡ next = cc in
     subst (λ state. Means state (front ++ word ∷ opens ∷ tokens ++ token ∷ [])) same
     (subst (λ ts. HasTried script (try_of commands) ts) (simp append_assoc)
-    (has_tried front (word ∷ opens ∷ tokens ++ token ∷ []) is (tried_block word opens token tokens commands i j them h)))
-step_close _ next _ token (in_handler script tried handler front middle tokens commands on word opens is tries lack i j k them) h e =
+    (has_tried front (word ∷ opens ∷ tokens ++ token ∷ []) is
+    (tried_block word opens token tokens commands i j them h)))
+step_close _ next _ token (in_handler script tried handler front middle tokens commands on word opens is tries lack i j
+    k them) h e =
     let same : At (goal.AfterTry script (with_handler handler commands tried)) ≡ next = cc in
     subst (λ state. Means state (front ++ middle ++ on ∷ word ∷ opens ∷ tokens ++ token ∷ [])) same
     (subst (λ ts. HasTried script (with_handler handler commands tried) ts) (simp append_assoc)
-    (has_tried front (middle ++ on ∷ word ∷ opens ∷ tokens ++ token ∷ []) is (handled_block middle tokens tried handler on word opens token commands tries lack i j k them h)))
+    (has_tried front (middle ++ on ∷ word ∷ opens ∷ tokens ++ token ∷ []) is
+    (handled_block middle tokens tried handler on word opens token commands tries lack i j k them h)))
 
-sleep_refused : (first : Token) (rest : List Token) → is_word (codes "sleep") first ≡ true → is_not_in_try (first ∷ rest) ≡ true
+sleep_refused : (first : Token) (rest : List Token) → is_word (codes "sleep") first ≡ true
+    → is_not_in_try (first ∷ rest) ≡ true
 unfolding is_not_in_try
 sleep_refused first rest h = simp (other_word (codes "sleep") first h)
 
-failover_refused : (first : Token) (rest : List Token) → is_word (codes "failover") first ≡ true → is_not_in_try (first ∷ rest) ≡ true
+failover_refused : (first : Token) (rest : List Token) → is_word (codes "failover") first ≡ true
+    → is_not_in_try (first ∷ rest) ≡ true
 unfolding is_not_in_try
 failover_refused first rest h = simp (other_word (codes "failover") first h)
 
 -- a command that is not refused in a try block may stand there
-may_tried : (verb : Verb) (first : Token) (rest : List Token) → begins_so first (verb_words verb) ≡ true → is_not_in_try (first ∷ rest) ≡ false
+may_tried : (verb : Verb) (first : Token) (rest : List Token) → begins_so first (verb_words verb) ≡ true
+    → is_not_in_try (first ∷ rest) ≡ false
     → is_word (codes "wait") first ≡ false → may_stand true verb ≡ true
 unfolding verb_words
 may_tried Sleep first rest h triable not_wait = let refused = sleep_refused first rest h in cc
@@ -142,9 +190,11 @@ may_tried Failover first rest h triable not_wait = let refused = failover_refuse
 may_tried WaitForEvent first rest h triable not_wait = cc
 may_tried _ first rest h triable not_wait = refl
 
-tried_tested : (script : Script) (commands : List Command) (text : List ℕ) (first : Token) (rest front : List Token) (next : State) (out barred wait : Bool)
+tried_tested : (script : Script) (commands : List Command) (text : List ℕ) (first : Token) (rest front : List Token)
+    (next : State) (out barred wait : Bool)
     → is_not_in_try (first ∷ rest) ≡ barred → is_word (codes "wait") first ≡ wait → Stands (InTry script commands) front
-    → cond out (Err (NotInProfile (lower text))) (cond barred (Err (NotInTry (lower text))) (cond wait (Err Misfit) (begin_verb (InTry script commands) (verb_at first (first ∷ rest))))) ≡ Ok next
+    → cond out (Err (NotInProfile (lower text))) (cond barred (Err (NotInTry (lower text)))
+    (cond wait (Err Misfit) (begin_verb (InTry script commands) (verb_at first (first ∷ rest))))) ≡ Ok next
     → Means next (front ++ first ∷ [])
 tried_tested script commands text first rest front next true barred wait i j stands h = cc
 tried_tested script commands text first rest front next false true wait i j stands h = cc
@@ -154,11 +204,13 @@ tried_tested script commands text first rest front next false false false i j st
     (λ verb e. may_tried verb first rest (verb_begins first (first ∷ rest) verb e) i j) h
 
 -- a command that begins in a try block
-tried_begun : (script : Script) (commands : List Command) (text : List ℕ) (first : Token) (rest front : List Token) (next : State) → Stands (InTry script commands) front
+tried_begun : (script : Script) (commands : List Command) (text : List ℕ) (first : Token) (rest front : List Token)
+    (next : State) → Stands (InTry script commands) front
     → begin_tried script commands text first (first ∷ rest) ≡ Ok next → Means next (front ++ first ∷ [])
 unfolding begin_tried
 tried_begun script commands text first rest front next stands h =
-    tried_tested script commands text first rest front next (is_left_out (first ∷ rest)) (is_not_in_try (first ∷ rest)) (is_word (codes "wait") first) refl refl stands h
+    tried_tested script commands text first rest front next (is_left_out (first ∷ rest)) (is_not_in_try (first ∷ rest))
+    (is_word (codes "wait") first) refl refl stands h
 
 -- outside of blocks, the tokens are the script
 abbrev IsScriptOf : Block → List Token → Type 0
@@ -173,33 +225,45 @@ stands_script script front stands = elim stands as (λ block ts _. IsScriptOf bl
   | in_handler script tried handler front middle tokens commands on word opens is tries lack i j k them ↦ tt
 ]
 
-outside_tested : (script : Script) (text : List ℕ) (first : Token) (ahead front : List Token) (next : State) (node tries : Bool)
-    → (is_word (codes "node") first && length script.statements == 0) ≡ node → is_word (codes "try") first ≡ tries → Stands (Outside script) front
-    → cond node (Ok (At (goal.NodeId script))) (cond tries (Ok (sign_then OpenBrace (goal.Command (InTry script [])))) (any_command (Outside script) text first ahead)) ≡ Ok next
+outside_tested : (script : Script) (text : List ℕ) (first : Token) (ahead front : List Token) (next : State)
+    (node tries : Bool)
+    → (is_word (codes "node") first && length script.statements == 0) ≡ node → is_word (codes "try") first ≡ tries
+    → Stands (Outside script) front
+    → cond node (Ok (At (goal.NodeId script))) (cond tries (Ok (sign_then OpenBrace (goal.Command (InTry script []))))
+    (any_command (Outside script) text first ahead)) ≡ Ok next
     → Means next (front ++ first ∷ [])
 outside_tested script text first ahead front next true tries i j stands h =
     let same : At (goal.NodeId script) ≡ next = cc in
     let both = and_parts (is_word (codes "node") first) (length script.statements == 0) i in
     let zero : length script.statements ≡ 0 = grind (arith, nat_tests, both.1) in
-    subst (λ state. Means state (front ++ first ∷ [])) same (begins_node front first (stands_script script front stands) (nil_from_length script.statements zero) both.0)
+    subst (λ state. Means state (front ++ first ∷ [])) same
+    (begins_node front first (stands_script script front stands) (nil_from_length script.statements zero) both.0)
 outside_tested script text first ahead front next false true i j stands h =
     let same : sign_then OpenBrace (goal.Command (InTry script [])) ≡ next = cc in
-    subst (λ state. Means state (front ++ first ∷ [])) same (means_sign OpenBrace (goal.Command (InTry script [])) (front ++ first ∷ [])
-    (λ opens ends. subst (λ ts. Stands (InTry script []) ts) (simp append_assoc) (in_try script front [] [] first opens (stands_script script front stands) j ends no_commands)))
-outside_tested script text first ahead front next false false i j stands h = any_begun (Outside script) text first ahead front next stands refl h
+    subst (λ state. Means state (front ++ first ∷ [])) same
+    (means_sign OpenBrace (goal.Command (InTry script [])) (front ++ first ∷ [])
+    (λ opens ends. subst (λ ts. Stands (InTry script []) ts) (simp append_assoc)
+    (in_try script front [] [] first opens (stands_script script front stands) j ends no_commands)))
+outside_tested script text first ahead front next false false i j stands h =
+    any_begun (Outside script) text first ahead front next stands refl h
 
 -- a NODE line, a try block or a command that begins
-outside_begun : (script : Script) (text : List ℕ) (first : Token) (ahead front : List Token) (next : State) → Stands (Outside script) front
+outside_begun : (script : Script) (text : List ℕ) (first : Token) (ahead front : List Token) (next : State)
+    → Stands (Outside script) front
     → begin_outside script text first ahead ≡ Ok next → Means next (front ++ first ∷ [])
 unfolding begin_outside
 outside_begun script text first ahead front next stands h =
-    outside_tested script text first ahead front next (is_word (codes "node") first && length script.statements == 0) (is_word (codes "try") first) refl refl stands h
+    outside_tested script text first ahead front next (is_word (codes "node") first && length script.statements == 0)
+    (is_word (codes "try") first) refl refl stands h
 
-block_begun : (block : Block) (text : List ℕ) (first : Token) (rest front : List Token) (next : State) → Stands block front
+block_begun : (block : Block) (text : List ℕ) (first : Token) (rest front : List Token) (next : State)
+    → Stands block front
     → begin_in block text first (first ∷ rest) ≡ Ok next → Means next (front ++ first ∷ [])
 unfolding begin_in
-block_begun (Outside script) text first rest front next stands h = outside_begun script text first (first ∷ rest) front next stands h
-block_begun (InTry script commands) text first rest front next stands h = tried_begun script commands text first rest front next stands h
+block_begun (Outside script) text first rest front next stands h =
+    outside_begun script text first (first ∷ rest) front next stands h
+block_begun (InTry script commands) text first rest front next stands h =
+    tried_begun script commands text first rest front next stands h
 block_begun (InHandler script tried handler commands) text first rest front next stands h =
     any_begun (InHandler script tried handler commands) text first (first ∷ rest) front next stands refl h
 
@@ -210,7 +274,8 @@ step_command block next (Word text) rest front stands h = block_begun block text
 step_command block next (Number text) rest front stands h = cc
 step_command block next (Quoted text) rest front stands h = cc
 step_command block next (Mark sign) rest front stands h =
-    elim (if_is (same_sign sign CloseBrace) (close block) (Err Misfit) (Ok next) h) as (λ _. Means next (front ++ Mark sign ∷ [])) [
+    elim (if_is (same_sign sign CloseBrace) (close block) (Err Misfit) (Ok next) h) as (λ _.
+    Means next (front ++ Mark sign ∷ [])) [
       | inl is ↦ step_close block next front (Mark sign) stands is.0 is.1
       | inr is ↦ cc (is.1)
     ]

@@ -1,13 +1,18 @@
 -- Options that make every command.
-use Rattle.std.proofs.Common.{◌≡◌, ℕ, true, List, [], ◌∷◌, ◌++◌, drop, map, codes, Some, Result, Ok, Err, refl, subst, append_assoc}
+use Rattle.std.proofs.Common.{◌≡◌, ℕ, true, List, [], ◌∷◌, ◌++◌, drop, map, codes, Some, Result, Ok, Err, refl, subst}
+use Rattle.std.proofs.Common.{append_assoc}
 use Rattle.std.proofs.lemmas.List.{append-nil}
 use Rattle.slonik_tokens.specs.declared.token.Sign.{Sign}
-use Rattle.slonik_tokens.specs.declared.token.Sign.TheVariants.{Semicolon, Comma, Equals, OpenBracket, CloseBracket, OpenBrace, CloseBrace}
+use Rattle.slonik_tokens.specs.declared.token.Sign.TheVariants.{Semicolon, Comma, Equals, OpenBracket, CloseBracket}
+use Rattle.slonik_tokens.specs.declared.token.Sign.TheVariants.{OpenBrace, CloseBrace}
 use Rattle.slonik_tokens.specs.declared.token.Token.{Token}
 use Rattle.slonik_tokens.specs.declared.token.Token.TheVariants.{Word, Number, Quoted, Mark}
 use Rattle.slonik_tokens.specs.Tokens.{is_word, is_sign}
 use Rattle.slonik_parse.specs.declared.form.Verb.{Verb}
-use Rattle.slonik_parse.specs.declared.form.Verb.TheVariants.{InitCluster, StoreNode, DropNode, StorePath, DropPath, CreateSet, DropSet, SetAddTable, SubscribeSet, UnsubscribeSet, LockSet, UnlockSet, MoveSet, Failover, Sync, WaitForEvent, Sleep}
+use Rattle.slonik_parse.specs.declared.form.Verb.TheVariants.{InitCluster, StoreNode, DropNode, StorePath, DropPath}
+use Rattle.slonik_parse.specs.declared.form.Verb.TheVariants.{CreateSet, DropSet, SetAddTable, SubscribeSet}
+use Rattle.slonik_parse.specs.declared.form.Verb.TheVariants.{UnsubscribeSet, LockSet, UnlockSet, MoveSet, Failover}
+use Rattle.slonik_parse.specs.declared.form.Verb.TheVariants.{Sync, WaitForEvent, Sleep}
 use Rattle.slonik_parse.specs.declared.form.OptionName.{OptionName}
 use Rattle.slonik_parse.specs.declared.given.Given.{Given}
 use Rattle.slonik_parse.specs.declared.misparse.Misparse.{Misparse}
@@ -15,7 +20,11 @@ use Rattle.slonik_parse.specs.Choices.{begins_option, option_at}
 use Rattle.slonik_parse.specs.Forms.{option_words, options_of}
 use Rattle.slonik_parse.specs.Given.{set_option, made}
 use Rattle.slonik_parse.specs.Grammar.{AreWords, IsOption, AreOptions, is_option, more_options}
-use Rattle.slonik_parse.specs.declared.form.OptionName.TheVariants.{Id, Comment, EventNode, Server, Client, Conninfo, Connretry, Origin, SetId, FullyQualifiedName, Key, Provider, Receiver, Forward, OldOrigin, NewOrigin, BackupNode, AwaitedOrigin, Confirmed, WaitOn, Timeout, Seconds}
+use Rattle.slonik_parse.specs.declared.form.OptionName.TheVariants.{Id, Comment, EventNode, Server, Client, Conninfo}
+use Rattle.slonik_parse.specs.declared.form.OptionName.TheVariants.{Connretry, Origin, SetId, FullyQualifiedName, Key}
+use Rattle.slonik_parse.specs.declared.form.OptionName.TheVariants.{Provider, Receiver, Forward, OldOrigin, NewOrigin}
+use Rattle.slonik_parse.specs.declared.form.OptionName.TheVariants.{BackupNode, AwaitedOrigin, Confirmed, WaitOn}
+use Rattle.slonik_parse.specs.declared.form.OptionName.TheVariants.{Timeout, Seconds}
 use Rattle.std.specs.Result.{is_ok}
 use Rattle.std.specs.Str.{str_to_ascii_lowercase}
 use Rattle.std.proofs.lemmas.Slice.Eq.{bytes_eq-Decides}
@@ -55,7 +64,8 @@ set_or given (Err e) = given
 abbrev pub with_option : OptionName → Given → Given
 with_option name given = set_or given (set_option name (value_of name) given)
 
-pub value_fits : (name : OptionName) (given : Given) → set_option name (value_of name) given ≡ Ok (with_option name given)
+pub value_fits : (name : OptionName) (given : Given)
+    → set_option name (value_of name) given ≡ Ok (with_option name given)
 unfolding set_option
 value_fits Id given = refl
 value_fits Comment given = refl
@@ -87,14 +97,18 @@ word_token (word ∷ words) = Word word
 
 -- the tokens of an option with that value
 abbrev pub option_tokens : OptionName → List Token
-option_tokens name = word_token (option_words name) ∷ map Word (drop 1 (option_words name)) ++ Mark Equals ∷ value_of name ∷ []
+option_tokens name = word_token (option_words name) ∷ map Word (drop 1 (option_words name))
+    ++ Mark Equals ∷ value_of name ∷ []
 
-pub option_fits : (verb : Verb) (name : OptionName) (given : Given) → option_at verb (word_token (option_words name)) ≡ Some name
+pub option_fits : (verb : Verb) (name : OptionName) (given : Given)
+    → option_at verb (word_token (option_words name)) ≡ Some name
     → IsOption verb given (option_tokens name) (with_option name given)
 option_fits verb name given found =
-    is_option name (word_token (option_words name)) (Mark Equals) (value_of name) (map Word (drop 1 (option_words name))) (with_option name given) found
+    is_option name (word_token (option_words name)) (Mark Equals) (value_of name)
+    (map Word (drop 1 (option_words name))) (with_option name given) found
     (words_join (option_words name) (word_token (option_words name)) (map Word (drop 1 (option_words name)))
-    (option_begins verb (word_token (option_words name)) name found) (words_fit (drop 1 (option_words name)))) refl (value_fits name given)
+    (option_begins verb (word_token (option_words name)) name found) (words_fit (drop 1 (option_words name)))) refl
+    (value_fits name given)
 
 -- the options that a command needs
 abbrev pub required : Verb → List OptionName
@@ -171,13 +185,15 @@ abbrev pub options_tokens : List OptionName → List Token
 options_tokens [] = []
 options_tokens (name ∷ names) = Mark Comma ∷ option_tokens name ++ options_tokens names
 
-pub more_fit : (verb : Verb) (names : List OptionName) (options : List Token) (given : Given) → AreFound verb names → AreOptions verb options given
+pub more_fit : (verb : Verb) (names : List OptionName) (options : List Token) (given : Given) → AreFound verb names
+    → AreOptions verb options given
     → AreOptions verb (options ++ options_tokens names) (with_options names given)
 more_fit verb [] options given found are = subst (λ tokens. AreOptions verb tokens given) (simp append-nil) are
 more_fit verb (name ∷ names) options given found are =
     subst (λ tokens. AreOptions verb tokens (with_options names (with_option name given))) (simp append_assoc)
     (more_fit verb names (options ++ Mark Comma ∷ option_tokens name) (with_option name given) found.1
-    (more_options options (option_tokens name) given (with_option name given) (Mark Comma) are refl (option_fits verb name given found.0)))
+    (more_options options (option_tokens name) given (with_option name given) (Mark Comma) are refl
+    (option_fits verb name given found.0)))
 
 -- what was made
 pub ok_is : {A E : Type 0} (made : Result A E) → is_ok made ≡ true → (x : A) × (made ≡ Ok x)

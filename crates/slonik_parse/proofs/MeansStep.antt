@@ -1,5 +1,6 @@
 -- A token keeps what the tokens so far are: behind a try block, and at any state.
-use Rattle.std.proofs.Common.{◌≡◌, ◌&&◌, ◌||◌, Bool, true, false, List, [], ◌∷◌, ◌++◌, codes, Option, Some, None, Ok, cond, refl, subst, append_assoc}
+use Rattle.std.proofs.Common.{◌≡◌, ◌&&◌, ◌||◌, Bool, true, false, List, [], ◌∷◌, ◌++◌, codes, Option, Some, None, Ok}
+use Rattle.std.proofs.Common.{cond, refl, subst, append_assoc}
 use Rattle.std.proofs.lemmas.Bool.{and_parts}
 use Rattle.slonik_tokens.specs.declared.token.Sign.TheVariants.{Semicolon, OpenBrace}
 use Rattle.slonik_tokens.specs.declared.token.Token.{Token}
@@ -18,31 +19,43 @@ use Rattle.slonik_parse.specs.declared.state.State.{State}
 use Rattle.slonik_parse.specs.declared.state.State.TheVariants.{Awaits, At}
 use Rattle.slonik_parse.specs.Answered.{and_then, fit}
 use Rattle.slonik_parse.specs.Given.{made}
-use Rattle.slonik_parse.specs.Grammar.{IsScript, of_echo, of_exit, no_commands, script_try, script_closed_try, handler_word}
-use Rattle.slonik_parse.specs.Machine.{sign_then, after_command, command_step, after_try, handler_at, begin_handler, after_on, goal_step, step, end_of}
+use Rattle.slonik_parse.specs.Grammar.{IsScript, of_echo, of_exit, no_commands, script_try, script_closed_try}
+use Rattle.slonik_parse.specs.Grammar.{handler_word}
+use Rattle.slonik_parse.specs.Machine.{sign_then, after_command, command_step, after_try, handler_at, begin_handler}
+use Rattle.slonik_parse.specs.Machine.{after_on, goal_step, step, end_of}
 use Rattle.slonik_parse.specs.Places.{Stands, outside, in_handler}
 use Rattle.slonik_parse.specs.Scripts.{with_statement, lacks}
 use Rattle.slonik_parse.specs.Values.{string_in, status_in}
-use Rattle.slonik_parse.proofs.Means.{BeginsWith, begins_with_word, HasTried, has_tried, BeginsHandler, begins_on, Leads, Means, means_sign, fit_ok}
-use Rattle.slonik_parse.proofs.MeansOptions.{step_awaits, step_cluster_name, step_node_id, step_node_text, step_option, step_value, step_after_option, means_command}
+use Rattle.slonik_parse.proofs.Means.{BeginsWith, begins_with_word, HasTried, has_tried, BeginsHandler, begins_on}
+use Rattle.slonik_parse.proofs.Means.{Leads, Means, means_sign, fit_ok}
+use Rattle.slonik_parse.proofs.MeansOptions.{step_awaits, step_cluster_name, step_node_id, step_node_text, step_option}
+use Rattle.slonik_parse.proofs.MeansOptions.{step_value, step_after_option, means_command}
 use Rattle.slonik_parse.proofs.MeansCommand.{step_command, stands_script}
 
 -- behind a try block a statement may begin
-pub stands_tried : (script : Script) (tried : TryBlock) (front : List Token) → HasTried script tried front → Stands (Outside (with_statement (Tried tried) script)) front
-stands_tried script tried _ (has_tried front tokens is tries) = outside (with_statement (Tried tried) script) (front ++ tokens) (script_try front tokens script tried is tries)
+pub stands_tried : (script : Script) (tried : TryBlock) (front : List Token) → HasTried script tried front
+    → Stands (Outside (with_statement (Tried tried) script)) front
+stands_tried script tried _ (has_tried front tokens is tries) =
+    outside (with_statement (Tried tried) script) (front ++ tokens) (script_try front tokens script tried is tries)
 
-try_closed : (script : Script) (tried : TryBlock) (front : List Token) (end : Token) → HasTried script tried front → is_sign Semicolon end ≡ true
+try_closed : (script : Script) (tried : TryBlock) (front : List Token) (end : Token) → HasTried script tried front
+    → is_sign Semicolon end ≡ true
     → Stands (Outside (with_statement (Tried tried) script)) (front ++ end ∷ [])
 try_closed script tried _ end (has_tried front tokens is tries) h =
-    outside (with_statement (Tried tried) script) (front ++ tokens ++ end ∷ []) (script_closed_try front tokens script tried end is tries h)
+    outside (with_statement (Tried tried) script) (front ++ tokens ++ end ∷ [])
+    (script_closed_try front tokens script tried end is tries h)
 
-handler_begun : (script : Script) (tried : TryBlock) (front : List Token) (on : Token) → HasTried script tried front → is_word (codes "on") on ≡ true
+handler_begun : (script : Script) (tried : TryBlock) (front : List Token) (on : Token) → HasTried script tried front
+    → is_word (codes "on") on ≡ true
     → (lacks Error tried || lacks Success tried) ≡ true → BeginsHandler script tried (front ++ on ∷ [])
 handler_begun script tried _ on (has_tried front tokens is tries) h lack = begins_on front tokens on is tries h lack
 
-try_tested : (script : Script) (tried : TryBlock) (next : State) (token : Token) (rest front : List Token) (ends on : Bool)
-    → is_sign Semicolon token ≡ ends → (is_word (codes "on") token && (lacks Error tried || lacks Success tried)) ≡ on → HasTried script tried front
-    → cond ends (Ok (At (goal.Command (Outside (with_statement (Tried tried) script))))) (cond on (Ok (At (goal.AfterOn script tried)))
+try_tested : (script : Script) (tried : TryBlock) (next : State) (token : Token) (rest front : List Token)
+    (ends on : Bool)
+    → is_sign Semicolon token ≡ ends → (is_word (codes "on") token && (lacks Error tried || lacks Success tried)) ≡ on
+    → HasTried script tried front
+    → cond ends (Ok (At (goal.Command (Outside (with_statement (Tried tried) script)))))
+    (cond on (Ok (At (goal.AfterOn script tried)))
     (command_step (Outside (with_statement (Tried tried) script)) token (token ∷ rest))) ≡ Ok next
     → Means next (front ++ token ∷ [])
 try_tested script tried next token rest front true on i j has h =
@@ -53,23 +66,30 @@ try_tested script tried next token rest front false true i j has h =
     let both = and_parts (is_word (codes "on") token) (lacks Error tried || lacks Success tried) j in
     subst (λ state. Means state (front ++ token ∷ [])) same (handler_begun script tried front token has both.0 both.1)
 try_tested script tried next token rest front false false i j has h =
-    step_command (Outside (with_statement (Tried tried) script)) next token rest front (stands_tried script tried front has) h
+    step_command (Outside (with_statement (Tried tried) script)) next token rest front
+    (stands_tried script tried front has) h
 
-step_after_try : (script : Script) (tried : TryBlock) (next : State) (token : Token) (rest front : List Token) → HasTried script tried front
+step_after_try : (script : Script) (tried : TryBlock) (next : State) (token : Token) (rest front : List Token)
+    → HasTried script tried front
     → after_try script tried token (token ∷ rest) ≡ Ok next → Means next (front ++ token ∷ [])
 unfolding after_try
 step_after_try script tried next token rest front has h =
-    try_tested script tried next token rest front (is_sign Semicolon token) (is_word (codes "on") token && (lacks Error tried || lacks Success tried)) refl refl has h
+    try_tested script tried next token rest front (is_sign Semicolon token)
+    (is_word (codes "on") token && (lacks Error tried || lacks Success tried)) refl refl has h
 
-handler_tested : (tried : TryBlock) (token : Token) (handler : Handler) (error success : Bool) → (is_word (codes "error") token && lacks Error tried) ≡ error
-    → (is_word (codes "success") token && lacks Success tried) ≡ success → cond error (Some Error) (cond success (Some Success) None) ≡ Some handler
+handler_tested : (tried : TryBlock) (token : Token) (handler : Handler) (error success : Bool)
+    → (is_word (codes "error") token && lacks Error tried) ≡ error
+    → (is_word (codes "success") token && lacks Success tried) ≡ success
+    → cond error (Some Error) (cond success (Some Success) None) ≡ Some handler
     → (is_word (handler_word handler) token ≡ true) × (lacks handler tried ≡ true)
 handler_tested tried token handler true success i j h =
     let same : Error ≡ handler = cc in
-    subst (λ x. (is_word (handler_word x) token ≡ true) × (lacks x tried ≡ true)) same (and_parts (is_word (codes "error") token) (lacks Error tried) i)
+    subst (λ x. (is_word (handler_word x) token ≡ true) × (lacks x tried ≡ true)) same
+    (and_parts (is_word (codes "error") token) (lacks Error tried) i)
 handler_tested tried token handler false true i j h =
     let same : Success ≡ handler = cc in
-    subst (λ x. (is_word (handler_word x) token ≡ true) × (lacks x tried ≡ true)) same (and_parts (is_word (codes "success") token) (lacks Success tried) j)
+    subst (λ x. (is_word (handler_word x) token ≡ true) × (lacks x tried ≡ true)) same
+    (and_parts (is_word (codes "success") token) (lacks Success tried) j)
 handler_tested tried token handler false false i j h = cc
 
 -- ERROR or SUCCESS, where it did not come before
@@ -77,9 +97,11 @@ handler_fits : (tried : TryBlock) (token : Token) (handler : Handler) → handle
     → (is_word (handler_word handler) token ≡ true) × (lacks handler tried ≡ true)
 unfolding handler_at
 handler_fits tried token handler h =
-    handler_tested tried token handler (is_word (codes "error") token && lacks Error tried) (is_word (codes "success") token && lacks Success tried) refl refl h
+    handler_tested tried token handler (is_word (codes "error") token && lacks Error tried)
+    (is_word (codes "success") token && lacks Success tried) refl refl h
 
-handler_leads : (script : Script) (tried : TryBlock) (next : State) (token : Token) (front : List Token) (found : Option Handler) → handler_at tried token ≡ found
+handler_leads : (script : Script) (tried : TryBlock) (next : State) (token : Token) (front : List Token)
+    (found : Option Handler) → handler_at tried token ≡ found
     → BeginsHandler script tried front → begin_handler script tried found ≡ Ok next → Means next (front ++ token ∷ [])
 handler_leads script tried next token front None e begins h = cc
 handler_leads script tried next token _ (Some handler) e (begins_on front tokens on is tries i lack) h =
@@ -90,52 +112,68 @@ handler_leads script tried next token _ (Some handler) e (begins_on front tokens
     (λ opens ends. subst (λ ts. Stands (InHandler script tried handler []) ts) (simp append_assoc)
     (in_handler script tried handler front tokens [] [] on token opens is tries fits.1 i fits.0 ends no_commands)))
 
-step_after_on : (script : Script) (tried : TryBlock) (next : State) (token : Token) (front : List Token) → BeginsHandler script tried front
+step_after_on : (script : Script) (tried : TryBlock) (next : State) (token : Token) (front : List Token)
+    → BeginsHandler script tried front
     → after_on script tried token ≡ Ok next → Means next (front ++ token ∷ [])
 unfolding after_on
-step_after_on script tried next token front begins h = handler_leads script tried next token front (handler_at tried token) refl begins h
+step_after_on script tried next token front begins h =
+    handler_leads script tried next token front (handler_at tried token) refl begins h
 
 step_echo : (block : Block) (next : State) (token : Token) (front : List Token) → BeginsWith block (codes "echo") front
-    → and_then (fit (string_in token)) (λ text. Ok (after_command block (Echo text))) ≡ Ok next → Means next (front ++ token ∷ [])
+    → and_then (fit (string_in token)) (λ text. Ok (after_command block (Echo text))) ≡ Ok next
+    → Means next (front ++ token ∷ [])
 step_echo block next token _ (begins_with_word front word stands tried is) h =
     let found = fit_ok (string_in token) (λ text. after_command block (Echo text)) next h in
     subst (λ state. Means state (front ++ word ∷ [] ++ token ∷ [])) found.2
-    (means_command block (Echo found.0) front (word ∷ token ∷ []) (front ++ word ∷ [] ++ token ∷ []) stands (of_echo word token found.0 tried is found.1) (simp append_assoc))
+    (means_command block (Echo found.0) front (word ∷ token ∷ []) (front ++ word ∷ [] ++ token ∷ []) stands
+    (of_echo word token found.0 tried is found.1) (simp append_assoc))
 
 step_exit : (block : Block) (next : State) (token : Token) (front : List Token) → BeginsWith block (codes "exit") front
-    → and_then (fit (status_in token)) (λ status. Ok (after_command block (Exit status))) ≡ Ok next → Means next (front ++ token ∷ [])
+    → and_then (fit (status_in token)) (λ status. Ok (after_command block (Exit status))) ≡ Ok next
+    → Means next (front ++ token ∷ [])
 step_exit block next token _ (begins_with_word front word stands tried is) h =
     let found = fit_ok (status_in token) (λ status. after_command block (Exit status)) next h in
     subst (λ state. Means state (front ++ word ∷ [] ++ token ∷ [])) found.2
-    (means_command block (Exit found.0) front (word ∷ token ∷ []) (front ++ word ∷ [] ++ token ∷ []) stands (of_exit word token found.0 tried is found.1) (simp append_assoc))
+    (means_command block (Exit found.0) front (word ∷ token ∷ []) (front ++ word ∷ [] ++ token ∷ []) stands
+    (of_exit word token found.0 tried is found.1) (simp append_assoc))
 
-goal_steps : (goal : Goal) (next : State) (token : Token) (rest front : List Token) → Leads goal front → goal_step goal token (token ∷ rest) ≡ Ok next
+goal_steps : (goal : Goal) (next : State) (token : Token) (rest front : List Token) → Leads goal front
+    → goal_step goal token (token ∷ rest) ≡ Ok next
     → Means next (front ++ token ∷ [])
 unfolding goal_step
 goal_steps goal.ClusterName next token rest front leads h = step_cluster_name next token front leads h
 goal_steps (goal.NodeId script) next token rest front leads h = step_node_id script next token front leads h
 goal_steps (goal.NodeText script id) next token rest front leads h = step_node_text script id next token front leads h
 goal_steps (goal.Command block) next token rest front leads h = step_command block next token rest front leads h
-goal_steps (goal.Option block verb given) next token rest front leads h = step_option block verb given next token (token ∷ rest) front leads h
-goal_steps (goal.Value block verb given name) next token rest front leads h = step_value block verb given name next token front leads h
-goal_steps (goal.AfterOption block verb given) next token rest front leads h = step_after_option block verb given next token front leads h
+goal_steps (goal.Option block verb given) next token rest front leads h =
+    step_option block verb given next token (token ∷ rest) front leads h
+goal_steps (goal.Value block verb given name) next token rest front leads h =
+    step_value block verb given name next token front leads h
+goal_steps (goal.AfterOption block verb given) next token rest front leads h =
+    step_after_option block verb given next token front leads h
 goal_steps (goal.EchoText block) next token rest front leads h = step_echo block next token front leads h
 goal_steps (goal.ExitStatus block) next token rest front leads h = step_exit block next token front leads h
-goal_steps (goal.AfterTry script tried) next token rest front leads h = step_after_try script tried next token rest front leads h
-goal_steps (goal.AfterOn script tried) next token rest front leads h = step_after_on script tried next token front leads h
+goal_steps (goal.AfterTry script tried) next token rest front leads h =
+    step_after_try script tried next token rest front leads h
+goal_steps (goal.AfterOn script tried) next token rest front leads h =
+    step_after_on script tried next token front leads h
 
 -- a token that goes on keeps what the tokens so far are
-pub means_step : (state next : State) (token : Token) (rest front : List Token) → Means state front → step state token (token ∷ rest) ≡ Ok next → Means next (front ++ token ∷ [])
+pub means_step : (state next : State) (token : Token) (rest front : List Token) → Means state front
+    → step state token (token ∷ rest) ≡ Ok next → Means next (front ++ token ∷ [])
 unfolding step
 means_step (At goal) next token rest front means h = goal_steps goal next token rest front means h
-means_step (Awaits phrase at sign goal) next token rest front means h = step_awaits phrase at sign goal next token (token ∷ rest) front means h
+means_step (Awaits phrase at sign goal) next token rest front means h =
+    step_awaits phrase at sign goal next token (token ∷ rest) front means h
 
 -- where a script may end, the tokens are that script
-pub means_end : (state : State) (front : List Token) (script : Script) → Means state front → end_of state ≡ Ok script → IsScript front script
+pub means_end : (state : State) (front : List Token) (script : Script) → Means state front → end_of state ≡ Ok script
+    → IsScript front script
 means_end (Awaits phrase at sign goal) front script means h = cc
 means_end (At (goal.Command (Outside made))) front script means h =
     let same : made ≡ script = cc in subst (λ s. IsScript front s) same (stands_script made front means)
 means_end (At (goal.AfterTry made tried)) front script means h =
     let same : with_statement (Tried tried) made ≡ script = cc in
-    subst (λ s. IsScript front s) same (stands_script (with_statement (Tried tried) made) front (stands_tried made tried front means))
+    subst (λ s. IsScript front s) same (stands_script (with_statement (Tried tried) made) front
+    (stands_tried made tried front means))
 means_end (At _) front script means h = cc

@@ -1,5 +1,6 @@
 -- A token that does not go on is wrong as it is said.
-use Rattle.std.proofs.Common.{◌≡◌, ℕ, ◌+◌, ◌==◌, ◌&&◌, ◌||◌, Bool, true, false, List, [], ◌∷◌, ◌++◌, length, drop, codes, Option, Some, None, Result, Ok, Err, cond, refl, ap, sym, ◌∙◌, subst, inl, inr}
+use Rattle.std.proofs.Common.{◌≡◌, ℕ, ◌+◌, ◌==◌, ◌&&◌, ◌||◌, Bool, true, false, List, [], ◌∷◌, ◌++◌, length, drop}
+use Rattle.std.proofs.Common.{codes, Option, Some, None, Result, Ok, Err, cond, refl, ap, sym, ◌∙◌, subst, inl, inr}
 use Rattle.slonik_tokens.specs.declared.token.Sign.{Sign}
 use Rattle.slonik_tokens.specs.declared.token.Sign.TheVariants.{Semicolon, Comma, CloseBracket, OpenBrace, CloseBrace}
 use Rattle.slonik_tokens.specs.declared.token.Token.{Token}
@@ -9,7 +10,8 @@ use Rattle.slonik_parse.specs.declared.form.Verb.{Verb}
 use Rattle.slonik_parse.specs.declared.form.OptionName.{OptionName}
 use Rattle.slonik_parse.specs.declared.given.Given.{Given}
 use Rattle.slonik_parse.specs.declared.misparse.Misparse.{Misparse}
-use Rattle.slonik_parse.specs.declared.misparse.Misparse.TheVariants.{Misfit, UnknownOption, MissingOption, NotInProfile, NotInTry, NoMemory}
+use Rattle.slonik_parse.specs.declared.misparse.Misparse.TheVariants.{Misfit, UnknownOption, MissingOption}
+use Rattle.slonik_parse.specs.declared.misparse.Misparse.TheVariants.{NotInProfile, NotInTry, NoMemory}
 use Rattle.slonik_parse.specs.declared.script.Command.{Command}
 use Rattle.slonik_parse.specs.declared.script.Script.{Script}
 use Rattle.slonik_parse.specs.declared.script.Statement.TheVariants.{Try as Tried}
@@ -27,7 +29,10 @@ use Rattle.slonik_parse.specs.Answered.{and_then}
 use Rattle.slonik_parse.specs.Choices.{is_left_out, is_not_in_try, is_option_left_out, verb_at, option_at}
 use Rattle.slonik_parse.specs.Forms.{option_text}
 use Rattle.slonik_parse.specs.Given.{set_option, made}
-use Rattle.slonik_parse.specs.Machine.{phrase_words, lower, sign_then, after_command, awaited_by, begin_verb, any_command, begin_outside, begin_tried, begin_in, close, command_step, missing, begin_option, option_step, after_option, after_try, handler_at, begin_handler, after_on, cluster_name, node_text, goal_step, step}
+use Rattle.slonik_parse.specs.Machine.{phrase_words, lower, sign_then, after_command, awaited_by, begin_verb}
+use Rattle.slonik_parse.specs.Machine.{any_command, begin_outside, begin_tried, begin_in, close, command_step, missing}
+use Rattle.slonik_parse.specs.Machine.{begin_option, option_step, after_option, after_try, handler_at, begin_handler}
+use Rattle.slonik_parse.specs.Machine.{after_on, cluster_name, node_text, goal_step, step}
 use Rattle.slonik_parse.specs.Places.{Stands, OptionStands, OptionEnds}
 use Rattle.slonik_parse.specs.Scripts.{with_statement, lacks}
 use Rattle.slonik_parse.specs.Values.{name_in, string_in, id_in, status_in}
@@ -35,7 +40,8 @@ use Rattle.slonik_parse.proofs.Pieces.{first_of, awaited-by}
 use Rattle.slonik_parse.proofs.Means.{HasTried, Leads, Means, if_is}
 use Rattle.slonik_parse.proofs.MeansStep.{stands_tried}
 use Rattle.slonik_tokens.specs.declared.fault.ScriptRefusal.TheVariants as refusal
-use Rattle.slonik_parse.specs.Refusals.{IsRefused, command_left_out, option_left_out, unknown_option, not_in_try, missing_option, missing_option_there}
+use Rattle.slonik_parse.specs.Refusals.{IsRefused, command_left_out, option_left_out, unknown_option, not_in_try}
+use Rattle.slonik_parse.specs.Refusals.{missing_option, missing_option_there}
 use Rattle.slonik_parse.proofs.MeansMade.{fit_wrong, and_then_wrong, set_wrong, made_wrong}
 
 -- the tokens are refused so, where something else than a token that does not fit is wrong
@@ -56,128 +62,178 @@ if_wrong : {A E : Type 0} (b : Bool) (x : A) (e f : E) → cond b (Ok x) (Err e)
 if_wrong true x e f h = cc
 if_wrong false x e f h = cc
 
-awaits_wrong : (phrase : Phrase) (at : ℕ) (sign : Sign) (goal : Goal) (misparse : Misparse) (token : Token) (left : List (List ℕ))
+awaits_wrong : (phrase : Phrase) (at : ℕ) (sign : Sign) (goal : Goal) (misparse : Misparse) (token : Token)
+    (left : List (List ℕ))
     → awaited_by (first_of left) phrase at sign goal token ≡ Err misparse → Misfit ≡ misparse
 awaits_wrong phrase at sign goal misparse token [] h = if_wrong (is_sign sign token) (At goal) Misfit misparse h
-awaits_wrong phrase at sign goal misparse token (word ∷ left) h = if_wrong (is_word word token) (Awaits phrase (at + 1) sign goal) Misfit misparse h
+awaits_wrong phrase at sign goal misparse token (word ∷ left) h =
+    if_wrong (is_word word token) (Awaits phrase (at + 1) sign goal) Misfit misparse h
 
 -- a word that begins no option
-option_wrong : (block : Block) (verb : Verb) (given : Given) (text : List ℕ) (misparse : Misparse) (rest front : List Token) (found : Option OptionName) (out : Bool)
-    → option_at verb (Word text) ≡ found → is_option_left_out verb (Word text ∷ rest) ≡ out → OptionStands block verb given front
-    → begin_option block verb given text (Word text ∷ rest) found ≡ Err misparse → WrongSo (front ++ Word text ∷ rest) misparse
+option_wrong : (block : Block) (verb : Verb) (given : Given) (text : List ℕ) (misparse : Misparse)
+    (rest front : List Token) (found : Option OptionName) (out : Bool)
+    → option_at verb (Word text) ≡ found → is_option_left_out verb (Word text ∷ rest) ≡ out
+    → OptionStands block verb given front
+    → begin_option block verb given text (Word text ∷ rest) found ≡ Err misparse
+    → WrongSo (front ++ Word text ∷ rest) misparse
 unfolding begin_option
 option_wrong block verb given text misparse rest front (Some name) out e i stands h = cc
 option_wrong block verb given text misparse rest front None true e i stands h =
-    let same : NotInProfile (lower text) ≡ misparse = cc (sym h ∙ ap (λ b. cond b (Err (NotInProfile (lower text))) (Err (UnknownOption (lower text)))) i) in
+    let same : NotInProfile (lower text) ≡ misparse =
+    cc (sym h ∙ ap (λ b. cond b (Err (NotInProfile (lower text))) (Err (UnknownOption (lower text)))) i) in
     subst (λ m. WrongSo (front ++ Word text ∷ rest) m) same (option_left_out front rest block verb given text stands i)
 option_wrong block verb given text misparse rest front None false e i stands h =
-    let same : UnknownOption (lower text) ≡ misparse = cc (sym h ∙ ap (λ b. cond b (Err (NotInProfile (lower text))) (Err (UnknownOption (lower text)))) i) in
+    let same : UnknownOption (lower text) ≡ misparse =
+    cc (sym h ∙ ap (λ b. cond b (Err (NotInProfile (lower text))) (Err (UnknownOption (lower text)))) i) in
     subst (λ m. WrongSo (front ++ Word text ∷ rest) m) same (unknown_option front rest block verb given text stands e i)
 
 -- the closing bracket where an option is missing
-missing_wrong : (block : Block) (verb : Verb) (given : Given) (misparse : Misparse) (token : Token) (rest front : List Token) (read : Result Command Misparse)
-    → made verb given ≡ read → is_sign CloseBracket token ≡ true → OptionStands block verb given front → missing read ≡ Err misparse → WrongSo (front ++ token ∷ rest) misparse
-missing_wrong block verb given misparse token rest front (Ok command) e i stands h = misfits (front ++ token ∷ rest) misparse (cc)
+missing_wrong : (block : Block) (verb : Verb) (given : Given) (misparse : Misparse) (token : Token)
+    (rest front : List Token) (read : Result Command Misparse)
+    → made verb given ≡ read → is_sign CloseBracket token ≡ true → OptionStands block verb given front
+    → missing read ≡ Err misparse → WrongSo (front ++ token ∷ rest) misparse
+missing_wrong block verb given misparse token rest front (Ok command) e i stands h =
+    misfits (front ++ token ∷ rest) misparse (cc)
 missing_wrong block verb given misparse token rest front (Err error) e i stands h =
     let lacks_one = made_wrong verb given error e in
     let same : MissingOption lacks_one.0 ≡ misparse = cc (lacks_one.1) in
     subst (λ m. WrongSo (front ++ token ∷ rest) m) same
     (missing_option_there front rest block verb given token lacks_one.0 stands i (e ∙ ap (λ m. Err m) lacks_one.1))
 
-wrong_option : (block : Block) (verb : Verb) (given : Given) (misparse : Misparse) (token : Token) (rest front : List Token) → OptionStands block verb given front
+wrong_option : (block : Block) (verb : Verb) (given : Given) (misparse : Misparse) (token : Token)
+    (rest front : List Token) → OptionStands block verb given front
     → option_step block verb given token (token ∷ rest) ≡ Err misparse → WrongSo (front ++ token ∷ rest) misparse
 unfolding option_step
 wrong_option block verb given misparse (Word text) rest front stands h =
-    option_wrong block verb given text misparse rest front (option_at verb (Word text)) (is_option_left_out verb (Word text ∷ rest)) refl refl stands h
-wrong_option block verb given misparse (Number text) rest front stands h = misfits (front ++ Number text ∷ rest) misparse (cc)
-wrong_option block verb given misparse (Quoted text) rest front stands h = misfits (front ++ Quoted text ∷ rest) misparse (cc)
+    option_wrong block verb given text misparse rest front (option_at verb (Word text))
+    (is_option_left_out verb (Word text ∷ rest)) refl refl stands h
+wrong_option block verb given misparse (Number text) rest front stands h =
+    misfits (front ++ Number text ∷ rest) misparse (cc)
+wrong_option block verb given misparse (Quoted text) rest front stands h =
+    misfits (front ++ Quoted text ∷ rest) misparse (cc)
 wrong_option block verb given misparse (Mark sign) rest front stands h =
-    elim (if_is (same_sign sign CloseBracket) (missing (made verb given)) (Err Misfit) (Err misparse) h) as (λ _. WrongSo (front ++ Mark sign ∷ rest) misparse) [
+    elim (if_is (same_sign sign CloseBracket) (missing (made verb given)) (Err Misfit) (Err misparse) h) as (λ _.
+    WrongSo (front ++ Mark sign ∷ rest) misparse) [
       | inl is ↦ missing_wrong block verb given misparse (Mark sign) rest front (made verb given) refl is.0 stands is.1
       | inr is ↦ misfits (front ++ Mark sign ∷ rest) misparse (cc (is.1))
     ]
-wrong_option block verb given misparse (NameUse name) rest front stands h = misfits (front ++ NameUse name ∷ rest) misparse (cc)
-wrong_option block verb given misparse (Path path) rest front stands h = misfits (front ++ Path path ∷ rest) misparse (cc)
+wrong_option block verb given misparse (NameUse name) rest front stands h =
+    misfits (front ++ NameUse name ∷ rest) misparse (cc)
+wrong_option block verb given misparse (Path path) rest front stands h =
+    misfits (front ++ Path path ∷ rest) misparse (cc)
 
-closed_wrong : (block : Block) (verb : Verb) (given : Given) (misparse : Misparse) (token : Token) (rest front : List Token) (comma closes : Bool)
+closed_wrong : (block : Block) (verb : Verb) (given : Given) (misparse : Misparse) (token : Token)
+    (rest front : List Token) (comma closes : Bool)
     → is_sign CloseBracket token ≡ closes → OptionEnds block verb given front
-    → cond comma (Ok (At (goal.Option block verb given))) (cond closes (and_then (made verb given) (λ command. Ok (after_command block command))) (Err Misfit)) ≡ Err misparse
+    → cond comma (Ok (At (goal.Option block verb given)))
+    (cond closes (and_then (made verb given) (λ command. Ok (after_command block command))) (Err Misfit))
+    ≡ Err misparse
     → WrongSo (front ++ token ∷ rest) misparse
 closed_wrong block verb given misparse token rest front true closes e ends h = cc
-closed_wrong block verb given misparse token rest front false false e ends h = misfits (front ++ token ∷ rest) misparse (cc)
+closed_wrong block verb given misparse token rest front false false e ends h =
+    misfits (front ++ token ∷ rest) misparse (cc)
 closed_wrong block verb given misparse token rest front false true e ends h =
     let makes = and_then_wrong (made verb given) (λ command. after_command block command) misparse h in
     let lacks_one = made_wrong verb given misparse makes in
     subst (λ m. WrongSo (front ++ token ∷ rest) m) (sym lacks_one.1)
     (missing_option front rest block verb given token lacks_one.0 ends e (makes ∙ ap (λ m. Err m) lacks_one.1))
 
-wrong_after_option : (block : Block) (verb : Verb) (given : Given) (misparse : Misparse) (token : Token) (rest front : List Token) → OptionEnds block verb given front
+wrong_after_option : (block : Block) (verb : Verb) (given : Given) (misparse : Misparse) (token : Token)
+    (rest front : List Token) → OptionEnds block verb given front
     → after_option block verb given token ≡ Err misparse → WrongSo (front ++ token ∷ rest) misparse
 unfolding after_option
 wrong_after_option block verb given misparse token rest front ends h =
-    closed_wrong block verb given misparse token rest front (is_sign Comma token) (is_sign CloseBracket token) refl ends h
+    closed_wrong block verb given misparse token rest front (is_sign Comma token) (is_sign CloseBracket token) refl ends
+    h
 
 -- a word that begins no command
-verb_wrong : (block : Block) (found : Option Verb) (misparse : Misparse) → begin_verb block found ≡ Err misparse → Misfit ≡ misparse
+verb_wrong : (block : Block) (found : Option Verb) (misparse : Misparse) → begin_verb block found ≡ Err misparse
+    → Misfit ≡ misparse
 unfolding begin_verb
 verb_wrong block None misparse h = cc
 verb_wrong block (Some verb) misparse h = cc
 
-left_out : (block : Block) (text : List ℕ) (misparse : Misparse) (rest front : List Token) → Stands block front → is_left_out (Word text ∷ rest) ≡ true
+left_out : (block : Block) (text : List ℕ) (misparse : Misparse) (rest front : List Token) → Stands block front
+    → is_left_out (Word text ∷ rest) ≡ true
     → NotInProfile (lower text) ≡ misparse → WrongSo (front ++ Word text ∷ rest) misparse
-left_out block text misparse rest front stands i same = subst (λ m. WrongSo (front ++ Word text ∷ rest) m) same (command_left_out front rest block text stands i)
+left_out block text misparse rest front stands i same =
+    subst (λ m. WrongSo (front ++ Word text ∷ rest) m) same (command_left_out front rest block text stands i)
 
-any_wrong : (block : Block) (text : List ℕ) (misparse : Misparse) (rest front : List Token) (out echo exit : Bool) → is_left_out (Word text ∷ rest) ≡ out → Stands block front
-    → cond out (Err (NotInProfile (lower text))) (cond echo (Ok (At (goal.EchoText block))) (cond exit (Ok (At (goal.ExitStatus block))) (begin_verb block (verb_at (Word text) (Word text ∷ rest))))) ≡ Err misparse
+any_wrong : (block : Block) (text : List ℕ) (misparse : Misparse) (rest front : List Token) (out echo exit : Bool)
+    → is_left_out (Word text ∷ rest) ≡ out → Stands block front
+    → cond out (Err (NotInProfile (lower text))) (cond echo (Ok (At (goal.EchoText block)))
+    (cond exit (Ok (At (goal.ExitStatus block))) (begin_verb block (verb_at (Word text) (Word text ∷ rest)))))
+    ≡ Err misparse
     → WrongSo (front ++ Word text ∷ rest) misparse
-any_wrong block text misparse rest front true echo exit i stands h = left_out block text misparse rest front stands i (cc)
+any_wrong block text misparse rest front true echo exit i stands h =
+    left_out block text misparse rest front stands i (cc)
 any_wrong block text misparse rest front false true exit i stands h = cc
 any_wrong block text misparse rest front false false true i stands h = cc
 any_wrong block text misparse rest front false false false i stands h =
     misfits (front ++ Word text ∷ rest) misparse (verb_wrong block (verb_at (Word text) (Word text ∷ rest)) misparse h)
 
 any_command_wrong : (block : Block) (text : List ℕ) (misparse : Misparse) (rest front : List Token) → Stands block front
-    → any_command block text (Word text) (Word text ∷ rest) ≡ Err misparse → WrongSo (front ++ Word text ∷ rest) misparse
+    → any_command block text (Word text) (Word text ∷ rest) ≡ Err misparse
+    → WrongSo (front ++ Word text ∷ rest) misparse
 unfolding any_command
 any_command_wrong block text misparse rest front stands h =
-    any_wrong block text misparse rest front (is_left_out (Word text ∷ rest)) (is_word (codes "echo") (Word text)) (is_word (codes "exit") (Word text)) refl stands h
+    any_wrong block text misparse rest front (is_left_out (Word text ∷ rest)) (is_word (codes "echo") (Word text))
+    (is_word (codes "exit") (Word text)) refl stands h
 
-tried_wrong : (script : Script) (commands : List Command) (text : List ℕ) (misparse : Misparse) (rest front : List Token) (out barred wait : Bool)
-    → is_left_out (Word text ∷ rest) ≡ out → is_not_in_try (Word text ∷ rest) ≡ barred → Stands (InTry script commands) front
-    → cond out (Err (NotInProfile (lower text))) (cond barred (Err (NotInTry (lower text))) (cond wait (Err Misfit) (begin_verb (InTry script commands) (verb_at (Word text) (Word text ∷ rest))))) ≡ Err misparse
+tried_wrong : (script : Script) (commands : List Command) (text : List ℕ) (misparse : Misparse)
+    (rest front : List Token) (out barred wait : Bool)
+    → is_left_out (Word text ∷ rest) ≡ out → is_not_in_try (Word text ∷ rest) ≡ barred
+    → Stands (InTry script commands) front
+    → cond out (Err (NotInProfile (lower text))) (cond barred (Err (NotInTry (lower text)))
+    (cond wait (Err Misfit) (begin_verb (InTry script commands) (verb_at (Word text) (Word text ∷ rest)))))
+    ≡ Err misparse
     → WrongSo (front ++ Word text ∷ rest) misparse
-tried_wrong script commands text misparse rest front true barred wait i j stands h = left_out (InTry script commands) text misparse rest front stands i (cc)
+tried_wrong script commands text misparse rest front true barred wait i j stands h =
+    left_out (InTry script commands) text misparse rest front stands i (cc)
 tried_wrong script commands text misparse rest front false true wait i j stands h =
     let same : NotInTry (lower text) ≡ misparse = cc in
     subst (λ m. WrongSo (front ++ Word text ∷ rest) m) same (not_in_try front rest script commands text stands j)
-tried_wrong script commands text misparse rest front false false true i j stands h = misfits (front ++ Word text ∷ rest) misparse (cc)
+tried_wrong script commands text misparse rest front false false true i j stands h =
+    misfits (front ++ Word text ∷ rest) misparse (cc)
 tried_wrong script commands text misparse rest front false false false i j stands h =
-    misfits (front ++ Word text ∷ rest) misparse (verb_wrong (InTry script commands) (verb_at (Word text) (Word text ∷ rest)) misparse h)
+    misfits (front ++ Word text ∷ rest) misparse (verb_wrong (InTry script commands)
+    (verb_at (Word text) (Word text ∷ rest)) misparse h)
 
-begin_tried_wrong : (script : Script) (commands : List Command) (text : List ℕ) (misparse : Misparse) (rest front : List Token) → Stands (InTry script commands) front
-    → begin_tried script commands text (Word text) (Word text ∷ rest) ≡ Err misparse → WrongSo (front ++ Word text ∷ rest) misparse
+begin_tried_wrong : (script : Script) (commands : List Command) (text : List ℕ) (misparse : Misparse)
+    (rest front : List Token) → Stands (InTry script commands) front
+    → begin_tried script commands text (Word text) (Word text ∷ rest) ≡ Err misparse
+    → WrongSo (front ++ Word text ∷ rest) misparse
 unfolding begin_tried
 begin_tried_wrong script commands text misparse rest front stands h =
-    tried_wrong script commands text misparse rest front (is_left_out (Word text ∷ rest)) (is_not_in_try (Word text ∷ rest)) (is_word (codes "wait") (Word text)) refl refl stands h
+    tried_wrong script commands text misparse rest front (is_left_out (Word text ∷ rest))
+    (is_not_in_try (Word text ∷ rest)) (is_word (codes "wait") (Word text)) refl refl stands h
 
-outside_wrong : (script : Script) (text : List ℕ) (misparse : Misparse) (rest front : List Token) (node tries : Bool) → Stands (Outside script) front
-    → cond node (Ok (At (goal.NodeId script))) (cond tries (Ok (sign_then OpenBrace (goal.Command (InTry script [])))) (any_command (Outside script) text (Word text) (Word text ∷ rest))) ≡ Err misparse
+outside_wrong : (script : Script) (text : List ℕ) (misparse : Misparse) (rest front : List Token) (node tries : Bool)
+    → Stands (Outside script) front
+    → cond node (Ok (At (goal.NodeId script))) (cond tries (Ok (sign_then OpenBrace (goal.Command (InTry script []))))
+    (any_command (Outside script) text (Word text) (Word text ∷ rest))) ≡ Err misparse
     → WrongSo (front ++ Word text ∷ rest) misparse
 outside_wrong script text misparse rest front true tries stands h = cc
 outside_wrong script text misparse rest front false true stands h = cc
-outside_wrong script text misparse rest front false false stands h = any_command_wrong (Outside script) text misparse rest front stands h
+outside_wrong script text misparse rest front false false stands h =
+    any_command_wrong (Outside script) text misparse rest front stands h
 
-begin_outside_wrong : (script : Script) (text : List ℕ) (misparse : Misparse) (rest front : List Token) → Stands (Outside script) front
-    → begin_outside script text (Word text) (Word text ∷ rest) ≡ Err misparse → WrongSo (front ++ Word text ∷ rest) misparse
+begin_outside_wrong : (script : Script) (text : List ℕ) (misparse : Misparse) (rest front : List Token)
+    → Stands (Outside script) front
+    → begin_outside script text (Word text) (Word text ∷ rest) ≡ Err misparse
+    → WrongSo (front ++ Word text ∷ rest) misparse
 unfolding begin_outside
 begin_outside_wrong script text misparse rest front stands h =
-    outside_wrong script text misparse rest front (is_word (codes "node") (Word text) && length script.statements == 0) (is_word (codes "try") (Word text)) stands h
+    outside_wrong script text misparse rest front (is_word (codes "node") (Word text) && length script.statements == 0)
+    (is_word (codes "try") (Word text)) stands h
 
 begin_wrong : (block : Block) (text : List ℕ) (misparse : Misparse) (rest front : List Token) → Stands block front
     → begin_in block text (Word text) (Word text ∷ rest) ≡ Err misparse → WrongSo (front ++ Word text ∷ rest) misparse
 unfolding begin_in
-begin_wrong (Outside script) text misparse rest front stands h = begin_outside_wrong script text misparse rest front stands h
-begin_wrong (InTry script commands) text misparse rest front stands h = begin_tried_wrong script commands text misparse rest front stands h
+begin_wrong (Outside script) text misparse rest front stands h =
+    begin_outside_wrong script text misparse rest front stands h
+begin_wrong (InTry script commands) text misparse rest front stands h =
+    begin_tried_wrong script commands text misparse rest front stands h
 begin_wrong (InHandler script tried handler commands) text misparse rest front stands h =
     any_command_wrong (InHandler script tried handler commands) text misparse rest front stands h
 
@@ -194,52 +250,74 @@ wrong_command block misparse (Word text) rest front stands h = begin_wrong block
 wrong_command block misparse (Number text) rest front stands h = misfits (front ++ Number text ∷ rest) misparse (cc)
 wrong_command block misparse (Quoted text) rest front stands h = misfits (front ++ Quoted text ∷ rest) misparse (cc)
 wrong_command block misparse (Mark sign) rest front stands h =
-    elim (if_is (same_sign sign CloseBrace) (close block) (Err Misfit) (Err misparse) h) as (λ _. WrongSo (front ++ Mark sign ∷ rest) misparse) [
+    elim (if_is (same_sign sign CloseBrace) (close block) (Err Misfit) (Err misparse) h) as (λ _.
+    WrongSo (front ++ Mark sign ∷ rest) misparse) [
       | inl is ↦ misfits (front ++ Mark sign ∷ rest) misparse (close_wrong block misparse is.1)
       | inr is ↦ misfits (front ++ Mark sign ∷ rest) misparse (cc (is.1))
     ]
 wrong_command block misparse (NameUse name) rest front stands h = misfits (front ++ NameUse name ∷ rest) misparse (cc)
 wrong_command block misparse (Path path) rest front stands h = misfits (front ++ Path path ∷ rest) misparse (cc)
 
-try_wrong : (script : Script) (tried : TryBlock) (misparse : Misparse) (token : Token) (rest front : List Token) (ends on : Bool) → HasTried script tried front
-    → cond ends (Ok (At (goal.Command (Outside (with_statement (Tried tried) script))))) (cond on (Ok (At (goal.AfterOn script tried)))
+try_wrong : (script : Script) (tried : TryBlock) (misparse : Misparse) (token : Token) (rest front : List Token)
+    (ends on : Bool) → HasTried script tried front
+    → cond ends (Ok (At (goal.Command (Outside (with_statement (Tried tried) script)))))
+    (cond on (Ok (At (goal.AfterOn script tried)))
     (command_step (Outside (with_statement (Tried tried) script)) token (token ∷ rest))) ≡ Err misparse
     → WrongSo (front ++ token ∷ rest) misparse
 try_wrong script tried misparse token rest front true on has h = cc
 try_wrong script tried misparse token rest front false true has h = cc
 try_wrong script tried misparse token rest front false false has h =
-    wrong_command (Outside (with_statement (Tried tried) script)) misparse token rest front (stands_tried script tried front has) h
+    wrong_command (Outside (with_statement (Tried tried) script)) misparse token rest front
+    (stands_tried script tried front has) h
 
-wrong_after_try : (script : Script) (tried : TryBlock) (misparse : Misparse) (token : Token) (rest front : List Token) → HasTried script tried front
+wrong_after_try : (script : Script) (tried : TryBlock) (misparse : Misparse) (token : Token) (rest front : List Token)
+    → HasTried script tried front
     → after_try script tried token (token ∷ rest) ≡ Err misparse → WrongSo (front ++ token ∷ rest) misparse
 unfolding after_try
 wrong_after_try script tried misparse token rest front has h =
-    try_wrong script tried misparse token rest front (is_sign Semicolon token) (is_word (codes "on") token && (lacks Error tried || lacks Success tried)) has h
+    try_wrong script tried misparse token rest front (is_sign Semicolon token)
+    (is_word (codes "on") token && (lacks Error tried || lacks Success tried)) has h
 
-handler_wrong : (script : Script) (tried : TryBlock) (misparse : Misparse) (found : Option Handler) → begin_handler script tried found ≡ Err misparse → Misfit ≡ misparse
+handler_wrong : (script : Script) (tried : TryBlock) (misparse : Misparse) (found : Option Handler)
+    → begin_handler script tried found ≡ Err misparse → Misfit ≡ misparse
 handler_wrong script tried misparse None h = cc
 handler_wrong script tried misparse (Some handler) h = cc
 
-goal_wrong : (goal : Goal) (misparse : Misparse) (token : Token) (rest front : List Token) → Leads goal front → goal_step goal token (token ∷ rest) ≡ Err misparse
+goal_wrong : (goal : Goal) (misparse : Misparse) (token : Token) (rest front : List Token) → Leads goal front
+    → goal_step goal token (token ∷ rest) ≡ Err misparse
     → WrongSo (front ++ token ∷ rest) misparse
 unfolding goal_step cluster_name node_text after_on
-goal_wrong goal.ClusterName misparse token rest front leads h = misfits (front ++ token ∷ rest) misparse (fit_wrong (name_in token) _ misparse h)
-goal_wrong (goal.NodeId script) misparse token rest front leads h = misfits (front ++ token ∷ rest) misparse (fit_wrong (id_in token) _ misparse h)
-goal_wrong (goal.NodeText script id) misparse token rest front leads h = misfits (front ++ token ∷ rest) misparse (fit_wrong (string_in token) _ misparse h)
-goal_wrong (goal.Command block) misparse token rest front leads h = wrong_command block misparse token rest front leads h
-goal_wrong (goal.Option block verb given) misparse token rest front leads h = wrong_option block verb given misparse token rest front leads h
+goal_wrong goal.ClusterName misparse token rest front leads h =
+    misfits (front ++ token ∷ rest) misparse (fit_wrong (name_in token) _ misparse h)
+goal_wrong (goal.NodeId script) misparse token rest front leads h =
+    misfits (front ++ token ∷ rest) misparse (fit_wrong (id_in token) _ misparse h)
+goal_wrong (goal.NodeText script id) misparse token rest front leads h =
+    misfits (front ++ token ∷ rest) misparse (fit_wrong (string_in token) _ misparse h)
+goal_wrong (goal.Command block) misparse token rest front leads h =
+    wrong_command block misparse token rest front leads h
+goal_wrong (goal.Option block verb given) misparse token rest front leads h =
+    wrong_option block verb given misparse token rest front leads h
 goal_wrong (goal.Value block verb given name) misparse token rest front leads h =
-    misfits (front ++ token ∷ rest) misparse (set_wrong name token given misparse (and_then_wrong (set_option name token given) (λ more. At (goal.AfterOption block verb more)) misparse h))
-goal_wrong (goal.AfterOption block verb given) misparse token rest front leads h = wrong_after_option block verb given misparse token rest front leads h
-goal_wrong (goal.EchoText block) misparse token rest front leads h = misfits (front ++ token ∷ rest) misparse (fit_wrong (string_in token) _ misparse h)
-goal_wrong (goal.ExitStatus block) misparse token rest front leads h = misfits (front ++ token ∷ rest) misparse (fit_wrong (status_in token) _ misparse h)
-goal_wrong (goal.AfterTry script tried) misparse token rest front leads h = wrong_after_try script tried misparse token rest front leads h
-goal_wrong (goal.AfterOn script tried) misparse token rest front leads h = misfits (front ++ token ∷ rest) misparse (handler_wrong script tried misparse (handler_at tried token) h)
+    misfits (front ++ token ∷ rest) misparse (set_wrong name token given misparse
+    (and_then_wrong (set_option name token given) (λ more. At (goal.AfterOption block verb more)) misparse h))
+goal_wrong (goal.AfterOption block verb given) misparse token rest front leads h =
+    wrong_after_option block verb given misparse token rest front leads h
+goal_wrong (goal.EchoText block) misparse token rest front leads h =
+    misfits (front ++ token ∷ rest) misparse (fit_wrong (string_in token) _ misparse h)
+goal_wrong (goal.ExitStatus block) misparse token rest front leads h =
+    misfits (front ++ token ∷ rest) misparse (fit_wrong (status_in token) _ misparse h)
+goal_wrong (goal.AfterTry script tried) misparse token rest front leads h =
+    wrong_after_try script tried misparse token rest front leads h
+goal_wrong (goal.AfterOn script tried) misparse token rest front leads h =
+    misfits (front ++ token ∷ rest) misparse (handler_wrong script tried misparse (handler_at tried token) h)
 
 -- a token that does not go on is wrong as it is said
-pub means_wrong : (state : State) (misparse : Misparse) (token : Token) (rest front : List Token) → Means state front → step state token (token ∷ rest) ≡ Err misparse
+pub means_wrong : (state : State) (misparse : Misparse) (token : Token) (rest front : List Token) → Means state front
+    → step state token (token ∷ rest) ≡ Err misparse
     → WrongSo (front ++ token ∷ rest) misparse
-means_wrong (At goal) misparse token rest front means h = goal_wrong goal misparse token rest front means (unfold step in h)
+means_wrong (At goal) misparse token rest front means h =
+    goal_wrong goal misparse token rest front means (unfold step in h)
 means_wrong (Awaits phrase at sign goal) misparse token rest front means h =
     misfits (front ++ token ∷ rest) misparse
-    (awaits_wrong phrase at sign goal misparse token (drop at (phrase_words phrase)) (sym (awaited-by phrase at sign goal token (token ∷ rest)) ∙ h))
+    (awaits_wrong phrase at sign goal misparse token (drop at (phrase_words phrase))
+    (sym (awaited-by phrase at sign goal token (token ∷ rest)) ∙ h))

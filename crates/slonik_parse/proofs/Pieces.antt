@@ -1,5 +1,6 @@
 -- What the machine does with what the grammar allows, piece by piece.
-use Rattle.std.proofs.Common.{◌≡◌, ℕ, zero, suc, ◌+◌, true, List, [], ◌∷◌, ◌++◌, length, drop, Option, Some, None, Ok, Err, cond, if◌then◌else◌, refl, ap, sym, ◌∙◌, subst, append_assoc, slice_get, add-one}
+use Rattle.std.proofs.Common.{◌≡◌, ℕ, zero, suc, ◌+◌, true, List, [], ◌∷◌, ◌++◌, length, drop, Option, Some, None, Ok}
+use Rattle.std.proofs.Common.{Err, cond, if◌then◌else◌, refl, ap, sym, ◌∙◌, subst, append_assoc, slice_get, add-one}
 use Rattle.slonik_tokens.specs.declared.token.Sign.{Sign}
 use Rattle.slonik_tokens.specs.declared.token.Sign.TheVariants.{Comma, Equals, CloseBracket}
 use Rattle.slonik_tokens.specs.declared.token.Token.{Token}
@@ -23,7 +24,8 @@ use Rattle.slonik_parse.specs.Choices.{option_at}
 use Rattle.slonik_parse.specs.Forms.{option_words}
 use Rattle.slonik_parse.specs.Given.{nothing_given, set_option, made}
 use Rattle.slonik_parse.specs.Grammar.{AreWords, IsOption, AreOptions, is_option, one_option, more_options}
-use Rattle.slonik_parse.specs.Machine.{wrong, run, step, awaited, awaited_by, phrase_words, sign_then, goal_step, option_step, begin_option, after_option, after_command, go_on}
+use Rattle.slonik_parse.specs.Machine.{wrong, run, step, awaited, awaited_by, phrase_words, sign_then, goal_step}
+use Rattle.slonik_parse.specs.Machine.{option_step, begin_option, after_option, after_command, go_on}
 use Rattle.slonik_parse.proofs.Words.{other_sign}
 
 -- the first of a list
@@ -39,7 +41,8 @@ slice_get-drop (x ∷ xs) zero = refl
 slice_get-drop (x ∷ xs) (suc i) = slice_get-drop xs i
 
 -- what is left one place on
-pub drop-next : {A : Type 0} (xs : List A) (i : ℕ) (x : A) (rest : List A) → drop i xs ≡ x ∷ rest → drop (i + 1) xs ≡ rest
+pub drop-next : {A : Type 0} (xs : List A) (i : ℕ) (x : A) (rest : List A) → drop i xs ≡ x ∷ rest
+    → drop (i + 1) xs ≡ rest
 drop-next [] zero x rest e = cc
 drop-next [] (suc i) x rest e = cc
 drop-next (y ∷ ys) zero x rest e = cc
@@ -48,36 +51,46 @@ drop-next (y ∷ ys) (suc i) x rest e =
     rw add-one (rw add-one at below)
 
 -- a token that goes on leads to the next state
-pub run-ok : (state next : State) (token : Token) (rest : List Token) → step state token (token ∷ rest) ≡ Ok next → run (token ∷ rest) state ≡ run rest next
+pub run-ok : (state next : State) (token : Token) (rest : List Token) → step state token (token ∷ rest) ≡ Ok next
+    → run (token ∷ rest) state ≡ run rest next
 unfolding run
 run-ok state next token rest h = ap (λ made. go_on made (run rest) (length rest + 1)) h
 
 -- a token that is wrong ends the run
-pub run-err : (state : State) (misparse : Misparse) (token : Token) (rest : List Token) → step state token (token ∷ rest) ≡ Err misparse → run (token ∷ rest) state ≡ Err (wrong misparse (length rest + 1))
+pub run-err : (state : State) (misparse : Misparse) (token : Token) (rest : List Token)
+    → step state token (token ∷ rest) ≡ Err misparse → run (token ∷ rest) state ≡ Err (wrong misparse (length rest + 1))
 unfolding run
 run-err state misparse token rest h = ap (λ made. go_on made (run rest) (length rest + 1)) h
 
 -- what is awaited is the first of the words that are left, or else the sign
-pub awaited-by : (phrase : Phrase) (at : ℕ) (sign : Sign) (goal : Goal) (token : Token) (tokens : List Token) → step (Awaits phrase at sign goal) token tokens ≡ awaited_by (first_of (drop at (phrase_words phrase))) phrase at sign goal token
+pub awaited-by : (phrase : Phrase) (at : ℕ) (sign : Sign) (goal : Goal) (token : Token) (tokens : List Token)
+    → step (Awaits phrase at sign goal) token tokens ≡ awaited_by (first_of (drop at (phrase_words phrase))) phrase at
+    sign goal token
 unfolding step awaited
-awaited-by phrase at sign goal token tokens = ap (λ word. awaited_by word phrase at sign goal token) (slice_get-drop (phrase_words phrase) at)
+awaited-by phrase at sign goal token tokens =
+    ap (λ word. awaited_by word phrase at sign goal token) (slice_get-drop (phrase_words phrase) at)
 
 -- the words that are awaited, and the sign behind them
-pub words_read : (phrase : Phrase) (at : ℕ) (sign : Sign) (goal : Goal) (left : List (List ℕ)) (words : List Token) (token : Token) (rest : List Token)
+pub words_read : (phrase : Phrase) (at : ℕ) (sign : Sign) (goal : Goal) (left : List (List ℕ)) (words : List Token)
+    (token : Token) (rest : List Token)
     → drop at (phrase_words phrase) ≡ left → AreWords left words → is_sign sign token ≡ true
     → run (words ++ token ∷ rest) (Awaits phrase at sign goal) ≡ run rest (At goal)
 words_read phrase at sign goal [] [] token rest e fits h =
     run-ok (Awaits phrase at sign goal) (At goal) token rest (awaited-by phrase at sign goal token (token ∷ rest)
-    ∙ ap (λ words. awaited_by (first_of words) phrase at sign goal token) e ∙ ap (λ b. cond b (Ok (At goal)) (Err Misfit)) h)
+    ∙ ap (λ words. awaited_by (first_of words) phrase at sign goal token) e
+    ∙ ap (λ b. cond b (Ok (At goal)) (Err Misfit)) h)
 words_read phrase at sign goal [] (t ∷ ts) token rest e fits h = absurd fits
 words_read phrase at sign goal (w ∷ ws) [] token rest e fits h = absurd fits
 words_read phrase at sign goal (w ∷ ws) (t ∷ ts) token rest e fits h =
-    run-ok (Awaits phrase at sign goal) (Awaits phrase (at + 1) sign goal) t (ts ++ token ∷ rest) (awaited-by phrase at sign goal t (t ∷ ts ++ token ∷ rest)
-    ∙ ap (λ words. awaited_by (first_of words) phrase at sign goal t) e ∙ ap (λ b. cond b (Ok (Awaits phrase (at + 1) sign goal)) (Err Misfit)) fits.0)
+    run-ok (Awaits phrase at sign goal) (Awaits phrase (at + 1) sign goal) t (ts ++ token ∷ rest)
+    (awaited-by phrase at sign goal t (t ∷ ts ++ token ∷ rest)
+    ∙ ap (λ words. awaited_by (first_of words) phrase at sign goal t) e
+    ∙ ap (λ b. cond b (Ok (Awaits phrase (at + 1) sign goal)) (Err Misfit)) fits.0)
     ∙ words_read phrase (at + 1) sign goal ws ts token rest (drop-next (phrase_words phrase) at w ws e) fits.1 h
 
 -- the sign that is awaited
-pub sign_read : (sign : Sign) (goal : Goal) (token : Token) (rest : List Token) → is_sign sign token ≡ true → run (token ∷ rest) (sign_then sign goal) ≡ run rest (At goal)
+pub sign_read : (sign : Sign) (goal : Goal) (token : Token) (rest : List Token) → is_sign sign token ≡ true
+    → run (token ∷ rest) (sign_then sign goal) ≡ run rest (At goal)
 unfolding phrase_words
 sign_read sign goal token rest h = words_read phrase.Nothing 0 sign goal [] [] token rest refl tt h
 
@@ -91,47 +104,67 @@ word_is word (NameUse name) h = cc
 word_is word (Path path) h = cc
 
 -- the first of some words is a word, and the others are the other words
-pub words_begin : (words : List (List ℕ)) (first : Token) (others : List Token) → AreWords words (first ∷ others) → (text : List ℕ) × (first ≡ Word text) × AreWords (drop 1 words) others
+pub words_begin : (words : List (List ℕ)) (first : Token) (others : List Token) → AreWords words (first ∷ others)
+    → (text : List ℕ) × (first ≡ Word text) × AreWords (drop 1 words) others
 words_begin [] first others fits = absurd fits
 words_begin (word ∷ words) first others fits = let found = word_is word first fits.0 in (found.0, found.1, fits.1)
 
 -- what the value of an option leads to
-value_read : (block : Block) (verb : Verb) (given all : Given) (name : OptionName) (value : Token) (rest : List Token) → set_option name value given ≡ Ok all
+value_read : (block : Block) (verb : Verb) (given all : Given) (name : OptionName) (value : Token) (rest : List Token)
+    → set_option name value given ≡ Ok all
     → run (value ∷ rest) (At (goal.Value block verb given name)) ≡ run rest (At (goal.AfterOption block verb all))
 value_read block verb given all name value rest h =
     run-ok (At (goal.Value block verb given name)) (At (goal.AfterOption block verb all)) value rest
-    (unfold step in unfold goal_step in ap (λ made. and_then made (λ more. Ok (At (goal.AfterOption block verb more)))) h)
+    (unfold step in unfold goal_step in ap (λ made. and_then made (λ more. Ok (At (goal.AfterOption block verb more))))
+    h)
 
-option_read_text : (block : Block) (verb : Verb) (given all : Given) (name : OptionName) (text : List ℕ) (equals value : Token) (words rest : List Token)
-    → option_at verb (Word text) ≡ Some name → AreWords (drop 1 (option_words name)) words → is_sign Equals equals ≡ true → set_option name value given ≡ Ok all
-    → run ((Word text ∷ words ++ equals ∷ value ∷ []) ++ rest) (At (goal.Option block verb given)) ≡ run rest (At (goal.AfterOption block verb all))
+option_read_text : (block : Block) (verb : Verb) (given all : Given) (name : OptionName) (text : List ℕ)
+    (equals value : Token) (words rest : List Token)
+    → option_at verb (Word text) ≡ Some name → AreWords (drop 1 (option_words name)) words
+    → is_sign Equals equals ≡ true → set_option name value given ≡ Ok all
+    → run ((Word text ∷ words ++ equals ∷ value ∷ []) ++ rest) (At (goal.Option block verb given))
+    ≡ run rest (At (goal.AfterOption block verb all))
 unfolding phrase_words
 option_read_text block verb given all name text equals value words rest found fits h set =
-    run-ok (At (goal.Option block verb given)) (Awaits (phrase.Option name) 1 Equals (goal.Value block verb given name)) (Word text) ((words ++ equals ∷ value ∷ []) ++ rest)
-    (unfold step in unfold goal_step in unfold option_step in unfold begin_option in ap (begin_option block verb given text (Word text ∷ (words ++ equals ∷ value ∷ []) ++ rest)) found)
-    ∙ ap (λ tokens. run tokens (Awaits (phrase.Option name) 1 Equals (goal.Value block verb given name))) (append_assoc words (equals ∷ value ∷ []) rest)
-    ∙ words_read (phrase.Option name) 1 Equals (goal.Value block verb given name) (drop 1 (option_words name)) words equals (value ∷ rest) refl fits h
+    run-ok (At (goal.Option block verb given)) (Awaits (phrase.Option name) 1 Equals (goal.Value block verb given name))
+    (Word text) ((words ++ equals ∷ value ∷ []) ++ rest)
+    (unfold step in unfold goal_step in unfold option_step in unfold begin_option in
+    ap (begin_option block verb given text (Word text ∷ (words ++ equals ∷ value ∷ []) ++ rest)) found)
+    ∙ ap (λ tokens. run tokens (Awaits (phrase.Option name) 1 Equals (goal.Value block verb given name)))
+    (append_assoc words (equals ∷ value ∷ []) rest)
+    ∙ words_read (phrase.Option name) 1 Equals (goal.Value block verb given name) (drop 1 (option_words name)) words
+    equals (value ∷ rest) refl fits h
     ∙ value_read block verb given all name value rest set
 
 -- an option
-pub option_read : (block : Block) (verb : Verb) (given all : Given) (tokens rest : List Token) → IsOption verb given tokens all
+pub option_read : (block : Block) (verb : Verb) (given all : Given) (tokens rest : List Token)
+    → IsOption verb given tokens all
     → run (tokens ++ rest) (At (goal.Option block verb given)) ≡ run rest (At (goal.AfterOption block verb all))
 option_read block verb given all tokens rest (is_option name first equals value words more found fits h set) =
     let begun = words_begin (option_words name) first words fits in
-    subst (λ t. run ((t ∷ words ++ equals ∷ value ∷ []) ++ rest) (At (goal.Option block verb given)) ≡ run rest (At (goal.AfterOption block verb more))) (sym begun.1)
-    (option_read_text block verb given more name begun.0 equals value words rest (subst (λ t. option_at verb t ≡ Some name) begun.1 found) begun.2 h set)
+    subst (λ t. run ((t ∷ words ++ equals ∷ value ∷ []) ++ rest) (At (goal.Option block verb given))
+    ≡ run rest (At (goal.AfterOption block verb more))) (sym begun.1)
+    (option_read_text block verb given more name begun.0 equals value words rest
+    (subst (λ t. option_at verb t ≡ Some name) begun.1 found) begun.2 h set)
 
 -- a comma
-pub comma_read : (block : Block) (verb : Verb) (given : Given) (comma : Token) (rest : List Token) → is_sign Comma comma ≡ true
+pub comma_read : (block : Block) (verb : Verb) (given : Given) (comma : Token) (rest : List Token)
+    → is_sign Comma comma ≡ true
     → run (comma ∷ rest) (At (goal.AfterOption block verb given)) ≡ run rest (At (goal.Option block verb given))
 comma_read block verb given comma rest h =
     run-ok (At (goal.AfterOption block verb given)) (At (goal.Option block verb given)) comma rest
-    (unfold step in unfold goal_step in unfold after_option in ap (λ b. cond b (Ok (At (goal.Option block verb given))) (if is_sign CloseBracket comma then and_then (made verb given) (λ command. Ok (after_command block command)) else Err Misfit)) h)
+    (unfold step in unfold goal_step in unfold after_option in
+    ap (λ b. cond b (Ok (At (goal.Option block verb given)))
+    (if is_sign CloseBracket comma then and_then (made verb given) (λ command. Ok (after_command block command))
+    else Err Misfit)) h)
 
 -- options
-pub options_read : (block : Block) (verb : Verb) (given : Given) (tokens rest : List Token) → AreOptions verb tokens given
-    → run (tokens ++ rest) (At (goal.Option block verb nothing_given)) ≡ run rest (At (goal.AfterOption block verb given))
-options_read block verb given tokens rest (one_option _ _ is) = option_read block verb nothing_given given tokens rest is
+pub options_read : (block : Block) (verb : Verb) (given : Given) (tokens rest : List Token)
+    → AreOptions verb tokens given
+    → run (tokens ++ rest) (At (goal.Option block verb nothing_given))
+    ≡ run rest (At (goal.AfterOption block verb given))
+options_read block verb given tokens rest (one_option _ _ is) =
+    option_read block verb nothing_given given tokens rest is
 options_read block verb given tokens rest (more_options front others before all comma them h is) =
     ap (λ ts. run ts (At (goal.Option block verb nothing_given))) (append_assoc front (comma ∷ others) rest)
     ∙ options_read block verb before front (comma ∷ others ++ rest) them
@@ -139,11 +172,14 @@ options_read block verb given tokens rest (more_options front others before all 
     ∙ option_read block verb before given others rest is
 
 -- the closing bracket and the semicolon
-pub close_read : (block : Block) (verb : Verb) (given : Given) (command : Command) (closes : Token) (rest : List Token) → is_sign CloseBracket closes ≡ true → made verb given ≡ Ok command
+pub close_read : (block : Block) (verb : Verb) (given : Given) (command : Command) (closes : Token) (rest : List Token)
+    → is_sign CloseBracket closes ≡ true → made verb given ≡ Ok command
     → run (closes ∷ rest) (At (goal.AfterOption block verb given)) ≡ run rest (after_command block command)
 close_read block verb given command closes rest h makes =
     run-ok (At (goal.AfterOption block verb given)) (after_command block command) closes rest
     (unfold step in unfold goal_step in unfold after_option in
-    ap (λ b. cond b (Ok (At (goal.Option block verb given))) (if is_sign CloseBracket closes then and_then (made verb given) (λ c. Ok (after_command block c)) else Err Misfit)) (other_sign CloseBracket Comma closes h)
+    ap (λ b. cond b (Ok (At (goal.Option block verb given)))
+    (if is_sign CloseBracket closes then and_then (made verb given) (λ c. Ok (after_command block c)) else Err
+    Misfit)) (other_sign CloseBracket Comma closes h)
     ∙ ap (λ b. cond b (and_then (made verb given) (λ c. Ok (after_command block c))) (Err Misfit)) h
     ∙ ap (λ m. and_then m (λ c. Ok (after_command block c))) makes)

@@ -1,5 +1,6 @@
 -- What the grammar calls a script is read as it.
-use Rattle.std.proofs.Common.{◌≡◌, ℕ, Bool, true, false, List, [], ◌∷◌, ◌++◌, drop, codes, Some, Ok, refl, ap, sym, ◌∙◌, subst, append_assoc}
+use Rattle.std.proofs.Common.{◌≡◌, ℕ, Bool, true, false, List, [], ◌∷◌, ◌++◌, drop, codes, Some, Ok, refl, ap, sym, ◌∙◌}
+use Rattle.std.proofs.Common.{subst, append_assoc}
 use Rattle.slonik_tokens.specs.declared.token.Sign.TheVariants.{Semicolon, Equals}
 use Rattle.slonik_tokens.specs.declared.token.Token.{Token}
 use Rattle.slonik_tokens.specs.declared.token.Token.TheVariants.{Word, Number, Quoted, Mark, NameUse, Path}
@@ -15,8 +16,11 @@ use Rattle.slonik_parse.specs.declared.state.State.TheVariants.{Awaits, At}
 use Rattle.slonik_parse.specs.Answered.{and_then, fit}
 use Rattle.slonik_parse.specs.Choices.{begins_with}
 use Rattle.slonik_parse.specs.Forms.{verb_words}
-use Rattle.slonik_parse.specs.Grammar.{AreWords, IsCommand, IsTry, IsScript, of_verb, of_echo, of_exit, tried_block, handled_block, script_head, script_node, script_command, script_try, script_closed_try}
-use Rattle.slonik_parse.specs.Machine.{run, step, goal_step, command_step, begin_in, begin_outside, cluster_name, node_text, after_try, sign_then, with_command, behind_preamble, phrase_words}
+use Rattle.slonik_parse.specs.Grammar.{AreWords, IsCommand, IsTry, IsScript, of_verb, of_echo, of_exit, tried_block}
+use Rattle.slonik_parse.specs.Grammar.{handled_block, script_head, script_node, script_command, script_try}
+use Rattle.slonik_parse.specs.Grammar.{script_closed_try}
+use Rattle.slonik_parse.specs.Machine.{run, step, goal_step, command_step, begin_in, begin_outside, cluster_name}
+use Rattle.slonik_parse.specs.Machine.{node_text, after_try, sign_then, with_command, behind_preamble, phrase_words}
 use Rattle.slonik_parse.specs.Refusals.{preamble}
 use Rattle.slonik_parse.specs.Scripts.{with_statement, with_node, empty_script}
 use Rattle.slonik_parse.specs.Values.{name_in, id_in, string_in}
@@ -39,94 +43,130 @@ word_no_sign word (Mark sign) h = cc
 word_no_sign word (NameUse name) h = refl
 word_no_sign word (Path path) h = refl
 
-pub first_word_no_sign : (words : List (List ℕ)) (first : Token) (others : List Token) → AreWords words (first ∷ others) → is_sign Semicolon first ≡ false
+pub first_word_no_sign : (words : List (List ℕ)) (first : Token) (others : List Token) → AreWords words (first ∷ others)
+    → is_sign Semicolon first ≡ false
 first_word_no_sign [] first others fits = absurd fits
 first_word_no_sign (word ∷ words) first others fits = word_no_sign word first fits.0
 
 -- a command is none of what goes on with a try block
-pub command_not_on : (tried : Bool) (tokens rest : List Token) (command : Command) → IsCommand tried tokens command → NotOn (tokens ++ rest)
-command_not_on tried tokens rest command (of_verb verb first opens closes words options given _ may fits h are h2 makes) =
+pub command_not_on : (tried : Bool) (tokens rest : List Token) (command : Command) → IsCommand tried tokens command
+    → NotOn (tokens ++ rest)
+command_not_on tried tokens rest command (of_verb verb first opens closes words options given _ may fits h are h2
+    makes) =
     (first_word_no_sign (verb_words verb) first words fits, (begins verb first words [] fits).not_on)
-command_not_on tried tokens rest command (of_echo word token text free h is) = (word_no_sign (codes "echo") word h, other_word (codes "echo") word h (codes "on"))
-command_not_on tried tokens rest command (of_exit word token status free h is) = (word_no_sign (codes "exit") word h, other_word (codes "exit") word h (codes "on"))
+command_not_on tried tokens rest command (of_echo word token text free h is) =
+    (word_no_sign (codes "echo") word h, other_word (codes "echo") word h (codes "on"))
+command_not_on tried tokens rest command (of_exit word token status free h is) =
+    (word_no_sign (codes "exit") word h, other_word (codes "exit") word h (codes "on"))
 
 pub try_not_on : (tokens rest : List Token) (block : TryBlock) → IsTry tokens block → NotOn (tokens ++ rest)
-try_not_on tokens rest block (tried_block word opens closes inner commands h h2 are h3) = (word_no_sign (codes "try") word h, other_word (codes "try") word h (codes "on"))
-try_not_on tokens rest block (handled_block front inner before handler on word opens closes commands is free h h2 h3 are h4) =
-    subst NotOn (sym (regroup_handler front inner rest on word opens closes)) (try_not_on front (on ∷ word ∷ opens ∷ (inner ++ closes ∷ rest)) before is)
+try_not_on tokens rest block (tried_block word opens closes inner commands h h2 are h3) =
+    (word_no_sign (codes "try") word h, other_word (codes "try") word h (codes "on"))
+try_not_on tokens rest block (handled_block front inner before handler on word opens closes commands is free h h2 h3 are
+    h4) =
+    subst NotOn (sym (regroup_handler front inner rest on word opens closes))
+    (try_not_on front (on ∷ word ∷ opens ∷ (inner ++ closes ∷ rest)) before is)
 
 -- behind a try block the next statement is read as elsewhere
 pub after_try_same : (script : Script) (tried : TryBlock) (rest : List Token) → NotOn rest
-    → run rest (At (goal.AfterTry script tried)) ≡ run rest (At (goal.Command (Outside (with_statement (Tried tried) script))))
+    → run rest (At (goal.AfterTry script tried)) ≡ run rest
+    (At (goal.Command (Outside (with_statement (Tried tried) script))))
 unfolding run step goal_step after_try
 after_try_same script tried [] clear = refl
 after_try_same script tried (token ∷ rest) clear = simp (clear.0, clear.1)
 
 -- a semicolon behind a try block
 closed_read : (script : Script) (tried : TryBlock) (end : Token) (rest : List Token) → is_sign Semicolon end ≡ true
-    → run (end ∷ rest) (At (goal.AfterTry script tried)) ≡ run rest (At (goal.Command (Outside (with_statement (Tried tried) script))))
+    → run (end ∷ rest) (At (goal.AfterTry script tried))
+    ≡ run rest (At (goal.Command (Outside (with_statement (Tried tried) script))))
 closed_read script tried end rest h =
-    run-ok (At (goal.AfterTry script tried)) (At (goal.Command (Outside (with_statement (Tried tried) script)))) end rest (unfold step in unfold goal_step in unfold after_try in simp h)
+    run-ok (At (goal.AfterTry script tried)) (At (goal.Command (Outside (with_statement (Tried tried) script)))) end
+    rest (unfold step in unfold goal_step in unfold after_try in simp h)
 
 -- The tokens are read as the script so far, whatever comes behind them.
 pub record Reached (front : List Token) (script : Script) : Type 0 where
   pub preamble : (rest : List Token) → begins_with preamble (front ++ rest) ≡ true
-  pub ran : (rest : List Token) → NotOn rest → run (drop 2 (front ++ rest)) behind_preamble ≡ run rest (At (goal.Command (Outside script)))
+  pub ran : (rest : List Token) → NotOn rest
+      → run (drop 2 (front ++ rest)) behind_preamble ≡ run rest (At (goal.Command (Outside script)))
 
-head_read : (name : List ℕ) (equals value end : Token) (rest : List Token) → is_sign Equals equals ≡ true → name_in value ≡ Some name → is_sign Semicolon end ≡ true
+head_read : (name : List ℕ) (equals value end : Token) (rest : List Token) → is_sign Equals equals ≡ true
+    → name_in value ≡ Some name → is_sign Semicolon end ≡ true
     → run (equals ∷ value ∷ end ∷ rest) behind_preamble ≡ run rest (At (goal.Command (Outside (empty_script name))))
 head_read name equals value end rest h is h2 =
     sign_read Equals goal.ClusterName equals (value ∷ end ∷ rest) h
     ∙ run-ok (At goal.ClusterName) (sign_then Semicolon (goal.Command (Outside (empty_script name)))) value (end ∷ rest)
-    (unfold step in unfold goal_step in unfold cluster_name in ap (λ found. and_then (fit found) (λ n. Ok (sign_then Semicolon (goal.Command (Outside (empty_script n)))))) is)
+    (unfold step in unfold goal_step in unfold cluster_name in
+    ap (λ found. and_then (fit found) (λ n. Ok (sign_then Semicolon (goal.Command (Outside (empty_script n)))))) is)
     ∙ sign_read Semicolon (goal.Command (Outside (empty_script name))) end rest h2
 
-node_begins : (script : Script) (text : List ℕ) (tokens : List Token) → script.statements ≡ [] → is_word (codes "node") (Word text) ≡ true
+node_begins : (script : Script) (text : List ℕ) (tokens : List Token) → script.statements ≡ []
+    → is_word (codes "node") (Word text) ≡ true
     → begin_in (Outside script) text (Word text) tokens ≡ Ok (At (goal.NodeId script))
 unfolding begin_in begin_outside
 node_begins script text tokens none h = simp (h, none)
 
-node_word_read : (script : Script) (word : Token) (rest : List Token) → script.statements ≡ [] → is_word (codes "node") word ≡ true
+node_word_read : (script : Script) (word : Token) (rest : List Token) → script.statements ≡ []
+    → is_word (codes "node") word ≡ true
     → run (word ∷ rest) (At (goal.Command (Outside script))) ≡ run rest (At (goal.NodeId script))
-node_word_read script (Word text) rest none h = run-ok (At (goal.Command (Outside script))) (At (goal.NodeId script)) (Word text) rest (unfold step in unfold goal_step in unfold command_step in node_begins script text (Word text ∷ rest) none h)
+node_word_read script (Word text) rest none h =
+    run-ok (At (goal.Command (Outside script))) (At (goal.NodeId script)) (Word text) rest
+    (unfold step in unfold goal_step in unfold command_step in node_begins script text (Word text ∷ rest) none h)
 node_word_read script (Number text) rest none h = cc
 node_word_read script (Quoted text) rest none h = cc
 node_word_read script (Mark sign) rest none h = cc
 node_word_read script (NameUse name) rest none h = cc
 node_word_read script (Path path) rest none h = cc
 
-node_read : (script : Script) (id : ℕ) (text : List ℕ) (word number admin conninfo equals value end : Token) (rest : List Token) → script.statements ≡ []
-    → is_word (codes "node") word ≡ true → id_in number ≡ Some id → AreWords (codes "admin" ∷ codes "conninfo" ∷ []) (admin ∷ conninfo ∷ []) → is_sign Equals equals ≡ true
+node_read : (script : Script) (id : ℕ) (text : List ℕ) (word number admin conninfo equals value end : Token)
+    (rest : List Token) → script.statements ≡ []
+    → is_word (codes "node") word ≡ true → id_in number ≡ Some id
+    → AreWords (codes "admin" ∷ codes "conninfo" ∷ []) (admin ∷ conninfo ∷ []) → is_sign Equals equals ≡ true
     → string_in value ≡ Some text → is_sign Semicolon end ≡ true
-    → run (word ∷ number ∷ admin ∷ conninfo ∷ equals ∷ value ∷ end ∷ rest) (At (goal.Command (Outside script))) ≡ run rest (At (goal.Command (Outside (with_node id text script))))
+    → run (word ∷ number ∷ admin ∷ conninfo ∷ equals ∷ value ∷ end ∷ rest) (At (goal.Command (Outside script)))
+    ≡ run rest (At (goal.Command (Outside (with_node id text script))))
 unfolding phrase_words
 node_read script id text word number admin conninfo equals value end rest none h is fits h2 is2 h3 =
     node_word_read script word (number ∷ admin ∷ conninfo ∷ equals ∷ value ∷ end ∷ rest) none h
-    ∙ run-ok (At (goal.NodeId script)) (Awaits phrase.Node 0 Equals (goal.NodeText script id)) number (admin ∷ conninfo ∷ equals ∷ value ∷ end ∷ rest)
-    (unfold step in unfold goal_step in ap (λ found. and_then (fit found) (λ n. Ok (Awaits phrase.Node 0 Equals (goal.NodeText script n)))) is)
-    ∙ words_read phrase.Node 0 Equals (goal.NodeText script id) (codes "admin" ∷ codes "conninfo" ∷ []) (admin ∷ conninfo ∷ []) equals (value ∷ end ∷ rest) refl fits h2
-    ∙ run-ok (At (goal.NodeText script id)) (sign_then Semicolon (goal.Command (Outside (with_node id text script)))) value (end ∷ rest)
-    (unfold step in unfold goal_step in unfold node_text in ap (λ found. and_then (fit found) (λ t. Ok (sign_then Semicolon (goal.Command (Outside (with_node id t script)))))) is2)
+    ∙ run-ok (At (goal.NodeId script)) (Awaits phrase.Node 0 Equals (goal.NodeText script id)) number
+    (admin ∷ conninfo ∷ equals ∷ value ∷ end ∷ rest)
+    (unfold step in unfold goal_step in ap (λ found. and_then (fit found)
+    (λ n. Ok (Awaits phrase.Node 0 Equals (goal.NodeText script n)))) is)
+    ∙ words_read phrase.Node 0 Equals (goal.NodeText script id) (codes "admin" ∷ codes "conninfo" ∷ [])
+    (admin ∷ conninfo ∷ []) equals (value ∷ end ∷ rest) refl fits h2
+    ∙ run-ok (At (goal.NodeText script id)) (sign_then Semicolon (goal.Command (Outside (with_node id text script))))
+    value (end ∷ rest)
+    (unfold step in unfold goal_step in unfold node_text in
+    ap (λ found.
+    and_then (fit found) (λ t. Ok (sign_then Semicolon (goal.Command (Outside (with_node id t script)))))) is2)
     ∙ sign_read Semicolon (goal.Command (Outside (with_node id text script))) end rest h3
 
-both_words : (first second : Token) → is_word (codes "cluster") first ≡ true → is_word (codes "name") second ≡ true → (rest : List Token) → begins_with preamble (first ∷ second ∷ rest) ≡ true
+both_words : (first second : Token) → is_word (codes "cluster") first ≡ true → is_word (codes "name") second ≡ true
+    → (rest : List Token) → begins_with preamble (first ∷ second ∷ rest) ≡ true
 both_words first second h h2 rest = simp (h, h2)
 
 -- the tokens so far with what follows them, one part later
-later : (front now : List Token) (next : List Token → List Token) (script grown : Script) → Reached front script → ((rest : List Token) → (front ++ now) ++ rest ≡ front ++ next rest)
+later : (front now : List Token) (next : List Token → List Token) (script grown : Script) → Reached front script
+    → ((rest : List Token) → (front ++ now) ++ rest ≡ front ++ next rest)
     → ((rest : List Token) → NotOn rest → NotOn (next rest))
-    → ((rest : List Token) → NotOn rest → run (next rest) (At (goal.Command (Outside script))) ≡ run rest (At (goal.Command (Outside grown)))) → Reached (front ++ now) grown
+    → ((rest : List Token) → NotOn rest
+    → run (next rest) (At (goal.Command (Outside script))) ≡ run rest (At (goal.Command (Outside grown))))
+    → Reached (front ++ now) grown
 later front now next script grown r same keeps goes = record {
   preamble = λ rest. ap (begins_with preamble) (same rest) ∙ r.preamble (next rest);
-  ran = λ rest clear. ap (λ ts. run (drop 2 ts) behind_preamble) (same rest) ∙ r.ran (next rest) (keeps rest clear) ∙ goes rest clear;
+  ran = λ rest clear. ap (λ ts. run (drop 2 ts) behind_preamble) (same rest) ∙ r.ran (next rest) (keeps rest clear)
+      ∙ goes rest clear;
 }
 
 -- the same with a semicolon at the end
-later_end : (front tokens : List Token) (end : Token) (script grown : Script) → Reached front script → ((rest : List Token) → NotOn rest → NotOn (tokens ++ end ∷ rest))
-    → ((rest : List Token) → NotOn rest → run (tokens ++ end ∷ rest) (At (goal.Command (Outside script))) ≡ run rest (At (goal.Command (Outside grown)))) → Reached (front ++ tokens ++ end ∷ []) grown
+later_end : (front tokens : List Token) (end : Token) (script grown : Script) → Reached front script
+    → ((rest : List Token) → NotOn rest → NotOn (tokens ++ end ∷ rest))
+    → ((rest : List Token) → NotOn rest
+    → run (tokens ++ end ∷ rest) (At (goal.Command (Outside script)))
+    ≡ run rest (At (goal.Command (Outside grown)))) → Reached (front ++ tokens ++ end ∷ []) grown
 later_end front tokens end script grown r keeps goes =
     subst (λ ts. Reached ts grown) (sym (append_assoc front tokens (end ∷ [])))
-    (later front (tokens ++ end ∷ []) (λ rest. tokens ++ end ∷ rest) script grown r (λ rest. simp append_assoc) keeps goes)
+    (later front (tokens ++ end ∷ []) (λ rest. tokens ++ end ∷ rest) script grown r (λ rest. simp append_assoc) keeps
+    goes)
 
 -- what the grammar calls a script is reached
 pub reached : (front : List Token) (script : Script) → IsScript front script → Reached front script
@@ -135,15 +175,19 @@ reached front script (script_head first second equals value end name h h2 h3 is 
   preamble = λ rest. both_words first second h h2 (equals ∷ value ∷ end ∷ rest);
   ran = λ rest clear. head_read name equals value end rest h3 is h4;
 }
-reached front script (script_node before old word number admin conninfo equals value end id text is none h is2 fits h2 is3 h3) =
-    later before (word ∷ number ∷ admin ∷ conninfo ∷ equals ∷ value ∷ end ∷ []) (λ rest. word ∷ number ∷ admin ∷ conninfo ∷ equals ∷ value ∷ end ∷ rest) old (with_node id text old) (reached before old is)
+reached front script (script_node before old word number admin conninfo equals value end id text is none h is2 fits h2
+    is3 h3) =
+    later before (word ∷ number ∷ admin ∷ conninfo ∷ equals ∷ value ∷ end ∷ [])
+    (λ rest. word ∷ number ∷ admin ∷ conninfo ∷ equals ∷ value ∷ end ∷ rest) old (with_node id text old)
+    (reached before old is)
     (λ rest. append_assoc before (word ∷ number ∷ admin ∷ conninfo ∷ equals ∷ value ∷ end ∷ []) rest)
     (λ rest clear. (word_no_sign (codes "node") word h, other_word (codes "node") word h (codes "on")))
     (λ rest clear. node_read old id text word number admin conninfo equals value end rest none h is2 fits h2 is3 h3)
 reached front script (script_command before tokens old command end is is2 h) =
     later_end before tokens end old (with_statement (Single command) old) (reached before old is)
     (λ rest clear. command_not_on false tokens (end ∷ rest) command is2)
-    (λ rest clear. command_read (Outside old) tokens (end ∷ rest) command is2 ∙ sign_read Semicolon (goal.Command (with_command command (Outside old))) end rest h)
+    (λ rest clear. command_read (Outside old) tokens (end ∷ rest) command is2
+    ∙ sign_read Semicolon (goal.Command (with_command command (Outside old))) end rest h)
 reached front script (script_try before tokens old block is is2) =
     later before tokens (λ rest. tokens ++ rest) old (with_statement (Tried block) old) (reached before old is)
     (λ rest. append_assoc before tokens rest)

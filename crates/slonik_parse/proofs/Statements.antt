@@ -1,5 +1,6 @@
 -- What the machine does with try blocks and whole scripts.
-use Rattle.std.proofs.Common.{◌≡◌, ℕ, ◌||◌, Bool, true, false, List, [], ◌∷◌, ◌++◌, codes, Some, Ok, refl, ap, sym, ◌∙◌, subst, append_assoc}
+use Rattle.std.proofs.Common.{◌≡◌, ℕ, ◌||◌, Bool, true, false, List, [], ◌∷◌, ◌++◌, codes, Some, Ok, refl, ap, sym, ◌∙◌}
+use Rattle.std.proofs.Common.{subst, append_assoc}
 use Rattle.slonik_tokens.specs.declared.token.Sign.TheVariants.{OpenBrace, CloseBrace}
 use Rattle.slonik_tokens.specs.declared.token.Token.{Token}
 use Rattle.slonik_tokens.specs.declared.token.Token.TheVariants.{Word, Number, Quoted, Mark, NameUse, Path}
@@ -14,7 +15,8 @@ use Rattle.slonik_parse.specs.declared.state.Handler.TheVariants.{Error, Success
 use Rattle.slonik_parse.specs.declared.state.State.{State}
 use Rattle.slonik_parse.specs.declared.state.State.TheVariants.{At}
 use Rattle.slonik_parse.specs.Grammar.{IsTry, tried_block, handled_block, handler_word}
-use Rattle.slonik_parse.specs.Machine.{run, step, goal_step, command_step, begin_in, begin_outside, sign_then, with_command, close, after_try, after_on, handler_at, begin_handler}
+use Rattle.slonik_parse.specs.Machine.{run, step, goal_step, command_step, begin_in, begin_outside, sign_then}
+use Rattle.slonik_parse.specs.Machine.{with_command, close, after_try, after_on, handler_at, begin_handler}
 use Rattle.slonik_parse.specs.Scripts.{try_of, with_handler, lacks}
 use Rattle.slonik_parse.proofs.Words.{other_word, sign_is}
 use Rattle.slonik_parse.proofs.Pieces.{run-ok, sign_read}
@@ -27,7 +29,8 @@ unfolding begin_in begin_outside
 try_begins script text tokens h = simp (other_word (codes "try") (Word text) h)
 
 pub try_word_read : (script : Script) (word : Token) (rest : List Token) → is_word (codes "try") word ≡ true
-    → run (word ∷ rest) (At (goal.Command (Outside script))) ≡ run rest (sign_then OpenBrace (goal.Command (InTry script [])))
+    → run (word ∷ rest) (At (goal.Command (Outside script)))
+    ≡ run rest (sign_then OpenBrace (goal.Command (InTry script [])))
 try_word_read script (Word text) rest h =
     run-ok (At (goal.Command (Outside script))) (sign_then OpenBrace (goal.Command (InTry script []))) (Word text) rest
     (unfold step in unfold goal_step in unfold command_step in try_begins script text (Word text ∷ rest) h)
@@ -38,14 +41,17 @@ try_word_read script (NameUse name) rest h = cc
 try_word_read script (Path path) rest h = cc
 
 -- a closing brace closes a block
-brace_read : (block : Block) (next : State) (closes : Token) (rest : List Token) → is_sign CloseBrace closes ≡ true → close block ≡ Ok next
+brace_read : (block : Block) (next : State) (closes : Token) (rest : List Token) → is_sign CloseBrace closes ≡ true
+    → close block ≡ Ok next
     → run (closes ∷ rest) (At (goal.Command block)) ≡ run rest next
 brace_read block next closes rest h makes =
     subst (λ t. run (t ∷ rest) (At (goal.Command block)) ≡ run rest next) (sym (sign_is CloseBrace closes h))
-    (run-ok (At (goal.Command block)) next (Mark CloseBrace) rest (unfold step in unfold goal_step in unfold command_step in makes))
+    (run-ok (At (goal.Command block)) next (Mark CloseBrace) rest
+    (unfold step in unfold goal_step in unfold command_step in makes))
 
 -- ON behind a try block that lacks a handler
-pub on_read : (script : Script) (tried : TryBlock) (on : Token) (rest : List Token) → is_word (codes "on") on ≡ true → (lacks Error tried || lacks Success tried) ≡ true
+pub on_read : (script : Script) (tried : TryBlock) (on : Token) (rest : List Token) → is_word (codes "on") on ≡ true
+    → (lacks Error tried || lacks Success tried) ≡ true
     → run (on ∷ rest) (At (goal.AfterTry script tried)) ≡ run rest (At (goal.AfterOn script tried))
 on_read script tried (Word text) rest h free =
     run-ok (At (goal.AfterTry script tried)) (At (goal.AfterOn script tried)) (Word text) rest
@@ -60,26 +66,35 @@ or_right : (a b : Bool) → b ≡ true → (a || b) ≡ true
 or_right true b h = refl
 or_right false b h = h
 
-pub lacks_one : (handler : Handler) (tried : TryBlock) → lacks handler tried ≡ true → (lacks Error tried || lacks Success tried) ≡ true
+pub lacks_one : (handler : Handler) (tried : TryBlock) → lacks handler tried ≡ true
+    → (lacks Error tried || lacks Success tried) ≡ true
 lacks_one Error tried h = simp h
 lacks_one Success tried h = or_right (lacks Error tried) (lacks Success tried) h
 
-handler_found : (handler : Handler) (tried : TryBlock) (word : Token) → lacks handler tried ≡ true → is_word (handler_word handler) word ≡ true → handler_at tried word ≡ Some handler
+handler_found : (handler : Handler) (tried : TryBlock) (word : Token) → lacks handler tried ≡ true
+    → is_word (handler_word handler) word ≡ true → handler_at tried word ≡ Some handler
 unfolding handler_at
 handler_found Error tried word free h = simp (h, free)
 handler_found Success tried word free h = simp (other_word (codes "success") word h, free)
 
 -- ERROR or SUCCESS
-pub handler_read : (script : Script) (tried : TryBlock) (handler : Handler) (word : Token) (rest : List Token) → lacks handler tried ≡ true → is_word (handler_word handler) word ≡ true
-    → run (word ∷ rest) (At (goal.AfterOn script tried)) ≡ run rest (sign_then OpenBrace (goal.Command (InHandler script tried handler [])))
+pub handler_read : (script : Script) (tried : TryBlock) (handler : Handler) (word : Token) (rest : List Token)
+    → lacks handler tried ≡ true → is_word (handler_word handler) word ≡ true
+    → run (word ∷ rest) (At (goal.AfterOn script tried))
+    ≡ run rest (sign_then OpenBrace (goal.Command (InHandler script tried handler [])))
 handler_read script tried handler word rest free h =
-    run-ok (At (goal.AfterOn script tried)) (sign_then OpenBrace (goal.Command (InHandler script tried handler []))) word rest
-    (unfold step in unfold goal_step in unfold after_on in ap (begin_handler script tried) (handler_found handler tried word free h))
+    run-ok (At (goal.AfterOn script tried)) (sign_then OpenBrace (goal.Command (InHandler script tried handler [])))
+    word rest
+    (unfold step in unfold goal_step in unfold after_on in
+    ap (begin_handler script tried) (handler_found handler tried word free h))
 
-regroup_try : (tokens rest : List Token) (word opens closes : Token) → (word ∷ opens ∷ tokens ++ closes ∷ []) ++ rest ≡ word ∷ opens ∷ (tokens ++ closes ∷ rest)
+regroup_try : (tokens rest : List Token) (word opens closes : Token)
+    → (word ∷ opens ∷ tokens ++ closes ∷ []) ++ rest ≡ word ∷ opens ∷ (tokens ++ closes ∷ rest)
 regroup_try tokens rest word opens closes = simp append_assoc
 
-pub regroup_handler : (front tokens rest : List Token) (on word opens closes : Token) → (front ++ on ∷ word ∷ opens ∷ tokens ++ closes ∷ []) ++ rest ≡ front ++ (on ∷ word ∷ opens ∷ (tokens ++ closes ∷ rest))
+pub regroup_handler : (front tokens rest : List Token) (on word opens closes : Token)
+    → (front ++ on ∷ word ∷ opens ∷ tokens ++ closes ∷ []) ++ rest
+    ≡ front ++ (on ∷ word ∷ opens ∷ (tokens ++ closes ∷ rest))
 regroup_handler front tokens rest on word opens closes = simp append_assoc
 
 -- a try block with the blocks behind it
@@ -89,13 +104,18 @@ try_read script tokens rest block (tried_block word opens closes inner commands 
     ap (λ ts. run ts (At (goal.Command (Outside script)))) (regroup_try inner rest word opens closes)
     ∙ try_word_read script word (opens ∷ (inner ++ closes ∷ rest)) h
     ∙ sign_read OpenBrace (goal.Command (InTry script [])) opens (inner ++ closes ∷ rest) h2
-    ∙ commands_read (InTry script) true (unfold with_command in λ c cs. refl) (λ cs. refl) inner (closes ∷ rest) commands are
-    ∙ brace_read (InTry script commands) (At (goal.AfterTry script (try_of commands))) closes rest h3 (unfold close in refl)
-try_read script tokens rest block (handled_block front inner before handler on word opens closes commands is free h h2 h3 are h4) =
+    ∙ commands_read (InTry script) true (unfold with_command in λ c cs. refl) (λ cs. refl) inner (closes ∷ rest)
+    commands are
+    ∙ brace_read (InTry script commands) (At (goal.AfterTry script (try_of commands))) closes rest h3
+    (unfold close in refl)
+try_read script tokens rest block (handled_block front inner before handler on word opens closes commands is free h h2
+    h3 are h4) =
     ap (λ ts. run ts (At (goal.Command (Outside script)))) (regroup_handler front inner rest on word opens closes)
     ∙ try_read script front (on ∷ word ∷ opens ∷ (inner ++ closes ∷ rest)) before is
     ∙ on_read script before on (word ∷ opens ∷ (inner ++ closes ∷ rest)) h (lacks_one handler before free)
     ∙ handler_read script before handler word (opens ∷ (inner ++ closes ∷ rest)) free h2
     ∙ sign_read OpenBrace (goal.Command (InHandler script before handler [])) opens (inner ++ closes ∷ rest) h3
-    ∙ commands_read (InHandler script before handler) false (unfold with_command in λ c cs. refl) (λ cs. refl) inner (closes ∷ rest) commands are
-    ∙ brace_read (InHandler script before handler commands) (At (goal.AfterTry script (with_handler handler commands before))) closes rest h4 (unfold close in refl)
+    ∙ commands_read (InHandler script before handler) false (unfold with_command in λ c cs. refl) (λ cs. refl) inner
+    (closes ∷ rest) commands are
+    ∙ brace_read (InHandler script before handler commands)
+    (At (goal.AfterTry script (with_handler handler commands before))) closes rest h4 (unfold close in refl)

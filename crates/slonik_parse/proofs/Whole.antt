@@ -1,5 +1,6 @@
 -- What the tokens of a script give is what the grammar says of them.
-use Rattle.std.proofs.Common.{◌≡◌, ◌⊎◌, ◌+◌, true, false, List, [], ◌∷◌, ◌++◌, length, drop, codes, Result, Ok, Err, refl, ap, sym, ◌∙◌, subst, append_assoc, append-nil, inl, inr, arith}
+use Rattle.std.proofs.Common.{◌≡◌, ◌⊎◌, ◌+◌, true, false, List, [], ◌∷◌, ◌++◌, length, drop, codes, Result, Ok, Err}
+use Rattle.std.proofs.Common.{refl, ap, sym, ◌∙◌, subst, append_assoc, append-nil, inl, inr, arith}
 use Rattle.std.proofs.lemmas.Bool.{and_right}
 use Rattle.slonik_tokens.specs.declared.token.Token.{Token}
 use Rattle.slonik_tokens.specs.Tokens.{is_word}
@@ -23,7 +24,8 @@ use Rattle.slonik_parse.proofs.Means.{Means, means_start}
 use Rattle.slonik_parse.proofs.MeansStep.{means_step, means_end}
 
 -- a script of the grammar is read as it
-pub read_as : (tokens : List Token) (script : Script) → IsScript tokens script → (begins_with preamble tokens ≡ true) × (run (drop 2 tokens) behind_preamble ≡ Ok script)
+pub read_as : (tokens : List Token) (script : Script) → IsScript tokens script
+    → (begins_with preamble tokens ≡ true) × (run (drop 2 tokens) behind_preamble ≡ Ok script)
 unfolding run
 read_as tokens script is =
     let r = reached tokens script is in (
@@ -42,7 +44,8 @@ Agrees one other = (one ≡ other) ⊎ ((w : Wrong) × (one ≡ Err w))
 
 -- The tokens of front lead to the state, whatever comes behind them but for its first token.
 abbrev pub Reaches : State → List Token → List Token → Type 0
-Reaches state front rest = (other : List Token) → first_of other ≡ first_of rest → Agrees (run (drop 2 (front ++ other)) behind_preamble) (run other state)
+Reaches state front rest = (other : List Token) → first_of other ≡ first_of rest
+    → Agrees (run (drop 2 (front ++ other)) behind_preamble) (run other state)
 
 -- the state does not go on with the rest
 abbrev pub IsStuckAt : State → List Token → Misparse → Type 0
@@ -80,7 +83,8 @@ end_wrong (At (goal.ExitStatus block)) w h = cc
 end_wrong (At (goal.AfterTry script tried)) w h = cc
 end_wrong (At (goal.AfterOn script tried)) w h = cc
 
-walk_end : (state : State) (front : List Token) → Means state front → Reaches state front [] → (made : Result Script Wrong) → end_of state ≡ made → Outcome front made
+walk_end : (state : State) (front : List Token) → Means state front → Reaches state front []
+    → (made : Result Script Wrong) → end_of state ≡ made → Outcome front made
 walk_end state front means reach (Ok script) e = means_end state front script means e
 walk_end state front means reach (Err w) e =
     let is = end_wrong state w e in
@@ -95,37 +99,57 @@ walk_end state front means reach (Err w) e =
       reach = reach;
     }
 
-reach_on : (state next : State) (front rest : List Token) (token : Token) → Reaches state front (token ∷ rest) → step state token (token ∷ rest) ≡ Ok next → Reaches next (front ++ token ∷ []) rest
+reach_on : (state next : State) (front rest : List Token) (token : Token) → Reaches state front (token ∷ rest)
+    → step state token (token ∷ rest) ≡ Ok next → Reaches next (front ++ token ∷ []) rest
 reach_on state next front rest token reach h other e =
     let same = ap (λ ts. run (drop 2 ts) behind_preamble) (append_assoc front (token ∷ []) other) in
-    elim (reach (token ∷ other) refl) as (λ _. Agrees (run (drop 2 ((front ++ token ∷ []) ++ other)) behind_preamble) (run other next)) [
-      | inl goes ↦ elim ((alike state token rest other).same e next h) as (λ _. Agrees (run (drop 2 ((front ++ token ∷ []) ++ other)) behind_preamble) (run other next)) [
-        | inl steps ↦ inl (same ∙ goes ∙ run-ok state next token other steps)
-        | inr errs ↦ inr (wrong errs.0 (length other + 1), same ∙ goes ∙ run-err state errs.0 token other errs.1)
-      ]
+    elim (reach (token ∷ other) refl) as (λ _. Agrees (run (drop 2 ((front ++ token ∷ []) ++ other)) behind_preamble)
+    (run other next)) [
+      | inl goes ↦ elim ((alike state token rest other).same e next h) as (λ _.
+          Agrees (run (drop 2 ((front ++ token ∷ []) ++ other)) behind_preamble) (run other next)) [
+            | inl steps ↦ inl (same ∙ goes ∙ run-ok state next token other steps)
+            | inr errs ↦ inr (wrong errs.0 (length other + 1), same ∙ goes ∙ run-err state errs.0 token other errs.1)
+          ]
       | inr errs ↦ inr (errs.0, same ∙ errs.1)
     ]
 
-walk_step : (rest front : List Token) (token : Token) (state : State) → Means state front → Reaches state front (token ∷ rest)
-    → ((next : State) → Means next (front ++ token ∷ []) → Reaches next (front ++ token ∷ []) rest → Outcome ((front ++ token ∷ []) ++ rest) (run rest next))
-    → (made : Result State Misparse) → step state token (token ∷ rest) ≡ made → Outcome (front ++ token ∷ rest) (run (token ∷ rest) state)
+walk_step : (rest front : List Token) (token : Token) (state : State) → Means state front
+    → Reaches state front (token ∷ rest)
+    → ((next : State) → Means next (front ++ token ∷ []) → Reaches next (front ++ token ∷ []) rest
+    → Outcome ((front ++ token ∷ []) ++ rest) (run rest next))
+    → (made : Result State Misparse) → step state token (token ∷ rest) ≡ made
+    → Outcome (front ++ token ∷ rest) (run (token ∷ rest) state)
 walk_step rest front token state means reach more (Ok next) e =
     subst (λ made. Outcome (front ++ token ∷ rest) made) (sym (run-ok state next token rest e))
     (subst (λ ts. Outcome ts (run rest next)) (append_assoc front (token ∷ []) rest)
     (more next (means_step state next token rest front means e) (reach_on state next front rest token reach e)))
 walk_step rest front token state means reach more (Err misparse) e =
     subst (λ made. Outcome (front ++ token ∷ rest) made) (sym (run-err state misparse token rest e))
-    (record { front = front; rest = token ∷ rest; state = state; split = refl; left = omega arith; means = means; stuck = e; reach = reach })
+    (record {
+      front = front;
+      rest = token ∷ rest;
+      state = state;
+      split = refl;
+      left = omega arith;
+      means = means;
+      stuck = e;
+      reach = reach;
+    })
 
 -- what the tokens behind those of front give
-walk : (rest front : List Token) (state : State) → Means state front → Reaches state front rest → Outcome (front ++ rest) (run rest state)
+walk : (rest front : List Token) (state : State) → Means state front → Reaches state front rest
+    → Outcome (front ++ rest) (run rest state)
 unfolding run
-walk [] front state means reach = subst (λ ts. Outcome ts (end_of state)) (sym (append-nil front)) (walk_end state front means reach (end_of state) refl)
+walk [] front state means reach =
+    subst (λ ts. Outcome ts (end_of state)) (sym (append-nil front))
+    (walk_end state front means reach (end_of state) refl)
 walk (token ∷ rest) front state means reach =
-    walk_step rest front token state means reach (λ next m r. walk rest (front ++ token ∷ []) next m r) (step state token (token ∷ rest)) refl
+    walk_step rest front token state means reach (λ next m r. walk rest (front ++ token ∷ []) next m r)
+    (step state token (token ∷ rest)) refl
 
 -- what tokens with a preamble give
-pub read_whole : (tokens : List Token) → begins_with preamble tokens ≡ true → Outcome tokens (run (drop 2 tokens) behind_preamble)
+pub read_whole : (tokens : List Token) → begins_with preamble tokens ≡ true
+    → Outcome tokens (run (drop 2 tokens) behind_preamble)
 read_whole [] h = cc
 read_whole (first ∷ []) h = let e = and_right (is_word (codes "cluster") first) false refl in cc
 read_whole (first ∷ second ∷ rest) h =

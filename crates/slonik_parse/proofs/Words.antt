@@ -5,18 +5,25 @@ use Rattle.std.proofs.lemmas.Slice.Eq.{bytes_eq-Decides}
 use Rattle.slonik_tokens.specs.declared.token.Token.{Token}
 use Rattle.slonik_tokens.specs.declared.token.Token.TheVariants.{Word, Number, Quoted, Mark, NameUse, Path}
 use Rattle.slonik_tokens.specs.declared.token.Sign.{Sign}
-use Rattle.slonik_tokens.specs.declared.token.Sign.TheVariants.{Semicolon, Comma, Equals, OpenBracket, CloseBracket, OpenBrace, CloseBrace}
+use Rattle.slonik_tokens.specs.declared.token.Sign.TheVariants.{Semicolon, Comma, Equals, OpenBracket, CloseBracket}
+use Rattle.slonik_tokens.specs.declared.token.Sign.TheVariants.{OpenBrace, CloseBrace}
 use Rattle.slonik_tokens.specs.Tokens.{is_word, is_sign, same_sign}
 use Rattle.slonik_parse.specs.declared.form.Verb.{Verb}
-use Rattle.slonik_parse.specs.declared.form.Verb.TheVariants.{InitCluster, StoreNode, DropNode, StorePath, DropPath, CreateSet, DropSet, SetAddTable, SubscribeSet, UnsubscribeSet, LockSet, UnlockSet, MoveSet, Failover, Sync, WaitForEvent, Sleep}
-use Rattle.slonik_parse.specs.Choices.{is_left_out, is_not_in_try, verb_at, store_at, drop_at, set_verb_at, goes_on_with}
+use Rattle.slonik_parse.specs.declared.form.Verb.TheVariants.{InitCluster, StoreNode, DropNode, StorePath, DropPath}
+use Rattle.slonik_parse.specs.declared.form.Verb.TheVariants.{CreateSet, DropSet, SetAddTable, SubscribeSet}
+use Rattle.slonik_parse.specs.declared.form.Verb.TheVariants.{UnsubscribeSet, LockSet, UnlockSet, MoveSet, Failover}
+use Rattle.slonik_parse.specs.declared.form.Verb.TheVariants.{Sync, WaitForEvent, Sleep}
+use Rattle.slonik_parse.specs.Choices.{is_left_out, is_not_in_try, verb_at, store_at, drop_at, set_verb_at}
+use Rattle.slonik_parse.specs.Choices.{goes_on_with}
 use Rattle.slonik_parse.specs.Forms.{verb_words}
 use Rattle.slonik_parse.specs.Grammar.{AreWords, may_be_tried}
 
 -- a token that is one word is another one only if the words are the same
-pub other_word : (word : List ℕ) (token : Token) → is_word word token ≡ true → (other : List ℕ) → is_word other token ≡ bytes_eq (str_to_ascii_lowercase word) (str_to_ascii_lowercase other)
+pub other_word : (word : List ℕ) (token : Token) → is_word word token ≡ true → (other : List ℕ)
+    → is_word other token ≡ bytes_eq (str_to_ascii_lowercase word) (str_to_ascii_lowercase other)
 other_word word (Word text) h other =
-    ap (λ lower. bytes_eq lower (str_to_ascii_lowercase other)) ((bytes_eq-Decides (str_to_ascii_lowercase text) (str_to_ascii_lowercase word)).0 h)
+    ap (λ lower. bytes_eq lower (str_to_ascii_lowercase other))
+    ((bytes_eq-Decides (str_to_ascii_lowercase text) (str_to_ascii_lowercase word)).0 h)
 other_word word (Number text) h other = cc
 other_word word (Quoted text) h other = cc
 other_word word (Mark sign) h other = cc
@@ -76,7 +83,8 @@ same_sign-is CloseBrace OpenBrace h = cc
 same_sign-is CloseBrace CloseBrace h = refl
 
 -- a token that is one sign is no other
-pub other_sign : (sign other : Sign) (token : Token) → is_sign sign token ≡ true → is_sign other token ≡ same_sign sign other
+pub other_sign : (sign other : Sign) (token : Token) → is_sign sign token ≡ true
+    → is_sign other token ≡ same_sign sign other
 other_sign sign other (Word text) h = cc
 other_sign sign other (Number text) h = cc
 other_sign sign other (Quoted text) h = cc
@@ -106,10 +114,12 @@ pub record Begins (verb : Verb) (first : Token) (tokens : List Token) : Type 0 w
   pub triable : may_be_tried verb ≡ true → is_not_in_try tokens ≡ false
 
 -- what is known of a first word alone
-known : (word : List ℕ) (first : Token) → is_word word first ≡ true → (other : List ℕ) → bytes_eq (str_to_ascii_lowercase word) (str_to_ascii_lowercase other) ≡ false → is_word other first ≡ false
+known : (word : List ℕ) (first : Token) → is_word word first ≡ true → (other : List ℕ)
+    → bytes_eq (str_to_ascii_lowercase word) (str_to_ascii_lowercase other) ≡ false → is_word other first ≡ false
 known word first h other differs = other_word word first h other ∙ differs
 
-begins_init_cluster : (first : Token) (words rest : List Token) → AreWords (verb_words InitCluster) (first ∷ words) → Begins InitCluster first (first ∷ words ++ rest)
+begins_init_cluster : (first : Token) (words rest : List Token) → AreWords (verb_words InitCluster) (first ∷ words)
+    → Begins InitCluster first (first ∷ words ++ rest)
 unfolding is_left_out is_not_in_try verb_at set_verb_at verb_words
 begins_init_cluster first [] rest h = absurd h.1
 begins_init_cluster first (second ∷ []) rest h = record {
@@ -125,7 +135,8 @@ begins_init_cluster first (second ∷ []) rest h = record {
 }
 begins_init_cluster first (second ∷ extra ∷ more) rest h = absurd h.1.1
 
-begins_store_node : (first : Token) (words rest : List Token) → AreWords (verb_words StoreNode) (first ∷ words) → Begins StoreNode first (first ∷ words ++ rest)
+begins_store_node : (first : Token) (words rest : List Token) → AreWords (verb_words StoreNode) (first ∷ words)
+    → Begins StoreNode first (first ∷ words ++ rest)
 unfolding is_left_out is_not_in_try verb_at store_at drop_at goes_on_with verb_words
 begins_store_node first [] rest h = absurd h.1
 begins_store_node first (second ∷ []) rest h = record {
@@ -141,7 +152,8 @@ begins_store_node first (second ∷ []) rest h = record {
 }
 begins_store_node first (second ∷ extra ∷ more) rest h = absurd h.1.1
 
-begins_drop_node : (first : Token) (words rest : List Token) → AreWords (verb_words DropNode) (first ∷ words) → Begins DropNode first (first ∷ words ++ rest)
+begins_drop_node : (first : Token) (words rest : List Token) → AreWords (verb_words DropNode) (first ∷ words)
+    → Begins DropNode first (first ∷ words ++ rest)
 unfolding is_left_out is_not_in_try verb_at store_at drop_at goes_on_with verb_words
 begins_drop_node first [] rest h = absurd h.1
 begins_drop_node first (second ∷ []) rest h = record {
@@ -157,7 +169,8 @@ begins_drop_node first (second ∷ []) rest h = record {
 }
 begins_drop_node first (second ∷ extra ∷ more) rest h = absurd h.1.1
 
-begins_store_path : (first : Token) (words rest : List Token) → AreWords (verb_words StorePath) (first ∷ words) → Begins StorePath first (first ∷ words ++ rest)
+begins_store_path : (first : Token) (words rest : List Token) → AreWords (verb_words StorePath) (first ∷ words)
+    → Begins StorePath first (first ∷ words ++ rest)
 unfolding is_left_out is_not_in_try verb_at store_at drop_at goes_on_with verb_words
 begins_store_path first [] rest h = absurd h.1
 begins_store_path first (second ∷ []) rest h = record {
@@ -173,7 +186,8 @@ begins_store_path first (second ∷ []) rest h = record {
 }
 begins_store_path first (second ∷ extra ∷ more) rest h = absurd h.1.1
 
-begins_drop_path : (first : Token) (words rest : List Token) → AreWords (verb_words DropPath) (first ∷ words) → Begins DropPath first (first ∷ words ++ rest)
+begins_drop_path : (first : Token) (words rest : List Token) → AreWords (verb_words DropPath) (first ∷ words)
+    → Begins DropPath first (first ∷ words ++ rest)
 unfolding is_left_out is_not_in_try verb_at store_at drop_at goes_on_with verb_words
 begins_drop_path first [] rest h = absurd h.1
 begins_drop_path first (second ∷ []) rest h = record {
@@ -189,7 +203,8 @@ begins_drop_path first (second ∷ []) rest h = record {
 }
 begins_drop_path first (second ∷ extra ∷ more) rest h = absurd h.1.1
 
-begins_create_set : (first : Token) (words rest : List Token) → AreWords (verb_words CreateSet) (first ∷ words) → Begins CreateSet first (first ∷ words ++ rest)
+begins_create_set : (first : Token) (words rest : List Token) → AreWords (verb_words CreateSet) (first ∷ words)
+    → Begins CreateSet first (first ∷ words ++ rest)
 unfolding is_left_out is_not_in_try verb_at set_verb_at verb_words
 begins_create_set first [] rest h = absurd h.1
 begins_create_set first (second ∷ []) rest h = record {
@@ -205,7 +220,8 @@ begins_create_set first (second ∷ []) rest h = record {
 }
 begins_create_set first (second ∷ extra ∷ more) rest h = absurd h.1.1
 
-begins_drop_set : (first : Token) (words rest : List Token) → AreWords (verb_words DropSet) (first ∷ words) → Begins DropSet first (first ∷ words ++ rest)
+begins_drop_set : (first : Token) (words rest : List Token) → AreWords (verb_words DropSet) (first ∷ words)
+    → Begins DropSet first (first ∷ words ++ rest)
 unfolding is_left_out is_not_in_try verb_at store_at drop_at goes_on_with verb_words
 begins_drop_set first [] rest h = absurd h.1
 begins_drop_set first (second ∷ []) rest h = record {
@@ -221,12 +237,17 @@ begins_drop_set first (second ∷ []) rest h = record {
 }
 begins_drop_set first (second ∷ extra ∷ more) rest h = absurd h.1.1
 
-begins_set_add_table : (first : Token) (words rest : List Token) → AreWords (verb_words SetAddTable) (first ∷ words) → Begins SetAddTable first (first ∷ words ++ rest)
+begins_set_add_table : (first : Token) (words rest : List Token) → AreWords (verb_words SetAddTable) (first ∷ words)
+    → Begins SetAddTable first (first ∷ words ++ rest)
 unfolding is_left_out is_not_in_try verb_at set_verb_at verb_words
 begins_set_add_table first [] rest h = absurd h.1
 begins_set_add_table first (second ∷ []) rest h = absurd h.1.1
 begins_set_add_table first (second ∷ third ∷ []) rest h = record {
-  kept = simp (other_word (codes "set") first h.0, other_word (codes "add") second h.1.0, other_word (codes "table") third h.1.1.0);
+  kept = simp (
+    other_word (codes "set") first h.0,
+    other_word (codes "add") second h.1.0,
+    other_word (codes "table") third h.1.1.0,
+  );
   found = simp (other_word (codes "set") first h.0);
   not_echo = known (codes "set") first h.0 (codes "echo") refl;
   not_exit = known (codes "set") first h.0 (codes "exit") refl;
@@ -238,7 +259,8 @@ begins_set_add_table first (second ∷ third ∷ []) rest h = record {
 }
 begins_set_add_table first (second ∷ third ∷ extra ∷ more) rest h = absurd h.1.1.1
 
-begins_subscribe_set : (first : Token) (words rest : List Token) → AreWords (verb_words SubscribeSet) (first ∷ words) → Begins SubscribeSet first (first ∷ words ++ rest)
+begins_subscribe_set : (first : Token) (words rest : List Token) → AreWords (verb_words SubscribeSet) (first ∷ words)
+    → Begins SubscribeSet first (first ∷ words ++ rest)
 unfolding is_left_out is_not_in_try verb_at set_verb_at verb_words
 begins_subscribe_set first [] rest h = absurd h.1
 begins_subscribe_set first (second ∷ []) rest h = record {
@@ -254,7 +276,8 @@ begins_subscribe_set first (second ∷ []) rest h = record {
 }
 begins_subscribe_set first (second ∷ extra ∷ more) rest h = absurd h.1.1
 
-begins_unsubscribe_set : (first : Token) (words rest : List Token) → AreWords (verb_words UnsubscribeSet) (first ∷ words) → Begins UnsubscribeSet first (first ∷ words ++ rest)
+begins_unsubscribe_set : (first : Token) (words rest : List Token)
+    → AreWords (verb_words UnsubscribeSet) (first ∷ words) → Begins UnsubscribeSet first (first ∷ words ++ rest)
 unfolding is_left_out is_not_in_try verb_at set_verb_at verb_words
 begins_unsubscribe_set first [] rest h = absurd h.1
 begins_unsubscribe_set first (second ∷ []) rest h = record {
@@ -270,7 +293,8 @@ begins_unsubscribe_set first (second ∷ []) rest h = record {
 }
 begins_unsubscribe_set first (second ∷ extra ∷ more) rest h = absurd h.1.1
 
-begins_lock_set : (first : Token) (words rest : List Token) → AreWords (verb_words LockSet) (first ∷ words) → Begins LockSet first (first ∷ words ++ rest)
+begins_lock_set : (first : Token) (words rest : List Token) → AreWords (verb_words LockSet) (first ∷ words)
+    → Begins LockSet first (first ∷ words ++ rest)
 unfolding is_left_out is_not_in_try verb_at set_verb_at verb_words
 begins_lock_set first [] rest h = absurd h.1
 begins_lock_set first (second ∷ []) rest h = record {
@@ -286,7 +310,8 @@ begins_lock_set first (second ∷ []) rest h = record {
 }
 begins_lock_set first (second ∷ extra ∷ more) rest h = absurd h.1.1
 
-begins_unlock_set : (first : Token) (words rest : List Token) → AreWords (verb_words UnlockSet) (first ∷ words) → Begins UnlockSet first (first ∷ words ++ rest)
+begins_unlock_set : (first : Token) (words rest : List Token) → AreWords (verb_words UnlockSet) (first ∷ words)
+    → Begins UnlockSet first (first ∷ words ++ rest)
 unfolding is_left_out is_not_in_try verb_at set_verb_at verb_words
 begins_unlock_set first [] rest h = absurd h.1
 begins_unlock_set first (second ∷ []) rest h = record {
@@ -302,7 +327,8 @@ begins_unlock_set first (second ∷ []) rest h = record {
 }
 begins_unlock_set first (second ∷ extra ∷ more) rest h = absurd h.1.1
 
-begins_move_set : (first : Token) (words rest : List Token) → AreWords (verb_words MoveSet) (first ∷ words) → Begins MoveSet first (first ∷ words ++ rest)
+begins_move_set : (first : Token) (words rest : List Token) → AreWords (verb_words MoveSet) (first ∷ words)
+    → Begins MoveSet first (first ∷ words ++ rest)
 unfolding is_left_out is_not_in_try verb_at set_verb_at verb_words
 begins_move_set first [] rest h = absurd h.1
 begins_move_set first (second ∷ []) rest h = record {
@@ -318,7 +344,8 @@ begins_move_set first (second ∷ []) rest h = record {
 }
 begins_move_set first (second ∷ extra ∷ more) rest h = absurd h.1.1
 
-begins_failover : (first : Token) (words rest : List Token) → AreWords (verb_words Failover) (first ∷ words) → Begins Failover first (first ∷ words ++ rest)
+begins_failover : (first : Token) (words rest : List Token) → AreWords (verb_words Failover) (first ∷ words)
+    → Begins Failover first (first ∷ words ++ rest)
 unfolding is_left_out is_not_in_try verb_at set_verb_at verb_words
 begins_failover first [] rest h = record {
   kept = simp (other_word (codes "failover") first h.0);
@@ -333,7 +360,8 @@ begins_failover first [] rest h = record {
 }
 begins_failover first (extra ∷ more) rest h = absurd h.1
 
-begins_sync : (first : Token) (words rest : List Token) → AreWords (verb_words Sync) (first ∷ words) → Begins Sync first (first ∷ words ++ rest)
+begins_sync : (first : Token) (words rest : List Token) → AreWords (verb_words Sync) (first ∷ words)
+    → Begins Sync first (first ∷ words ++ rest)
 unfolding is_left_out is_not_in_try verb_at set_verb_at verb_words
 begins_sync first [] rest h = record {
   kept = simp (other_word (codes "sync") first h.0);
@@ -348,7 +376,8 @@ begins_sync first [] rest h = record {
 }
 begins_sync first (extra ∷ more) rest h = absurd h.1
 
-begins_wait_for_event : (first : Token) (words rest : List Token) → AreWords (verb_words WaitForEvent) (first ∷ words) → Begins WaitForEvent first (first ∷ words ++ rest)
+begins_wait_for_event : (first : Token) (words rest : List Token) → AreWords (verb_words WaitForEvent) (first ∷ words)
+    → Begins WaitForEvent first (first ∷ words ++ rest)
 unfolding is_left_out is_not_in_try verb_at set_verb_at verb_words
 begins_wait_for_event first [] rest h = absurd h.1
 begins_wait_for_event first (second ∷ []) rest h = absurd h.1.1
@@ -365,7 +394,8 @@ begins_wait_for_event first (second ∷ third ∷ []) rest h = record {
 }
 begins_wait_for_event first (second ∷ third ∷ extra ∷ more) rest h = absurd h.1.1.1
 
-begins_sleep : (first : Token) (words rest : List Token) → AreWords (verb_words Sleep) (first ∷ words) → Begins Sleep first (first ∷ words ++ rest)
+begins_sleep : (first : Token) (words rest : List Token) → AreWords (verb_words Sleep) (first ∷ words)
+    → Begins Sleep first (first ∷ words ++ rest)
 unfolding is_left_out is_not_in_try verb_at set_verb_at verb_words
 begins_sleep first [] rest h = record {
   kept = simp (other_word (codes "sleep") first h.0);
@@ -381,7 +411,8 @@ begins_sleep first [] rest h = record {
 begins_sleep first (extra ∷ more) rest h = absurd h.1
 
 -- what begins with the words of a command
-pub begins : (verb : Verb) (first : Token) (words rest : List Token) → AreWords (verb_words verb) (first ∷ words) → Begins verb first (first ∷ words ++ rest)
+pub begins : (verb : Verb) (first : Token) (words rest : List Token) → AreWords (verb_words verb) (first ∷ words)
+    → Begins verb first (first ∷ words ++ rest)
 begins InitCluster first words rest h = begins_init_cluster first words rest h
 begins StoreNode first words rest h = begins_store_node first words rest h
 begins DropNode first words rest h = begins_drop_node first words rest h

@@ -1,7 +1,8 @@
 -- What a call that reads a part of a script answers.
 use Rattle.std.specs.Prelude.{◌≡◌, Option, Some, None, Result, Ok, Err}
 use Rattle.slonik_parse.specs.declared.misparse.Misparse.{Misparse}
-use Rattle.slonik_parse.specs.declared.misparse.Misparse.TheVariants.{Misfit, UnknownOption, MissingOption, NotInProfile, NotInTry, NoMemory}
+use Rattle.slonik_parse.specs.declared.misparse.Misparse.TheVariants.{Misfit, UnknownOption, MissingOption}
+use Rattle.slonik_parse.specs.declared.misparse.Misparse.TheVariants.{NotInProfile, NotInTry, NoMemory}
 
 -- it fails so, unless memory runs out
 abbrev pub FailsSo : {T : Type 0} → Result T Misparse → Misparse → Type 0

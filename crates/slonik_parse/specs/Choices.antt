@@ -3,7 +3,10 @@ use Rattle.std.specs.Prelude.{ℕ, ◌&&◌, ◌||◌, if◌then◌else◌, Bool
 use Rattle.slonik_tokens.specs.declared.token.Token.{Token}
 use Rattle.slonik_tokens.specs.Tokens.{is_word}
 use Rattle.slonik_parse.specs.declared.form.Verb.{Verb}
-use Rattle.slonik_parse.specs.declared.form.Verb.TheVariants.{InitCluster, StoreNode, DropNode, StorePath, DropPath, CreateSet, DropSet, SetAddTable, SubscribeSet, UnsubscribeSet, LockSet, UnlockSet, MoveSet, Failover, Sync, WaitForEvent, Sleep}
+use Rattle.slonik_parse.specs.declared.form.Verb.TheVariants.{InitCluster, StoreNode, DropNode, StorePath, DropPath}
+use Rattle.slonik_parse.specs.declared.form.Verb.TheVariants.{CreateSet, DropSet, SetAddTable, SubscribeSet}
+use Rattle.slonik_parse.specs.declared.form.Verb.TheVariants.{UnsubscribeSet, LockSet, UnlockSet, MoveSet, Failover}
+use Rattle.slonik_parse.specs.declared.form.Verb.TheVariants.{Sync, WaitForEvent, Sleep}
 use Rattle.slonik_parse.specs.declared.form.OptionName.{OptionName}
 use Rattle.slonik_parse.specs.Forms.{options_of, option_words}
 
@@ -45,7 +48,8 @@ is_not_in_try tokens =
 -- an option that is left out begins here, in a command of this verb
 unfoldable pub is_option_left_out : Verb → List Token → Bool
 is_option_left_out SubscribeSet tokens = begins_with (codes "omit" ∷ codes "copy" ∷ []) tokens
-is_option_left_out SetAddTable tokens = begins_with (codes "tables" ∷ []) tokens || begins_with (codes "add" ∷ codes "sequences" ∷ []) tokens
+is_option_left_out SetAddTable tokens =
+    begins_with (codes "tables" ∷ []) tokens || begins_with (codes "add" ∷ codes "sequences" ∷ []) tokens
 is_option_left_out _ tokens = false
 
 -- the second of the tokens is this word
@@ -60,7 +64,8 @@ store_at tokens = if goes_on_with (codes "path") tokens then StorePath else Stor
 
 -- the command that begins with DROP, by its second word
 unfoldable pub drop_at : List Token → Verb
-drop_at tokens = if goes_on_with (codes "path") tokens then DropPath else (if goes_on_with (codes "set") tokens then DropSet else DropNode)
+drop_at tokens = if goes_on_with (codes "path") tokens then DropPath
+    else (if goes_on_with (codes "set") tokens then DropSet else DropNode)
 
 -- the command on sets that begins with this token
 unfoldable pub set_verb_at : Token → Option Verb

@@ -1,9 +1,16 @@
 -- The commands of the language and their options, with the words that they are written with.
 use Rattle.std.specs.Prelude.{ℕ, List, [], ◌∷◌, ◌++◌, codes}
 use Rattle.slonik_parse.specs.declared.form.Verb.{Verb}
-use Rattle.slonik_parse.specs.declared.form.Verb.TheVariants.{InitCluster, StoreNode, DropNode, StorePath, DropPath, CreateSet, DropSet, SetAddTable, SubscribeSet, UnsubscribeSet, LockSet, UnlockSet, MoveSet, Failover, Sync, WaitForEvent, Sleep}
+use Rattle.slonik_parse.specs.declared.form.Verb.TheVariants.{InitCluster, StoreNode, DropNode, StorePath, DropPath}
+use Rattle.slonik_parse.specs.declared.form.Verb.TheVariants.{CreateSet, DropSet, SetAddTable, SubscribeSet}
+use Rattle.slonik_parse.specs.declared.form.Verb.TheVariants.{UnsubscribeSet, LockSet, UnlockSet, MoveSet, Failover}
+use Rattle.slonik_parse.specs.declared.form.Verb.TheVariants.{Sync, WaitForEvent, Sleep}
 use Rattle.slonik_parse.specs.declared.form.OptionName.{OptionName}
-use Rattle.slonik_parse.specs.declared.form.OptionName.TheVariants.{Id, Comment, EventNode, Server, Client, Conninfo, Connretry, Origin, SetId, FullyQualifiedName, Key, Provider, Receiver, Forward, OldOrigin, NewOrigin, BackupNode, AwaitedOrigin, Confirmed, WaitOn, Timeout, Seconds}
+use Rattle.slonik_parse.specs.declared.form.OptionName.TheVariants.{Id, Comment, EventNode, Server, Client, Conninfo}
+use Rattle.slonik_parse.specs.declared.form.OptionName.TheVariants.{Connretry, Origin, SetId, FullyQualifiedName, Key}
+use Rattle.slonik_parse.specs.declared.form.OptionName.TheVariants.{Provider, Receiver, Forward, OldOrigin, NewOrigin}
+use Rattle.slonik_parse.specs.declared.form.OptionName.TheVariants.{BackupNode, AwaitedOrigin, Confirmed, WaitOn}
+use Rattle.slonik_parse.specs.declared.form.OptionName.TheVariants.{Timeout, Seconds}
 
 -- the words of a command
 unfoldable pub verb_words : Verb → List (List ℕ)

@@ -4,7 +4,11 @@ use Rattle.slonik_tokens.specs.declared.token.Token.{Token}
 use Rattle.slonik_parse.specs.declared.form.Verb.{Verb}
 use Rattle.slonik_parse.specs.declared.form.Verb.TheVariants as verb
 use Rattle.slonik_parse.specs.declared.form.OptionName.{OptionName}
-use Rattle.slonik_parse.specs.declared.form.OptionName.TheVariants.{Id, Comment, EventNode, Server, Client, Conninfo, Connretry, Origin, SetId, FullyQualifiedName, Key, Provider, Receiver, Forward, OldOrigin, NewOrigin, BackupNode, AwaitedOrigin, Confirmed, WaitOn, Timeout, Seconds}
+use Rattle.slonik_parse.specs.declared.form.OptionName.TheVariants.{Id, Comment, EventNode, Server, Client, Conninfo}
+use Rattle.slonik_parse.specs.declared.form.OptionName.TheVariants.{Connretry, Origin, SetId, FullyQualifiedName, Key}
+use Rattle.slonik_parse.specs.declared.form.OptionName.TheVariants.{Provider, Receiver, Forward, OldOrigin, NewOrigin}
+use Rattle.slonik_parse.specs.declared.form.OptionName.TheVariants.{BackupNode, AwaitedOrigin, Confirmed, WaitOn}
+use Rattle.slonik_parse.specs.declared.form.OptionName.TheVariants.{Timeout, Seconds}
 use Rattle.slonik_parse.specs.declared.given.Given.{Given}
 use Rattle.slonik_parse.specs.declared.misparse.Misparse.{Misparse}
 use Rattle.slonik_parse.specs.declared.misparse.Misparse.TheVariants.{Misfit, MissingOption}
@@ -79,37 +83,49 @@ unfoldable pub made : Verb → Given → Result Command Misparse
 made verb.InitCluster g =
     and_then (needed Id g.id) (λ id. Ok (command.InitCluster id g.comment))
 made verb.StoreNode g =
-    and_then (needed Id g.id) (λ id. and_then (needed EventNode g.event_node) (λ event_node. Ok (command.StoreNode id event_node g.comment)))
+    and_then (needed Id g.id) (λ id. and_then (needed EventNode g.event_node)
+    (λ event_node. Ok (command.StoreNode id event_node g.comment)))
 made verb.DropNode g =
-    and_then (needed Id g.id) (λ id. and_then (needed EventNode g.event_node) (λ event_node. Ok (command.DropNode id event_node)))
+    and_then (needed Id g.id) (λ id. and_then (needed EventNode g.event_node)
+    (λ event_node. Ok (command.DropNode id event_node)))
 made verb.StorePath g =
-    and_then (needed Server g.server) (λ server. and_then (needed Client g.client) (λ client. and_then (needed Conninfo g.conninfo) (λ conninfo.
+    and_then (needed Server g.server) (λ server. and_then (needed Client g.client)
+    (λ client. and_then (needed Conninfo g.conninfo) (λ conninfo.
     Ok (command.StorePath server client conninfo g.connretry))))
 made verb.DropPath g =
-    and_then (needed Server g.server) (λ server. and_then (needed Client g.client) (λ client. Ok (command.DropPath server client)))
+    and_then (needed Server g.server) (λ server. and_then (needed Client g.client)
+    (λ client. Ok (command.DropPath server client)))
 made verb.CreateSet g =
-    and_then (needed Id g.id) (λ id. and_then (needed Origin g.origin) (λ origin. Ok (command.CreateSet id origin g.comment)))
+    and_then (needed Id g.id) (λ id. and_then (needed Origin g.origin)
+    (λ origin. Ok (command.CreateSet id origin g.comment)))
 made verb.DropSet g =
     and_then (needed Id g.id) (λ id. and_then (needed Origin g.origin) (λ origin. Ok (command.DropSet id origin)))
 made verb.SetAddTable g =
-    and_then (needed SetId g.set_id) (λ set_id. and_then (needed Origin g.origin) (λ origin. and_then (needed Id g.id) (λ id.
-    and_then (needed FullyQualifiedName g.fully_qualified_name) (λ name. Ok (command.SetAddTable set_id origin id name g.key g.comment)))))
+    and_then (needed SetId g.set_id) (λ set_id. and_then (needed Origin g.origin)
+    (λ origin. and_then (needed Id g.id) (λ id.
+    and_then (needed FullyQualifiedName g.fully_qualified_name)
+    (λ name. Ok (command.SetAddTable set_id origin id name g.key g.comment)))))
 made verb.SubscribeSet g =
-    and_then (needed Id g.id) (λ id. and_then (needed Provider g.provider) (λ provider. and_then (needed Receiver g.receiver) (λ receiver.
+    and_then (needed Id g.id) (λ id. and_then (needed Provider g.provider)
+    (λ provider. and_then (needed Receiver g.receiver) (λ receiver.
     Ok (command.SubscribeSet id provider receiver g.forward))))
 made verb.UnsubscribeSet g =
-    and_then (needed Id g.id) (λ id. and_then (needed Receiver g.receiver) (λ receiver. Ok (command.UnsubscribeSet id receiver)))
+    and_then (needed Id g.id) (λ id. and_then (needed Receiver g.receiver)
+    (λ receiver. Ok (command.UnsubscribeSet id receiver)))
 made verb.LockSet g =
     and_then (needed Id g.id) (λ id. and_then (needed Origin g.origin) (λ origin. Ok (command.LockSet id origin)))
 made verb.UnlockSet g =
     and_then (needed Id g.id) (λ id. and_then (needed Origin g.origin) (λ origin. Ok (command.UnlockSet id origin)))
 made verb.MoveSet g =
-    and_then (needed Id g.id) (λ id. and_then (needed OldOrigin g.old_origin) (λ old. and_then (needed NewOrigin g.new_origin) (λ new.
+    and_then (needed Id g.id) (λ id. and_then (needed OldOrigin g.old_origin)
+    (λ old. and_then (needed NewOrigin g.new_origin) (λ new.
     Ok (command.MoveSet id old new))))
 made verb.Failover g =
-    and_then (needed Id g.id) (λ id. and_then (needed BackupNode g.backup_node) (λ backup. Ok (command.Failover id backup)))
+    and_then (needed Id g.id) (λ id. and_then (needed BackupNode g.backup_node)
+    (λ backup. Ok (command.Failover id backup)))
 made verb.Sync g = and_then (needed Id g.id) (λ id. Ok (command.Sync id))
 made verb.WaitForEvent g =
-    and_then (needed AwaitedOrigin g.awaited_origin) (λ origin. and_then (needed Confirmed g.confirmed) (λ confirmed. and_then (needed WaitOn g.wait_on) (λ wait_on.
+    and_then (needed AwaitedOrigin g.awaited_origin) (λ origin.
+    and_then (needed Confirmed g.confirmed) (λ confirmed. and_then (needed WaitOn g.wait_on) (λ wait_on.
     Ok (command.WaitForEvent origin confirmed wait_on g.timeout))))
 made verb.Sleep g = and_then (needed Seconds g.seconds) (λ seconds. Ok (command.Sleep seconds))

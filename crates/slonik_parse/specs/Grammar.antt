@@ -1,6 +1,7 @@
 -- What a script is: which tokens spell which script.
 use Rattle.std.specs.Prelude.{◌≡◌, ℕ, Bool, true, false, List, [], ◌∷◌, ◌++◌, codes, Some, Ok}
-use Rattle.slonik_tokens.specs.declared.token.Sign.TheVariants.{Semicolon, Comma, Equals, OpenBracket, CloseBracket, OpenBrace, CloseBrace}
+use Rattle.slonik_tokens.specs.declared.token.Sign.TheVariants.{Semicolon, Comma, Equals, OpenBracket, CloseBracket}
+use Rattle.slonik_tokens.specs.declared.token.Sign.TheVariants.{OpenBrace, CloseBrace}
 use Rattle.slonik_tokens.specs.declared.token.Token.{Token}
 use Rattle.slonik_tokens.specs.Tokens.{is_word, is_sign}
 use Rattle.slonik_parse.specs.declared.form.Verb.{Verb}
@@ -35,7 +36,8 @@ pub data IsOption (verb : Verb) (given : Given) : List Token → Given → Type 
 
 -- options with commas between them; of one that comes more than once the last counts
 pub data AreOptions (verb : Verb) : List Token → Given → Type 0 where
-  one_option : (tokens : List Token) (given : Given) → IsOption verb nothing_given tokens given → AreOptions verb tokens given
+  one_option : (tokens : List Token) (given : Given) → IsOption verb nothing_given tokens given
+      → AreOptions verb tokens given
   more_options : (front tokens : List Token) (given all : Given) (comma : Token) → AreOptions verb front given
       → is_sign Comma comma ≡ true → IsOption verb given tokens all → AreOptions verb (front ++ comma ∷ tokens) all
 
@@ -79,7 +81,8 @@ pub data IsTry : List Token → TryBlock → Type 0 where
   tried_block : (word opens closes : Token) (tokens : List Token) (commands : List Command)
       → is_word (codes "try") word ≡ true → is_sign OpenBrace opens ≡ true → AreCommands true tokens commands
       → is_sign CloseBrace closes ≡ true → IsTry (word ∷ opens ∷ tokens ++ closes ∷ []) (try_of commands)
-  handled_block : (front tokens : List Token) (block : TryBlock) (handler : Handler) (on word opens closes : Token) (commands : List Command)
+  handled_block : (front tokens : List Token) (block : TryBlock) (handler : Handler) (on word opens closes : Token)
+      (commands : List Command)
       → IsTry front block → lacks handler block ≡ true → is_word (codes "on") on ≡ true
       → is_word (handler_word handler) word ≡ true → is_sign OpenBrace opens ≡ true → AreCommands false tokens commands
       → is_sign CloseBrace closes ≡ true
@@ -91,7 +94,8 @@ pub data IsScript : List Token → Script → Type 0 where
       → is_word (codes "cluster") first ≡ true → is_word (codes "name") second ≡ true → is_sign Equals equals ≡ true
       → name_in value ≡ Some name → is_sign Semicolon end ≡ true
       → IsScript (first ∷ second ∷ equals ∷ value ∷ end ∷ []) (empty_script name)
-  script_node : (front : List Token) (script : Script) (word number admin conninfo equals value end : Token) (id : ℕ) (text : List ℕ)
+  script_node : (front : List Token) (script : Script) (word number admin conninfo equals value end : Token) (id : ℕ)
+      (text : List ℕ)
       → IsScript front script → script.statements ≡ [] → is_word (codes "node") word ≡ true → id_in number ≡ Some id
       → AreWords (codes "admin" ∷ codes "conninfo" ∷ []) (admin ∷ conninfo ∷ []) → is_sign Equals equals ≡ true
       → string_in value ≡ Some text → is_sign Semicolon end ≡ true

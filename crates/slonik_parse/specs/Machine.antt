@@ -1,8 +1,10 @@
 -- Scripts read token by token: what the tokens so far have made, and what may come next.
-use Rattle.std.specs.Prelude.{ℕ, ◌+◌, ◌==◌, ◌&&◌, ◌||◌, if◌then◌else◌, List, [], ◌∷◌, ◌++◌, length, map, slice_get, codes, Option, Some, None, Result, Ok, Err}
+use Rattle.std.specs.Prelude.{ℕ, ◌+◌, ◌==◌, ◌&&◌, ◌||◌, if◌then◌else◌, List, [], ◌∷◌, ◌++◌, length, map, slice_get}
+use Rattle.std.specs.Prelude.{codes, Option, Some, None, Result, Ok, Err}
 use Rattle.std.specs.Char.{to_ascii_lowercase}
 use Rattle.slonik_tokens.specs.declared.token.Sign.{Sign}
-use Rattle.slonik_tokens.specs.declared.token.Sign.TheVariants.{Semicolon, Comma, Equals, OpenBracket, CloseBracket, OpenBrace, CloseBrace}
+use Rattle.slonik_tokens.specs.declared.token.Sign.TheVariants.{Semicolon, Comma, Equals, OpenBracket, CloseBracket}
+use Rattle.slonik_tokens.specs.declared.token.Sign.TheVariants.{OpenBrace, CloseBrace}
 use Rattle.slonik_tokens.specs.declared.token.Token.{Token}
 use Rattle.slonik_tokens.specs.declared.token.Token.TheVariants.{Word, Number, Quoted, Mark, NameUse, Path}
 use Rattle.slonik_tokens.specs.Tokens.{is_word, is_sign, same_sign}
@@ -44,7 +46,8 @@ phrase_words (phrase.Option option) = option_words option
 unfoldable pub with_command : Command → Block → Block
 with_command command (Outside script) = Outside (with_statement (Single command) script)
 with_command command (InTry script commands) = InTry script (commands ++ command ∷ [])
-with_command command (InHandler script tried handler commands) = InHandler script tried handler (commands ++ command ∷ [])
+with_command command (InHandler script tried handler commands) =
+    InHandler script tried handler (commands ++ command ∷ [])
 
 -- a word in lower case
 abbrev pub lower : List ℕ → List ℕ
@@ -61,7 +64,8 @@ after_command block command = sign_then Semicolon (goal.Command (with_command co
 -- the next word is there, or where there is none the sign
 abbrev pub awaited_by : Option (List ℕ) → Phrase → ℕ → Sign → Goal → Token → Result State Misparse
 awaited_by None phrase at sign goal token = if is_sign sign token then Ok (At goal) else Err Misfit
-awaited_by (Some word) phrase at sign goal token = if is_word word token then Ok (Awaits phrase (at + 1) sign goal) else Err Misfit
+awaited_by (Some word) phrase at sign goal token =
+    if is_word word token then Ok (Awaits phrase (at + 1) sign goal) else Err Misfit
 
 -- the next word of a phrase is there, or its sign
 unfoldable pub awaited : Phrase → ℕ → Sign → Goal → Token → Result State Misparse
@@ -129,14 +133,16 @@ no_option verb text tokens =
 
 -- an option begins, or none does
 unfoldable pub begin_option : Block → Verb → Given → List ℕ → List Token → Option OptionName → Result State Misparse
-begin_option block verb given text tokens (Some option) = Ok (Awaits (phrase.Option option) 1 Equals (goal.Value block verb given option))
+begin_option block verb given text tokens (Some option) =
+    Ok (Awaits (phrase.Option option) 1 Equals (goal.Value block verb given option))
 begin_option block verb given text tokens None = no_option verb text tokens
 
 unfoldable pub option_step : Block → Verb → Given → Token → List Token → Result State Misparse
 option_step block verb given (Word text) tokens = begin_option block verb given text tokens (option_at verb (Word text))
 option_step block verb given (Number text) tokens = Err Misfit
 option_step block verb given (Quoted text) tokens = Err Misfit
-option_step block verb given (Mark sign) tokens = if same_sign sign CloseBracket then missing (made verb given) else Err Misfit
+option_step block verb given (Mark sign) tokens =
+    if same_sign sign CloseBracket then missing (made verb given) else Err Misfit
 option_step block verb given (NameUse name) tokens = Err Misfit
 option_step block verb given (Path path) tokens = Err Misfit
 
@@ -158,7 +164,8 @@ after_option block verb given token =
 unfoldable pub after_try : Script → TryBlock → Token → List Token → Result State Misparse
 after_try script tried token tokens =
     if is_sign Semicolon token then Ok (At (goal.Command (Outside (with_statement (Tried tried) script))))
-    else (if is_word (codes "on") token && (lacks Error tried || lacks Success tried) then Ok (At (goal.AfterOn script tried))
+    else (if is_word (codes "on") token && (lacks Error tried || lacks Success tried) then Ok
+    (At (goal.AfterOn script tried))
     else command_step (Outside (with_statement (Tried tried) script)) token tokens)
 
 -- ERROR or SUCCESS, where it did not come before
@@ -177,7 +184,8 @@ after_on script tried token = begin_handler script tried (handler_at tried token
 
 -- the name of the cluster
 unfoldable pub cluster_name : Token → Result State Misparse
-cluster_name token = and_then (fit (name_in token)) (λ name. Ok (sign_then Semicolon (goal.Command (Outside (empty_script name)))))
+cluster_name token =
+    and_then (fit (name_in token)) (λ name. Ok (sign_then Semicolon (goal.Command (Outside (empty_script name)))))
 
 -- the id of a NODE line
 abbrev pub node_id : Script → Token → Result State Misparse
@@ -186,7 +194,8 @@ node_id script token = and_then (fit (id_in token)) (λ id. Ok (Awaits phrase.No
 -- the conninfo of a NODE line
 unfoldable pub node_text : Script → ℕ → Token → Result State Misparse
 node_text script id token =
-    and_then (fit (string_in token)) (λ conninfo. Ok (sign_then Semicolon (goal.Command (Outside (with_node id conninfo script)))))
+    and_then (fit (string_in token))
+    (λ conninfo. Ok (sign_then Semicolon (goal.Command (Outside (with_node id conninfo script)))))
 
 -- the string of an ECHO, the number of an EXIT
 abbrev pub echo_text : Block → Token → Result State Misparse

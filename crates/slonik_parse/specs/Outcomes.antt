@@ -1,14 +1,16 @@
 -- What tokens give: a script, or the first refusal.
 use Rattle.std.specs.Prelude.{◌≡◌, ℕ, ◌+◌, ◌-◌, ◌&&◌, if◌then◌else◌, List, [], ◌∷◌, length, codes, Result, Ok, Err}
 use Rattle.slonik_tokens.specs.declared.fault.ParseFault.{ParseFault}
-use Rattle.slonik_tokens.specs.declared.fault.ParseFault.TheVariants.{Refused, ReadFault, TooLong, NoMemory as OutOfMemory}
+use Rattle.slonik_tokens.specs.declared.fault.ParseFault.TheVariants.{Refused, ReadFault, TooLong}
+use Rattle.slonik_tokens.specs.declared.fault.ParseFault.TheVariants.{NoMemory as OutOfMemory}
 use Rattle.slonik_tokens.specs.declared.fault.ScriptRefusal.{ScriptRefusal}
 use Rattle.slonik_tokens.specs.declared.fault.ScriptRefusal.TheVariants as refusal
 use Rattle.slonik_tokens.specs.declared.token.Token.{Token}
 use Rattle.slonik_tokens.specs.Tokens.{is_word}
 use Rattle.slonik_expand.specs.Expansion.{Ending, Made, Wrong as Refuses, Long}
 use Rattle.slonik_parse.specs.declared.misparse.Misparse.{Misparse}
-use Rattle.slonik_parse.specs.declared.misparse.Misparse.TheVariants.{Misfit, UnknownOption, MissingOption, NotInProfile, NotInTry, NoMemory}
+use Rattle.slonik_parse.specs.declared.misparse.Misparse.TheVariants.{Misfit, UnknownOption, MissingOption}
+use Rattle.slonik_parse.specs.declared.misparse.Misparse.TheVariants.{NotInProfile, NotInTry, NoMemory}
 use Rattle.slonik_parse.specs.declared.script.Script.{Script}
 use Rattle.slonik_parse.specs.Forms.{option_text}
 use Rattle.slonik_parse.specs.Machine.{Wrong, run, behind_preamble}
@@ -32,7 +34,8 @@ unfoldable pub script_in : List Token → Result Script ScriptRefusal
 script_in [] = Err refusal.NoPreamble
 script_in (first ∷ []) = Err refusal.NoPreamble
 script_in (first ∷ second ∷ tokens) =
-    if is_word (codes "cluster") first && is_word (codes "name") second then placed (length tokens + 2) (run tokens behind_preamble)
+    if is_word (codes "cluster") first && is_word (codes "name") second then placed (length tokens + 2)
+    (run tokens behind_preamble)
     else Err refusal.NoPreamble
 
 -- what was answered is what the tokens give, unless memory runs out

@@ -37,12 +37,14 @@ pub data Stands : Block → List Token → Type 0 where
 -- nothing, or options with a comma behind each
 pub data CommaEnded (verb : Verb) : List Token → Given → Type 0 where
   no_options : CommaEnded verb [] nothing_given
-  some_options : (tokens : List Token) (given : Given) (comma : Token) → AreOptions verb tokens given → is_sign Comma comma ≡ true
+  some_options : (tokens : List Token) (given : Given) (comma : Token) → AreOptions verb tokens given
+      → is_sign Comma comma ≡ true
       → CommaEnded verb (tokens ++ comma ∷ []) given
 
 -- behind these tokens stand the options of a command of this verb
 pub data Opened (block : Block) (verb : Verb) : List Token → Type 0 where
-  opened : (front words : List Token) (first opens : Token) → Stands block front → may_stand (is_tried block) verb ≡ true
+  opened : (front words : List Token) (first opens : Token) → Stands block front
+      → may_stand (is_tried block) verb ≡ true
       → AreWords (verb_words verb) (first ∷ words) → is_sign OpenBracket opens ≡ true
       → Opened block verb (front ++ first ∷ words ++ opens ∷ [])
 

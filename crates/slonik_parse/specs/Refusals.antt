@@ -1,7 +1,9 @@
 -- What is wrong with tokens that are no script.
 use Rattle.std.specs.Prelude.{◌≡◌, ℕ, ◌+◌, true, false, List, [], ◌∷◌, ◌++◌, length, codes, None, Err}
 use Rattle.slonik_tokens.specs.declared.fault.ScriptRefusal.{ScriptRefusal}
-use Rattle.slonik_tokens.specs.declared.fault.ScriptRefusal.TheVariants.{BadToken, BadSyntax, UnknownOption, MissingOption, NoPreamble, NotInProfile, NotInTry, Undefined, Depth, NoFile, TooMany}
+use Rattle.slonik_tokens.specs.declared.fault.ScriptRefusal.TheVariants.{BadToken, BadSyntax, UnknownOption}
+use Rattle.slonik_tokens.specs.declared.fault.ScriptRefusal.TheVariants.{MissingOption, NoPreamble, NotInProfile}
+use Rattle.slonik_tokens.specs.declared.fault.ScriptRefusal.TheVariants.{NotInTry, Undefined, Depth, NoFile, TooMany}
 use Rattle.slonik_tokens.specs.declared.token.Sign.TheVariants.{CloseBracket}
 use Rattle.slonik_tokens.specs.declared.token.Token.{Token}
 use Rattle.slonik_tokens.specs.declared.token.Token.TheVariants.{Word}
@@ -35,16 +37,21 @@ pub data IsRefused : List Token → ScriptRefusal → Type 0 where
       → IsRefused (front ++ Word text ∷ rest) (NotInProfile (lower text))
   unknown_option : (front rest : List Token) (block : Block) (verb : Verb) (given : Given) (text : List ℕ)
       → OptionStands block verb given front → option_at verb (Word text) ≡ None
-      → is_option_left_out verb (Word text ∷ rest) ≡ false → IsRefused (front ++ Word text ∷ rest) (UnknownOption (lower text))
+      → is_option_left_out verb (Word text ∷ rest) ≡ false
+      → IsRefused (front ++ Word text ∷ rest) (UnknownOption (lower text))
   not_in_try : (front rest : List Token) (script : Script) (commands : List Command) (text : List ℕ)
       → Stands (InTry script commands) front → is_not_in_try (Word text ∷ rest) ≡ true
       → IsRefused (front ++ Word text ∷ rest) (NotInTry (lower text))
-  missing_option : (front rest : List Token) (block : Block) (verb : Verb) (given : Given) (closes : Token) (name : OptionName)
+  missing_option : (front rest : List Token) (block : Block) (verb : Verb) (given : Given) (closes : Token)
+      (name : OptionName)
       → OptionEnds block verb given front → is_sign CloseBracket closes ≡ true
-      → made verb given ≡ Err (misparse.MissingOption name) → IsRefused (front ++ closes ∷ rest) (MissingOption (option_text name))
-  missing_option_there : (front rest : List Token) (block : Block) (verb : Verb) (given : Given) (closes : Token) (name : OptionName)
+      → made verb given ≡ Err (misparse.MissingOption name)
+      → IsRefused (front ++ closes ∷ rest) (MissingOption (option_text name))
+  missing_option_there : (front rest : List Token) (block : Block) (verb : Verb) (given : Given) (closes : Token)
+      (name : OptionName)
       → OptionStands block verb given front → is_sign CloseBracket closes ≡ true
-      → made verb given ≡ Err (misparse.MissingOption name) → IsRefused (front ++ closes ∷ rest) (MissingOption (option_text name))
+      → made verb given ≡ Err (misparse.MissingOption name)
+      → IsRefused (front ++ closes ∷ rest) (MissingOption (option_text name))
 
 -- some script begins with these tokens
 abbrev pub GoesOn : List Token → Type 0

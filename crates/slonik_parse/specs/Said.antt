@@ -8,7 +8,8 @@ use Rattle.slonik_parse.specs.declared.script.Script.{Script}
 use Rattle.slonik_parse.specs.Grammar.{IsScript}
 use Rattle.slonik_parse.specs.Refusals.{Refuses}
 
--- What was answered, with the bytes that are left then, is what the grammar says of the tokens that an expansion made, or
+-- What was answered, with the bytes that are left then, is what the grammar says of the tokens that an expansion made,
+-- or
 -- how the expansion ended, unless memory runs out or the files fail.
 abbrev pub Says : Ending → Result Script ParseFault → ℕ → Type 0
 Says ending (Err ReadFault) left = Unit {0}

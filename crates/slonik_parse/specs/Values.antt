@@ -1,5 +1,6 @@
 -- What a token is as a value: a name, a string, a number in its range, a word that answers.
-use Rattle.std.specs.Prelude.{ℕ, ◌+◌, ◌-◌, ◌*◌, ◌%◌, ◌==◌, ◌&&◌, if◌then◌else◌, not, nat_le, Bool, true, false, List, [], ◌∷◌, length, codes, Option, Some, None}
+use Rattle.std.specs.Prelude.{ℕ, ◌+◌, ◌-◌, ◌*◌, ◌%◌, ◌==◌, ◌&&◌, if◌then◌else◌, not, nat_le, Bool, true, false, List}
+use Rattle.std.specs.Prelude.{[], ◌∷◌, length, codes, Option, Some, None}
 use Rattle.std.specs.Option.{option_map}
 use Rattle.std.specs.List.{list_all}
 use Rattle.std.specs.Char.{is_ascii_digit}
@@ -39,7 +40,8 @@ are_digits digits = not (length digits == 0) && list_all is_ascii_digit digits
 
 -- the number that digits spell, if it is at most high
 abbrev pub magnitude : ℕ → List ℕ → Option ℕ
-magnitude high digits = if are_digits digits && nat_le (value_from 0 digits) high then Some (value_from 0 digits) else None
+magnitude high digits = if are_digits digits && nat_le (value_from 0 digits) high then Some (value_from 0 digits)
+    else None
 
 -- a number from 0 to high: -0 is 0, and no other has a minus
 abbrev pub natural : ℕ → List ℕ → Option ℕ
@@ -90,7 +92,8 @@ status_in (Path path) = None
 
 -- YES or NO
 abbrev pub answer_in : Token → Option Bool
-answer_in token = if is_word (codes "yes") token then Some true else (if is_word (codes "no") token then Some false else None)
+answer_in token = if is_word (codes "yes") token then Some true
+    else (if is_word (codes "no") token then Some false else None)
 
 -- an id or ALL
 abbrev pub choice_in : Token → Option NodeChoice

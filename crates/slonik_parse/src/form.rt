@@ -9,7 +9,7 @@ use OptionName::{
 };
 
 /// A command that has options.
-#[derive(Clone, Copy, Debug, PartialEq, Eq)]
+#[derive(Clone, Copy)]
 pub enum Verb {
     InitCluster,
     StoreNode,
@@ -31,7 +31,7 @@ pub enum Verb {
 }
 
 /// An option of a command.
-#[derive(Clone, Copy, Debug, PartialEq, Eq)]
+#[derive(Clone, Copy)]
 pub enum OptionName {
     Id,
     Comment,

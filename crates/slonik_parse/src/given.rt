@@ -78,8 +78,8 @@ impl Given {
         }
     }
 
-    /// Sets an option to the value that the token is for it, or leaves the options as they were. An earlier value of the
-    /// option is forgotten.
+    /// Sets an option to the value that the token is for it, or leaves the options as they were. An earlier value of
+    /// the option is forgotten.
     #[tactic(auto, unfolding(crate::specs::Given::set_option))]
     pub fn set(&mut self, alloc: Global, option: OptionName, token: &Token) -> Result<(), Misparse>
         ensures { Sets (set_option option token.now self.old) self.new result }

@@ -1,6 +1,6 @@
 // What a token does where something is read next.
 ghost use Rattle.std.specs.Prelude.{◌≡◌, Ok};
-ghost use Rattle.slonik_parse.specs.Answered.{Answers};
+ghost use Rattle.slonik_parse.specs.Answered.{Answers, Sets};
 ghost use Rattle.slonik_parse.specs.Given.{made, set_option};
 ghost use Rattle.slonik_parse.specs.Machine as machine;
 ghost use Rattle.slonik_parse.specs.Scripts as grown;
@@ -28,53 +28,30 @@ pub fn sign_then(sign: Sign, goal: Goal) -> State
     }
 }
 
-/// The script with a statement at its end.
-fn with_statement(mut script: Script, statement: Statement) -> Result<Script, Misparse>
-    ensures { Answers (Ok (grown.with_statement statement script)) result }
-{
-    script.statements.push(statement)?;
-    Ok(script)
-}
-
-/// The block with a command at its end.
+/// Adds a command at the end of the block.
 #[tactic(auto, unfolding(crate::specs::Machine::with_command))]
-fn with_command(block: Block, command: Command) -> Result<Block, Misparse>
-    ensures { Answers (Ok (machine.with_command command block)) result }
+fn add_command(block: &mut Block, command: Command) -> Result<(), Misparse>
+    ensures { Sets (Ok (machine.with_command command block.old)) block.new result }
 {
     match block {
-        Block::Outside { script } => Ok(Block::Outside {
-            script: with_statement(script, Statement::Single(command))?,
-        }),
-        Block::Try {
-            script,
-            mut commands,
-        } => {
-            commands.push(command)?;
-            Ok(Block::Try { script, commands })
-        }
-        Block::Handler {
-            script,
-            tried,
-            handler,
-            mut commands,
-        } => {
-            commands.push(command)?;
-            Ok(Block::Handler {
-                script,
-                tried,
-                handler,
-                commands,
-            })
-        }
+        Block::Outside { script } => script.statements.push(Statement::Single(command))?,
+        Block::Try { commands, .. } => commands.push(command)?,
+        Block::Handler { commands, .. } => commands.push(command)?,
     }
+    Ok(())
 }
 
 /// A semicolon behind a command, and then the next.
-fn after_command(block: Block, command: Command) -> Result<State, Misparse>
+fn after_command(mut block: Block, command: Command) -> Result<State, Misparse>
     ensures { Answers (Ok (machine.after_command block command)) result }
 {
-    let block = with_command(block, command)?;
-    Ok(sign_then(Sign::Semicolon, Goal::Command { block }))
+    match add_command(&mut block, command) {
+        Ok(()) => Ok(sign_then(Sign::Semicolon, Goal::Command { block })),
+        Err(misparse) => {
+            drop(block);
+            Err(misparse)
+        }
+    }
 }
 
 /// The name of the cluster.
@@ -114,10 +91,17 @@ fn node_id(script: Script, token: &Token) -> Result<State, Misparse>
 fn node_text(alloc: Global, mut script: Script, id: u32, token: &Token) -> Result<State, Misparse>
     ensures { Answers (machine.node_text script id token.now) result }
 {
-    let conninfo = string_value(alloc, token)?;
-    script.nodes.set(id, conninfo)?;
-    let block = Block::Outside { script };
-    Ok(sign_then(Sign::Semicolon, Goal::Command { block }))
+    match string_value(alloc, token) {
+        Ok(conninfo) => {
+            script.nodes.set(id, conninfo)?;
+            let block = Block::Outside { script };
+            Ok(sign_then(Sign::Semicolon, Goal::Command { block }))
+        }
+        Err(misparse) => {
+            drop(script);
+            Err(misparse)
+        }
+    }
 }
 
 /// A command with options begins.
@@ -381,7 +365,9 @@ fn begin_option(
 fn missing(verb: Verb, mut given: Given) -> Result<State, Misparse>
     ensures { Answers (machine.missing (made verb given)) result }
 {
-    match given.command(verb) {
+    let made = given.command(verb);
+    drop(given);
+    match made {
         Ok(_) => Err(Misparse::Misfit),
         Err(misparse) => Err(misparse),
     }
@@ -472,7 +458,9 @@ fn option_value(
 fn close_options(block: Block, verb: Verb, mut given: Given) -> Result<State, Misparse>
     ensures { Answers (machine.closed block (made verb given)) result }
 {
-    match given.command(verb) {
+    let made = given.command(verb);
+    drop(given);
+    match made {
         Ok(command) => after_command(block, command),
         Err(misparse) => {
             drop(block);
@@ -502,7 +490,7 @@ fn after_option(block: Block, verb: Verb, given: Given, token: &Token) -> Result
 #[tactic(auto, unfolding(crate::specs::Machine::after_try))]
 fn after_try(
     alloc: Global,
-    script: Script,
+    mut script: Script,
     tried: TryBlock,
     token: &Token,
     tokens: &[Token],
@@ -514,7 +502,7 @@ fn after_try(
             goal: Goal::AfterOn { script, tried },
         });
     }
-    let script = with_statement(script, Statement::Try(tried))?;
+    script.statements.push(Statement::Try(tried))?;
     let block = Block::Outside { script };
     if token.is_sign(Sign::Semicolon) {
         Ok(State::At {
@@ -550,7 +538,10 @@ fn after_on(
     ensures { Answers (machine.after_on script tried token.now) result }
 {
     match handler_at(&tried, token) {
-        None => Err(Misparse::Misfit),
+        None => {
+            drop((script, tried));
+            Err(Misparse::Misfit)
+        }
         Some(handler) => {
             let block = Block::Handler {
                 script,

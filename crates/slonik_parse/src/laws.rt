@@ -8,7 +8,10 @@ ghost use Rattle.slonik_parse.specs.Refusals.{Refuses};
 
 /// Tokens are one script or none, are refused in one way or none, and never both.
 pub fn one_reading()
-    ensures scripts { (tokens : List Token) (one other : Script) → IsScript tokens one → IsScript tokens other → one ≡ other }
-    ensures refusals { (tokens : List Token) (one other : ScriptRefusal) → Refuses tokens one → Refuses tokens other → one ≡ other }
-    ensures apart { (tokens : List Token) (script : Script) (refusal : ScriptRefusal) → IsScript tokens script → Refuses tokens refusal → ⊥ }
+    ensures scripts { (tokens : List Token) (one other : Script) → IsScript tokens one → IsScript tokens other
+        → one ≡ other }
+    ensures refusals { (tokens : List Token) (one other : ScriptRefusal) → Refuses tokens one → Refuses tokens other
+        → one ≡ other }
+    ensures apart { (tokens : List Token) (script : Script) (refusal : ScriptRefusal) → IsScript tokens script
+        → Refuses tokens refusal → ⊥ }
 {}

@@ -35,14 +35,14 @@ fn read_expanded<F: Files>(
     read_script(alloc, tokens.as_slice())
 }
 
-/// The script that the tokens are, with its names replaced and its files included. `left` is how many bytes the included
-/// files may still hold; the bytes of each file that is included are taken off it. The files are left as they were entered
-/// before.
+/// The script that the tokens are, with its names replaced and its files included. `left` is how many bytes the
+/// included files may still hold; the bytes of each file that is included are taken off it. The files are left as
+/// they were entered before.
 ///
 /// # Errors
 ///
-/// `Refused` where the script is wrong, with the first thing that is wrong; `TooLong` where the included files hold more than
-/// `left` bytes; `ReadFault` where the files failed; `NoMemory` where there is none.
+/// `Refused` where the script is wrong, with the first thing that is wrong; `TooLong` where the included files hold
+/// more than `left` bytes; `ReadFault` where the files failed; `NoMemory` where there is none.
 pub fn parse<F: Files>(
     alloc: Global,
     tokens: Vec<Token>,
@@ -56,11 +56,15 @@ pub fn parse<F: Files>(
     ensures grammar { (names : List ℕ → Option (List ℕ)) → (F.filed files.old).names ≡ Some names
         → Says (expansion_of names left.old tokens.items) result left.new }
     // a script of the grammar is accepted as that script,
-    ensures accepted { (names : List ℕ → Option (List ℕ)) (making : Making) (script : AScript) → (F.filed files.old).names ≡ Some names
-        → expansion_of names left.old tokens.items ≡ Made making → IsScript making.out script → IsAccepted script result }
+    ensures accepted { (names : List ℕ → Option (List ℕ)) (making : Making) (script : AScript)
+        → (F.filed files.old).names ≡ Some names
+        → expansion_of names left.old tokens.items ≡ Made making → IsScript making.out script
+        → IsAccepted script result }
     // and a refusal of the grammar is that refusal.
-    ensures refused { (names : List ℕ → Option (List ℕ)) (making : Making) (refusal : ARefusal) → (F.filed files.old).names ≡ Some names
-        → expansion_of names left.old tokens.items ≡ Made making → Refuses making.out refusal → IsRefusal refusal result }
+    ensures refused { (names : List ℕ → Option (List ℕ)) (making : Making) (refusal : ARefusal)
+        → (F.filed files.old).names ≡ Some names
+        → expansion_of names left.old tokens.items ≡ Made making → Refuses making.out refusal
+        → IsRefusal refusal result }
 
     // Whatever the files do, a script that is answered is one of the grammar.
     ensures spelled { IfOk result (λ script. (out : List AToken) × IsScript out script) }

@@ -5,7 +5,7 @@ use crate::script::{CommandList, Script, TryBlock};
 use slonik_tokens::Sign;
 
 /// When the commands of a block come.
-#[derive(Clone, Copy, Debug, PartialEq, Eq)]
+#[derive(Clone, Copy)]
 pub enum Handler {
     /// After a refusal.
     Error,
@@ -92,7 +92,7 @@ pub enum Goal {
 }
 
 /// Words that have to come in their order.
-#[derive(Clone, Copy, Debug, PartialEq, Eq)]
+#[derive(Clone, Copy)]
 pub enum Phrase {
     /// None.
     Nothing,

@@ -36,13 +36,17 @@ text_again : (text : List ℕ) → IsUtf8 text → text_in text ≡ Some text
 unfolding text_in
 text_again text h = rw (is_utf8-from_IsUtf8 text h)
 
-identifier_again : (name more : List ℕ) → is_identifier name ≡ true → Stops is_word_byte more → identifier_at (name ++ more) ≡ Some name
+identifier_again : (name more : List ℕ) → is_identifier name ≡ true → Stops is_word_byte more
+    → identifier_at (name ++ more) ≡ Some name
 unfolding identifier_at
 identifier_again [] more form stops = cc
 identifier_again (c ∷ cs) more form stops =
     let h = and_parts (is_word_start c) (list_all is_word_byte cs) form in
-    let good = IsUtf8-from_ascii (c ∷ cs) (IsAscii-cons c cs (start_small c h.0) (ascii_all is_word_byte word_small cs h.1)) in
-    ap (λ b. cond b (text_in (take_while is_word_byte (c ∷ cs ++ more))) None) h.0 ∙ ap text_in (front_word c (cs ++ more) h.0 ∙ ap (λ l. c ∷ l) (front_again is_word_byte cs more h.1 stops)) ∙ text_again (c ∷ cs) good
+    let good = IsUtf8-from_ascii (c ∷ cs) (IsAscii-cons c cs (start_small c h.0)
+    (ascii_all is_word_byte word_small cs h.1)) in
+    ap (λ b. cond b (text_in (take_while is_word_byte (c ∷ cs ++ more))) None) h.0
+    ∙ ap text_in (front_word c (cs ++ more) h.0 ∙ ap (λ l. c ∷ l) (front_again is_word_byte cs more h.1 stops))
+    ∙ text_again (c ∷ cs) good
 
 -- the digits of a number, and what its first byte is
 record Digits (c : ℕ) (cs : List ℕ) : Type 0 where
@@ -54,7 +58,8 @@ minus_digits : (c : ℕ) (cs : List ℕ) → eqb c 45 ≡ true → are_digits cs
 minus_digits c [] minus e = cc
 minus_digits c (d ∷ ds) minus e = record { each = e; some = rw minus (grind (arith, nat_tests)); first = rw minus }
 
-digits_by : (c : ℕ) (cs : List ℕ) (minus : Bool) → eqb c 45 ≡ minus → cond minus (are_digits cs) (are_digits (c ∷ cs)) ≡ true → Digits c cs
+digits_by : (c : ℕ) (cs : List ℕ) (minus : Bool) → eqb c 45 ≡ minus
+    → cond minus (are_digits cs) (are_digits (c ∷ cs)) ≡ true → Digits c cs
 digits_by c cs true minus e = minus_digits c cs minus e
 digits_by c cs false minus e =
     let h = and_parts (is_ascii_digit c) (list_all is_ascii_digit cs) e in
@@ -63,36 +68,48 @@ digits_by c cs false minus e =
 first_small : (c : ℕ) → (eqb c 45 || is_ascii_digit c) ≡ true → c < 128
 first_small c e = grind (arith, nat_tests)
 
-number_again : (c : ℕ) (cs more : List ℕ) → Digits c cs → Stops is_ascii_digit more → number_at (c ∷ cs ++ more) ≡ Some (c ∷ cs)
+number_again : (c : ℕ) (cs more : List ℕ) → Digits c cs → Stops is_ascii_digit more
+    → number_at (c ∷ cs ++ more) ≡ Some (c ∷ cs)
 unfolding number_at
 number_again c cs more d stops =
-    let good = IsUtf8-from_ascii (c ∷ cs) (IsAscii-cons c cs (first_small c d.first) (ascii_all is_ascii_digit digit_small cs d.each)) in
+    let good = IsUtf8-from_ascii (c ∷ cs) (IsAscii-cons c cs (first_small c d.first)
+    (ascii_all is_ascii_digit digit_small cs d.each)) in
     let guard = ap (λ n. eqb c 45 && eqb n 0) (run_again is_ascii_digit cs more d.each stops) ∙ d.some in
-    ap (λ b. cond b None (text_in (c ∷ take_while is_ascii_digit (cs ++ more)))) guard ∙ ap (λ l. text_in (c ∷ l)) (front_again is_ascii_digit cs more d.each stops) ∙ text_again (c ∷ cs) good
+    ap (λ b. cond b None (text_in (c ∷ take_while is_ascii_digit (cs ++ more)))) guard
+    ∙ ap (λ l. text_in (c ∷ l)) (front_again is_ascii_digit cs more d.each stops) ∙ text_again (c ∷ cs) good
 
 closed : (more : List ℕ) → Stops is_quote more → unquoted more true ≡ Some []
 closed [] h = refl
 closed (c ∷ cs) h = rw h
 
-unquoted_by : (c : ℕ) (cs more : List ℕ) (quote : Bool) → eqb c 39 ≡ quote → not (eqb c 10) ≡ true → unquoted (doubled cs ++ 39 ∷ more) false ≡ Some cs → unquoted (cond quote (39 ∷ 39 ∷ doubled cs) (c ∷ doubled cs) ++ 39 ∷ more) false ≡ Some (c ∷ cs)
+unquoted_by : (c : ℕ) (cs more : List ℕ) (quote : Bool) → eqb c 39 ≡ quote → not (eqb c 10) ≡ true
+    → unquoted (doubled cs ++ 39 ∷ more) false ≡ Some cs
+    → unquoted (cond quote (39 ∷ 39 ∷ doubled cs) (c ∷ doubled cs) ++ 39 ∷ more) false ≡ Some (c ∷ cs)
 unquoted_by c cs more true quote line e = ap (behind (39 ∷ [])) e ∙ ap (λ d. Some (d ∷ cs)) (sym (eqb-true c 39 quote))
 unquoted_by c cs more false quote line e = let k : eqb c 10 ≡ false = grind (arith, nat_tests) in rw (quote, k, e)
 
-unquoted_again : (text more : List ℕ) → list_all is_line_byte text ≡ true → Stops is_quote more → unquoted (doubled text ++ 39 ∷ more) false ≡ Some text
+unquoted_again : (text more : List ℕ) → list_all is_line_byte text ≡ true → Stops is_quote more
+    → unquoted (doubled text ++ 39 ∷ more) false ≡ Some text
 unquoted_again [] more e h = closed more h
 unquoted_again (c ∷ cs) more e h =
     let k = and_parts (is_line_byte c) (list_all is_line_byte cs) e in
     unquoted_by c cs more (eqb c 39) refl k.0 (unquoted_again cs more k.1 h)
 
-quoted_again : (text more : List ℕ) → IsUtf8 text → list_all is_line_byte text ≡ true → Stops is_quote more → quoted_at ((doubled text ++ 39 ∷ []) ++ more) ≡ Some text
+quoted_again : (text more : List ℕ) → IsUtf8 text → list_all is_line_byte text ≡ true → Stops is_quote more
+    → quoted_at ((doubled text ++ 39 ∷ []) ++ more) ≡ Some text
 unfolding quoted_at
 quoted_again text more good line stops =
-    ap (λ l. text_of (unquoted l false)) (append_assoc (doubled text) (39 ∷ []) more) ∙ ap text_of (unquoted_again text more line stops) ∙ text_again text good
+    ap (λ l. text_of (unquoted l false)) (append_assoc (doubled text) (39 ∷ []) more)
+    ∙ ap text_of (unquoted_again text more line stops) ∙ text_again text good
 
-path_again : (text more : List ℕ) → IsUtf8 text → list_all is_path_byte text ≡ true → path_at ((text ++ 62 ∷ []) ++ more) ≡ Some text
+path_again : (text more : List ℕ) → IsUtf8 text → list_all is_path_byte text ≡ true
+    → path_at ((text ++ 62 ∷ []) ++ more) ≡ Some text
 unfolding path_at
 path_again text more good each =
-    rw (append_assoc text (62 ∷ []) more) (ap (λ l. cond (begins 62 l) (text_in (take_while is_path_byte (text ++ 62 ∷ more))) None) (rest_again is_path_byte text (62 ∷ more) each refl) ∙ ap text_in (front_again is_path_byte text (62 ∷ more) each refl) ∙ text_again text good)
+    rw (append_assoc text (62 ∷ []) more)
+    (ap (λ l. cond (begins 62 l) (text_in (take_while is_path_byte (text ++ 62 ∷ more))) None)
+    (rest_again is_path_byte text (62 ∷ more) each refl)
+    ∙ ap text_in (front_again is_path_byte text (62 ∷ more) each refl) ∙ text_again text good)
 
 -- what a first byte is not
 record FirstOfWord (c : ℕ) : Type 0 where
@@ -103,12 +120,29 @@ record FirstOfWord (c : ℕ) : Type 0 where
   comment : eqb c 35 ≡ false
 
 first_of_word : (c : ℕ) → is_word_start c ≡ true → FirstOfWord c
-first_of_word c e = record { quote = grind (arith, nat_tests); at = grind (arith, nat_tests); path = grind (arith, nat_tests); separator = grind (arith, nat_tests); comment = grind (arith, nat_tests) }
+first_of_word c e =
+    record {
+      quote = grind (arith, nat_tests);
+      at = grind (arith, nat_tests);
+      path = grind (arith, nat_tests);
+      separator = grind (arith, nat_tests);
+      comment = grind (arith, nat_tests);
+    }
 
 first_of_number : (c : ℕ) → (eqb c 45 || is_ascii_digit c) ≡ true → FirstOfWord c × (is_word_start c ≡ false)
-first_of_number c e = (record { quote = grind (arith, nat_tests); at = grind (arith, nat_tests); path = grind (arith, nat_tests); separator = grind (arith, nat_tests); comment = grind (arith, nat_tests) }, grind (arith, nat_tests))
+first_of_number c e = (
+  record {
+    quote = grind (arith, nat_tests);
+    at = grind (arith, nat_tests);
+    path = grind (arith, nat_tests);
+    separator = grind (arith, nat_tests);
+    comment = grind (arith, nat_tests);
+  },
+  grind (arith, nat_tests),
+)
 
-token_by : (path : Bool) (token : Token) (more : List ℕ) → HasForm token → Ends token more → is_allowed path token ≡ true → token_at path (spelling token ++ more) ≡ Some token
+token_by : (path : Bool) (token : Token) (more : List ℕ) → HasForm token → Ends token more
+    → is_allowed path token ≡ true → token_at path (spelling token ++ more) ≡ Some token
 unfolding token_at sign_of
 token_by path (Word []) more form ends allowed = cc
 token_by path (Word (c ∷ cs)) more form ends allowed =
@@ -129,10 +163,12 @@ token_by path (Mark CloseBracket) more form ends allowed = refl
 token_by path (Mark OpenBrace) more form ends allowed = refl
 token_by path (Mark CloseBrace) more form ends allowed = refl
 token_by path (NameUse name) more form ends allowed = ap (option_map NameUse) (identifier_again name more form ends)
-token_by path (Path text) more form ends allowed = rw allowed (ap (option_map Path) (path_again text more form.0 form.1))
+token_by path (Path text) more form ends allowed =
+    rw allowed (ap (option_map Path) (path_again text more form.0 form.1))
 
 -- a token that may stand at the front is found there
-pub token_again : (path : Bool) (token : Token) (bytes more : List ℕ) → Stands path (Lexeme token bytes) more → token_at path (bytes ++ more) ≡ Some token
+pub token_again : (path : Bool) (token : Token) (bytes more : List ℕ) → Stands path (Lexeme token bytes) more
+    → token_at path (bytes ++ more) ≡ Some token
 token_again path token bytes more h = ap (λ l. token_at path (l ++ more)) h.0.0 ∙ token_by path token more h.0.1 h.1 h.2
 
 no_blank_by : (token : Token) (more : List ℕ) → HasForm token → blank_len (spelling token ++ more) ≡ 0
@@ -157,17 +193,21 @@ no_blank_by (NameUse name) more form = refl
 no_blank_by (Path text) more form = refl
 
 -- and no blank stands there
-pub no_blank : (path : Bool) (token : Token) (bytes more : List ℕ) → Stands path (Lexeme token bytes) more → blank_len (bytes ++ more) ≡ 0
+pub no_blank : (path : Bool) (token : Token) (bytes more : List ℕ) → Stands path (Lexeme token bytes) more
+    → blank_len (bytes ++ more) ≡ 0
 no_blank path token bytes more h = ap (λ l. blank_len (l ++ more)) h.0.0 ∙ no_blank_by token more h.0.1
 
 pub separator_again : (path : Bool) (c : ℕ) (more : List ℕ) → Stands path (Separator c) more → blank_len (c ∷ more) ≡ 1
 unfolding blank_len
 separator_again path c more h = rw h
 
-pub comment_again : (path : Bool) (body more : List ℕ) → Stands path (Comment body) more → blank_len (35 ∷ body ++ more) ≡ suc (length body)
+pub comment_again : (path : Bool) (body more : List ℕ) → Stands path (Comment body) more
+    → blank_len (35 ∷ body ++ more) ≡ suc (length body)
 unfolding blank_len
 comment_again path body more h =
-    ap (λ b. cond b (prefix_len is_line_byte (body ++ more) + 1) 0) (ap is_utf8 (front_again is_line_byte body more h.1 h.2) ∙ is_utf8-from_IsUtf8 body h.0) ∙ omega (arith, run_again is_line_byte body more h.1 h.2)
+    ap (λ b. cond b (prefix_len is_line_byte (body ++ more) + 1) 0)
+    (ap is_utf8 (front_again is_line_byte body more h.1 h.2) ∙ is_utf8-from_IsUtf8 body h.0)
+    ∙ omega (arith, run_again is_line_byte body more h.1 h.2)
 
 -- a token has bytes
 pub some_bytes : (token : Token) → HasForm token → (n : ℕ) × (length (spelling token) ≡ suc n)

@@ -8,7 +8,8 @@ pub behind_both : (a b : List ℕ) (found : Option (List ℕ)) → behind (a ++ 
 behind_both a b None = refl
 behind_both a b (Some text) = ap Some (append_assoc a b text)
 
-doubled_by : (quote : Bool) (c : ℕ) (a b : List ℕ) → cond quote (39 ∷ 39 ∷ a ++ b) (c ∷ a ++ b) ≡ cond quote (39 ∷ 39 ∷ a) (c ∷ a) ++ b
+doubled_by : (quote : Bool) (c : ℕ) (a b : List ℕ)
+    → cond quote (39 ∷ 39 ∷ a ++ b) (c ∷ a ++ b) ≡ cond quote (39 ∷ 39 ∷ a) (c ∷ a) ++ b
 doubled_by true c a b = refl
 doubled_by false c a b = refl
 
@@ -35,19 +36,24 @@ pub record Reads (bytes text : List ℕ) (after : Bool) (len index : ℕ) : Type
   pub read : length (doubled text) + cond after 1 0 ≡ len
   pub place : len ≡ index
 
-kept : (text rest : List ℕ) (c : ℕ) (after : Bool) (whole : Option (List ℕ)) → (c ≡ 10 → ⊥) → eqb c 39 ≡ after → behind text (unquoted (c ∷ rest) after) ≡ whole → behind (text ++ c ∷ []) (unquoted rest false) ≡ whole
+kept : (text rest : List ℕ) (c : ℕ) (after : Bool) (whole : Option (List ℕ)) → (c ≡ 10 → ⊥) → eqb c 39 ≡ after
+    → behind text (unquoted (c ∷ rest) after) ≡ whole → behind (text ++ c ∷ []) (unquoted rest false) ≡ whole
 kept text rest c true whole line quote e = grind (arith, nat_tests, behind_both)
 kept text rest c false whole line quote e = grind (arith, nat_tests, behind_both)
 
-opened : (text rest : List ℕ) (c : ℕ) (whole : Option (List ℕ)) → c ≡ 39 → behind text (unquoted (c ∷ rest) false) ≡ whole → behind text (unquoted rest true) ≡ whole
+opened : (text rest : List ℕ) (c : ℕ) (whole : Option (List ℕ)) → c ≡ 39
+    → behind text (unquoted (c ∷ rest) false) ≡ whole → behind text (unquoted rest true) ≡ whole
 opened text rest c whole quote e = grind (arith, nat_tests)
 
-grown : (text : List ℕ) (c : ℕ) (after : Bool) → eqb c 39 ≡ after → length (doubled (text ++ c ∷ [])) ≡ length (doubled text) + cond after 1 0 + 1
+grown : (text : List ℕ) (c : ℕ) (after : Bool) → eqb c 39 ≡ after
+    → length (doubled (text ++ c ∷ [])) ≡ length (doubled text) + cond after 1 0 + 1
 grown text c true quote = rw (doubled_both text (c ∷ []), length-append, quote) (omega arith)
 grown text c false quote = rw (doubled_both text (c ∷ []), length-append, quote) (omega arith)
 
 -- a byte of the text comes: no end of a line, and a quote just behind a quote
-pub keeps : (bytes text text' : List ℕ) (len i : ℕ) (after after' : Bool) → after' ≡ false → i < length bytes → (get_or bytes i 0 ≡ 10 → ⊥) → eqb (get_or bytes i 0) 39 ≡ after → text' ≡ text ++ get_or bytes i 0 ∷ [] → Reads bytes text after len i → Reads bytes text' after' (len + 1) (i + 1)
+pub keeps : (bytes text text' : List ℕ) (len i : ℕ) (after after' : Bool) → after' ≡ false → i < length bytes
+    → (get_or bytes i 0 ≡ 10 → ⊥) → eqb (get_or bytes i 0) 39 ≡ after → text' ≡ text ++ get_or bytes i 0 ∷ []
+    → Reads bytes text after len i → Reads bytes text' after' (len + 1) (i + 1)
 keeps bytes text text' len i after after' now inside line quote e r =
     let next : drop i bytes ≡ get_or bytes i 0 ∷ drop (i + 1) bytes = rw add-one (drop-cons bytes i 0 inside) in
     record {
@@ -57,7 +63,9 @@ keeps bytes text text' len i after after' now inside line quote e r =
     }
 
 -- a quote comes that is not behind a quote
-pub opens : (bytes text text' : List ℕ) (len i : ℕ) (after after' : Bool) → after' ≡ true → i < length bytes → get_or bytes i 0 ≡ 39 → after ≡ false → text' ≡ text → Reads bytes text after len i → Reads bytes text' after' (len + 1) (i + 1)
+pub opens : (bytes text text' : List ℕ) (len i : ℕ) (after after' : Bool) → after' ≡ true → i < length bytes
+    → get_or bytes i 0 ≡ 39 → after ≡ false → text' ≡ text → Reads bytes text after len i
+    → Reads bytes text' after' (len + 1) (i + 1)
 opens bytes text text' len i after after' now inside quote start e r =
     let next : drop i bytes ≡ get_or bytes i 0 ∷ drop (i + 1) bytes = rw add-one (drop-cons bytes i 0 inside) in
     record {

@@ -14,10 +14,14 @@ pub record Runs (p : ℕ → Bool) (bytes front rest : List ℕ) : Type 0 where
 pub one_more : (n : ℕ) → 1 + n ≡ suc n
 one_more n = omega arith
 
-run_more : (p : ℕ → Bool) (c : ℕ) (front bytes rest : List ℕ) → p c ≡ true → Runs p bytes front rest → Runs p (c ∷ bytes) (c ∷ front) rest
-run_more p c front bytes rest e r = record { parts = ap (λ l. c ∷ l) r.parts; each = and_from (p c) (list_all p front) e r.each; stops = r.stops }
+run_more : (p : ℕ → Bool) (c : ℕ) (front bytes rest : List ℕ) → p c ≡ true → Runs p bytes front rest
+    → Runs p (c ∷ bytes) (c ∷ front) rest
+run_more p c front bytes rest e r =
+    record { parts = ap (λ l. c ∷ l) r.parts; each = and_from (p c) (list_all p front) e r.each; stops = r.stops }
 
-run_on : (p : ℕ → Bool) (c : ℕ) (cs : List ℕ) (b : Bool) → p c ≡ b → Runs p cs (take_while p cs) (drop (prefix_len p cs) cs) → Runs p (c ∷ cs) (take (cond b (1 + prefix_len p cs) 0) (c ∷ cs)) (drop (cond b (1 + prefix_len p cs) 0) (c ∷ cs))
+run_on : (p : ℕ → Bool) (c : ℕ) (cs : List ℕ) (b : Bool) → p c ≡ b
+    → Runs p cs (take_while p cs) (drop (prefix_len p cs) cs)
+    → Runs p (c ∷ cs) (take (cond b (1 + prefix_len p cs) 0) (c ∷ cs)) (drop (cond b (1 + prefix_len p cs) 0) (c ∷ cs))
 run_on p c cs true e r = rw one_more (run_more p c (take_while p cs) cs (drop (prefix_len p cs) cs) e r)
 run_on p c cs false e r = record { parts = refl; each = refl; stops = e }
 
@@ -30,14 +34,17 @@ stopped p [] h = refl
 stopped p (c ∷ cs) h = rw h
 
 -- a run is found again
-pub run_again : (p : ℕ → Bool) (front rest : List ℕ) → list_all p front ≡ true → Stops p rest → prefix_len p (front ++ rest) ≡ length front
+pub run_again : (p : ℕ → Bool) (front rest : List ℕ) → list_all p front ≡ true → Stops p rest
+    → prefix_len p (front ++ rest) ≡ length front
 run_again p [] rest e h = stopped p rest h
 run_again p (c ∷ cs) rest e h =
     let k = and_parts (p c) (list_all p cs) e in
     rw (k.0, run_again p cs rest k.1 h) (omega arith)
 
-pub front_again : (p : ℕ → Bool) (front rest : List ℕ) → list_all p front ≡ true → Stops p rest → take_while p (front ++ rest) ≡ front
+pub front_again : (p : ℕ → Bool) (front rest : List ℕ) → list_all p front ≡ true → Stops p rest
+    → take_while p (front ++ rest) ≡ front
 front_again p front rest e h = rw (run_again p front rest e h) (take-append_seam front rest)
 
-pub rest_again : (p : ℕ → Bool) (front rest : List ℕ) → list_all p front ≡ true → Stops p rest → drop (prefix_len p (front ++ rest)) (front ++ rest) ≡ rest
+pub rest_again : (p : ℕ → Bool) (front rest : List ℕ) → list_all p front ≡ true → Stops p rest
+    → drop (prefix_len p (front ++ rest)) (front ++ rest) ≡ rest
 rest_again p front rest e h = rw (run_again p front rest e h) (drop-append_seam front rest)

@@ -15,7 +15,8 @@ pub is_text : (bytes : List ℕ) → IsUtf8 bytes → true ≡ is_utf8 bytes
 is_text bytes h = sym (is_utf8-from_IsUtf8 bytes h)
 
 -- what was found is the text of the bytes
-pub text_found : (bytes : List ℕ) (found : Option (List ℕ)) → MatchOption found (IsUtf8 bytes → ⊥) (λ text. (text ≡ bytes) × IsUtf8 bytes) → found ≡ text_in bytes
+pub text_found : (bytes : List ℕ) (found : Option (List ℕ))
+    → MatchOption found (IsUtf8 bytes → ⊥) (λ text. (text ≡ bytes) × IsUtf8 bytes) → found ≡ text_in bytes
 unfolding text_in
 text_found bytes None h = rw (← no_text bytes h)
 text_found bytes (Some text) h = rw (← is_text bytes h.1) (ap Some h.0)

@@ -32,19 +32,22 @@ identifier_at (c ∷ cs) = if is_word_start c then text_in (take_while is_word_b
 -- the number at the front, where that is a digit or a `-`
 unfoldable pub number_at : List ℕ → Option (List ℕ)
 number_at [] = None
-number_at (c ∷ cs) = if c == 45 && prefix_len is_ascii_digit cs == 0 then None else text_in (c ∷ take_while is_ascii_digit cs)
+number_at (c ∷ cs) = if c == 45 && prefix_len is_ascii_digit cs == 0 then None else text_in
+    (c ∷ take_while is_ascii_digit cs)
 
 -- the text, with this one before it
 abbrev pub behind : List ℕ → Option (List ℕ) → Option (List ℕ)
 behind front None = None
 behind front (Some text) = Some (front ++ text)
 
--- what stands up to the quote that closes the string, with one quote for two; a quote stands before these bytes, or none
+-- what stands up to the quote that closes the string, with one quote for two; a quote stands before these bytes, or
+-- none
 abbrev pub unquoted : List ℕ → Bool → Option (List ℕ)
 unquoted [] true = Some []
 unquoted [] false = None
 unquoted (c ∷ cs) true = if is_quote c then behind (39 ∷ []) (unquoted cs false) else Some []
-unquoted (c ∷ cs) false = if is_quote c then unquoted cs true else (if c == 10 then None else behind (c ∷ []) (unquoted cs false))
+unquoted (c ∷ cs) false = if is_quote c then unquoted cs true
+    else (if c == 10 then None else behind (c ∷ []) (unquoted cs false))
 
 abbrev pub text_of : Option (List ℕ) → Option (List ℕ)
 text_of None = None
@@ -61,7 +64,8 @@ begins b (c ∷ cs) = c == b
 
 -- the path whose `<` stands before these bytes
 unfoldable pub path_at : List ℕ → Option (List ℕ)
-path_at bytes = if begins 62 (drop (prefix_len is_path_byte bytes) bytes) then text_in (take_while is_path_byte bytes) else None
+path_at bytes = if begins 62 (drop (prefix_len is_path_byte bytes) bytes) then text_in (take_while is_path_byte bytes)
+    else None
 
 -- the sign of a byte
 unfoldable pub sign_of : ℕ → Option Sign
@@ -102,13 +106,15 @@ behind_lines count (Err lines) = Err (count + lines)
 abbrev pub step : ℕ → Option Token → ℕ → Bool → (Bool → ℕ → Result (List Token) ℕ) → Result (List Token) ℕ
 step (suc blank) found lines path go = behind_lines lines (go path blank)
 step zero None lines path go = Err 0
-step zero (Some token) lines path go = behind_token token (go (is_word (codes "include") token) (length (spelling token) - 1))
+step zero (Some token) lines path go =
+    behind_token token (go (is_word (codes "include") token) (length (spelling token) - 1))
 
 -- the tokens behind the first `pass` bytes, or how many lines end before the first place that begins none
 unfoldable pub cut_from : List ℕ → Bool → ℕ → Result (List Token) ℕ
 cut_from [] path pass = Ok []
 cut_from (c ∷ cs) path (suc pass) = cut_from cs path pass
-cut_from (c ∷ cs) path zero = step (blank_len (c ∷ cs)) (token_at path (c ∷ cs)) (lines_in c) path (λ behind pass. cut_from cs behind pass)
+cut_from (c ∷ cs) path zero =
+    step (blank_len (c ∷ cs)) (token_at path (c ∷ cs)) (lines_in c) path (λ behind pass. cut_from cs behind pass)
 
 -- the cut goes on behind these tokens, in this line
 abbrev pub resume : List Token → ℕ → Result (List Token) ℕ → Result (List Token) ℕ

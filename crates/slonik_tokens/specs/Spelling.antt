@@ -140,11 +140,14 @@ path_after path (piece ∷ pieces) = path_after (path_behind path piece) pieces
 -- the bytes are these pieces, each as it may stand there, and then the rest
 abbrev pub Falls : Bool → List ℕ → List Piece → List ℕ → Type 0
 Falls path bytes [] rest = bytes ≡ rest
-Falls path bytes (piece ∷ pieces) rest = (more : List ℕ) × (bytes ≡ bytes_of piece ++ more) × Stands path piece more × Falls (path_behind path piece) more pieces rest
+Falls path bytes (piece ∷ pieces) rest =
+    (more : List ℕ) × (bytes ≡ bytes_of piece ++ more) × Stands path piece more
+    × Falls (path_behind path piece) more pieces rest
 
 -- there is more of the text, and no piece begins it
 abbrev pub IsStuck : Bool → List ℕ → Type 0
-IsStuck path rest = (rest ≡ [] → ⊥) × ((piece : Piece) (more : List ℕ) → rest ≡ bytes_of piece ++ more → Stands path piece more → ⊥)
+IsStuck path rest =
+    (rest ≡ [] → ⊥) × ((piece : Piece) (more : List ℕ) → rest ≡ bytes_of piece ++ more → Stands path piece more → ⊥)
 
 -- the tokens of pieces
 abbrev pub tokens_of : List Piece → List Token
@@ -164,8 +167,10 @@ lines_of (Separator c ∷ pieces) = lines_in c + lines_of pieces
 lines_of (Comment body ∷ pieces) = lines_of pieces
 lines_of (Lexeme token bytes ∷ pieces) = lines_of pieces
 
--- What a text is read as, by the grammar: the tokens of pieces that are all of it; or the line, from 1 on, where no piece
+-- What a text is read as, by the grammar: the tokens of pieces that are all of it; or the line, from 1 on, where no
+-- piece
 -- goes on behind the pieces before.
 unfoldable pub ReadsText : List ℕ → Result (List Token) ℕ → Type 0
 ReadsText text (Ok tokens) = (pieces : List Piece) × Falls false text pieces [] × (tokens ≡ tokens_of pieces)
-ReadsText text (Err line) = (pieces : List Piece) × (rest : List ℕ) × Falls false text pieces rest × IsStuck (path_after false pieces) rest × (line ≡ 1 + lines_of pieces)
+ReadsText text (Err line) = (pieces : List Piece) × (rest : List ℕ) × Falls false text pieces rest
+    × IsStuck (path_after false pieces) rest × (line ≡ 1 + lines_of pieces)

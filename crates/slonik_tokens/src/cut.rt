@@ -54,7 +54,8 @@ pub fn tokens(alloc: Global, text: &[u8]) -> Result<Vec<Token>, ParseFault>
     // The grammar reads the text as these tokens,
     ensures read { IfOk result (λ v. ReadsText text.now (Ok v.items)) }
     // or as a text that begins no piece in this line,
-    ensures refused { (line : ℕ) → IsErrOf result (ParseFault.Refused (ScriptRefusal.BadToken line)) → ReadsText text.now (Err line) }
+    ensures refused { (line : ℕ) → IsErrOf result (ParseFault.Refused (ScriptRefusal.BadToken line))
+        → ReadsText text.now (Err line) }
     // and what it reads is answered, unless memory runs out.
     ensures only { (outcome : Result (List Token) ℕ) → ReadsText text.now outcome → Cuts (λ v. v.items) outcome result }
 {

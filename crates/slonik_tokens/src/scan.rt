@@ -100,7 +100,8 @@ fn is_text(bytes: &[u8]) -> bool
     }
 }
 
-/// The length of the comment whose `#` stands before these bytes, or 0 where they are not UTF-8 up to the end of the line.
+/// The length of the comment whose `#` stands before these bytes, or 0 where they are not UTF-8 up to the end of the
+/// line.
 fn comment_len(bytes: &[u8]) -> usize
     ensures { result ≡ cut.comment_len bytes.now }
 {

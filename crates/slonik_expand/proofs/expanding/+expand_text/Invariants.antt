@@ -7,7 +7,9 @@ use Rattle.slonik_expand.proofs.expanding.+expand_text.Given as goal
 abbrev pub invariant-loop-behind : goal.invariant-loop-behind
 invariant-loop-behind g l = record {
   files : Stays (g.F.Files.filed l.fn.files) (g.F.Files.filed l.files);
-  ends : (names : List ℕ → Option (List ℕ)) → (g.F.Files.filed l.fn.files).names ≡ Some names → expand_from (include_at names l.levels) 0 l.tokens (making_of l.fn.progress) ≡ expand_from (include_at names l.levels) 0 (drop l.at l.tokens) (making_of l.progress);
+  ends : (names : List ℕ → Option (List ℕ)) → (g.F.Files.filed l.fn.files).names ≡ Some names
+      → expand_from (include_at names l.levels) 0 l.tokens (making_of l.fn.progress)
+      ≡ expand_from (include_at names l.levels) 0 (drop l.at l.tokens) (making_of l.progress);
 }
 
 abbrev pub decreases-loop-behind : goal.decreases-loop-behind

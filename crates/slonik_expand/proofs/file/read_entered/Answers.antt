@@ -18,12 +18,31 @@ returns-in_err-count-clause-whole g c bytes told =
 pub loop-bytes-preserved : goal.loop-bytes-preserved
 loop-bytes-preserved g c =
     let items = with_items_is c.loop-bytes.buffer c.read.new.into (c.read.auto.into ∙ c.as_mut_slice.ensures.len) in
-    let long : length c.read.new.into ≡ 4096 = omega (arith, c.read.auto.into, c.as_mut_slice.ensures.len, c.loop-bytes.buffer.ok.0, c.loop-bytes.invariant.buffer) in
-    let grown : c.extend_from_slice.new.self.items ≡ c.loop-bytes.bytes.items ++ take c.in_ok-count.count c.read.new.into = c.in_ok-extend_from_slice.ensures.items ∙ ap (λ l. c.loop-bytes.bytes.items ++ take c.in_ok-count.count l) (c.deref.ensures.value ∙ items) in
+    let long : length c.read.new.into ≡ 4096 =
+    omega (
+      arith,
+      c.read.auto.into,
+      c.as_mut_slice.ensures.len,
+      c.loop-bytes.buffer.ok.0,
+      c.loop-bytes.invariant.buffer,
+    ) in
+    let grown : c.extend_from_slice.new.self.items ≡ c.loop-bytes.bytes.items
+    ++ take c.in_ok-count.count c.read.new.into =
+    c.in_ok-extend_from_slice.ensures.items ∙ ap (λ l. c.loop-bytes.bytes.items ++ take c.in_ok-count.count l)
+    (c.deref.ensures.value ∙ items) in
     record {
       files = keeps_on _ _ _ _ _ c.loop-bytes.invariant.files c.in_ok-count.ensures;
       buffer = ap length items ∙ long;
-      room = omega (arith, ap length grown, length-append c.loop-bytes.bytes.items (take c.in_ok-count.count c.read.new.into), length-take c.in_ok-count.count c.read.new.into, c.in_ok-count.ensures.count, c.loop-bytes.invariant.room, c.if-count-room.false);
+      room = omega (
+        arith,
+        ap length grown,
+        length-append c.loop-bytes.bytes.items
+            (take c.in_ok-count.count c.read.new.into),
+        length-take c.in_ok-count.count c.read.new.into,
+        c.in_ok-count.ensures.count,
+        c.loop-bytes.invariant.room,
+        c.if-count-room.false,
+      );
       read = λ bytes told.
           let r = c.loop-bytes.invariant.read bytes told in
           rw grown (read_more _ _ _ _ _ r.0 _ c.in_ok-count.ensures.bytes r.1 r.2);

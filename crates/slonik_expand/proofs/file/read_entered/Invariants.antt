@@ -9,7 +9,8 @@ invariant-loop-bytes g l = record {
   files : KeepsOthers (g.F.Files.filed l.fn.files) (g.F.Files.filed l.files);
   buffer : length l.buffer.items ≡ 4096;
   room : l.room + length l.bytes.items ≡ l.limit;
-  read : (bytes : List ℕ) → top (g.F.Files.filed l.fn.files).stack ≡ Some bytes → (rest : List ℕ) × (top (g.F.Files.filed l.files).stack ≡ Some rest) × (l.bytes.items ++ rest ≡ bytes);
+  read : (bytes : List ℕ) → top (g.F.Files.filed l.fn.files).stack ≡ Some bytes
+      → (rest : List ℕ) × (top (g.F.Files.filed l.files).stack ≡ Some rest) × (l.bytes.items ++ rest ≡ bytes);
 }
 
 abbrev pub decreases-loop-bytes : goal.decreases-loop-bytes

@@ -8,14 +8,20 @@ loop-token-init c = record { runs = search rules; numbered = omega arith }
 
 pub loop-token-preserved : goal.loop-token-preserved
 loop-token-preserved c = record {
-  runs = goes (run c.args.tokens.now behind_preamble) c.loop-token.rest.now c.in-Some.behind.now c.in-Some.token.now c.loop-token.state c.in-Ok.next c.loop-token.invariant.runs c.in-Some.ensures.cases.0 c.in-Ok.ensures;
+  runs = goes (run c.args.tokens.now behind_preamble) c.loop-token.rest.now c.in-Some.behind.now c.in-Some.token.now
+      c.loop-token.state c.in-Ok.next c.loop-token.invariant.runs c.in-Some.ensures.cases.0 c.in-Ok.ensures;
   numbered = omega (arith, c.in-Some.ensures.cases.1, c.loop-token.invariant.numbered);
 }
 
 pub returns-in-Err : goal.returns-in-Err
 returns-in-Err c =
-    fails (run c.args.tokens.now behind_preamble) c.loop-token.rest.now c.in-Some.behind.now c.in-Some.token.now c.loop-token.state c.in-Err.misparse c.fault_at.result c.loop-token.place (length c.args.tokens.now + 2) c.loop-token.invariant.runs (omega arith) c.in-Some.ensures.cases.0 c.in-Err.ensures c.fault_at.ensures.refused c.fault_at.ensures.memory
+    fails (run c.args.tokens.now behind_preamble) c.loop-token.rest.now c.in-Some.behind.now c.in-Some.token.now
+    c.loop-token.state c.in-Err.misparse c.fault_at.result c.loop-token.place (length c.args.tokens.now + 2)
+    c.loop-token.invariant.runs (omega arith) c.in-Some.ensures.cases.0 c.in-Err.ensures c.fault_at.ensures.refused
+    c.fault_at.ensures.memory
 
 pub returns : goal.returns
 returns c =
-    ends (run c.args.tokens.now behind_preamble) c.loop-token.rest.now c.loop-token.state c.loop-token.place (length c.args.tokens.now + 2) c.state_end.result c.loop-token.invariant.runs (omega arith) c.in_default.ensures.cases c.state_end.ensures
+    ends (run c.args.tokens.now behind_preamble) c.loop-token.rest.now c.loop-token.state c.loop-token.place
+    (length c.args.tokens.now + 2) c.state_end.result c.loop-token.invariant.runs (omega arith)
+    c.in_default.ensures.cases c.state_end.ensures

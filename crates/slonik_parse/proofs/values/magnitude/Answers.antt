@@ -4,4 +4,5 @@ use Rattle.slonik_parse.proofs.values.magnitude.Goals as goal
 
 pub returns-then-number-high : goal.returns-then-number-high
 returns-then-number-high c =
-    sym (number_past c.args.high c.loop-digit.number c.loop-digit.digit-index c.from.result c.args.digits.now c.loop-digit.invariant.value c.loop-digit-test.true c.from.ensures c.if-number-high.true)
+    sym (number_past c.args.high c.loop-digit.number c.loop-digit.digit-index c.from.result c.args.digits.now
+    c.loop-digit.invariant.value c.loop-digit-test.true c.from.ensures c.if-number-high.true)

@@ -10,23 +10,35 @@ split_at-requires c = omega (arith, blank_room c.loop-first.rest.now, c.blank_le
 
 pub loop-first-preserved-then-blank-gt0 : goal.loop-first-preserved-then-blank-gt0
 loop-first-preserved-then-blank-gt0 c =
-    behind_blank _ _ c.in-Some.field-0-1.now _ _ c.loop-first.line _ c.in-Some.first.now _ _ c.in-Some.ensures.cases.0 c.blank_len-blank.ensures c.if-blank-gt0.true c.split_at.ensures.back (omega (arith, c.lines_in-line.ensures)) c.loop-first.invariant
+    behind_blank _ _ c.in-Some.field-0-1.now _ _ c.loop-first.line _ c.in-Some.first.now _ _ c.in-Some.ensures.cases.0
+    c.blank_len-blank.ensures c.if-blank-gt0.true c.split_at.ensures.back (omega (arith, c.lines_in-line.ensures))
+    c.loop-first.invariant
 
 pub returns-in-None : goal.returns-in-None
 returns-in-None c =
-    fails _ _ c.in-Some.field-0-1.now _ _ c.in-Some.first.now _ _ c.in-Some.ensures.cases.0 c.blank_len-blank.ensures c.if-blank-gt0.false (sym c.in-None.is ∙ c.in_ok-token_at.ensures) c.loop-first.invariant
+    fails _ _ c.in-Some.field-0-1.now _ _ c.in-Some.first.now _ _ c.in-Some.ensures.cases.0 c.blank_len-blank.ensures
+    c.if-blank-gt0.false (sym c.in-None.is ∙ c.in_ok-token_at.ensures) c.loop-first.invariant
 
 pub split_at-requires-in-Some-2 : goal.split_at-requires-in-Some-2
 split_at-requires-in-Some-2 c =
-    (token_room c.loop-first.after_include c.loop-first.rest.now c.in-Some-2.token c.in-Some-2.len (sym c.in-Some-2.is ∙ c.in_ok-token_at.ensures)).1
+    (token_room c.loop-first.after_include c.loop-first.rest.now c.in-Some-2.token c.in-Some-2.len
+    (sym c.in-Some-2.is ∙ c.in_ok-token_at.ensures)).1
 
 pub loop-first-smaller : goal.loop-first-smaller
 loop-first-smaller c =
-    omega (arith, (token_room c.loop-first.after_include c.loop-first.rest.now c.in-Some-2.token c.in-Some-2.len (sym c.in-Some-2.is ∙ c.in_ok-token_at.ensures)).0, c.split_at-in-Some-2.ensures.back_len)
+    omega (
+      arith,
+      (token_room c.loop-first.after_include c.loop-first.rest.now c.in-Some-2.token c.in-Some-2.len
+          (sym c.in-Some-2.is ∙ c.in_ok-token_at.ensures)).0,
+      c.split_at-in-Some-2.ensures.back_len,
+    )
 
 pub loop-first-preserved : goal.loop-first-preserved
 loop-first-preserved c =
-    behind_token_at _ _ c.in-Some.field-0-1.now _ _ _ _ c.in-Some.first.now _ _ _ _ c.in-Some-2.token c.in-Some.ensures.cases.0 c.blank_len-blank.ensures c.if-blank-gt0.false (sym c.in-Some-2.is ∙ c.in_ok-token_at.ensures) c.split_at-in-Some-2.ensures.back c.is_word-after_include.ensures c.in_ok-push-in-Some-2.ensures.items c.loop-first.invariant
+    behind_token_at _ _ c.in-Some.field-0-1.now _ _ _ _ c.in-Some.first.now _ _ _ _ c.in-Some-2.token
+    c.in-Some.ensures.cases.0 c.blank_len-blank.ensures c.if-blank-gt0.false
+    (sym c.in-Some-2.is ∙ c.in_ok-token_at.ensures) c.split_at-in-Some-2.ensures.back
+    c.is_word-after_include.ensures c.in_ok-push-in-Some-2.ensures.items c.loop-first.invariant
 
 pub returns : goal.returns
 returns c = ends _ _ _ _ _ c.in_default.ensures.cases c.loop-first.invariant

@@ -11,11 +11,21 @@ pub returns-in_ok-add_earlier-in-Some : goal.returns-in_ok-add_earlier-in-Some
 returns-in_ok-add_earlier-in-Some c =
     let stands = meaning c.args.self.now.made.items in
     let name = c.in-NameUse.name in
-    let e : names_of c.args.self.now name ≡ option_map stands c.find.result = ap (option_map stands) (sym c.find.ensures) in
-    (stands c.in-Some.place, named_one (names_of c.args.self.now) stands c.find.result c.args.token.now name c.in-Some.place c.in-NameUse.is e c.in-Some.is, c.in_ok-add_earlier-in-Some.ensures)
+    let e : names_of c.args.self.now name ≡ option_map stands c.find.result =
+    ap (option_map stands) (sym c.find.ensures) in (
+      stands c.in-Some.place,
+      named_one (names_of c.args.self.now) stands c.find.result c.args.token.now name
+          c.in-Some.place c.in-NameUse.is e c.in-Some.is,
+      c.in_ok-add_earlier-in-Some.ensures,
+    )
 
 pub returns-in_ok-push-in_default : goal.returns-in_ok-push-in_default
 returns-in_ok-push-in_default c =
     let parts : c.push.new.self.parts.items ≡ c.args.definition.now.parts.items ++ Single c.args.token.now ∷ [] =
-    c.in_ok-push-in_default.ensures.parts ∙ ap (λ t. c.args.definition.now.parts.items ++ Single t ∷ []) c.in_ok-copy-in_default.ensures in
-    (c.args.token.now ∷ [], other_one (names_of c.args.self.now) c.args.token.now c.in_default.not-NameUse, means_token c.args.self.now.made.items c.args.definition.now c.push.new.self c.args.token.now parts c.in_ok-push-in_default.ensures.len)
+    c.in_ok-push-in_default.ensures.parts ∙ ap (λ t. c.args.definition.now.parts.items ++ Single t ∷ [])
+    c.in_ok-copy-in_default.ensures in (
+      c.args.token.now ∷ [],
+      other_one (names_of c.args.self.now) c.args.token.now c.in_default.not-NameUse,
+      means_token c.args.self.now.made.items c.args.definition.now c.push.new.self c.args.token.now parts
+          c.in_ok-push-in_default.ensures.len,
+    )

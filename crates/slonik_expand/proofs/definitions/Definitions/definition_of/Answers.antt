@@ -8,13 +8,15 @@ pub loop-token-init : goal.loop-token-init
 loop-token-init c = record {
   whole = [];
   done = refl;
-  means = means_nothing c.args.self.now.made.items c.new-definition.result c.new-definition.ensures.parts c.new-definition.ensures.len;
+  means = means_nothing c.args.self.now.made.items c.new-definition.result c.new-definition.ensures.parts
+      c.new-definition.ensures.len;
 }
 
 pub returns-in_err-add : goal.returns-in_err-add
 returns-in_err-add c =
     let p = err_from_is_err_and c.from_residual.result c.from_residual.ensures.1 in
-    rw (p.1, p.2) (adds_halted _ _ _ c.loop-token.definition c.add.new.definition _ c.token-item.result _ c.loop-token.invariant c.loop-token-test.true c.token-item.is c.in_err-add.ensures)
+    rw (p.1, p.2) (adds_halted _ _ _ c.loop-token.definition c.add.new.definition _ c.token-item.result _
+    c.loop-token.invariant c.loop-token-test.true c.token-item.is c.in_err-add.ensures)
 
 pub loop-token-preserved : goal.loop-token-preserved
 loop-token-preserved c =

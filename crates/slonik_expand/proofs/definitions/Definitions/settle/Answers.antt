@@ -14,14 +14,17 @@ invariant_of-self-clause-ordered c =
 pub invariant_of-self-clause-counted : goal.invariant_of-self-clause-counted
 invariant_of-self-clause-counted c =
     let old = c.args.self.now in
-    kept_if (λ l. map (λ d. d.len) l ≡ map (λ ts. capped (length ts)) (meanings l)) (is_ok c.push.result) old.made.items _ c.args.definition c.push.ensures.items
+    kept_if (λ l. map (λ d. d.len) l ≡ map (λ ts. capped (length ts)) (meanings l)) (is_ok c.push.result) old.made.items
+    _ c.args.definition c.push.ensures.items
     old.counted (counted_one old.made.items c.args.definition old.counted c.requires)
 
 pub invariant_of-self-clause-placed : goal.invariant_of-self-clause-placed
 invariant_of-self-clause-placed c =
     let old = c.args.self.now in
-    kept_if (λ l. (name : List ℕ) (place : ℕ) → get_by_text old.places name ≡ Some place → place < length l) (is_ok c.push.result) old.made.items _ c.args.definition
-    c.push.ensures.items old.placed (λ name place e. omega (arith, old.placed name place e, length-append old.made.items (c.args.definition ∷ [])))
+    kept_if (λ l. (name : List ℕ) (place : ℕ) → get_by_text old.places name ≡ Some place → place < length l)
+    (is_ok c.push.result) old.made.items _ c.args.definition
+    c.push.ensures.items old.placed (λ name place e. omega
+    (arith, old.placed name place e, length-append old.made.items (c.args.definition ∷ [])))
 
 pub returns-in-Some-clause-settles : goal.returns-in-Some-clause-settles
 returns-in-Some-clause-settles c =
