@@ -150,20 +150,20 @@ alike_command block (Mark sign) ts us = alike_same ts us (if same_sign sign Clos
 alike_command block (NameUse name) ts us = alike_same ts us (Err Misfit)
 alike_command block (Path path) ts us = alike_same ts us (Err Misfit)
 
-alike_begun : (block : Block) (v : Verb) (given : Given) (text : List ℕ) (ts us tokens others : List Token)
-    (option : Option OptionName) → Alike ts us (begin_option block v given text tokens option)
-    (begin_option block v given text others option)
+alike_begun : (block : Block) (v : Verb) (given : Given) (text : List ℕ) (ts us : List Token)
+    (option : Option OptionName) → Alike ts us (begin_option block v given text (Word text ∷ ts) option)
+    (begin_option block v given text (Word text ∷ us) option)
 unfolding begin_option
-alike_begun block v given text ts us tokens others (Some option) = alike_same ts us _
-alike_begun block v given text ts us tokens others None =
-    one_of ts us (is_option_left_out v tokens) (is_option_left_out v others) (NotInProfile (lower text))
-    (UnknownOption (lower text)) (λ e. cc) (λ e. cc)
+alike_begun block v given text ts us (Some option) = alike_same ts us _
+alike_begun block v given text ts us None =
+    one_of ts us (is_option_left_out v (Word text ∷ ts)) (is_option_left_out v (Word text ∷ us))
+    (NotInProfile (lower text)) (UnknownOption (lower text)) (λ e. cc) (λ e. cc)
 
 alike_option : (block : Block) (v : Verb) (given : Given) (token : Token) (ts us : List Token)
     → Alike ts us (option_step block v given token (token ∷ ts)) (option_step block v given token (token ∷ us))
 unfolding option_step
 alike_option block v given (Word text) ts us =
-    alike_begun block v given text ts us (Word text ∷ ts) (Word text ∷ us) (option_at v (Word text))
+    alike_begun block v given text ts us (option_at v (Word text))
 alike_option block v given (Number text) ts us = alike_same ts us _
 alike_option block v given (Quoted text) ts us = alike_same ts us _
 alike_option block v given (Mark sign) ts us = alike_same ts us _

@@ -34,7 +34,7 @@ opened_verb block verb = Awaits (phrase.Verb verb) 1 OpenBracket (goal.Option bl
 any_begins : (block : Block) (verb : Verb) (text : List ℕ) (tokens : List Token) → Begins verb (Word text) tokens
     → any_command block text (Word text) tokens ≡ Ok (opened_verb block verb)
 unfolding any_command begin_verb
-any_begins block verb text tokens b = simp (b.kept, b.not_echo, b.not_exit, b.found)
+any_begins block verb text tokens b = simp (b.kept, b.plain.not_echo, b.plain.not_exit, b.found)
 
 -- a command with options begins in a block where it may stand
 pub verb_begins : (block : Block) (verb : Verb) (text : List ℕ) (tokens : List Token)
@@ -42,7 +42,7 @@ pub verb_begins : (block : Block) (verb : Verb) (text : List ℕ) (tokens : List
     → begin_in block text (Word text) tokens ≡ Ok (opened_verb block verb)
 unfolding begin_in begin_outside begin_tried begin_verb
 verb_begins (Outside script) verb text tokens may b =
-    simp (b.not_node, b.not_try, any_begins (Outside script) verb text tokens b)
+    simp (b.plain.not_node, b.plain.not_try, any_begins (Outside script) verb text tokens b)
 verb_begins (InTry script commands) verb text tokens may b = simp (b.kept, b.triable may, b.not_wait may, b.found)
 verb_begins (InHandler script tried handler commands) verb text tokens may b =
     any_begins (InHandler script tried handler commands) verb text tokens b

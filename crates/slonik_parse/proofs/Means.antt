@@ -10,9 +10,11 @@ use Rattle.slonik_parse.specs.declared.form.Verb.{Verb}
 use Rattle.slonik_parse.specs.declared.form.OptionName.{OptionName}
 use Rattle.slonik_parse.specs.declared.given.Given.{Given}
 use Rattle.slonik_parse.specs.declared.misparse.Misparse.{Misparse}
+use Rattle.slonik_parse.specs.declared.script.Command.{Command}
 use Rattle.slonik_parse.specs.declared.script.Script.{Script}
 use Rattle.slonik_parse.specs.declared.script.TryBlock.{TryBlock}
 use Rattle.slonik_parse.specs.declared.state.Block.{Block}
+use Rattle.slonik_parse.specs.declared.state.Block.TheVariants.{Try as InTry}
 use Rattle.slonik_parse.specs.declared.state.Goal.{Goal}
 use Rattle.slonik_parse.specs.declared.state.Goal.TheVariants as goal
 use Rattle.slonik_parse.specs.declared.state.Handler.TheVariants.{Error, Success}
@@ -125,3 +127,33 @@ pub fit_ok : {S T : Type 0} (found : Option S) (more : S → T) (y : T) → and_
     → (x : S) × (found ≡ Some x) × (more x ≡ y)
 fit_ok (Some x) more y h = (x, refl, cc)
 fit_ok None more y h = cc
+
+-- what stands before a command, where no try block is open
+pub record BeforeCommand : Type 0 where
+  pub block : Block
+  pub front : List Token
+  pub stands : Stands block front
+  pub tried : is_tried block ≡ false
+
+-- what stands before a command of a try block
+pub record BeforeTried : Type 0 where
+  pub script : Script
+  pub commands : List Command
+  pub front : List Token
+  pub stands : Stands (InTry script commands) front
+
+-- what stands before an option
+pub record BeforeOption : Type 0 where
+  pub block : Block
+  pub verb : Verb
+  pub given : Given
+  pub front : List Token
+  pub stands : OptionStands block verb given front
+
+-- what stands before the comma or the bracket behind an option
+pub record BehindOption : Type 0 where
+  pub block : Block
+  pub verb : Verb
+  pub given : Given
+  pub front : List Token
+  pub ends : OptionEnds block verb given front

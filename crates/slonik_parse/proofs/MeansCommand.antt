@@ -34,6 +34,7 @@ use Rattle.slonik_parse.specs.Places.{option_stands}
 use Rattle.slonik_parse.specs.Scripts.{try_of, with_handler}
 use Rattle.slonik_parse.proofs.Words.{other_word}
 use Rattle.slonik_parse.proofs.Means.{begins_node, begins_with_word, HasTried, has_tried, Means, means_sign, if_is}
+use Rattle.slonik_parse.proofs.Means.{BeforeCommand, BeforeTried}
 use Rattle.slonik_parse.proofs.MeansOptions.{words_join}
 
 -- the command that a test found, or another
@@ -124,23 +125,22 @@ may_outside : (tried : Bool) (verb : Verb) → tried ≡ false → may_stand tri
 may_outside false verb h = refl
 may_outside true verb h = cc
 
-any_tested : (block : Block) (text : List ℕ) (first : Token) (ahead front : List Token) (next : State)
+any_tested : (at : BeforeCommand) (text : List ℕ) (first : Token) (ahead : List Token) (next : State)
     (out echo exit : Bool)
-    → is_word (codes "echo") first ≡ echo → is_word (codes "exit") first ≡ exit → Stands block front
-    → is_tried block ≡ false
-    → cond out (Err (NotInProfile (lower text))) (cond echo (Ok (At (goal.EchoText block)))
-    (cond exit (Ok (At (goal.ExitStatus block))) (begin_verb block (verb_at first ahead)))) ≡ Ok next
-    → Means next (front ++ first ∷ [])
-any_tested block text first ahead front next true echo exit i j stands tried h = cc
-any_tested block text first ahead front next false true exit i j stands tried h =
-    let same : At (goal.EchoText block) ≡ next = cc in
-    subst (λ state. Means state (front ++ first ∷ [])) same (begins_with_word front first stands tried i)
-any_tested block text first ahead front next false false true i j stands tried h =
-    let same : At (goal.ExitStatus block) ≡ next = cc in
-    subst (λ state. Means state (front ++ first ∷ [])) same (begins_with_word front first stands tried j)
-any_tested block text first ahead front next false false false i j stands tried h =
-    verb_begun block first ahead front next (verb_at first ahead) refl stands
-    (λ verb _. may_outside (is_tried block) verb tried) h
+    → is_word (codes "echo") first ≡ echo → is_word (codes "exit") first ≡ exit
+    → cond out (Err (NotInProfile (lower text))) (cond echo (Ok (At (goal.EchoText at.block)))
+    (cond exit (Ok (At (goal.ExitStatus at.block))) (begin_verb at.block (verb_at first ahead)))) ≡ Ok next
+    → Means next (at.front ++ first ∷ [])
+any_tested at text first ahead next true echo exit i j h = cc
+any_tested at text first ahead next false true exit i j h =
+    let same : At (goal.EchoText at.block) ≡ next = cc in
+    subst (λ state. Means state (at.front ++ first ∷ [])) same (begins_with_word at.front first at.stands at.tried i)
+any_tested at text first ahead next false false true i j h =
+    let same : At (goal.ExitStatus at.block) ≡ next = cc in
+    subst (λ state. Means state (at.front ++ first ∷ [])) same (begins_with_word at.front first at.stands at.tried j)
+any_tested at text first ahead next false false false i j h =
+    verb_begun at.block first ahead at.front next (verb_at first ahead) refl at.stands
+    (λ verb _. may_outside (is_tried at.block) verb at.tried) h
 
 -- a command that begins where no try block is
 any_begun : (block : Block) (text : List ℕ) (first : Token) (ahead front : List Token) (next : State)
@@ -148,8 +148,8 @@ any_begun : (block : Block) (text : List ℕ) (first : Token) (ahead front : Lis
     → any_command block text first ahead ≡ Ok next → Means next (front ++ first ∷ [])
 unfolding any_command
 any_begun block text first ahead front next stands tried h =
-    any_tested block text first ahead front next (is_left_out ahead) (is_word (codes "echo") first)
-    (is_word (codes "exit") first) refl refl stands tried h
+    any_tested (record { block = block; front = front; stands = stands; tried = tried }) text first ahead next
+    (is_left_out ahead) (is_word (codes "echo") first) (is_word (codes "exit") first) refl refl h
 
 step_close : (block : Block) (next : State) (front : List Token) (token : Token) → Stands block front
     → is_sign CloseBrace token ≡ true → close block ≡ Ok next
@@ -190,18 +190,18 @@ may_tried Failover first rest h triable not_wait = let refused = failover_refuse
 may_tried WaitForEvent first rest h triable not_wait = cc
 may_tried _ first rest h triable not_wait = refl
 
-tried_tested : (script : Script) (commands : List Command) (text : List ℕ) (first : Token) (rest front : List Token)
-    (next : State) (out barred wait : Bool)
-    → is_not_in_try (first ∷ rest) ≡ barred → is_word (codes "wait") first ≡ wait → Stands (InTry script commands) front
+tried_tested : (at : BeforeTried) (text : List ℕ) (first : Token) (rest : List Token) (next : State)
+    (out barred wait : Bool)
+    → is_not_in_try (first ∷ rest) ≡ barred → is_word (codes "wait") first ≡ wait
     → cond out (Err (NotInProfile (lower text))) (cond barred (Err (NotInTry (lower text)))
-    (cond wait (Err Misfit) (begin_verb (InTry script commands) (verb_at first (first ∷ rest))))) ≡ Ok next
-    → Means next (front ++ first ∷ [])
-tried_tested script commands text first rest front next true barred wait i j stands h = cc
-tried_tested script commands text first rest front next false true wait i j stands h = cc
-tried_tested script commands text first rest front next false false true i j stands h = cc
-tried_tested script commands text first rest front next false false false i j stands h =
-    verb_begun (InTry script commands) first (first ∷ rest) front next (verb_at first (first ∷ rest)) refl stands
-    (λ verb e. may_tried verb first rest (verb_begins first (first ∷ rest) verb e) i j) h
+    (cond wait (Err Misfit) (begin_verb (InTry at.script at.commands) (verb_at first (first ∷ rest))))) ≡ Ok next
+    → Means next (at.front ++ first ∷ [])
+tried_tested at text first rest next true barred wait i j h = cc
+tried_tested at text first rest next false true wait i j h = cc
+tried_tested at text first rest next false false true i j h = cc
+tried_tested at text first rest next false false false i j h =
+    verb_begun (InTry at.script at.commands) first (first ∷ rest) at.front next (verb_at first (first ∷ rest)) refl
+    at.stands (λ verb e. may_tried verb first rest (verb_begins first (first ∷ rest) verb e) i j) h
 
 -- a command that begins in a try block
 tried_begun : (script : Script) (commands : List Command) (text : List ℕ) (first : Token) (rest front : List Token)
@@ -209,8 +209,8 @@ tried_begun : (script : Script) (commands : List Command) (text : List ℕ) (fir
     → begin_tried script commands text first (first ∷ rest) ≡ Ok next → Means next (front ++ first ∷ [])
 unfolding begin_tried
 tried_begun script commands text first rest front next stands h =
-    tried_tested script commands text first rest front next (is_left_out (first ∷ rest)) (is_not_in_try (first ∷ rest))
-    (is_word (codes "wait") first) refl refl stands h
+    tried_tested (record { script = script; commands = commands; front = front; stands = stands }) text first rest next
+    (is_left_out (first ∷ rest)) (is_not_in_try (first ∷ rest)) (is_word (codes "wait") first) refl refl h
 
 -- outside of blocks, the tokens are the script
 abbrev IsScriptOf : Block → List Token → Type 0

@@ -37,7 +37,7 @@ use Rattle.slonik_parse.specs.Places.{Stands, OptionStands, OptionEnds}
 use Rattle.slonik_parse.specs.Scripts.{with_statement, lacks}
 use Rattle.slonik_parse.specs.Values.{name_in, string_in, id_in, status_in}
 use Rattle.slonik_parse.proofs.Pieces.{first_of, awaited-by}
-use Rattle.slonik_parse.proofs.Means.{HasTried, Leads, Means, if_is}
+use Rattle.slonik_parse.proofs.Means.{HasTried, Leads, Means, BeforeTried, BeforeOption, BehindOption, if_is}
 use Rattle.slonik_parse.proofs.MeansStep.{stands_tried}
 use Rattle.slonik_tokens.specs.declared.fault.ScriptRefusal.TheVariants as refusal
 use Rattle.slonik_parse.specs.Refusals.{IsRefused, command_left_out, option_left_out, unknown_option, not_in_try}
@@ -70,22 +70,23 @@ awaits_wrong phrase at sign goal misparse token (word ∷ left) h =
     if_wrong (is_word word token) (Awaits phrase (at + 1) sign goal) Misfit misparse h
 
 -- a word that begins no option
-option_wrong : (block : Block) (verb : Verb) (given : Given) (text : List ℕ) (misparse : Misparse)
-    (rest front : List Token) (found : Option OptionName) (out : Bool)
-    → option_at verb (Word text) ≡ found → is_option_left_out verb (Word text ∷ rest) ≡ out
-    → OptionStands block verb given front
-    → begin_option block verb given text (Word text ∷ rest) found ≡ Err misparse
-    → WrongSo (front ++ Word text ∷ rest) misparse
+option_wrong : (at : BeforeOption) (text : List ℕ) (misparse : Misparse) (rest : List Token)
+    (found : Option OptionName) (out : Bool)
+    → option_at at.verb (Word text) ≡ found → is_option_left_out at.verb (Word text ∷ rest) ≡ out
+    → begin_option at.block at.verb at.given text (Word text ∷ rest) found ≡ Err misparse
+    → WrongSo (at.front ++ Word text ∷ rest) misparse
 unfolding begin_option
-option_wrong block verb given text misparse rest front (Some name) out e i stands h = cc
-option_wrong block verb given text misparse rest front None true e i stands h =
+option_wrong at text misparse rest (Some name) out e i h = cc
+option_wrong at text misparse rest None true e i h =
     let same : NotInProfile (lower text) ≡ misparse =
     cc (sym h ∙ ap (λ b. cond b (Err (NotInProfile (lower text))) (Err (UnknownOption (lower text)))) i) in
-    subst (λ m. WrongSo (front ++ Word text ∷ rest) m) same (option_left_out front rest block verb given text stands i)
-option_wrong block verb given text misparse rest front None false e i stands h =
+    subst (λ m. WrongSo (at.front ++ Word text ∷ rest) m) same
+    (option_left_out at.front rest at.block at.verb at.given text at.stands i)
+option_wrong at text misparse rest None false e i h =
     let same : UnknownOption (lower text) ≡ misparse =
     cc (sym h ∙ ap (λ b. cond b (Err (NotInProfile (lower text))) (Err (UnknownOption (lower text)))) i) in
-    subst (λ m. WrongSo (front ++ Word text ∷ rest) m) same (unknown_option front rest block verb given text stands e i)
+    subst (λ m. WrongSo (at.front ++ Word text ∷ rest) m) same
+    (unknown_option at.front rest at.block at.verb at.given text at.stands e i)
 
 -- the closing bracket where an option is missing
 missing_wrong : (block : Block) (verb : Verb) (given : Given) (misparse : Misparse) (token : Token)
@@ -105,8 +106,9 @@ wrong_option : (block : Block) (verb : Verb) (given : Given) (misparse : Mispars
     → option_step block verb given token (token ∷ rest) ≡ Err misparse → WrongSo (front ++ token ∷ rest) misparse
 unfolding option_step
 wrong_option block verb given misparse (Word text) rest front stands h =
-    option_wrong block verb given text misparse rest front (option_at verb (Word text))
-    (is_option_left_out verb (Word text ∷ rest)) refl refl stands h
+    option_wrong (record { block = block; verb = verb; given = given; front = front; stands = stands }) text misparse
+    rest
+    (option_at verb (Word text)) (is_option_left_out verb (Word text ∷ rest)) refl refl h
 wrong_option block verb given misparse (Number text) rest front stands h =
     misfits (front ++ Number text ∷ rest) misparse (cc)
 wrong_option block verb given misparse (Quoted text) rest front stands h =
@@ -122,29 +124,28 @@ wrong_option block verb given misparse (NameUse name) rest front stands h =
 wrong_option block verb given misparse (Path path) rest front stands h =
     misfits (front ++ Path path ∷ rest) misparse (cc)
 
-closed_wrong : (block : Block) (verb : Verb) (given : Given) (misparse : Misparse) (token : Token)
-    (rest front : List Token) (comma closes : Bool)
-    → is_sign CloseBracket token ≡ closes → OptionEnds block verb given front
-    → cond comma (Ok (At (goal.Option block verb given)))
-    (cond closes (and_then (made verb given) (λ command. Ok (after_command block command))) (Err Misfit))
+closed_wrong : (at : BehindOption) (misparse : Misparse) (token : Token) (rest : List Token) (comma closes : Bool)
+    → is_sign CloseBracket token ≡ closes
+    → cond comma (Ok (At (goal.Option at.block at.verb at.given)))
+    (cond closes (and_then (made at.verb at.given) (λ command. Ok (after_command at.block command))) (Err Misfit))
     ≡ Err misparse
-    → WrongSo (front ++ token ∷ rest) misparse
-closed_wrong block verb given misparse token rest front true closes e ends h = cc
-closed_wrong block verb given misparse token rest front false false e ends h =
-    misfits (front ++ token ∷ rest) misparse (cc)
-closed_wrong block verb given misparse token rest front false true e ends h =
-    let makes = and_then_wrong (made verb given) (λ command. after_command block command) misparse h in
-    let lacks_one = made_wrong verb given misparse makes in
-    subst (λ m. WrongSo (front ++ token ∷ rest) m) (sym lacks_one.1)
-    (missing_option front rest block verb given token lacks_one.0 ends e (makes ∙ ap (λ m. Err m) lacks_one.1))
+    → WrongSo (at.front ++ token ∷ rest) misparse
+closed_wrong at misparse token rest true closes e h = cc
+closed_wrong at misparse token rest false false e h = misfits (at.front ++ token ∷ rest) misparse (cc)
+closed_wrong at misparse token rest false true e h =
+    let makes = and_then_wrong (made at.verb at.given) (λ command. after_command at.block command) misparse h in
+    let lacks_one = made_wrong at.verb at.given misparse makes in
+    subst (λ m. WrongSo (at.front ++ token ∷ rest) m) (sym lacks_one.1)
+    (missing_option at.front rest at.block at.verb at.given token lacks_one.0 at.ends e
+    (makes ∙ ap (λ m. Err m) lacks_one.1))
 
 wrong_after_option : (block : Block) (verb : Verb) (given : Given) (misparse : Misparse) (token : Token)
     (rest front : List Token) → OptionEnds block verb given front
     → after_option block verb given token ≡ Err misparse → WrongSo (front ++ token ∷ rest) misparse
 unfolding after_option
 wrong_after_option block verb given misparse token rest front ends h =
-    closed_wrong block verb given misparse token rest front (is_sign Comma token) (is_sign CloseBracket token) refl ends
-    h
+    closed_wrong (record { block = block; verb = verb; given = given; front = front; ends = ends }) misparse token rest
+    (is_sign Comma token) (is_sign CloseBracket token) refl h
 
 -- a word that begins no command
 verb_wrong : (block : Block) (found : Option Verb) (misparse : Misparse) → begin_verb block found ≡ Err misparse
@@ -180,24 +181,22 @@ any_command_wrong block text misparse rest front stands h =
     any_wrong block text misparse rest front (is_left_out (Word text ∷ rest)) (is_word (codes "echo") (Word text))
     (is_word (codes "exit") (Word text)) refl stands h
 
-tried_wrong : (script : Script) (commands : List Command) (text : List ℕ) (misparse : Misparse)
-    (rest front : List Token) (out barred wait : Bool)
+tried_wrong : (at : BeforeTried) (text : List ℕ) (misparse : Misparse) (rest : List Token) (out barred wait : Bool)
     → is_left_out (Word text ∷ rest) ≡ out → is_not_in_try (Word text ∷ rest) ≡ barred
-    → Stands (InTry script commands) front
     → cond out (Err (NotInProfile (lower text))) (cond barred (Err (NotInTry (lower text)))
-    (cond wait (Err Misfit) (begin_verb (InTry script commands) (verb_at (Word text) (Word text ∷ rest)))))
+    (cond wait (Err Misfit) (begin_verb (InTry at.script at.commands) (verb_at (Word text) (Word text ∷ rest)))))
     ≡ Err misparse
-    → WrongSo (front ++ Word text ∷ rest) misparse
-tried_wrong script commands text misparse rest front true barred wait i j stands h =
-    left_out (InTry script commands) text misparse rest front stands i (cc)
-tried_wrong script commands text misparse rest front false true wait i j stands h =
+    → WrongSo (at.front ++ Word text ∷ rest) misparse
+tried_wrong at text misparse rest true barred wait i j h =
+    left_out (InTry at.script at.commands) text misparse rest at.front at.stands i (cc)
+tried_wrong at text misparse rest false true wait i j h =
     let same : NotInTry (lower text) ≡ misparse = cc in
-    subst (λ m. WrongSo (front ++ Word text ∷ rest) m) same (not_in_try front rest script commands text stands j)
-tried_wrong script commands text misparse rest front false false true i j stands h =
-    misfits (front ++ Word text ∷ rest) misparse (cc)
-tried_wrong script commands text misparse rest front false false false i j stands h =
-    misfits (front ++ Word text ∷ rest) misparse (verb_wrong (InTry script commands)
-    (verb_at (Word text) (Word text ∷ rest)) misparse h)
+    subst (λ m. WrongSo (at.front ++ Word text ∷ rest) m) same
+    (not_in_try at.front rest at.script at.commands text at.stands j)
+tried_wrong at text misparse rest false false true i j h = misfits (at.front ++ Word text ∷ rest) misparse (cc)
+tried_wrong at text misparse rest false false false i j h =
+    misfits (at.front ++ Word text ∷ rest) misparse
+    (verb_wrong (InTry at.script at.commands) (verb_at (Word text) (Word text ∷ rest)) misparse h)
 
 begin_tried_wrong : (script : Script) (commands : List Command) (text : List ℕ) (misparse : Misparse)
     (rest front : List Token) → Stands (InTry script commands) front
@@ -205,8 +204,8 @@ begin_tried_wrong : (script : Script) (commands : List Command) (text : List ℕ
     → WrongSo (front ++ Word text ∷ rest) misparse
 unfolding begin_tried
 begin_tried_wrong script commands text misparse rest front stands h =
-    tried_wrong script commands text misparse rest front (is_left_out (Word text ∷ rest))
-    (is_not_in_try (Word text ∷ rest)) (is_word (codes "wait") (Word text)) refl refl stands h
+    tried_wrong (record { script = script; commands = commands; front = front; stands = stands }) text misparse rest
+    (is_left_out (Word text ∷ rest)) (is_not_in_try (Word text ∷ rest)) (is_word (codes "wait") (Word text)) refl refl h
 
 outside_wrong : (script : Script) (text : List ℕ) (misparse : Misparse) (rest front : List Token) (node tries : Bool)
     → Stands (Outside script) front

@@ -118,34 +118,33 @@ value_read block verb given all name value rest h =
     (unfold step in unfold goal_step in ap (λ made. and_then made (λ more. Ok (At (goal.AfterOption block verb more))))
     h)
 
-option_read_text : (block : Block) (verb : Verb) (given all : Given) (name : OptionName) (text : List ℕ)
-    (equals value : Token) (words rest : List Token)
-    → option_at verb (Word text) ≡ Some name → AreWords (drop 1 (option_words name)) words
-    → is_sign Equals equals ≡ true → set_option name value given ≡ Ok all
-    → run ((Word text ∷ words ++ equals ∷ value ∷ []) ++ rest) (At (goal.Option block verb given))
-    ≡ run rest (At (goal.AfterOption block verb all))
-unfolding phrase_words
-option_read_text block verb given all name text equals value words rest found fits h set =
+-- the first word of an option
+option_word_read : (block : Block) (verb : Verb) (given : Given) (name : OptionName) (text : List ℕ) (rest : List Token)
+    → option_at verb (Word text) ≡ Some name
+    → run (Word text ∷ rest) (At (goal.Option block verb given))
+    ≡ run rest (Awaits (phrase.Option name) 1 Equals (goal.Value block verb given name))
+option_word_read block verb given name text rest found =
     run-ok (At (goal.Option block verb given)) (Awaits (phrase.Option name) 1 Equals (goal.Value block verb given name))
-    (Word text) ((words ++ equals ∷ value ∷ []) ++ rest)
+    (Word text) rest
     (unfold step in unfold goal_step in unfold option_step in unfold begin_option in
-    ap (begin_option block verb given text (Word text ∷ (words ++ equals ∷ value ∷ []) ++ rest)) found)
-    ∙ ap (λ tokens. run tokens (Awaits (phrase.Option name) 1 Equals (goal.Value block verb given name)))
-    (append_assoc words (equals ∷ value ∷ []) rest)
-    ∙ words_read (phrase.Option name) 1 Equals (goal.Value block verb given name) (drop 1 (option_words name)) words
-    equals (value ∷ rest) refl fits h
-    ∙ value_read block verb given all name value rest set
+    ap (begin_option block verb given text (Word text ∷ rest)) found)
 
 -- an option
 pub option_read : (block : Block) (verb : Verb) (given all : Given) (tokens rest : List Token)
     → IsOption verb given tokens all
     → run (tokens ++ rest) (At (goal.Option block verb given)) ≡ run rest (At (goal.AfterOption block verb all))
+unfolding phrase_words
 option_read block verb given all tokens rest (is_option name first equals value words more found fits h set) =
     let begun = words_begin (option_words name) first words fits in
     subst (λ t. run ((t ∷ words ++ equals ∷ value ∷ []) ++ rest) (At (goal.Option block verb given))
     ≡ run rest (At (goal.AfterOption block verb more))) (sym begun.1)
-    (option_read_text block verb given more name begun.0 equals value words rest
-    (subst (λ t. option_at verb t ≡ Some name) begun.1 found) begun.2 h set)
+    (option_word_read block verb given name begun.0 ((words ++ equals ∷ value ∷ []) ++ rest)
+    (subst (λ t. option_at verb t ≡ Some name) begun.1 found)
+    ∙ ap (λ tokens. run tokens (Awaits (phrase.Option name) 1 Equals (goal.Value block verb given name)))
+    (append_assoc words (equals ∷ value ∷ []) rest)
+    ∙ words_read (phrase.Option name) 1 Equals (goal.Value block verb given name) (drop 1 (option_words name)) words
+    equals (value ∷ rest) refl begun.2 h
+    ∙ value_read block verb given more name value rest set)
 
 -- a comma
 pub comma_read : (block : Block) (verb : Verb) (given : Given) (comma : Token) (rest : List Token)

@@ -53,7 +53,7 @@ pub command_not_on : (tried : Bool) (tokens rest : List Token) (command : Comman
     → NotOn (tokens ++ rest)
 command_not_on tried tokens rest command (of_verb verb first opens closes words options given _ may fits h are h2
     makes) =
-    (first_word_no_sign (verb_words verb) first words fits, (begins verb first words [] fits).not_on)
+    (first_word_no_sign (verb_words verb) first words fits, (begins verb first words [] fits).plain.not_on)
 command_not_on tried tokens rest command (of_echo word token text free h is) =
     (word_no_sign (codes "echo") word h, other_word (codes "echo") word h (codes "on"))
 command_not_on tried tokens rest command (of_exit word token status free h is) =
@@ -117,28 +117,24 @@ node_word_read script (Mark sign) rest none h = cc
 node_word_read script (NameUse name) rest none h = cc
 node_word_read script (Path path) rest none h = cc
 
-node_read : (script : Script) (id : ℕ) (text : List ℕ) (word number admin conninfo equals value end : Token)
-    (rest : List Token) → script.statements ≡ []
-    → is_word (codes "node") word ≡ true → id_in number ≡ Some id
-    → AreWords (codes "admin" ∷ codes "conninfo" ∷ []) (admin ∷ conninfo ∷ []) → is_sign Equals equals ≡ true
-    → string_in value ≡ Some text → is_sign Semicolon end ≡ true
-    → run (word ∷ number ∷ admin ∷ conninfo ∷ equals ∷ value ∷ end ∷ rest) (At (goal.Command (Outside script)))
-    ≡ run rest (At (goal.Command (Outside (with_node id text script))))
-unfolding phrase_words
-node_read script id text word number admin conninfo equals value end rest none h is fits h2 is2 h3 =
-    node_word_read script word (number ∷ admin ∷ conninfo ∷ equals ∷ value ∷ end ∷ rest) none h
-    ∙ run-ok (At (goal.NodeId script)) (Awaits phrase.Node 0 Equals (goal.NodeText script id)) number
-    (admin ∷ conninfo ∷ equals ∷ value ∷ end ∷ rest)
+node_id_read : (script : Script) (id : ℕ) (number : Token) (rest : List Token) → id_in number ≡ Some id
+    → run (number ∷ rest) (At (goal.NodeId script)) ≡ run rest (Awaits phrase.Node 0 Equals (goal.NodeText script id))
+node_id_read script id number rest is =
+    run-ok (At (goal.NodeId script)) (Awaits phrase.Node 0 Equals (goal.NodeText script id)) number rest
     (unfold step in unfold goal_step in ap (λ found. and_then (fit found)
     (λ n. Ok (Awaits phrase.Node 0 Equals (goal.NodeText script n)))) is)
-    ∙ words_read phrase.Node 0 Equals (goal.NodeText script id) (codes "admin" ∷ codes "conninfo" ∷ [])
-    (admin ∷ conninfo ∷ []) equals (value ∷ end ∷ rest) refl fits h2
-    ∙ run-ok (At (goal.NodeText script id)) (sign_then Semicolon (goal.Command (Outside (with_node id text script))))
-    value (end ∷ rest)
+
+-- its conninfo
+node_text_read : (script : Script) (id : ℕ) (text : List ℕ) (value : Token) (rest : List Token)
+    → string_in value ≡ Some text
+    → run (value ∷ rest) (At (goal.NodeText script id))
+    ≡ run rest (sign_then Semicolon (goal.Command (Outside (with_node id text script))))
+node_text_read script id text value rest is =
+    run-ok (At (goal.NodeText script id)) (sign_then Semicolon (goal.Command (Outside (with_node id text script))))
+    value rest
     (unfold step in unfold goal_step in unfold node_text in
     ap (λ found.
-    and_then (fit found) (λ t. Ok (sign_then Semicolon (goal.Command (Outside (with_node id t script)))))) is2)
-    ∙ sign_read Semicolon (goal.Command (Outside (with_node id text script))) end rest h3
+    and_then (fit found) (λ t. Ok (sign_then Semicolon (goal.Command (Outside (with_node id t script)))))) is)
 
 both_words : (first second : Token) → is_word (codes "cluster") first ≡ true → is_word (codes "name") second ≡ true
     → (rest : List Token) → begins_with preamble (first ∷ second ∷ rest) ≡ true
@@ -170,7 +166,7 @@ later_end front tokens end script grown r keeps goes =
 
 -- what the grammar calls a script is reached
 pub reached : (front : List Token) (script : Script) → IsScript front script → Reached front script
-unfolding with_command
+unfolding with_command phrase_words
 reached front script (script_head first second equals value end name h h2 h3 is h4) = record {
   preamble = λ rest. both_words first second h h2 (equals ∷ value ∷ end ∷ rest);
   ran = λ rest clear. head_read name equals value end rest h3 is h4;
@@ -182,7 +178,12 @@ reached front script (script_node before old word number admin conninfo equals v
     (reached before old is)
     (λ rest. append_assoc before (word ∷ number ∷ admin ∷ conninfo ∷ equals ∷ value ∷ end ∷ []) rest)
     (λ rest clear. (word_no_sign (codes "node") word h, other_word (codes "node") word h (codes "on")))
-    (λ rest clear. node_read old id text word number admin conninfo equals value end rest none h is2 fits h2 is3 h3)
+    (λ rest clear. node_word_read old word (number ∷ admin ∷ conninfo ∷ equals ∷ value ∷ end ∷ rest) none h
+    ∙ node_id_read old id number (admin ∷ conninfo ∷ equals ∷ value ∷ end ∷ rest) is2
+    ∙ words_read phrase.Node 0 Equals (goal.NodeText old id) (codes "admin" ∷ codes "conninfo" ∷ [])
+    (admin ∷ conninfo ∷ []) equals (value ∷ end ∷ rest) refl fits h2
+    ∙ node_text_read old id text value (end ∷ rest) is3
+    ∙ sign_read Semicolon (goal.Command (Outside (with_node id text old))) end rest h3)
 reached front script (script_command before tokens old command end is is2 h) =
     later_end before tokens end old (with_statement (Single command) old) (reached before old is)
     (λ rest clear. command_not_on false tokens (end ∷ rest) command is2)

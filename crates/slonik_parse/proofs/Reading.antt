@@ -62,20 +62,23 @@ fails_by made more NoMemory fault place total left fails e reads memory =
     out_of_memory (placed total (go_on made more left)) fault (memory refl)
 
 -- a token does not go on with a script
-pub fails : (whole : Result Script Wrong) (rest behind : List Token) (token : Token) (state : State)
-    (misparse : Misparse) (fault : ParseFault) (place total : ℕ) → run rest state ≡ whole
-    → place + length rest ≡ total + 1 → rest ≡ token ∷ behind → FailsSo (step state token rest) misparse
-    → Reads (Err (refused_at place misparse)) (Err fault) → (misparse ≡ NoMemory → fault ≡ OutOfMemory)
-    → Reads (placed total whole) (Err fault)
-fails whole rest behind token state misparse fault place total runs numbered first failed reads memory =
-    let as_run : go_on (step state token (token ∷ behind)) (run behind) (length behind + 1) ≡ whole =
-    sym (run-step token behind state) ∙ (sym (ap (λ (r : List Token). run r state) first) ∙ runs) in
+pub fails : (rest behind : List Token) (token : Token) (state : State) (misparse : Misparse) (fault : ParseFault)
+    (place total : ℕ) → place + length rest ≡ total + 1 → rest ≡ token ∷ behind
+    → FailsSo (step state token rest) misparse → Reads (Err (refused_at place misparse)) (Err fault)
+    → (misparse ≡ NoMemory → fault ≡ OutOfMemory) → Reads (placed total (run rest state)) (Err fault)
+fails rest behind token state misparse fault place total numbered first failed reads memory =
+    let as_run : go_on (step state token (token ∷ behind)) (run behind) (length behind + 1) ≡ run rest state =
+    sym (run-step token behind state) ∙ sym (ap (λ (r : List Token). run r state) first) in
     let failed_first : FailsSo (step state token (token ∷ behind)) misparse =
     subst (λ (r : List Token). FailsSo (step state token r) misparse) first failed in
     let long : length rest ≡ length (token ∷ behind) = ap (λ (r : List Token). length r) first in
     subst (λ (w : Result Script Wrong). Reads (placed total w) (Err fault)) as_run
     (fails_by (step state token (token ∷ behind)) (run behind) misparse fault place total (length behind + 1)
     failed_first (omega (arith, long)) reads memory)
+
+pub reads_whole : (total : ℕ) (one whole : Result Script Wrong) (fault : ParseFault) → one ≡ whole
+    → Reads (placed total one) (Err fault) → Reads (placed total whole) (Err fault)
+reads_whole total one whole fault e h = subst (λ (w : Result Script Wrong). Reads (placed total w) (Err fault)) e h
 
 no_tokens : (tokens : List Token) → length tokens ≡ 0 → tokens ≡ []
 no_tokens [] none = refl

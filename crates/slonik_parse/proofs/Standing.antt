@@ -85,7 +85,7 @@ opened_read block verb front (opened before words first opens stands may fits h)
     (At (goal.Option block verb nothing_given)) NotOn Anything
     (stands_read block before stands)
     (λ rest. simp append_assoc)
-    (λ rest k. (first_word_no_sign (verb_words verb) first words fits, (begins verb first words [] fits).not_on))
+    (λ rest k. (first_word_no_sign (verb_words verb) first words fits, (begins verb first words [] fits).plain.not_on))
     (λ rest k. verb_read block verb first opens words rest may fits h))
 
 -- where an option may begin

@@ -101,15 +101,19 @@ sign_is sign (Mark mark) h = ap Mark (same_sign-is mark sign h)
 sign_is sign (NameUse name) h = cc
 sign_is sign (Path path) h = cc
 
--- What begins with the words of a command.
-pub record Begins (verb : Verb) (first : Token) (tokens : List Token) : Type 0 where
-  pub kept : is_left_out tokens ≡ false
-  pub found : verb_at first tokens ≡ Some verb
+-- A word that begins no statement but a command with options.
+pub record Plain (first : Token) : Type 0 where
   pub not_echo : is_word (codes "echo") first ≡ false
   pub not_exit : is_word (codes "exit") first ≡ false
   pub not_node : is_word (codes "node") first ≡ false
   pub not_try : is_word (codes "try") first ≡ false
   pub not_on : is_word (codes "on") first ≡ false
+
+-- What begins with the words of a command.
+pub record Begins (verb : Verb) (first : Token) (tokens : List Token) : Type 0 where
+  pub kept : is_left_out tokens ≡ false
+  pub found : verb_at first tokens ≡ Some verb
+  pub plain : Plain first
   pub not_wait : may_be_tried verb ≡ true → is_word (codes "wait") first ≡ false
   pub triable : may_be_tried verb ≡ true → is_not_in_try tokens ≡ false
 
@@ -118,6 +122,21 @@ known : (word : List ℕ) (first : Token) → is_word word first ≡ true → (o
     → bytes_eq (str_to_ascii_lowercase word) (str_to_ascii_lowercase other) ≡ false → is_word other first ≡ false
 known word first h other differs = other_word word first h other ∙ differs
 
+-- two words differ, in whatever case
+abbrev Differ : List ℕ → List ℕ → Type 0
+Differ word other = bytes_eq (str_to_ascii_lowercase word) (str_to_ascii_lowercase other) ≡ false
+
+plain_by : (word : List ℕ) (first : Token) → is_word word first ≡ true
+    → Differ word (codes "echo") × Differ word (codes "exit") × Differ word (codes "node") × Differ word (codes "try")
+    × Differ word (codes "on") → Plain first
+plain_by word first h other = record {
+  not_echo = known word first h (codes "echo") other.0;
+  not_exit = known word first h (codes "exit") other.1;
+  not_node = known word first h (codes "node") other.2;
+  not_try = known word first h (codes "try") other.3;
+  not_on = known word first h (codes "on") other.4;
+}
+
 begins_init_cluster : (first : Token) (words rest : List Token) → AreWords (verb_words InitCluster) (first ∷ words)
     → Begins InitCluster first (first ∷ words ++ rest)
 unfolding is_left_out is_not_in_try verb_at set_verb_at verb_words
@@ -125,11 +144,7 @@ begins_init_cluster first [] rest h = absurd h.1
 begins_init_cluster first (second ∷ []) rest h = record {
   kept = simp (other_word (codes "init") first h.0);
   found = simp (other_word (codes "init") first h.0);
-  not_echo = known (codes "init") first h.0 (codes "echo") refl;
-  not_exit = known (codes "init") first h.0 (codes "exit") refl;
-  not_node = known (codes "init") first h.0 (codes "node") refl;
-  not_try = known (codes "init") first h.0 (codes "try") refl;
-  not_on = known (codes "init") first h.0 (codes "on") refl;
+  plain = plain_by (codes "init") first h.0 (refl, refl, refl, refl, refl);
   not_wait = λ _. known (codes "init") first h.0 (codes "wait") refl;
   triable = λ _. simp (other_word (codes "init") first h.0);
 }
@@ -142,11 +157,7 @@ begins_store_node first [] rest h = absurd h.1
 begins_store_node first (second ∷ []) rest h = record {
   kept = simp (other_word (codes "store") first h.0, other_word (codes "node") second h.1.0);
   found = simp (other_word (codes "store") first h.0, other_word (codes "node") second h.1.0);
-  not_echo = known (codes "store") first h.0 (codes "echo") refl;
-  not_exit = known (codes "store") first h.0 (codes "exit") refl;
-  not_node = known (codes "store") first h.0 (codes "node") refl;
-  not_try = known (codes "store") first h.0 (codes "try") refl;
-  not_on = known (codes "store") first h.0 (codes "on") refl;
+  plain = plain_by (codes "store") first h.0 (refl, refl, refl, refl, refl);
   not_wait = λ _. known (codes "store") first h.0 (codes "wait") refl;
   triable = λ _. simp (other_word (codes "store") first h.0);
 }
@@ -159,11 +170,7 @@ begins_drop_node first [] rest h = absurd h.1
 begins_drop_node first (second ∷ []) rest h = record {
   kept = simp (other_word (codes "drop") first h.0, other_word (codes "node") second h.1.0);
   found = simp (other_word (codes "drop") first h.0, other_word (codes "node") second h.1.0);
-  not_echo = known (codes "drop") first h.0 (codes "echo") refl;
-  not_exit = known (codes "drop") first h.0 (codes "exit") refl;
-  not_node = known (codes "drop") first h.0 (codes "node") refl;
-  not_try = known (codes "drop") first h.0 (codes "try") refl;
-  not_on = known (codes "drop") first h.0 (codes "on") refl;
+  plain = plain_by (codes "drop") first h.0 (refl, refl, refl, refl, refl);
   not_wait = λ _. known (codes "drop") first h.0 (codes "wait") refl;
   triable = λ _. simp (other_word (codes "drop") first h.0);
 }
@@ -176,11 +183,7 @@ begins_store_path first [] rest h = absurd h.1
 begins_store_path first (second ∷ []) rest h = record {
   kept = simp (other_word (codes "store") first h.0, other_word (codes "path") second h.1.0);
   found = simp (other_word (codes "store") first h.0, other_word (codes "path") second h.1.0);
-  not_echo = known (codes "store") first h.0 (codes "echo") refl;
-  not_exit = known (codes "store") first h.0 (codes "exit") refl;
-  not_node = known (codes "store") first h.0 (codes "node") refl;
-  not_try = known (codes "store") first h.0 (codes "try") refl;
-  not_on = known (codes "store") first h.0 (codes "on") refl;
+  plain = plain_by (codes "store") first h.0 (refl, refl, refl, refl, refl);
   not_wait = λ _. known (codes "store") first h.0 (codes "wait") refl;
   triable = λ _. simp (other_word (codes "store") first h.0);
 }
@@ -193,11 +196,7 @@ begins_drop_path first [] rest h = absurd h.1
 begins_drop_path first (second ∷ []) rest h = record {
   kept = simp (other_word (codes "drop") first h.0, other_word (codes "path") second h.1.0);
   found = simp (other_word (codes "drop") first h.0, other_word (codes "path") second h.1.0);
-  not_echo = known (codes "drop") first h.0 (codes "echo") refl;
-  not_exit = known (codes "drop") first h.0 (codes "exit") refl;
-  not_node = known (codes "drop") first h.0 (codes "node") refl;
-  not_try = known (codes "drop") first h.0 (codes "try") refl;
-  not_on = known (codes "drop") first h.0 (codes "on") refl;
+  plain = plain_by (codes "drop") first h.0 (refl, refl, refl, refl, refl);
   not_wait = λ _. known (codes "drop") first h.0 (codes "wait") refl;
   triable = λ _. simp (other_word (codes "drop") first h.0);
 }
@@ -210,11 +209,7 @@ begins_create_set first [] rest h = absurd h.1
 begins_create_set first (second ∷ []) rest h = record {
   kept = simp (other_word (codes "create") first h.0);
   found = simp (other_word (codes "create") first h.0);
-  not_echo = known (codes "create") first h.0 (codes "echo") refl;
-  not_exit = known (codes "create") first h.0 (codes "exit") refl;
-  not_node = known (codes "create") first h.0 (codes "node") refl;
-  not_try = known (codes "create") first h.0 (codes "try") refl;
-  not_on = known (codes "create") first h.0 (codes "on") refl;
+  plain = plain_by (codes "create") first h.0 (refl, refl, refl, refl, refl);
   not_wait = λ _. known (codes "create") first h.0 (codes "wait") refl;
   triable = λ _. simp (other_word (codes "create") first h.0);
 }
@@ -227,11 +222,7 @@ begins_drop_set first [] rest h = absurd h.1
 begins_drop_set first (second ∷ []) rest h = record {
   kept = simp (other_word (codes "drop") first h.0, other_word (codes "set") second h.1.0);
   found = simp (other_word (codes "drop") first h.0, other_word (codes "set") second h.1.0);
-  not_echo = known (codes "drop") first h.0 (codes "echo") refl;
-  not_exit = known (codes "drop") first h.0 (codes "exit") refl;
-  not_node = known (codes "drop") first h.0 (codes "node") refl;
-  not_try = known (codes "drop") first h.0 (codes "try") refl;
-  not_on = known (codes "drop") first h.0 (codes "on") refl;
+  plain = plain_by (codes "drop") first h.0 (refl, refl, refl, refl, refl);
   not_wait = λ _. known (codes "drop") first h.0 (codes "wait") refl;
   triable = λ _. simp (other_word (codes "drop") first h.0);
 }
@@ -249,11 +240,7 @@ begins_set_add_table first (second ∷ third ∷ []) rest h = record {
     other_word (codes "table") third h.1.1.0,
   );
   found = simp (other_word (codes "set") first h.0);
-  not_echo = known (codes "set") first h.0 (codes "echo") refl;
-  not_exit = known (codes "set") first h.0 (codes "exit") refl;
-  not_node = known (codes "set") first h.0 (codes "node") refl;
-  not_try = known (codes "set") first h.0 (codes "try") refl;
-  not_on = known (codes "set") first h.0 (codes "on") refl;
+  plain = plain_by (codes "set") first h.0 (refl, refl, refl, refl, refl);
   not_wait = λ _. known (codes "set") first h.0 (codes "wait") refl;
   triable = λ _. simp (other_word (codes "set") first h.0);
 }
@@ -266,11 +253,7 @@ begins_subscribe_set first [] rest h = absurd h.1
 begins_subscribe_set first (second ∷ []) rest h = record {
   kept = simp (other_word (codes "subscribe") first h.0);
   found = simp (other_word (codes "subscribe") first h.0);
-  not_echo = known (codes "subscribe") first h.0 (codes "echo") refl;
-  not_exit = known (codes "subscribe") first h.0 (codes "exit") refl;
-  not_node = known (codes "subscribe") first h.0 (codes "node") refl;
-  not_try = known (codes "subscribe") first h.0 (codes "try") refl;
-  not_on = known (codes "subscribe") first h.0 (codes "on") refl;
+  plain = plain_by (codes "subscribe") first h.0 (refl, refl, refl, refl, refl);
   not_wait = λ _. known (codes "subscribe") first h.0 (codes "wait") refl;
   triable = λ _. simp (other_word (codes "subscribe") first h.0);
 }
@@ -283,11 +266,7 @@ begins_unsubscribe_set first [] rest h = absurd h.1
 begins_unsubscribe_set first (second ∷ []) rest h = record {
   kept = simp (other_word (codes "unsubscribe") first h.0);
   found = simp (other_word (codes "unsubscribe") first h.0);
-  not_echo = known (codes "unsubscribe") first h.0 (codes "echo") refl;
-  not_exit = known (codes "unsubscribe") first h.0 (codes "exit") refl;
-  not_node = known (codes "unsubscribe") first h.0 (codes "node") refl;
-  not_try = known (codes "unsubscribe") first h.0 (codes "try") refl;
-  not_on = known (codes "unsubscribe") first h.0 (codes "on") refl;
+  plain = plain_by (codes "unsubscribe") first h.0 (refl, refl, refl, refl, refl);
   not_wait = λ _. known (codes "unsubscribe") first h.0 (codes "wait") refl;
   triable = λ _. simp (other_word (codes "unsubscribe") first h.0);
 }
@@ -300,11 +279,7 @@ begins_lock_set first [] rest h = absurd h.1
 begins_lock_set first (second ∷ []) rest h = record {
   kept = simp (other_word (codes "lock") first h.0);
   found = simp (other_word (codes "lock") first h.0);
-  not_echo = known (codes "lock") first h.0 (codes "echo") refl;
-  not_exit = known (codes "lock") first h.0 (codes "exit") refl;
-  not_node = known (codes "lock") first h.0 (codes "node") refl;
-  not_try = known (codes "lock") first h.0 (codes "try") refl;
-  not_on = known (codes "lock") first h.0 (codes "on") refl;
+  plain = plain_by (codes "lock") first h.0 (refl, refl, refl, refl, refl);
   not_wait = λ _. known (codes "lock") first h.0 (codes "wait") refl;
   triable = λ _. simp (other_word (codes "lock") first h.0);
 }
@@ -317,11 +292,7 @@ begins_unlock_set first [] rest h = absurd h.1
 begins_unlock_set first (second ∷ []) rest h = record {
   kept = simp (other_word (codes "unlock") first h.0);
   found = simp (other_word (codes "unlock") first h.0);
-  not_echo = known (codes "unlock") first h.0 (codes "echo") refl;
-  not_exit = known (codes "unlock") first h.0 (codes "exit") refl;
-  not_node = known (codes "unlock") first h.0 (codes "node") refl;
-  not_try = known (codes "unlock") first h.0 (codes "try") refl;
-  not_on = known (codes "unlock") first h.0 (codes "on") refl;
+  plain = plain_by (codes "unlock") first h.0 (refl, refl, refl, refl, refl);
   not_wait = λ _. known (codes "unlock") first h.0 (codes "wait") refl;
   triable = λ _. simp (other_word (codes "unlock") first h.0);
 }
@@ -334,11 +305,7 @@ begins_move_set first [] rest h = absurd h.1
 begins_move_set first (second ∷ []) rest h = record {
   kept = simp (other_word (codes "move") first h.0);
   found = simp (other_word (codes "move") first h.0);
-  not_echo = known (codes "move") first h.0 (codes "echo") refl;
-  not_exit = known (codes "move") first h.0 (codes "exit") refl;
-  not_node = known (codes "move") first h.0 (codes "node") refl;
-  not_try = known (codes "move") first h.0 (codes "try") refl;
-  not_on = known (codes "move") first h.0 (codes "on") refl;
+  plain = plain_by (codes "move") first h.0 (refl, refl, refl, refl, refl);
   not_wait = λ _. known (codes "move") first h.0 (codes "wait") refl;
   triable = λ _. simp (other_word (codes "move") first h.0);
 }
@@ -350,11 +317,7 @@ unfolding is_left_out is_not_in_try verb_at set_verb_at verb_words
 begins_failover first [] rest h = record {
   kept = simp (other_word (codes "failover") first h.0);
   found = simp (other_word (codes "failover") first h.0);
-  not_echo = known (codes "failover") first h.0 (codes "echo") refl;
-  not_exit = known (codes "failover") first h.0 (codes "exit") refl;
-  not_node = known (codes "failover") first h.0 (codes "node") refl;
-  not_try = known (codes "failover") first h.0 (codes "try") refl;
-  not_on = known (codes "failover") first h.0 (codes "on") refl;
+  plain = plain_by (codes "failover") first h.0 (refl, refl, refl, refl, refl);
   not_wait = λ k. cc;
   triable = λ k. cc;
 }
@@ -366,11 +329,7 @@ unfolding is_left_out is_not_in_try verb_at set_verb_at verb_words
 begins_sync first [] rest h = record {
   kept = simp (other_word (codes "sync") first h.0);
   found = simp (other_word (codes "sync") first h.0);
-  not_echo = known (codes "sync") first h.0 (codes "echo") refl;
-  not_exit = known (codes "sync") first h.0 (codes "exit") refl;
-  not_node = known (codes "sync") first h.0 (codes "node") refl;
-  not_try = known (codes "sync") first h.0 (codes "try") refl;
-  not_on = known (codes "sync") first h.0 (codes "on") refl;
+  plain = plain_by (codes "sync") first h.0 (refl, refl, refl, refl, refl);
   not_wait = λ _. known (codes "sync") first h.0 (codes "wait") refl;
   triable = λ _. simp (other_word (codes "sync") first h.0);
 }
@@ -384,11 +343,7 @@ begins_wait_for_event first (second ∷ []) rest h = absurd h.1.1
 begins_wait_for_event first (second ∷ third ∷ []) rest h = record {
   kept = simp (other_word (codes "wait") first h.0);
   found = simp (other_word (codes "wait") first h.0);
-  not_echo = known (codes "wait") first h.0 (codes "echo") refl;
-  not_exit = known (codes "wait") first h.0 (codes "exit") refl;
-  not_node = known (codes "wait") first h.0 (codes "node") refl;
-  not_try = known (codes "wait") first h.0 (codes "try") refl;
-  not_on = known (codes "wait") first h.0 (codes "on") refl;
+  plain = plain_by (codes "wait") first h.0 (refl, refl, refl, refl, refl);
   not_wait = λ k. cc;
   triable = λ k. cc;
 }
@@ -400,11 +355,7 @@ unfolding is_left_out is_not_in_try verb_at set_verb_at verb_words
 begins_sleep first [] rest h = record {
   kept = simp (other_word (codes "sleep") first h.0);
   found = simp (other_word (codes "sleep") first h.0);
-  not_echo = known (codes "sleep") first h.0 (codes "echo") refl;
-  not_exit = known (codes "sleep") first h.0 (codes "exit") refl;
-  not_node = known (codes "sleep") first h.0 (codes "node") refl;
-  not_try = known (codes "sleep") first h.0 (codes "try") refl;
-  not_on = known (codes "sleep") first h.0 (codes "on") refl;
+  plain = plain_by (codes "sleep") first h.0 (refl, refl, refl, refl, refl);
   not_wait = λ k. cc;
   triable = λ k. cc;
 }

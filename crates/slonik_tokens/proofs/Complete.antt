@@ -1,5 +1,6 @@
 -- A piece that may stand at the front is taken from there.
-use Rattle.std.proofs.Common.{◌≡◌, ℕ, suc, ◌+◌, ◌<◌, eqb, cond, not, ◌&&◌, ◌||◌, Bool, true, false, List, [], ◌∷◌, ◌++◌, length, Some, None, refl, sym, ap, ◌∙◌, append_assoc, arith}
+use Rattle.std.proofs.Common.{◌≡◌, ℕ, suc, ◌+◌, ◌<◌, eqb, cond, not, ◌&&◌, ◌||◌, Bool, true, false, List, [], ◌∷◌, ◌++◌}
+use Rattle.std.proofs.Common.{length, Some, None, refl, sym, ap, ◌∙◌, append_assoc, arith}
 use Rattle.std.proofs.lemmas.Bool.{and_parts}
 use Rattle.std.proofs.lemmas.Bool.Decides.{nat_tests}
 use Rattle.std.proofs.lemmas.Str.{IsUtf8-from_ascii, is_utf8-from_IsUtf8}
@@ -9,9 +10,13 @@ use Rattle.std.specs.Char.{is_ascii_digit}
 use Rattle.std.specs.List.{list_all, prefix_len, take_while}
 use Rattle.std.specs.Option.{option_map}
 use Rattle.std.specs.Str.{IsAscii, IsUtf8, is_utf8}
-use Rattle.slonik_tokens.specs.Spelling.{is_separator, is_word_start, is_word_byte, is_quote, is_line_byte, is_path_byte, is_identifier, are_digits, doubled, spelling, HasForm, Stops, Ends, is_allowed, Separator, Comment, Lexeme, Stands}
-use Rattle.slonik_tokens.specs.Cut.{text_in, blank_len, identifier_at, number_at, behind, unquoted, text_of, quoted_at, begins, path_at, sign_of, token_at}
-use Rattle.slonik_tokens.specs.declared.token.Sign.TheVariants.{Semicolon, Comma, Equals, OpenBracket, CloseBracket, OpenBrace, CloseBrace}
+use Rattle.slonik_tokens.specs.Spelling.{is_separator, is_word_start, is_word_byte, is_quote, is_line_byte}
+use Rattle.slonik_tokens.specs.Spelling.{is_path_byte, is_identifier, are_digits, doubled, spelling, HasForm, Stops}
+use Rattle.slonik_tokens.specs.Spelling.{Ends, is_allowed, Separator, Comment, Lexeme, Stands}
+use Rattle.slonik_tokens.specs.Cut.{text_in, blank_len, identifier_at, number_at, behind, unquoted, text_of, quoted_at}
+use Rattle.slonik_tokens.specs.Cut.{begins, path_at, sign_of, token_at}
+use Rattle.slonik_tokens.specs.declared.token.Sign.TheVariants.{Semicolon, Comma, Equals, OpenBracket, CloseBracket}
+use Rattle.slonik_tokens.specs.declared.token.Sign.TheVariants.{OpenBrace, CloseBrace}
 use Rattle.slonik_tokens.specs.declared.token.Token.{Token}
 use Rattle.slonik_tokens.specs.declared.token.Token.TheVariants.{Word, Number, Quoted, Mark, NameUse, Path}
 use Rattle.slonik_tokens.proofs.Runs.{run_again, front_again, rest_again}

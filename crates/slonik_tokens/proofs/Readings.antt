@@ -1,8 +1,10 @@
 -- The cut of a text is what the grammar reads, and nothing else is.
-use Rattle.std.proofs.Common.{◌≡◌, ℕ, zero, suc, ◌+◌, ◌-◌, Bool, false, List, [], ◌∷◌, ◌++◌, length, drop, Option, Some, None, Result, Ok, Err, refl, sym, ap, subst, ◌∙◌, zero-add, codes, arith}
+use Rattle.std.proofs.Common.{◌≡◌, ℕ, zero, suc, ◌+◌, ◌-◌, Bool, false, List, [], ◌∷◌, ◌++◌, length, drop, Option, Some}
+use Rattle.std.proofs.Common.{None, Result, Ok, Err, refl, sym, ap, subst, ◌∙◌, zero-add, codes, arith}
 use Rattle.std.proofs.Math.Seq.{drop-append_seam}
 use Rattle.slonik_tokens.specs.Tokens.{is_word}
-use Rattle.slonik_tokens.specs.Spelling.{spelling, Piece, Separator, Comment, Lexeme, bytes_of, Stands, path_behind, path_after, Falls, IsStuck, tokens_of, lines_in, lines_of, ReadsText}
+use Rattle.slonik_tokens.specs.Spelling.{spelling, Piece, Separator, Comment, Lexeme, bytes_of, Stands, path_behind}
+use Rattle.slonik_tokens.specs.Spelling.{path_after, Falls, IsStuck, tokens_of, lines_in, lines_of, ReadsText}
 use Rattle.slonik_tokens.specs.Cut.{blank_len, token_at, behind_token, behind_lines, step, cut_from, resume, cut_of}
 use Rattle.slonik_tokens.specs.declared.token.Token.{Token}
 use Rattle.slonik_tokens.proofs.Sound.{Begins, Blank, token_sound, blank_sound}

@@ -1,5 +1,6 @@
 -- What the cut takes from the front is a piece that may stand there.
-use Rattle.std.proofs.Common.{◌≡◌, ℕ, suc, ◌+◌, eqb, cond, ◌&&◌, ◌||◌, Bool, true, false, List, [], ◌∷◌, ◌++◌, length, drop, Option, Some, None, refl, sym, ap, subst, ◌∙◌, append_assoc, arith}
+use Rattle.std.proofs.Common.{◌≡◌, ℕ, suc, ◌+◌, eqb, cond, ◌&&◌, ◌||◌, Bool, true, false, List, [], ◌∷◌, ◌++◌, length}
+use Rattle.std.proofs.Common.{drop, Option, Some, None, refl, sym, ap, subst, ◌∙◌, append_assoc, arith}
 use Rattle.std.proofs.lemmas.Bool.{and_parts, and_from}
 use Rattle.std.proofs.lemmas.Bool.Decides.{nat_tests}
 use Rattle.std.proofs.lemmas.Str.{IsUtf8-from_is_utf8}
@@ -10,10 +11,15 @@ use Rattle.std.specs.Char.{is_ascii_digit}
 use Rattle.std.specs.List.{list_all, prefix_len, take_while}
 use Rattle.std.specs.Option.{option_map}
 use Rattle.std.specs.Str.{IsUtf8, is_utf8}
-use Rattle.slonik_tokens.specs.Spelling.{is_separator, is_word_start, is_word_byte, is_quote, is_line_byte, is_path_byte, is_identifier, are_digits, is_number, doubled, sign_byte, spelling, Stops, Piece, Separator, Comment, Lexeme, bytes_of, Stands, path_behind, tokens_of, lines_in, lines_of}
-use Rattle.slonik_tokens.specs.Cut.{text_in, comment_len, blank_len, identifier_at, number_at, behind, unquoted, text_of, quoted_at, begins, path_at, sign_of, token_at}
+use Rattle.slonik_tokens.specs.Spelling.{is_separator, is_word_start, is_word_byte, is_quote, is_line_byte}
+use Rattle.slonik_tokens.specs.Spelling.{is_path_byte, is_identifier, are_digits, is_number, doubled, sign_byte}
+use Rattle.slonik_tokens.specs.Spelling.{spelling, Stops, Piece, Separator, Comment, Lexeme, bytes_of, Stands}
+use Rattle.slonik_tokens.specs.Spelling.{path_behind, tokens_of, lines_in, lines_of}
+use Rattle.slonik_tokens.specs.Cut.{text_in, comment_len, blank_len, identifier_at, number_at, behind, unquoted}
+use Rattle.slonik_tokens.specs.Cut.{text_of, quoted_at, begins, path_at, sign_of, token_at}
 use Rattle.slonik_tokens.specs.declared.token.Sign.{Sign}
-use Rattle.slonik_tokens.specs.declared.token.Sign.TheVariants.{Semicolon, Comma, Equals, OpenBracket, CloseBracket, OpenBrace, CloseBrace}
+use Rattle.slonik_tokens.specs.declared.token.Sign.TheVariants.{Semicolon, Comma, Equals, OpenBracket, CloseBracket}
+use Rattle.slonik_tokens.specs.declared.token.Sign.TheVariants.{OpenBrace, CloseBrace}
 use Rattle.slonik_tokens.specs.declared.token.Token.{Token}
 use Rattle.slonik_tokens.specs.declared.token.Token.TheVariants.{Word, Number, Quoted, Mark, NameUse, Path}
 use Rattle.slonik_tokens.proofs.Runs.{Runs, run, stopped}

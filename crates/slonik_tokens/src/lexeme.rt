@@ -1,5 +1,6 @@
 // The token at the front of a text.
-ghost use Rattle.std.specs.Prelude.{◌≡◌, ◌≤◌, ◌++◌, false, ◌∷◌, [], ℕ, List, length, IfOk, IfSome, Option, Some, None, MatchOption};
+ghost use Rattle.std.specs.Prelude.{◌≡◌, ◌≤◌, ◌++◌, false, ◌∷◌, [], ℕ, List, length, IfOk, IfSome, Option, Some, None};
+ghost use Rattle.std.specs.Prelude.{MatchOption};
 ghost use Rattle.std.specs.Option.{option_map};
 ghost use Rattle.slonik_tokens.specs.Spelling.{doubled};
 ghost use Rattle.slonik_tokens.specs.Cut as cut;

@@ -1,6 +1,6 @@
 use Rattle.std.proofs.Common.{◌+◌, length, rules, arith}
 use Rattle.slonik_parse.specs.Machine.{run, behind_preamble}
-use Rattle.slonik_parse.proofs.Reading.{goes, fails, ends}
+use Rattle.slonik_parse.proofs.Reading.{goes, fails, reads_whole, ends}
 use Rattle.slonik_parse.proofs.machine.read_behind_preamble.Goals as goal
 
 pub loop-token-init : goal.loop-token-init
@@ -15,10 +15,11 @@ loop-token-preserved c = record {
 
 pub returns-in-Err : goal.returns-in-Err
 returns-in-Err c =
-    fails (run c.args.tokens.now behind_preamble) c.loop-token.rest.now c.in-Some.behind.now c.in-Some.token.now
-    c.loop-token.state c.in-Err.misparse c.fault_at.result c.loop-token.place (length c.args.tokens.now + 2)
-    c.loop-token.invariant.runs (omega arith) c.in-Some.ensures.cases.0 c.in-Err.ensures c.fault_at.ensures.refused
-    c.fault_at.ensures.memory
+    reads_whole (length c.args.tokens.now + 2) (run c.loop-token.rest.now c.loop-token.state)
+    (run c.args.tokens.now behind_preamble) c.fault_at.result c.loop-token.invariant.runs
+    (fails c.loop-token.rest.now c.in-Some.behind.now c.in-Some.token.now c.loop-token.state c.in-Err.misparse
+    c.fault_at.result c.loop-token.place (length c.args.tokens.now + 2) (omega arith) c.in-Some.ensures.cases.0
+    c.in-Err.ensures c.fault_at.ensures.refused c.fault_at.ensures.memory)
 
 pub returns : goal.returns
 returns c =

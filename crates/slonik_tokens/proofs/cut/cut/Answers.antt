@@ -1,4 +1,4 @@
-use Rattle.std.proofs.Common.{◌∙◌, sym, arith}
+use Rattle.std.proofs.Common.{◌∙◌, refl, sym, arith}
 use Rattle.slonik_tokens.proofs.Goes.{begins, ends, blank_room, behind_blank, token_room, behind_token_at, fails}
 use Rattle.slonik_tokens.proofs.cut.cut.Goals as goal
 
@@ -10,13 +10,13 @@ split_at-requires c = omega (arith, blank_room c.loop-first.rest.now, c.blank_le
 
 pub loop-first-preserved-then-blank-gt0 : goal.loop-first-preserved-then-blank-gt0
 loop-first-preserved-then-blank-gt0 c =
-    behind_blank _ _ c.in-Some.field-0-1.now _ _ c.loop-first.line _ c.in-Some.first.now _ _ c.in-Some.ensures.cases.0
-    c.blank_len-blank.ensures c.if-blank-gt0.true c.split_at.ensures.back (omega (arith, c.lines_in-line.ensures))
+    behind_blank _ c.in-Some.field-0-1.now _ _ c.in-Some.first.now _ c.in-Some.ensures.cases.0
+    c.blank_len-blank.ensures c.if-blank-gt0.true c.split_at.ensures.back (omega (arith, c.lines_in-line.ensures)) refl refl
     c.loop-first.invariant
 
 pub returns-in-None : goal.returns-in-None
 returns-in-None c =
-    fails _ _ c.in-Some.field-0-1.now _ _ c.in-Some.first.now _ _ c.in-Some.ensures.cases.0 c.blank_len-blank.ensures
+    fails _ c.in-Some.field-0-1.now _ c.in-Some.first.now _ c.in-Some.ensures.cases.0 c.blank_len-blank.ensures
     c.if-blank-gt0.false (sym c.in-None.is ∙ c.in_ok-token_at.ensures) c.loop-first.invariant
 
 pub split_at-requires-in-Some-2 : goal.split_at-requires-in-Some-2
@@ -35,10 +35,10 @@ loop-first-smaller c =
 
 pub loop-first-preserved : goal.loop-first-preserved
 loop-first-preserved c =
-    behind_token_at _ _ c.in-Some.field-0-1.now _ _ _ _ c.in-Some.first.now _ _ _ _ c.in-Some-2.token
+    behind_token_at _ c.in-Some.field-0-1.now _ _ c.in-Some.first.now _ _ c.in-Some-2.token
     c.in-Some.ensures.cases.0 c.blank_len-blank.ensures c.if-blank-gt0.false
     (sym c.in-Some-2.is ∙ c.in_ok-token_at.ensures) c.split_at-in-Some-2.ensures.back
-    c.is_word-after_include.ensures c.in_ok-push-in-Some-2.ensures.items c.loop-first.invariant
+    c.is_word-after_include.ensures refl c.in_ok-push-in-Some-2.ensures.items c.loop-first.invariant
 
 pub returns : goal.returns
-returns c = ends _ _ _ _ _ c.in_default.ensures.cases c.loop-first.invariant
+returns c = ends _ _ c.in_default.ensures.cases c.loop-first.invariant
