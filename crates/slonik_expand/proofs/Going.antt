@@ -12,7 +12,7 @@ use Rattle.slonik_tokens.specs.declared.fault.ParseFault.TheVariants.{Refused, R
 use Rattle.slonik_tokens.specs.declared.token.Token.{Token}
 use Rattle.slonik_expand.specs.Ends.{EndsSo, Stays}
 use Rattle.slonik_expand.specs.Expansion.{Making, Ending, Made, Wrong, and_then, expand_from, include_at, include_file}
-use Rattle.slonik_expand.specs.Expansion.{first_of_form, form_at, before_semicolon}
+use Rattle.slonik_expand.specs.Expansion.{Form, first_of_form, form_at, before_semicolon}
 use Rattle.slonik_expand.specs.Steps.{HaltsSo, Runs}
 use Rattle.slonik_expand.proofs.Keeping.{drop_one}
 use Rattle.slonik_expand.proofs.Semicolons.{IsClosed}
@@ -53,11 +53,11 @@ pub record Begins (include : List ℕ → Making → Ending) (ts : List Token) (
   pub is : token ≡ get_or ts at token
   pub first : (ending, passed) ≡ first_of_form include token (form_at m.place token (behind ts at)) m
 
-pub begins : (include : List ℕ → Making → Ending) (ts : List Token) (at passed : ℕ) (t : Token) (m : Making)
-    (ending : Ending) → at < length ts → t ≡ get_or ts at t
-    → (ending, passed) ≡ first_of_form include t (form_at m.place t (behind ts at)) m
-    → Begins include ts at m ending passed
-begins include ts at passed t m ending within is e = record { token = t; within = within; is = is; first = e }
+pub begins : (include : List ℕ → Making → Ending) (ts : List Token) (at : ℕ) (t : Token) (m : Making) (form : Form)
+    → at < length ts → t ≡ get_or ts at t → form ≡ form_at m.place t (behind ts at)
+    → Begins include ts at m (first_of_form include t form m).0 (first_of_form include t form m).1
+begins include ts at t m form within is e =
+    record { token = t; within = within; is = is; first = ap (λ f. first_of_form include t f m) e }
 
 -- the first form, and what comes behind it
 stepped : (include : List ℕ → Making → Ending) (ts : List Token) (at passed : ℕ) (m : Making) (ending : Ending)

@@ -25,7 +25,7 @@ pub enum Sign {
 }
 
 /// A token, with its text.
-#[derive(Debug, Drop)]
+#[derive(Drop)]
 pub enum Token {
     /// A letter or `_`, and then letters, digits and `_`.
     Word(Text),

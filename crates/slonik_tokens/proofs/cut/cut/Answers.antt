@@ -11,7 +11,8 @@ split_at-requires c = omega (arith, blank_room c.loop-first.rest.now, c.blank_le
 pub loop-first-preserved-then-blank-gt0 : goal.loop-first-preserved-then-blank-gt0
 loop-first-preserved-then-blank-gt0 c =
     behind_blank _ c.in-Some.field-0-1.now _ _ c.in-Some.first.now _ c.in-Some.ensures.cases.0
-    c.blank_len-blank.ensures c.if-blank-gt0.true c.split_at.ensures.back (omega (arith, c.lines_in-line.ensures)) refl refl
+    c.blank_len-blank.ensures c.if-blank-gt0.true c.split_at.ensures.back (omega (arith, c.lines_in-line.ensures)) refl
+    refl
     c.loop-first.invariant
 
 pub returns-in-None : goal.returns-in-None
