@@ -1,5 +1,6 @@
 -- What definitions stand for whose parts are tokens and earlier definitions.
-use Rattle.std.proofs.Common.{◌≡◌, ℕ, zero, suc, if◌then◌else◌, ◌+◌, ◌-◌, ◌<◌, ◌≤◌, ltb, ◌&&◌, Bool, true, false, List}
+use Rattle.std.proofs.Common.{◌==◌, ◌≡◌, ℕ, zero, suc, if◌then◌else◌, ◌+◌, ◌-◌, ◌<◌, ◌≤◌, ltb, ◌&&◌, Bool, true, false}
+use Rattle.std.proofs.Common.{List}
 use Rattle.std.proofs.Common.{[], ◌∷◌, ◌++◌, map, length, get_or, slice_get, Option, Some, None, Result, Ok, Err, OnOk}
 use Rattle.std.proofs.Common.{OnErr, cond, refl, sym, ap, subst, ◌∙◌, arith, append_assoc}
 use Rattle.std.proofs.Math.ListN.{get_or-append}
@@ -14,7 +15,8 @@ use Rattle.slonik_expand.specs.declared.definition.Part.{Part}
 use Rattle.slonik_expand.specs.declared.definition.Part.TheVariants.{Single, Earlier}
 use Rattle.slonik_expand.specs.declared.definition.Definition.{Definition}
 use Rattle.slonik_expand.specs.Steps.{Means, Settles}
-use Rattle.slonik_expand.specs.Shared.{capped, part_tokens, parts_tokens, values_behind, meanings, meaning, is_below}
+use Rattle.slonik_expand.specs.Shared.{only_earlier, capped, part_tokens, parts_tokens, values_behind, meanings}
+use Rattle.slonik_expand.specs.Shared.{meaning, is_below}
 use Rattle.slonik_expand.specs.Shared.{are_below, are_ordered, parts_at}
 
 pub both : (a b : Bool) → (a && b) ≡ true → (a ≡ true) × (b ≡ true)
@@ -287,3 +289,13 @@ defined_name false old new place tokens now before e stands others = ap (option_
 pub on_err : {T E : Type 0} (r : Result T E) {P Q : Type 0} → (P → Q) → OnErr r P → OnErr r Q
 on_err (Ok x) f h = tt
 on_err (Err x) f h = f h
+
+pub only_is : (ps : List Part) (place : ℕ) → Some place ≡ only_earlier ps → ps ≡ Earlier place ∷ []
+only_is [] place e = cc
+only_is (Single t ∷ ps) place e = cc
+only_is (Earlier other ∷ []) place e = cc
+only_is (Earlier other ∷ p ∷ ps) place e = cc
+
+-- a definition stands for something, by the length that it counts
+pub some_counted : (n len : ℕ) → 0 < len → len ≡ capped n → (n == 0) ≡ false
+some_counted n len some e = grind (arith, nat_tests, e)

@@ -58,3 +58,13 @@ parts_in (Some definition) = definition.parts.items
 -- the parts of the definition at a place
 abbrev pub parts_at : List Definition → ℕ → List Part
 parts_at made place = parts_in (slice_get made place)
+
+-- the earlier definition that is the only part
+abbrev pub only_earlier : List Part → Option ℕ
+only_earlier (Earlier place ∷ []) = Some place
+only_earlier _ = None
+
+-- a definition joins the others, unless it is an earlier one
+abbrev pub made_with : Definition → Option ℕ → List Definition → List Definition
+made_with definition None made = made ++ definition ∷ []
+made_with definition (Some place) made = made

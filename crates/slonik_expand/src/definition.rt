@@ -1,7 +1,6 @@
 // What a definition keeps.
-ghost use Rattle.std.specs.Prelude.{◌≡◌, ◌+◌, ◌++◌, [], ◌∷◌, IfSome, OnOk};
-ghost use Rattle.slonik_expand.specs.declared.definition.Part.TheVariants.{Earlier};
-ghost use Rattle.slonik_expand.specs.Shared.{capped};
+ghost use Rattle.std.specs.Prelude.{◌≡◌, ◌+◌, ◌++◌, [], ◌∷◌, OnOk};
+ghost use Rattle.slonik_expand.specs.Shared.{capped, only_earlier};
 
 use slonik_tokens::Token;
 use std::alloc::{AllocError, Global};
@@ -46,7 +45,7 @@ impl Definition {
     }
     /// The earlier definition that is its only part.
     pub(crate) fn only_earlier(&self) -> Option<usize>
-        ensures { IfSome result (λ place. self.now.parts.items ≡ Earlier place ∷ []) }
+        ensures { result ≡ only_earlier self.now.parts.items }
     {
         let [part] = self.parts.as_slice() else {
             return None;

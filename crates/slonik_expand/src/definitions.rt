@@ -23,10 +23,11 @@ pub(crate) struct Definitions {
 }
 
 impl Definitions {
-    ghost use Rattle.std.specs.Prelude.{◌++◌, None, OnOk, IfOk};
+    ghost use Rattle.std.specs.Prelude.{◌++◌, [], ◌∷◌, None, OnOk, IfOk, if◌then◌else◌, ◌==◌};
     ghost use Rattle.slonik_expand.specs.Expansion.{replaced, replaced_one};
     ghost use Rattle.slonik_tokens.specs.declared.token.Token.{Token as AToken};
-    ghost use Rattle.slonik_expand.specs.Shared.{meaning, parts_at, parts_tokens};
+    ghost use Rattle.slonik_expand.specs.declared.definition.Part.TheVariants.{Earlier};
+    ghost use Rattle.slonik_expand.specs.Shared.{meaning, parts_at, parts_tokens, only_earlier, made_with};
     ghost use Rattle.slonik_expand.specs.Steps.{names_of, Means, Adds, AddsAll, Settles, Defines};
 
     /// No name stands for anything.
@@ -93,11 +94,15 @@ impl Definitions {
             }
         }
     }
+
     /// Adds an earlier definition, unless that stands for nothing.
     fn add_earlier(&self, definition: &mut Definition, place: usize) -> Result<(), AllocError>
         requires { place < length self.now.made.items }
-        ensures { OnOk result ((tokens : List AToken) → Means self.now.made.items definition.old tokens
+        ensures means { OnOk result ((tokens : List AToken) → Means self.now.made.items definition.old tokens
             → Means self.now.made.items definition.new (tokens ++ meaning self.now.made.items place)) }
+        ensures parts { OnOk result (definition.new.parts.items
+            ≡ (if length (meaning self.now.made.items place) == 0 then definition.old.parts.items
+            else definition.old.parts.items ++ Earlier place ∷ [])) }
     {
         let len = self.len(place);
         if len > 0 {
@@ -122,6 +127,8 @@ impl Definitions {
         requires { Means self.old.made.items definition
             (parts_tokens (meanings self.old.made.items) definition.parts.items) }
         ensures settles { IfOk result (λ place. Settles self.old.made.items definition self.new.made.items place) }
+        ensures made { OnOk result (self.new.made.items
+            ≡ made_with definition (only_earlier definition.parts.items) self.old.made.items) }
         ensures places { self.new.places ≡ self.old.places }
     {
         match definition.only_earlier() {

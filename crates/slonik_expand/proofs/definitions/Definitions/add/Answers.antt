@@ -16,7 +16,7 @@ returns-in_ok-add_earlier-in-Some c =
       stands c.in-Some.place,
       named_one (names_of c.args.self.now) stands c.find.result c.args.token.now name
           c.in-Some.place c.in-NameUse.is e c.in-Some.is,
-      c.in_ok-add_earlier-in-Some.ensures,
+      c.in_ok-add_earlier-in-Some.ensures.means,
     )
 
 pub returns-in_ok-push-in_default : goal.returns-in_ok-push-in_default

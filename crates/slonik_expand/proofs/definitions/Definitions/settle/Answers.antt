@@ -2,7 +2,8 @@ use Rattle.std.proofs.Common.{◌≡◌, ◌<◌, ℕ, List, [], ◌∷◌, Some
 use Rattle.std.proofs.lemmas.List.{length-append}
 use Rattle.indexmap.specs.IndexMap.{get_by_text}
 use Rattle.slonik_expand.specs.Shared.{are_ordered, capped, meanings}
-use Rattle.slonik_expand.proofs.SharedDefinitions.{kept_if, ordered_new, counted_one, settles_new, settles_earlier}
+use Rattle.slonik_expand.proofs.SharedDefinitions.{only_is, kept_if, ordered_new, counted_one, settles_new}
+use Rattle.slonik_expand.proofs.SharedDefinitions.{settles_earlier}
 use Rattle.slonik_expand.proofs.definitions.Definitions.settle.Goals as goal
 
 pub invariant_of-self-clause-ordered : goal.invariant_of-self-clause-ordered
@@ -28,7 +29,8 @@ invariant_of-self-clause-placed c =
 
 pub returns-in-Some-clause-settles : goal.returns-in-Some-clause-settles
 returns-in-Some-clause-settles c =
-    settles_earlier c.args.self.now.made.items c.args.definition c.in-Some.place c.in-Some.ensures c.requires
+    settles_earlier c.args.self.now.made.items c.args.definition c.in-Some.place
+    (only_is c.args.definition.parts.items c.in-Some.place c.in-Some.ensures) c.requires
 
 pub returns-in_ok-push-in-None-clause-settles : goal.returns-in_ok-push-in-None-clause-settles
 returns-in_ok-push-in-None-clause-settles c =
