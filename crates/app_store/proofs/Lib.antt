@@ -1,6 +1,5 @@
 pub mod Pending
 pub mod Reading
-pub mod Order
 pub mod Scanning
 pub mod MetaNumbers
 pub mod Holding

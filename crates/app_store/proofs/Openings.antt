@@ -22,7 +22,7 @@ use Rattle.app_store.specs.declared.opens.Transaction.{Transaction}
 use Rattle.app_store.specs.Fits.{IsOpened, has_written}
 use Rattle.app_store.specs.Spelled.{IsRowKey, row_key, over}
 use Rattle.app_store.specs.Written.{with_write}
-use Rattle.app_store.proofs.Order.{same_keys, equal_of, apart, tied}
+use Rattle.store_rows.proofs.Order.{same_keys, equal_of, apart, tied}
 use Rattle.app_store.proofs.Places.{changed_key, touches_key, NoneOf, none_written, none_counted, none_later, counted_at_most, unwritten, seen_unwritten, written_by_one}
 
 -- ---- keys of rows

@@ -24,20 +24,22 @@ use Rattle.slon_model.specs.declared.reply.Answer.TheVariants.{Done}
 use Rattle.slon_model.specs.declared.reply.Answered.TheVariants.{Sure}
 use Rattle.slon_model.specs.Place.{Place, Standing, IsRunning, IsFallen, IsDoubtful, PlaceStep, Fails, bare_place, founded, new_place, surely, downed, fallen, doubted, drawn_for, prepared, changes, up_due, up_after, crash_after}
 use Rattle.slon_laws.specs.Spelled.{IsSpelled}
-use Rattle.app_store.specs.declared.stop.Stop.{Stop}
-use Rattle.app_store.specs.declared.stop.Stop.TheVariants.{Failed as StopFailed, NoMemory as StopNoMemory, BadRow as StopBadRow}
+use Rattle.store_rows.specs.declared.stop.Stop.{Stop}
+use Rattle.store_rows.specs.declared.stop.Stop.TheVariants.{Failed as StopFailed, NoMemory as StopNoMemory, BadRow as StopBadRow, TooBig as StopTooBig}
 use Rattle.app_store.specs.declared.look.Numbers.{Numbers}
 use Rattle.app_store.specs.Base.{Base, IsFresh}
 use Rattle.app_store.specs.Fits.{Fits, Runs, StandsAs, OpensAs}
 use Rattle.app_store.specs.Goes.{Begun, Founds, Fails as BeginFails, Doubts as BeginDoubts, is_memory, is_sure_fault}
 use Rattle.app_store.specs.Parts.{GoesDown, StartsWith, halt_of, settled, settled_by, is_stamp}
 use Rattle.app_store.specs.Spelled.{Holds, row_key, first_rows}
-use Rattle.app_store.specs.Spending.{IsAtMost, Stays}
-use Rattle.app_store.specs.Steps.{IsStopOfStore, is_stop_failed}
+use Rattle.store_rows.specs.Spending.{IsAtMost, Stays}
+use Rattle.store_rows.specs.Steps.{IsOutside, is_stop_failed}
 use Rattle.app_store.specs.Works.{Recovered, Was, Founded}
 use Rattle.app_store.proofs.Holding.{holds_same, holds_first}
 use Rattle.app_store.proofs.Places.{no_holder, or_true}
-use Rattle.app_store.proofs.Pending.{rose_later, stays, untold}
+use Rattle.app_store.proofs.Pending.{rose_later, untold}
+use Rattle.store_rows.proofs.Causes.{stays}
+use Rattle.store_rows.proofs.Spaces.{empty_space}
 use Rattle.app_store.proofs.Running.{answers_ok, due_running, fits_running, looked, up_running}
 
 -- the first rows, over what was there
@@ -48,12 +50,9 @@ with_first m = first_rows (number_bytes 1) (number_bytes 65) m
 
 pub holds_bare : Holds bare_place nothing
 holds_bare = record {
-  meta_numbers = refl;
-  table_rows = refl;
-  rows_held = record {
-    lookups = λ table key text. get-empty key_cmp (row_key table key) ∙ ap (option_map list_bytes) (sym (get-empty key_cmp key));
-    keys = λ q value found. let none = sym (get-empty key_cmp q) ∙ found in absurd cc;
-  };
+  meta_numbers = empty_space (λ key. refl);
+  table_rows = empty_space (λ name. refl);
+  rows_held = empty_space (λ i. get-empty key_cmp i.1);
   others = λ space unused. refl;
 }
 
@@ -98,7 +97,7 @@ begins_doubt kept b fresh either =
       )
     ]
 
-pub begins_fault : (first : ℕ) (kept : Kept) (b new : Base) (stop : Stop) (fault : DbFault) → IsFresh kept false None b → GoesDown b new → fault ≡ halt_of stop b.kept.faults → is_memory fault ≡ false → kept.held ≡ Some nothing → IsStopOfStore stop → (is_stop_failed stop ≡ true → Rose first kept.faults) →
+pub begins_fault : (first : ℕ) (kept : Kept) (b new : Base) (stop : Stop) (fault : DbFault) → IsFresh kept false None b → GoesDown b new → fault ≡ halt_of stop b.kept.faults → is_memory fault ≡ false → kept.held ≡ Some nothing → IsOutside stop → (is_stop_failed stop ≡ true → Rose first kept.faults) →
     (p : Place) × Begun (Err fault) p × Fits p new
 begins_fault first kept b new StopFailed fault fresh down fault_is memory held only rose = (
   fallen b.kept.faults bare_place,
@@ -107,6 +106,7 @@ begins_fault first kept b new StopFailed fault fresh down fault_is memory held o
 )
 begins_fault first kept b new StopNoMemory fault fresh down fault_is memory held only rose = absurd (false≢true (sym memory ∙ ap is_memory fault_is))
 begins_fault first kept b new (StopBadRow space) fault fresh down fault_is memory held only rose = absurd only
+begins_fault first kept b new (StopTooBig space) fault fresh down fault_is memory held only rose = absurd only
 
 -- ---- a database that goes down
 
@@ -154,6 +154,7 @@ pub stop_fails : (stop : Stop) (fault : DbFault) (count : ℕ) → fault ≡ hal
 stop_fails StopFailed fault count is failed = refl
 stop_fails StopNoMemory fault count is failed = absurd (false≢true (sym (ap (λ f. not (is_sure_fault f)) is) ∙ failed))
 stop_fails (StopBadRow space) fault count is failed = absurd (false≢true (sym (ap (λ f. not (is_sure_fault f)) is) ∙ failed))
+stop_fails (StopTooBig space) fault count is failed = absurd (false≢true (sym (ap (λ f. not (is_sure_fault f)) is) ∙ failed))
 
 -- what is said of a commit in doubt, where the first rows stood
 settles_was : (s : Standing) (p : Place) (b : Base) → StandsAs s p b → b.up ≡ false → up_due s ≡ Ok (settled b.doubt (Some p.stamp))
@@ -231,7 +232,7 @@ stays_founded IsFallen p count old new none stands was down doubt = (down, doubt
 stays_founded (IsDoubtful true) p count old new none stands was down doubt = let some = stands.2 refl in absurd (omega (arith, none, some))
 stays_founded (IsDoubtful false) p count old new none stands was down doubt = (down, doubt ∙ stands.1 ∙ ap (λ n. Some (n + 1)) none, λ _. omega arith)
 
-pub rises_err : (database : List ℕ) (p : Place) (old b new : Base) (stop : Stop) (fault : DbFault) (fits : Fits p old) → IsSpelled p → old.up ≡ false → (b.kept.held ≡ Some fits.held.0) ⊎ ((p.stamp ≡ 0) × (b.kept.held ≡ Some (with_first fits.held.0))) → IsStopOfStore stop → (is_stop_failed stop ≡ true → Rose old.kept.faults b.kept.faults) →
+pub rises_err : (database : List ℕ) (p : Place) (old b new : Base) (stop : Stop) (fault : DbFault) (fits : Fits p old) → IsSpelled p → old.up ≡ false → (b.kept.held ≡ Some fits.held.0) ⊎ ((p.stamp ≡ 0) × (b.kept.held ≡ Some (with_first fits.held.0))) → IsOutside stop → (is_stop_failed stop ≡ true → Rose old.kept.faults b.kept.faults) →
     b.doubt ≡ old.doubt → GoesDown b new → fault ≡ halt_of stop b.kept.faults → is_memory fault ≡ false → (q : Place) × PlaceStep (Up database) p (Err fault) q × Fits q new
 rises_err database p old b new StopFailed fault fits spelled was either only rose doubt down fault_is memory =
     elim either [
@@ -252,3 +253,4 @@ rises_err database p old b new StopFailed fault fits spelled was either only ros
     ]
 rises_err database p old b new StopNoMemory fault fits spelled was either only rose doubt down fault_is memory = absurd (false≢true (sym memory ∙ ap is_memory fault_is))
 rises_err database p old b new (StopBadRow space) fault fits spelled was either only rose doubt down fault_is memory = absurd only
+rises_err database p old b new (StopTooBig space) fault fits spelled was either only rose doubt down fault_is memory = absurd only

@@ -17,9 +17,9 @@ use Rattle.slon_model.specs.Place.{Place, Standing, IsRunning, IsFallen, IsDoubt
 use Rattle.app_store.specs.declared.opens.Transaction.{Transaction}
 use Rattle.app_store.specs.Base.{Base}
 use Rattle.app_store.specs.Fits.{Fits, Runs, StandsAs, OpensAs}
-use Rattle.app_store.specs.declared.stop.Stop.{Stop}
-use Rattle.app_store.specs.declared.stop.Stop.TheVariants.{Failed as StopFailed, NoMemory as StopNoMemory, BadRow as StopBadRow}
-use Rattle.app_store.specs.Steps.{IsStopOfStore, is_stop_failed}
+use Rattle.store_rows.specs.declared.stop.Stop.{Stop}
+use Rattle.store_rows.specs.declared.stop.Stop.TheVariants.{Failed as StopFailed, NoMemory as StopNoMemory, BadRow as StopBadRow, TooBig as StopTooBig}
+use Rattle.store_rows.specs.Steps.{IsOutside, is_stop_failed}
 use Rattle.app_store.specs.Works.{RaisesTo}
 use Rattle.app_store.specs.Goes.{is_memory, prepares, Caused, IsCertain, is_sure}
 use Rattle.app_store.specs.Parts.{FellTo, Fell, FaultCaused, PartCaused, Part, is_doubt, is_part_sure, halt_of}
@@ -162,12 +162,13 @@ raised_numbers p b kept stamp next ceiling fits is runs held later idle stamp_is
 
 -- a stop at the store, by its kind
 pub fell_by : (p also : Place) (old new : Base) (kept : Kept) (m change : Store) (stop : Stop) (fault : DbFault) → p.standing ≡ IsRunning → also.standing ≡ IsRunning → p.told ≤ old.kept.faults → (is_stop_failed stop ≡ true → Rose old.kept.faults kept.faults) → new.kept ≡ kept → new.up ≡ false → new.doubt ≡ None
-    → fault ≡ halt_of stop kept.faults → is_memory fault ≡ false → Holds p m → Holds also change → (kept.held ≡ Some m) ⊎ (kept.held ≡ Some change) → IsStopOfStore stop → FellTo p also fault new
+    → fault ≡ halt_of stop kept.faults → is_memory fault ≡ false → Holds p m → Holds also change → (kept.held ≡ Some m) ⊎ (kept.held ≡ Some change) → IsOutside stop → FellTo p also fault new
 fell_by p also old new kept m change StopFailed fault is also_is told rose same down sure fault_is memory holds also_holds either only =
     subst (λ f. FellTo p also f new) (sym fault_is)
     (fell p also old new m change kept.faults is also_is told (rose refl) down sure (ap (λ k. k.faults) same) holds also_holds (elim either [ inl before ↦ inl (ap (λ k. k.held) same ∙ before) | inr after ↦ inr (ap (λ k. k.held) same ∙ after) ]))
 fell_by p also old new kept m change StopNoMemory fault is also_is told rose same down sure fault_is memory holds also_holds either only = absurd (false≢true (sym memory ∙ ap is_memory fault_is))
 fell_by p also old new kept m change (StopBadRow space) fault is also_is told rose same down sure fault_is memory holds also_holds either only = absurd only
+fell_by p also old new kept m change (StopTooBig space) fault is also_is told rose same down sure fault_is memory holds also_holds either only = absurd only
 
 -- ---- the ceiling of the ids
 

@@ -21,7 +21,7 @@ use Rattle.app_store.specs.declared.opens.Transaction.{Transaction}
 use Rattle.app_store.specs.Base.{Base}
 use Rattle.app_store.specs.Fits.{Fits, Runs, StandsAs, OpensAs}
 use Rattle.app_store.specs.Taking.{put_xids, IsTakenOf}
-use Rattle.app_store.proofs.Order.{tied, equal_of, same_keys}
+use Rattle.store_rows.proofs.Order.{tied, equal_of, same_keys}
 
 -- ---- an id put among others
 

@@ -10,7 +10,7 @@ use Rattle.std.specs.FinMap.{get, insert, remove, empty, entries, get-insert, ge
 use Rattle.std.proofs.lemmas.Bool.{false≢true, false_from_ne_true, eqb-true}
 use Rattle.slon_base.specs.Counts.{Rose}
 use Rattle.slon_base.specs.Keeper.{Kept, Store}
-use Rattle.slon_base.specs.Codec.{number_bytes, text_bytes}
+use Rattle.slon_base.specs.Codec.{number_bytes, text_bytes, IsText}
 use Rattle.slon_model.specs.declared.fault.DbFault.{DbFault}
 use Rattle.slon_model.specs.declared.fault.DbFault.TheVariants.{TableExists, NameUsed, NoTransaction, NoTable}
 use Rattle.slon_model.specs.declared.command.Command.{Command}
@@ -27,13 +27,14 @@ use Rattle.slon_laws.proofs.Opens.{xids_of, bytes_same, found_member, member_tak
 use Rattle.slon_laws.proofs.Sounds.{sound_xid_raised}
 use Rattle.txn_core.specs.Locks.{holder_of, Locks, without as without_xid}
 use Rattle.app_store.specs.declared.opens.Transaction.{Transaction}
-use Rattle.app_store.specs.declared.stop.Stop.{Stop}
+use Rattle.store_rows.specs.declared.stop.Stop.{Stop}
 use Rattle.app_store.specs.Base.{Base}
 use Rattle.app_store.specs.Fits.{Fits, Runs, OpensAs, IsOpened}
 use Rattle.app_store.specs.Goes.{is_memory}
 use Rattle.app_store.specs.Parts.{FellTo, Fell, halt_of}
 use Rattle.app_store.specs.Spelled.{Holds, AreRows, row_key, over, new_table, new_rows, write_all, rows}
-use Rattle.app_store.specs.Steps.{IsStopOfStore, is_stop_failed}
+use Rattle.store_rows.specs.Steps.{IsOutside, is_stop_failed}
+use Rattle.store_rows.proofs.Spaces.{any_of}
 use Rattle.app_store.proofs.Holding.{holds_same, holds_table, holds_rows, get-written}
 use Rattle.app_store.proofs.Openings.{opened_same, opened_new, opened_committed}
 use Rattle.app_store.proofs.Places.{find_behind, or_new, member_snoc, holders_agree, NoneOf, counted_none, rows_agree, all_or, released, freed, ended_names, find_without}
@@ -51,7 +52,7 @@ pub from_fell : (command : Command) (p : Place) (fault : DbFault) (new : Base) �
 from_fell command p fault new is (Fell count stands same rose fits) = (fallen count (cond stands (prepared command p) p), Fails count stands (is_up p is command) rose (ap (λ f. Err f) same) refl, fits)
 
 -- a stop of a command that has no transaction before its effect
-pub stopped : (command : Command) (p : Place) (old new : Base) (kept : Kept) (stop : Stop) (fault : DbFault) (fits : Fits p old) → old.up ≡ true → kept.held ≡ Some fits.held.0 → IsStopOfStore stop → (is_stop_failed stop ≡ true → Rose old.kept.faults kept.faults) → new.kept ≡ kept → new.up ≡ false → new.doubt ≡ old.doubt
+pub stopped : (command : Command) (p : Place) (old new : Base) (kept : Kept) (stop : Stop) (fault : DbFault) (fits : Fits p old) → old.up ≡ true → kept.held ≡ Some fits.held.0 → IsOutside stop → (is_stop_failed stop ≡ true → Rose old.kept.faults kept.faults) → new.kept ≡ kept → new.up ≡ false → new.doubt ≡ old.doubt
     → fault ≡ halt_of stop kept.faults → is_memory fault ≡ false → Comes command p (Err fault) new
 stopped command p old new kept stop fault fits up held only rose same down doubt fault_is memory =
     let runs = up_running p old fits up in
@@ -344,13 +345,14 @@ commit_effect database name p x count due named = sym (ap (λ r. effect (Commit 
 -- the rows that stand after a commit are those that the transaction saw
 rows_after : (p : Place) (x : ℕ) (name : List ℕ) (m : Store) (t : Transaction) → IsOpened p x t → Holds p m → AreRows (standing_rows (committed name x p)) (write_all (entries t.writes) m rows)
 rows_after p x name m t o holds = record {
-  lookups = λ table key text. get-written t.writes m (row_key table key) ∙ ap (over (get t.writes (row_key table key))) (holds.rows_held.lookups table key text) ∙ sym (o.sees table key text);
+  lookups = λ i text. get-written t.writes m (row_key i.0 i.1) ∙ ap (over (get t.writes (row_key i.0 i.1))) (holds.rows_held.lookups i text) ∙ sym (o.sees i.0 i.1 text);
+  spelled = λ i text. any_of (get (standing_rows (committed name x p) i.0) i.1);
   keys = λ q value is. by q value (get t.writes q) refl (sym (get-written t.writes m q) ∙ is);
 }
   where
-    by : (q value : List ℕ) (w : Option (Option (List ℕ))) → get t.writes q ≡ w → over w (get (m rows) q) ≡ Some value → Rattle.app_store.specs.Spelled.IsRowKey q
+    by : (q value : List ℕ) (w : Option (Option (List ℕ))) → get t.writes q ≡ w → over w (get (m rows) q) ≡ Some value → (i : List ℕ × List ℕ) × IsText i.0 × (q ≡ row_key i.0 i.1)
     by q value None same is = holds.rows_held.keys q value is
-    by q value (Some w) same is = o.keys q (ap is_some same)
+    by q value (Some w) same is = let key = o.keys q (ap is_some same) in ((key.0, key.1), key.3, key.2)
 
 committed_others : (p : Place) (name : List ℕ) (x : ℕ) → Sound p → find_named name p.opens ≡ Some x → (y : ℕ) (u : Transaction) → member y (open_xids p) ≡ true → (y == x) ≡ false → IsOpened p y u → IsOpened (committed name x p) y u
 committed_others p name x sound named y u opened differ o = opened_committed p name x y u sound (found_member name x p.opens named) opened differ o
@@ -423,7 +425,8 @@ pub some_is : {A : Type 0} (y x : A) (b : Bool) → Some y ≡ cond b (Some x) N
 some_is y x true is = (refl, ap (λ o. Rattle.std.specs.Prelude.unwrap_or o y) is)
 some_is y x false is = absurd cc
 
-pub says_stop : {A : Type 0} (right : A) (stop : Stop) → Rattle.app_store.specs.Steps.Says right (Err stop) → IsStopOfStore stop
-says_stop right Rattle.app_store.specs.declared.stop.Stop.TheVariants.Failed says = tt
-says_stop right Rattle.app_store.specs.declared.stop.Stop.TheVariants.NoMemory says = tt
-says_stop right (Rattle.app_store.specs.declared.stop.Stop.TheVariants.BadRow space) says = says
+pub says_stop : {A : Type 0} (right : A) (stop : Stop) → Rattle.app_store.specs.Steps.Says right (Err stop) → IsOutside stop
+says_stop right Rattle.store_rows.specs.declared.stop.Stop.TheVariants.Failed says = tt
+says_stop right Rattle.store_rows.specs.declared.stop.Stop.TheVariants.NoMemory says = tt
+says_stop right (Rattle.store_rows.specs.declared.stop.Stop.TheVariants.BadRow space) says = says
+says_stop right (Rattle.store_rows.specs.declared.stop.Stop.TheVariants.TooBig space) says = says

@@ -28,14 +28,14 @@ use Rattle.slon_laws.proofs.Opens.{found_member, bytes_same}
 use Rattle.slon_laws.proofs.Sounds.{sound_number_raised}
 use Rattle.txn_core.specs.Locks.{holder_of, Locks, without}
 use Rattle.app_store.specs.declared.opens.Transaction.{Transaction}
-use Rattle.app_store.specs.declared.stop.Stop.{Stop}
+use Rattle.store_rows.specs.declared.stop.Stop.{Stop}
 use Rattle.app_store.specs.declared.writes.Target.{Target}
 use Rattle.app_store.specs.Base.{Base}
 use Rattle.app_store.specs.Fits.{Fits, Runs, OpensAs, IsOpened, HasRoom}
 use Rattle.app_store.specs.Goes.{is_memory, is_out_of_memory}
 use Rattle.app_store.specs.Parts.{FellTo, Fell, halt_of}
 use Rattle.app_store.specs.Spelled.{row_key, over, rows}
-use Rattle.app_store.specs.Steps.{IsStopOfStore, is_stop_failed}
+use Rattle.store_rows.specs.Steps.{IsOutside, is_stop_failed}
 use Rattle.app_store.specs.Targets.{acted_as, FoundWidth, HasWidth, IsClosed, HasNoTable, StopsWidth, ReadTarget, HasTarget, StopsTarget, FoundRow, HasRow, IsHeld, StopsRow, AddedWrite, Adds, StopsWrite, RowWrite, InsertOf, UpdateOf, DeleteOf, write_key, write_change, write_acts, row_due, Written, Refuses, LeavesAll, Acts, StopsBefore, StopsRaised}
 use Rattle.app_store.specs.Written.{with_write, written_at}
 use Rattle.app_store.proofs.Holding.{holds_same}
@@ -47,7 +47,7 @@ use Rattle.app_store.proofs.Transacting.{Comes, from_fell, is_named}
 -- ---- looks
 
 -- a look that stopped
-pub look_fell : (p : Place) (old new : Base) (kept : Kept) (stop : Stop) (fault : DbFault) (fits : Fits p old) → old.up ≡ true → kept.held ≡ old.kept.held → IsStopOfStore stop → (is_stop_failed stop ≡ true → Rose old.kept.faults kept.faults) → new.kept ≡ kept → new.up ≡ false → new.doubt ≡ old.doubt
+pub look_fell : (p : Place) (old new : Base) (kept : Kept) (stop : Stop) (fault : DbFault) (fits : Fits p old) → old.up ≡ true → kept.held ≡ old.kept.held → IsOutside stop → (is_stop_failed stop ≡ true → Rose old.kept.faults kept.faults) → new.kept ≡ kept → new.up ≡ false → new.doubt ≡ old.doubt
     → fault ≡ halt_of stop kept.faults → is_memory fault ≡ false → FellTo p p fault new
 look_fell p old new kept stop fault fits up held only rose same down doubt fault_is memory =
     let runs = up_running p old fits up in
@@ -96,7 +96,7 @@ target_read p b kept name table key xid seen fits up text is read held later idl
     let opened = named_opened p b name xid (up_running p b fits up).1 named in
     let wrote : get opened.0.writes (row_key table key) ≡ None = sym (is ∙ ap (written_at (row_key table key)) opened.1) in
     HasTarget (record { key = k; seen = seen }) refl k_is
-    (read ∙ fits.held.2.rows_held.lookups table key text ∙ sym (opened.2.sees table key text ∙ ap (λ w. over w (option_map list_bytes (get (standing_rows p table) key))) wrote)) (looked p b kept fits up held later idle)
+    (read ∙ fits.held.2.rows_held.lookups (table, key) text ∙ sym (opened.2.sees table key text ∙ ap (λ w. over w (option_map list_bytes (get (standing_rows p table) key))) wrote)) (looked p b kept fits up held later idle)
 
 -- ---- a row that is free
 
@@ -351,9 +351,10 @@ written_goes command w p name table fits_width xid width result mid new is due p
 
 -- values that were read stop only for want of memory
 pub update_stopped : {A : Type 0} (right : A) (stop : Stop) (fault : DbFault) (count : ℕ) → Rattle.app_store.specs.Steps.Says right (Err stop) → is_stop_failed stop ≡ false → fault ≡ halt_of stop count → is_memory fault ≡ false → ⊥
-update_stopped right Rattle.app_store.specs.declared.stop.Stop.TheVariants.Failed fault count says never is memory = true≢false never
-update_stopped right Rattle.app_store.specs.declared.stop.Stop.TheVariants.NoMemory fault count says never is memory = false≢true (sym memory ∙ ap is_memory is)
-update_stopped right (Rattle.app_store.specs.declared.stop.Stop.TheVariants.BadRow space) fault count says never is memory = says
+update_stopped right Rattle.store_rows.specs.declared.stop.Stop.TheVariants.Failed fault count says never is memory = true≢false never
+update_stopped right Rattle.store_rows.specs.declared.stop.Stop.TheVariants.NoMemory fault count says never is memory = false≢true (sym memory ∙ ap is_memory is)
+update_stopped right (Rattle.store_rows.specs.declared.stop.Stop.TheVariants.BadRow space) fault count says never is memory = says
+update_stopped right (Rattle.store_rows.specs.declared.stop.Stop.TheVariants.TooBig space) fault count says never is memory = says
 
 -- ---- the number of values of a row
 

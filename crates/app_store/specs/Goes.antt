@@ -21,7 +21,7 @@ use Rattle.slon_laws.specs.Spelled.{IsSpelled}
 use Rattle.app_store.specs.Base.{Base}
 use Rattle.app_store.specs.Works.{HasPair}
 use Rattle.app_store.specs.Fits.{Fits, HasRoom}
-use Rattle.app_store.specs.Spending.{Stays, Spends}
+use Rattle.store_rows.specs.Spending.{Stays, Spends}
 
 -- there was no memory for it
 abbrev pub is_memory : DbFault → Bool

@@ -1,8 +1,6 @@
 pub mod Scan
 pub mod Spelled
-pub mod Spending
 pub mod Steps
-pub mod Stops
 pub mod Works
 pub mod Written
 pub mod Base

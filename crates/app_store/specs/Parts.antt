@@ -3,17 +3,17 @@ use Rattle.std.specs.Prelude.{◌≡◌, ℕ, ◌==◌, ◌≤◌, if◌then◌e
 use Rattle.std.specs.FinMap.{empty}
 use Rattle.slon_base.specs.Counts.{Rose}
 use Rattle.slon_base.specs.Keeper.{Kept}
-use Rattle.slon_base.specs.declared.fault.Halt.TheVariants.{Fault, Doubt, NoMemory as HaltNoMemory, BadRow as HaltBadRow}
+use Rattle.slon_base.specs.declared.fault.Halt.TheVariants.{Fault, Doubt, NoMemory as HaltNoMemory, BadRow as HaltBadRow, TooBig as HaltTooBig}
 use Rattle.slon_model.specs.declared.fault.DbFault.{DbFault}
 use Rattle.slon_model.specs.declared.fault.DbFault.TheVariants.{Halt}
 use Rattle.slon_model.specs.declared.reply.Answered.{Answered}
 use Rattle.slon_model.specs.declared.reply.Answered.TheVariants.{Sure, InDoubt}
 use Rattle.slon_model.specs.Place.{Place, is_running, fallen, written}
-use Rattle.app_store.specs.declared.stop.Stop.{Stop}
-use Rattle.app_store.specs.declared.stop.Stop.TheVariants.{Failed, NoMemory, BadRow}
+use Rattle.store_rows.specs.declared.stop.Stop.{Stop}
+use Rattle.store_rows.specs.declared.stop.Stop.TheVariants.{Failed, NoMemory, BadRow, TooBig}
 use Rattle.app_store.specs.Base.{Base}
 use Rattle.app_store.specs.Fits.{Fits, HasRoom}
-use Rattle.app_store.specs.Spending.{Stays, Spends}
+use Rattle.store_rows.specs.Spending.{Stays, Spends}
 use Rattle.app_store.specs.Goes.{is_out_of_memory, is_sure_fault}
 use Rattle.app_store.specs.declared.look.Numbers.{Numbers}
 use Rattle.txn_core.specs.Locks.{holder_of}
@@ -25,6 +25,7 @@ abbrev pub halt_of : Stop → ℕ → DbFault
 halt_of Failed count = Halt (Fault count)
 halt_of NoMemory count = Halt HaltNoMemory
 halt_of (BadRow space) count = Halt (HaltBadRow space)
+halt_of (TooBig space) count = Halt (HaltTooBig space)
 
 -- what a database that goes down leaves
 pub record GoesDown (old new : Base) : Type 0 where

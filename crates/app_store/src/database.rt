@@ -4,10 +4,11 @@ ghost use Rattle.node_keeper.specs.Fused.{fuse_kept};
 ghost use Rattle.app_store.specs.Works.{AreSmall};
 
 use crate::Stop;
+use crate::layout::{ACTION_CEILING, XID_CEILING};
 use crate::look::Numbers;
 use crate::numbers::{FIRST_CEILING, raise, recover};
 use crate::opens::Opens;
-use crate::transact::{ACTION_CEILING, Made, XID_CEILING};
+use crate::transact::Made;
 use crate::work::make_database;
 use node_keeper::{Fuse, Keeper};
 use slon_base::{ByteMap, Halt, STORED_LIMIT};
@@ -45,7 +46,8 @@ impl<K: Keeper> Database<K> {
     ghost use Rattle.slon_model.specs.declared.reply.Answered.TheVariants.{Sure as IsSure};
     ghost use Rattle.app_store.specs.Base.{base_of, IsFresh};
     ghost use Rattle.app_store.specs.Goes.{Begins, Refuses, Goes, Caused, IsCertain, StaysDown, MakingCaused, IsBigAt, BigCaused, Need, NeedsXid, NeedsNumber, NeedsNothing, Arms, is_made};
-    ghost use Rattle.app_store.specs.Spending.{Stays, Spends};
+    ghost use Rattle.store_rows.specs.Steps.{IsWithinLimit};
+    ghost use Rattle.store_rows.specs.Spending.{Stays, Spends};
     ghost use Rattle.app_store.specs.Parts.{GoesDown, Raises, Part, StartsWith, halt_of, settled, without_doubt, is_ready_xid, is_ready_number};
 
     /// The database of a store that holds no row yet: its first rows are written.
@@ -120,6 +122,7 @@ impl<K: Keeper> Database<K> {
 
     /// Takes the database down for a stop, and says why, as its caller is told.
     pub(crate) fn fall(&mut self, stop: Stop) -> DbFault
+        requires { IsWithinLimit stop }
         ensures down { GoesDown (base_of K.kept self.old) (base_of K.kept self.new) }
         ensures fault { result ≡ halt_of stop (base_of K.kept self.old).kept.faults }
         ensures big { (need : Need) → IsBigAt need result (base_of K.kept self.new) }
@@ -131,6 +134,7 @@ impl<K: Keeper> Database<K> {
             },
             Stop::NoMemory => Halt::NoMemory,
             Stop::BadRow { space } => Halt::BadRow { space },
+            Stop::TooBig { space } => Halt::TooBig { space },
         })
     }
 

@@ -2,13 +2,13 @@
 #![tactic(auto)]
 
 mod database;
+mod layout;
 mod look;
 mod numbers;
 mod obey;
 mod opens;
 mod scan;
 mod spelling;
-mod stop;
 mod transact;
 mod transactions;
 mod work;
@@ -17,5 +17,5 @@ mod writes;
 pub use database::Database;
 pub use node_keeper::{Fuse, Keeper};
 pub use slon_model::DbFault;
-pub use stop::Stop;
+pub use store_rows::Stop;
 pub use txn_core::Snapshot;

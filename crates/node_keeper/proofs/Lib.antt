@@ -1,3 +1,4 @@
+pub mod Charging
 pub mod Kepts
 pub mod Plans
 pub mod Promises

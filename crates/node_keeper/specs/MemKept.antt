@@ -22,7 +22,8 @@ pending_in Torn store = Some None
 
 -- with no transaction, what is pending is what is held
 abbrev pub IsSettled : Phase → List (Space × Space) → Type 0
-IsSettled phase spaces = phase ≡ Idle → (space : ℕ) → entries (pending_store spaces space) ≡ entries (held_store spaces space)
+IsSettled phase spaces = phase ≡ Idle → (space : ℕ) → entries (pending_store spaces space) ≡ entries
+    (held_store spaces space)
 
 -- the phase after a call that failed
 abbrev pub torn : Phase → Phase

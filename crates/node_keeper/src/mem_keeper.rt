@@ -2,7 +2,7 @@
 ghost use Rattle.std.specs.Prelude.{◌≡◌, ◌+◌, ◌≤◌, Some, None, Ok, Err, vec_len, map, slice_index_or, true, false, OnOk, OnErr, IfErr, IfOk, is_err, is_some, length, not, ◌&&◌, ◌||◌, min, ◌-◌, ◌^◌, if◌then◌else◌};
 ghost use Rattle.std.specs.FinMap.{empty};
 ghost use Rattle.slon_base.specs.Keeper.{Begins, Gets, GetsNext, Counts, Changes, Commits, RollsBack, put_at, del_at};
-ghost use Rattle.node_keeper.specs.Plan.{CountsCall, IsFrom, left};
+ghost use Rattle.node_keeper.specs.Plan.{Counted, CountsCall, IsFrom, capped, left};
 ghost use Rattle.node_keeper.specs.MemKept.{IsSettled, torn, is_open, ended};
 
 use crate::fault_plan::FaultPlan;
@@ -73,6 +73,7 @@ impl MemKeeper {
         ensures counts { CountsCall self.old.plan self.new.plan result }
         ensures spaces { self.new.spaces.items ≡ self.old.spaces.items }
         ensures doubts { self.new.doubts ≡ self.old.doubts }
+        ensures keep { self.new.keep ≡ self.old.keep }
         ensures phase { self.new.phase ≡ (if result then torn self.old.phase else self.old.phase) }
     {
         let strikes = self.plan.strikes();
@@ -100,6 +101,7 @@ impl MemKeeper {
         ensures spaces { self.new.spaces.items ≡ map (ended commits) self.old.spaces.items }
         ensures phase { self.new.phase ≡ Phase.Idle }
         ensures plan { self.new.plan ≡ self.old.plan }
+        ensures keep { self.new.keep ≡ self.old.keep }
         ensures doubts { self.new.doubts ≡ self.old.doubts }
     {
         end_all(self.spaces.as_mut_slice(), commits);
@@ -116,6 +118,8 @@ impl Keeper for MemKeeper {
         requires { is_some (kept_of self.old).pending ≡ false }
         ensures begins { Begins (kept_of self.old) (kept_of self.new) result }
         ensures fails { is_err result ≡ fails_next self.old }
+        ensures plan { Counted self.old.plan self.new.plan }
+        ensures keep { self.new.keep ≡ self.old.keep }
     {
         if self.strikes() {
             return Err(KeepFault::Failed);
@@ -127,6 +131,8 @@ impl Keeper for MemKeeper {
     fn get(&mut self, space: u8, key: &[u8]) -> Result<Option<Bytes>, KeepFault>
         ensures gets { Gets space key.now (kept_of self.old) (kept_of self.new) result }
         ensures fails { fails_next self.old ≡ true → result ≡ Err KeepFault.Failed }
+        ensures plan { Counted self.old.plan self.new.plan }
+        ensures keep { self.new.keep ≡ self.old.keep }
     {
         if self.strikes() {
             return Err(KeepFault::Failed);
@@ -140,6 +146,8 @@ impl Keeper for MemKeeper {
     fn next_after(&mut self, space: u8, key: &[u8]) -> Result<Option<(Bytes, Bytes)>, KeepFault>
         ensures gets { GetsNext space key.now (kept_of self.old) (kept_of self.new) result }
         ensures fails { fails_next self.old ≡ true → result ≡ Err KeepFault.Failed }
+        ensures plan { Counted self.old.plan self.new.plan }
+        ensures keep { self.new.keep ≡ self.old.keep }
     {
         if self.strikes() {
             return Err(KeepFault::Failed);
@@ -150,6 +158,8 @@ impl Keeper for MemKeeper {
     fn count(&mut self, space: u8) -> Result<u64, KeepFault>
         ensures counts { Counts space (kept_of self.old) (kept_of self.new) result }
         ensures fails { is_err result ≡ fails_next self.old }
+        ensures plan { Counted self.old.plan self.new.plan }
+        ensures keep { self.new.keep ≡ self.old.keep }
     {
         if self.strikes() {
             return Err(KeepFault::Failed);
@@ -161,6 +171,8 @@ impl Keeper for MemKeeper {
         requires { is_some (kept_of self.old).pending ≡ true }
         ensures changes { Changes (put_at space key.now value.now) (kept_of self.old) (kept_of self.new) result }
         ensures fails { fails_next self.old ≡ true → result ≡ Err KeepFault.Failed }
+        ensures plan { Counted self.old.plan self.new.plan }
+        ensures keep { self.new.keep ≡ self.old.keep }
     {
         if self.strikes() {
             return Err(KeepFault::Failed);
@@ -173,6 +185,8 @@ impl Keeper for MemKeeper {
         requires { is_some (kept_of self.old).pending ≡ true }
         ensures changes { Changes (del_at space key.now) (kept_of self.old) (kept_of self.new) result }
         ensures fails { fails_next self.old ≡ true → result ≡ Err KeepFault.Failed }
+        ensures plan { Counted self.old.plan self.new.plan }
+        ensures keep { self.new.keep ≡ self.old.keep }
     {
         if self.strikes() {
             return Err(KeepFault::Failed);
@@ -185,6 +199,10 @@ impl Keeper for MemKeeper {
         requires { is_some (kept_of self.old).pending ≡ true }
         ensures commits { Commits (kept_of self.old) (kept_of self.new) result }
         ensures fails { is_err result ≡ (fails_next self.old || not (is_open self.old.phase)) }
+        ensures plan { Counted self.old.plan self.new.plan }
+        ensures keep { self.new.keep ≡ self.old.keep }
+        ensures doubts { self.new.doubts ≡
+            (if fails_next self.old then capped (self.old.doubts + 1) else self.old.doubts) }
         ensures ends { self.new.spaces.items ≡ map (ended (would_hold self.old)) self.old.spaces.items }
     {
         let strikes = self.plan.strikes();
@@ -204,6 +222,8 @@ impl Keeper for MemKeeper {
     fn rollback(&mut self) -> Result<(), KeepFault>
         ensures rolls_back { RollsBack (kept_of self.old) (kept_of self.new) result }
         ensures fails { is_err result ≡ fails_next self.old }
+        ensures plan { Counted self.old.plan self.new.plan }
+        ensures keep { self.new.keep ≡ self.old.keep }
     {
         let strikes = self.plan.strikes();
         self.end(false);

@@ -3,7 +3,7 @@ use Rattle.std.proofs.Common.{◌≡◌, ℕ, suc, Bool, true, false, Option, So
 use Rattle.std.specs.Prelude.{not}
 use Rattle.std.specs.Option.{option_map}
 use Rattle.slon_base.specs.Counts.{Within}
-use Rattle.app_store.specs.Spending.{IsAtMost, Stays, Spends}
+use Rattle.store_rows.specs.Spending.{IsAtMost, Stays, Spends}
 
 at_most_none : (left : Option ℕ) → IsAtMost 0 left → left ≡ Some 0
 unfolding IsAtMost

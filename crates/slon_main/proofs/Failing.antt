@@ -24,7 +24,7 @@ use Rattle.slon_model.specs.World.{Happening, reply_of, is_accepted}
 use Rattle.slon_laws.proofs.Opens.{bytes_same}
 use Rattle.app_store.specs.Base.{Base}
 use Rattle.app_store.specs.Goes.{is_sure, is_made}
-use Rattle.app_store.specs.Spending.{IsAtMost, Stays, Spends}
+use Rattle.store_rows.specs.Spending.{IsAtMost, Stays, Spends}
 use Rattle.slon_main.specs.Agreed.{Clustered}
 use Rattle.slon_main.specs.Calls.{put_base, grant, Moves, Grants, Misses, Asks, is_sure_reply, Adopts, Rejects, Keeps, making_reply}
 use Rattle.slon_main.specs.Failing.{tells_of, failures, place_of, IsWithin, Pays}

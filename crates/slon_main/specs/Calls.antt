@@ -21,7 +21,7 @@ use Rattle.slon_model.specs.Place.{find_named}
 use Rattle.slon_model.specs.World.{World, Step, due, is_database, refusal_of, reply_of}
 use Rattle.app_store.specs.Base.{Base}
 use Rattle.app_store.specs.Goes.{BigCaused, NeedsNothing, need_of, Goes, Caused, IsCertain, StaysDown, Begins, Refuses, MakingCaused, arms, is_made, is_out_of_memory}
-use Rattle.app_store.specs.Spending.{Stays, Spends}
+use Rattle.store_rows.specs.Spending.{Stays, Spends}
 use Rattle.slon_main.specs.Agreed.{Clustered, Agrees, IsReady}
 
 -- the refusal of a command that names these words

@@ -11,7 +11,7 @@ use Rattle.slon_model.specs.Place.{find_named}
 use Rattle.slon_model.specs.World.{Happening}
 use Rattle.app_store.specs.Base.{Base}
 use Rattle.app_store.specs.Goes.{arms}
-use Rattle.app_store.specs.Spending.{IsAtMost}
+use Rattle.store_rows.specs.Spending.{IsAtMost}
 use Rattle.slon_main.specs.Agreed.{Clustered}
 
 -- the reply tells of a fault or a doubt of this database

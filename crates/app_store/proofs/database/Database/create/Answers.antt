@@ -1,7 +1,8 @@
 use Rattle.std.proofs.Common.{◌∙◌, ap, refl}
 use Rattle.std.proofs.lemmas.Bool.{true≢false}
 use Rattle.app_store.specs.Base.{base_of}
-use Rattle.app_store.proofs.Pending.{stays, stays_on, spends_on}
+use Rattle.app_store.proofs.Pending.{stays_on, spends_on}
+use Rattle.store_rows.proofs.Causes.{stays}
 use Rattle.app_store.proofs.Rising.{begins_done, begins_doubt, begins_fault, stop_fails}
 use Rattle.app_store.proofs.database.Database.create.Goals as goal
 
