@@ -51,7 +51,7 @@ tabled : (name : List ℕ) (columns : ℕ) (ts : List (List ℕ × ℕ)) (space 
     AreTables ((name, columns) ∷ ts) (insert space (text_bytes name) (number_bytes columns))
 tabled name columns ts space =
     altered text_bytes Any number_bytes Any (λ q. find_named q ts) (λ q. find_named q ((name, columns) ∷ ts)) space name
-        (Some columns) (λ a b one two same. text_bytes-same a b same) tt tt
+    (Some columns) (λ a b one two same. text_bytes-same a b same) tt tt
     (record {
       here = ap (λ b. cond b (Some columns) (find_named name ts)) ((bytes_eq-Decides name name).1 refl);
       there = λ j one differ. ap (λ b. cond b (Some columns) (find_named j ts))
@@ -101,15 +101,15 @@ restamped : (old : Numbers) (stamp : ℕ) (space : Space) → 0 < old.stamp → 
 restamped old stamp space was some =
     let new : Numbers = record { stamp = stamp; xid_ceiling = old.xid_ceiling; number_ceiling = old.number_ceiling } in
     numbered 1 (number_bytes stamp) (meta_of old) (meta_of new) space
-        (renumbered 1 (number_bytes stamp) old new was some refl (λ j differ. past_test (j == 1) _ _ _
-        (other_number j 1 differ)))
+    (renumbered 1 (number_bytes stamp) old new was some refl (λ j differ. past_test (j == 1) _ _ _
+    (other_number j 1 differ)))
 
 raised_xids : (old : Numbers) (xids : ℕ) (space : Space) → 0 < old.stamp → Numbered (meta_of old) space →
     IsMeta old.stamp xids old.number_ceiling (insert space xid_ceiling_key (number_bytes xids))
 raised_xids old xids space was =
     let new : Numbers = record { stamp = old.stamp; xid_ceiling = xids; number_ceiling = old.number_ceiling } in
     numbered 2 (number_bytes xids) (meta_of old) (meta_of new) space
-        (renumbered 2 (number_bytes xids) old new was was refl (λ j differ.
+    (renumbered 2 (number_bytes xids) old new was was refl (λ j differ.
     ap (cond (j == 1) (Some (number_bytes old.stamp))) (past_test (j == 2) _ _ _ (other_number j 2 differ))))
 
 raised_numbers : (old : Numbers) (numbers : ℕ) (space : Space) → 0 < old.stamp → Numbered (meta_of old) space →
@@ -117,18 +117,18 @@ raised_numbers : (old : Numbers) (numbers : ℕ) (space : Space) → 0 < old.sta
 raised_numbers old numbers space was =
     let new : Numbers = record { stamp = old.stamp; xid_ceiling = old.xid_ceiling; number_ceiling = numbers } in
     numbered 3 (number_bytes numbers) (meta_of old) (meta_of new) space
-        (renumbered 3 (number_bytes numbers) old new was was refl (λ j differ.
+    (renumbered 3 (number_bytes numbers) old new was was refl (λ j differ.
     ap (cond (j == 1) (Some (number_bytes old.stamp))) (ap (cond (j == 2) (Some (number_bytes old.xid_ceiling)))
-        (past_test (j == 3) _ _ _ (other_number j 3 differ)))))
+    (past_test (j == 3) _ _ _ (other_number j 3 differ)))))
 
 -- the first numbers, over none
 founded_meta : (xids numbers : ℕ) (space : Space) → IsMeta 0 xids numbers space →
     IsMeta 1 65 65
-        (insert (insert (insert (insert space log_status_key (0 ∷ [])) action_ceiling_key
-        (number_bytes 65)) xid_ceiling_key (number_bytes 65)) stamp_key (number_bytes 1))
+    (insert (insert (insert (insert space log_status_key (0 ∷ [])) action_ceiling_key
+    (number_bytes 65)) xid_ceiling_key (number_bytes 65)) stamp_key (number_bytes 1))
 founded_meta xids numbers space is =
     added 1 (number_bytes 1) _ _ (added 2 (number_bytes 65) _ _ (added 3 (number_bytes 65) _ _
-        (added 6 (0 ∷ []) (λ k. None) space is)))
+    (added 6 (0 ∷ []) (λ k. None) space is)))
 
 -- ---- spaces that are not in use
 
@@ -214,9 +214,9 @@ holds_first p q m none stamp xids numbers ts commits actions holds = record {
       ∙ ap (λ a. get (standing_rows (record p { actions = a }) i.0) i.1) actions);
   others = λ space unused.
       put_other meta stamp_key (number_bytes 1) (put_at meta xid_ceiling_key (number_bytes 65)
-          (put_at meta action_ceiling_key (number_bytes 65) (put_at meta log_status_key (0 ∷ []) m))) space refl unused
+      (put_at meta action_ceiling_key (number_bytes 65) (put_at meta log_status_key (0 ∷ []) m))) space refl unused
       ∙ put_other meta xid_ceiling_key (number_bytes 65) (put_at meta action_ceiling_key (number_bytes 65)
-          (put_at meta log_status_key (0 ∷ []) m)) space refl unused
+      (put_at meta log_status_key (0 ∷ []) m)) space refl unused
       ∙ put_other meta action_ceiling_key (number_bytes 65) (put_at meta log_status_key (0 ∷ []) m) space refl unused
       ∙ put_other meta log_status_key (0 ∷ []) m space refl unused ∙ holds.others space unused;
 }
@@ -235,7 +235,7 @@ get-write_all (e ∷ es) m q sorted =
     get-write_all es (write_at e.0 e.1 m) q (back_of _ _ sorted)
     ∙ ap (over (find key_cmp q es)) (found_entry e m q)
     ∙ elim (is_eq (key_cmp q e.0)) as (λ b. is_eq (key_cmp q e.0) ≡ b → over (find key_cmp q es)
-        (cond b e.1 (get (m rows) q)) ≡ over (cond b (Some e.1) (find key_cmp q es)) (get (m rows) q)) [
+    (cond b e.1 (get (m rows) q)) ≡ over (cond b (Some e.1) (find key_cmp q es)) (get (m rows) q)) [
       | true ↦ λ same. ap (λ o. over o e.1)
           (find_none q e.0 es (λ g less. ap (λ k. key_cmp k g) (same_keys q e.0 (equal_of _ same)) ∙ less)
           (front_of _ _ sorted))
@@ -257,7 +257,7 @@ write_all-other (e ∷ es) m space other = write_all-other es (write_at e.0 e.1 
 pub holds_rows : (p q : Place) (m : Store) (writes : Writes) → 0 < p.stamp → q.stamp ≡ p.stamp + 1 →
     q.xid_ceiling ≡ p.xid_ceiling → q.number_ceiling ≡ p.number_ceiling → q.tables ≡ p.tables
     → AreRows (standing_rows q) (write_all (entries writes) m rows) → Holds p m →
-        Holds q (new_rows writes (number_bytes (p.stamp + 1)) m)
+    Holds q (new_rows writes (number_bytes (p.stamp + 1)) m)
 holds_rows p q m writes some stamp xids numbers ts are holds = record {
   meta_numbers = same_space (restamped (numbers_in p) (p.stamp + 1) _ some (omega arith)
       (subst (IsMeta p.stamp p.xid_ceiling p.number_ceiling)

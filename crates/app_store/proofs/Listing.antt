@@ -35,7 +35,7 @@ pub texts_by : (test : Action → Bool) (table key : List ℕ) (actions : List A
 texts_by test table key [] written row is = let bad : None ≡ Some row = sym (get-empty key_cmp key) ∙ is in absurd cc
 texts_by test table key (a ∷ rest) written row is =
     made ((test a && bytes_eq table a.table) && touches key a.change) (texts_by test table key rest written.1)
-        (sym (get-played test table key a rest empty) ∙ is)
+    (sym (get-played test table key a rest empty) ∙ is)
   where
     made : (b : Bool) → ((r : Row) → get (rows_by test table rest) key ≡ Some r → AreTexts r) →
         cond b (change_at a.change (get (rows_by test table rest) key)) (get (rows_by test table rest) key) ≡ Some row →
@@ -49,7 +49,7 @@ keys_by : (test : Action → Bool) (table key : List ℕ) (actions : List Action
 keys_by test table key [] written row is = let bad : None ≡ Some row = sym (get-empty key_cmp key) ∙ is in absurd cc
 keys_by test table key (a ∷ rest) written row is =
     made ((test a && bytes_eq table a.table) && touches key a.change) refl (keys_by test table key rest written.1 row)
-        (sym (get-played test table key a rest empty) ∙ is)
+    (sym (get-played test table key a rest empty) ∙ is)
   where
     touched : (c : Change) → CanSpell c → touches key c ≡ true → IsText key
     touched (Put k new) can is = subst IsText (sym ((bytes_eq-Decides key k).0 is)) can.0
@@ -63,7 +63,7 @@ keys_by test table key (a ∷ rest) written row is =
     made : (b : Bool) → ((test a && bytes_eq table a.table) && touches key a.change) ≡ b →
         (get (rows_by test table rest) key ≡ Some row → IsText key) →
         cond b (change_at a.change (get (rows_by test table rest) key)) (get (rows_by test table rest) key) ≡ Some row →
-            IsText key
+        IsText key
     made true hit before is = touched a.change written.0.change (back _ _ hit)
     made false hit before is = before is
 
@@ -75,6 +75,9 @@ table_of p m table text spelled holds = record {
   keys = λ rest value is.
       let found = holds.rows_held.keys (text_bytes table ++ rest) value is in
       (found.0.1, (text_front table found.0.0 rest (text_bytes found.0.1) text.short found.1.short found.2).1);
-  texts = λ key row is. (keys_by (λ a. member a.xid p.commits) table key p.actions spelled.written row is, texts_by
-      (λ a. member a.xid p.commits) table key p.actions spelled.written row is);
+  texts = λ key row is. (
+    keys_by (λ a. member a.xid p.commits) table key p.actions spelled.written row is,
+    texts_by
+        (λ a. member a.xid p.commits) table key p.actions spelled.written row is,
+  );
 }

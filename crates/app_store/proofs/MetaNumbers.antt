@@ -25,7 +25,7 @@ pub stamp_at : (stamp xids numbers : ℕ) (space : Space) → IsMeta stamp xids 
     get space stamp_key ≡ option_map number_bytes (stamp_if stamp)
 stamp_at stamp xids numbers space is =
     is.lookups 1 tt ∙ elim (stamp == 0) as (λ b. option_map (λ v. v)
-        (cond b None (Some (number_bytes stamp))) ≡ option_map number_bytes (cond b None (Some stamp))) [
+    (cond b None (Some (number_bytes stamp))) ≡ option_map number_bytes (cond b None (Some stamp))) [
       | true ↦ refl
       | false ↦ refl
     ]
@@ -33,7 +33,7 @@ stamp_at stamp xids numbers space is =
 -- a number that stands beside a stamp
 beside : (stamp xids numbers key : ℕ) → (stamp == 0) ≡ false →
     option_map (λ v. v) (cond (stamp == 0) None (numbers_at stamp xids numbers key)) ≡ option_map (λ v. v)
-        (numbers_at stamp xids numbers key)
+    (numbers_at stamp xids numbers key)
 beside stamp xids numbers key some =
     ap (λ b. option_map (λ v. v) (cond b None (numbers_at stamp xids numbers key))) some
 

@@ -70,8 +70,14 @@ pub record Pends (change : Store → Store) (old mid : Kept) : Type 0 where
 
 pub begun : {old new : Kept} {u : Unit {0}} → Starts old new (Ok u) → Pends (λ m. m) old new
 begun {old} {new} b =
-    record { still = b.still; later = b.later; held = b.held; doubts = b.doubts; pending = b.opened ∙ ap (λ o. Some o)
-        (same old.held) }
+    record {
+      still = b.still;
+      later = b.later;
+      held = b.held;
+      doubts = b.doubts;
+      pending = b.opened ∙ ap (λ o. Some o)
+          (same old.held);
+    }
   where
     same : (o : Option Store) → o ≡ option_map (λ m. m) o
     same None = refl
@@ -141,8 +147,12 @@ pub not_begun : {change : Store → Store} {old new : Kept} {stop : Stop} → St
 not_begun {stop = stop} b = record {
   still = b.still;
   spends = b.spends;
-  counted = record { later = b.later; failed = λ failed. b.rises failed _ (omega arith); within =
-      outside_within stop b.only };
+  counted = record {
+    later = b.later;
+    failed = λ failed. b.rises failed _ (omega arith);
+    within =
+        outside_within stop b.only;
+  };
   closed = tt;
   doubts = b.doubts;
   leaves = λ m was. (b.held ∙ was, b.only);
@@ -153,8 +163,12 @@ pub not_changed : {change all : Store → Store} {old mid new : Kept} {stop : St
 not_changed {stop = stop} p s outside = record {
   still = λ n most. s.still n (p.still n most);
   spends = λ failed n most. s.spends failed n (p.still n most);
-  counted = record { later = omega (arith, p.later, s.later); failed = λ failed. s.rises failed _ p.later; within =
-      outside_within stop outside };
+  counted = record {
+    later = omega (arith, p.later, s.later);
+    failed = λ failed. s.rises failed _ p.later;
+    within =
+        outside_within stop outside;
+  };
   closed = tt;
   doubts = s.doubts ∙ p.doubts;
   leaves = λ m was. (s.held ∙ p.held ∙ was, outside);
@@ -162,8 +176,13 @@ not_changed {stop = stop} p s outside = record {
 
 -- no rows are written
 pub none_written : {writes : Writes} → writes ≡ empty → entries writes ≡ []
-none_written {writes} is = nil (entries writes) (omega (arith, len-entries writes, ap len is, len-empty key_cmp
-    (Option (List ℕ))))
+none_written {writes} is = nil (entries writes) (omega (
+  arith,
+  len-entries writes,
+  ap len is,
+  len-empty key_cmp
+      (Option (List ℕ)),
+))
   where
     nil : (es : List (List ℕ × Option (List ℕ))) → length es ≡ 0 → es ≡ []
     nil [] few = refl
@@ -210,13 +229,20 @@ says_read right (Err stop) only is = only
 pub looks_then : {T U V : Type 0} {says : Store → Result T Stop → Type 0} {all : Store → Result V Stop →
     Type 0} {x : T} {y : U}
     {old mid new : Kept} (result : Result V Stop) → is_failed result ≡ false → IfErr result IsWithinLimit →
-        Looks says old mid (Ok x) →
+    Looks says old mid (Ok x) →
     Safe mid new (Ok y) → ((m : Store) → sight old ≡ Some m → all m result) → Looks all old new result
 looks_then result never within l s gives = record {
-  sure = record { still = λ n most. s.still n (l.sure.still n most); spends = λ failed. absurd
-      (false≢true (sym never ∙ failed)) };
-  counted = record { later = omega (arith, l.counted.later, s.later); failed = λ failed. absurd
-      (false≢true (sym never ∙ failed)); within = within };
+  sure = record {
+    still = λ n most. s.still n (l.sure.still n most);
+    spends = λ failed. absurd
+        (false≢true (sym never ∙ failed));
+  };
+  counted = record {
+    later = omega (arith, l.counted.later, s.later);
+    failed = λ failed. absurd
+        (false≢true (sym never ∙ failed));
+    within = within;
+  };
   held = s.held ∙ l.held;
   doubts = s.doubts ∙ l.doubts;
   opened = s.opened ∙ l.opened;
@@ -228,10 +254,17 @@ pub looks_stopped : {T V : Type 0} {says : Store → Result T Stop → Type 0} {
     {stop : Stop} → Looks says old mid (Ok x) → Safe {T = T} mid new (Err stop) → IsWithinLimit stop →
     ((m : Store) → sight old ≡ Some m → all m (Err stop)) → Looks all old new (Err stop)
 looks_stopped l s within gives = record {
-  sure = record { still = λ n most. s.still n (l.sure.still n most); spends = λ failed n most. s.spends failed n
-      (l.sure.still n most) };
-  counted = record { later = omega (arith, l.counted.later, s.later); failed =
-      λ failed. s.rises failed _ l.counted.later; within = within };
+  sure = record {
+    still = λ n most. s.still n (l.sure.still n most);
+    spends = λ failed n most. s.spends failed n
+        (l.sure.still n most);
+  };
+  counted = record {
+    later = omega (arith, l.counted.later, s.later);
+    failed =
+        λ failed. s.rises failed _ l.counted.later;
+    within = within;
+  };
   held = s.held ∙ l.held;
   doubts = s.doubts ∙ l.doubts;
   opened = s.opened ∙ l.opened;

@@ -32,10 +32,15 @@ column_text (c ∷ cs) n old all text =
 pub AllTexts-with_columns : (columns : List (ℕ × List ℕ)) (n : ℕ) (row : List (List ℕ)) →
     AllTexts (map (λ c. c.1) columns) → AllTexts row → AllTexts (with_columns columns n row)
 AllTexts-with_columns columns n [] all texts = tt
-AllTexts-with_columns columns n (v ∷ vs) all texts = (column_text columns n v all texts.0, AllTexts-with_columns columns
-    (n + 1) vs all texts.1)
+AllTexts-with_columns columns n (v ∷ vs) all texts = (
+  column_text columns n v all texts.0,
+  AllTexts-with_columns columns
+      (n + 1) vs all texts.1,
+)
 
 pub AreTexts-updated : (columns : List (ℕ × List ℕ)) (row : List (List ℕ)) → AllTexts (map (λ c. c.1) columns) →
     AreTexts row → AreTexts (updated columns row)
-AreTexts-updated columns row all texts = record { few = omega (arith, length-with_columns columns 2 row, texts.few);
-    each = AllTexts-with_columns columns 2 row all texts.each }
+AreTexts-updated columns row all texts = record {
+  few = omega (arith, length-with_columns columns 2 row, texts.few);
+  each = AllTexts-with_columns columns 2 row all texts.each;
+}

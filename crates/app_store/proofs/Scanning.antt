@@ -55,7 +55,7 @@ more prefix table space e es is there has r =
     let key = is.keys rest e.1 (ap (get space) (sym begins) ∙ there) in
     let name_is : e.0 ≡ prefix ++ text_bytes key.0 = begins ∙ ap (λ k. prefix ++ k) key.1 in
     let held = some_row list_bytes (get table key.0) e.1 (sym (is.lookups key.0) ∙ ap (get space) (sym name_is)
-        ∙ there) in
+    ∙ there) in
     record {
       rows = (key.0, held.0) ∷ r.rows;
       can = (is.texts key.0 held.0 held.1, r.can);
@@ -63,11 +63,11 @@ more prefix table space e es is there has r =
       whole = λ found others. r.whole (insert found key.0 held.0) (λ other gone.
           get-insert nat_list_cmp_total found key.0 held.0 other
           ∙ elim (is_eq (key_cmp other key.0)) as (λ b. is_eq (key_cmp other key.0) ≡ b → cond b (Some held.0)
-              (get found other) ≡ get table other) [
+          (get found other) ≡ get table other) [
             | true ↦ λ same. sym held.1 ∙ ap (get table) (sym (same_keys other key.0 (equal_of _ same)))
             | false ↦ λ differ. others other
                 (past (prefix ++ text_bytes other) e es
-                    (apart _ e.0 (λ is_key. false≢true (sym differ ∙ ap (λ k. is_eq (key_cmp other k))
+                (apart _ e.0 (λ is_key. false≢true (sym differ ∙ ap (λ k. is_eq (key_cmp other k))
                 (sym (text_key prefix other key.0 (is_key ∙ name_is))) ∙ tied other))) ∙ gone)
           ] refl);
     }
@@ -83,7 +83,7 @@ rest_of prefix at table space (e ∷ es) is next =
     let step = after-next at (entries space) e es (entries_sorted space) next in
     let rest = rest_of prefix e.0 table space es is step.1 in
     elim (starts_with nat_eq e.0 prefix) as (λ b. starts_with nat_eq e.0 prefix ≡ b → Rest prefix table
-        (cond b (e ∷ ranged prefix es) [])) [
+    (cond b (e ∷ ranged prefix es) [])) [
       | true ↦ λ has. more prefix table space e (ranged prefix es) is (get-entries space e.0 ∙ step.0) has rest
       | false ↦ λ lacks. none_left prefix table
     ] refl
@@ -102,11 +102,11 @@ all_inserted prefix table space is =
     let q = prefix ++ text_bytes key in
     let less = behind prefix (text_bytes key) (omega (arith, length-text_bytes key)) in
     let ahead = subst (λ p. T (below_all key_cmp p (after prefix (entries space)))) (sym (append-nil prefix))
-        (after_below prefix (entries space) (entries_sorted space)) in
+    (after_below prefix (entries space) (entries_sorted space)) in
     get-empty key_cmp key ∙ sym (not_some list_bytes (get table key) (sym (is.lookups key) ∙ get-entries space q
-        ∙ sym (find-after q prefix (entries space) less)
+    ∙ sym (find-after q prefix (entries space) less)
     ∙ sym (find-ranged prefix [] q (after prefix (entries space)) rising ahead (has_prefix prefix (text_bytes key)))
-        ∙ gone))))
+    ∙ gone))))
 
 -- all keys of a table are texts
 pub all_keys : (prefix : List ℕ) (table : Rows) (space : Space) → IsTableOf prefix table space → AllKeys (entries table)
@@ -117,11 +117,13 @@ all_keys prefix table space is = from (entries table) (entries_sorted table)
         find key_cmp f.0 es ≡ Some f.1 → find key_cmp f.0 (e ∷ es) ≡ Some f.1
     behind_first e es sorted f there =
         past f.0 e es (apart f.0 e.0 (λ same. let bad : Some f.1 ≡ None = sym there ∙ ap (λ k. find key_cmp k es) same
-            ∙ find_none e.0 e.0 es (λ g less. less) (front_of _ _ sorted) in absurd cc)) ∙ there
+        ∙ find_none e.0 e.0 es (λ g less. less) (front_of _ _ sorted) in absurd cc)) ∙ there
 
     from : (es : List (List ℕ × Row)) → T (is_sorted key_cmp es) →
         ((e : List ℕ × Row) → find key_cmp e.0 es ≡ Some e.1 → IsUtf8 e.0) → AllKeys es
     from [] sorted each = tt
-    from (e ∷ es) sorted each =
-        (each e (ap (λ b. cond b (Some e.1) (find key_cmp e.0 es)) (tied e.0)), from es (back_of _ _ sorted)
-            (λ f there. each f (behind_first e es sorted f there)))
+    from (e ∷ es) sorted each = (
+      each e (ap (λ b. cond b (Some e.1) (find key_cmp e.0 es)) (tied e.0)),
+      from es (back_of _ _ sorted)
+          (λ f there. each f (behind_first e es sorted f there)),
+    )

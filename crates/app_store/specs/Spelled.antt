@@ -119,7 +119,7 @@ put_all (p ∷ ps) m = put_all ps (put_at p.space p.key.now p.value.now m)
 abbrev pub first_rows : List ℕ → List ℕ → Store → Store
 first_rows stamp ceiling m =
     put_at meta stamp_key stamp (put_at meta xid_ceiling_key ceiling (put_at meta action_ceiling_key ceiling
-        (put_at meta log_status_key (0 ∷ []) m)))
+    (put_at meta log_status_key (0 ∷ []) m)))
 
 -- a new table, with the stamp of its transaction
 abbrev pub new_table : List ℕ → List ℕ → List ℕ → Store → Store

@@ -50,8 +50,12 @@ RaisesTo change m (Err stop) new = ((new.held ≡ Some m) ⊎ (new.held ≡ Some
 -- the store of a database that comes up had its first rows, or they are written now
 pub data Recovered (m : Store) (stamp xids numbers : ℕ) (found : Option ℕ) (n : Numbers)
     (held : Option Store) : Type 0 where
-  Was : (stamp == 0) ≡ false → found ≡ Some stamp → n ≡ record { stamp = stamp; xid_ceiling = xids; number_ceiling =
-      numbers } → held ≡ Some m → Recovered m stamp xids numbers found n held
+  Was : (stamp == 0) ≡ false → found ≡ Some stamp → n ≡ record {
+    stamp = stamp;
+    xid_ceiling = xids;
+    number_ceiling =
+        numbers;
+  } → held ≡ Some m → Recovered m stamp xids numbers found n held
   Founded : stamp ≡ 0 → found ≡ None → n ≡ record { stamp = 1; xid_ceiling = 65; number_ceiling = 65 } → held ≡ Some
       (first_rows (number_bytes 1) (number_bytes 65) m) → Recovered m stamp xids numbers found n held
 

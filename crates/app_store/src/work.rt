@@ -86,7 +86,7 @@ pub(crate) fn make_table<K: Keeper>(
     ensures works { (m : Store) (found : Option ℕ) → (K.kept keeper.old).held ≡ Some m → IsSmall found → get (m tables)
         (text_bytes table.now) ≡ option_map number_bytes found →
         LeavesOr (is_some found) (new_table (text_bytes table.now) (number_bytes columns) (number_bytes stamp)) m result
-            (K.kept keeper.new) }
+        (K.kept keeper.new) }
 {
     let key = spell_table(alloc, table)?;
     let found = find_columns(keeper, key.as_slice())?;

@@ -1,5 +1,5 @@
 -- How the charge of a fuse goes on.
-use Rattle.std.proofs.Common.{◌≡◌, ◌⊎◌, ℕ, ◌≤◌, ◌-◌, ◌==◌, Bool, true, false, cond, inl, inr, refl, sym, subst, arith}
+use Rattle.std.proofs.Common.{◌≡◌, ℕ, ◌-◌, ◌==◌, Bool, true, false, cond, inl, inr, refl, sym, subst, arith}
 use Rattle.node_keeper.specs.declared.charge.Charge.{Charge}
 use Rattle.node_keeper.specs.declared.charge.Charge.TheVariants.{Off, After, AtCommit, Blown}
 use Rattle.node_keeper.specs.Charges.{burnt, burnt_by_commit, GoesOn}
@@ -14,9 +14,9 @@ goes_on_same (Blown keep) = refl
 pub goes_on_after : (a b c : Charge) → GoesOn a b → GoesOn b c → GoesOn a c
 goes_on_after Off b c one two = subst (λ x. GoesOn x c) one two
 goes_on_after (After calls keep) b c (inl (left, fewer, is)) two = elim (subst (λ x. GoesOn x c) is two) [
-    | inl (last, less, same) ↦ inl (last, omega (arith, fewer, less), same)
-    | inr blown ↦ inr blown
-  ]
+  | inl (last, less, same) ↦ inl (last, omega (arith, fewer, less), same)
+  | inr blown ↦ inr blown
+]
 goes_on_after (After calls keep) b c (inr is) two = inr (subst (λ x. GoesOn x c) is two)
 goes_on_after (AtCommit keep) b c (inl is) two = subst (λ x. GoesOn x c) is two
 goes_on_after (AtCommit keep) b c (inr is) two = inr (subst (λ x. GoesOn x c) is two)
@@ -26,9 +26,9 @@ counted_down : (calls : ℕ) (keep : Bool) →
     GoesOn (After calls keep) (cond (calls == 0) (Blown keep) (After (calls - 1) keep))
 counted_down calls keep =
     elim (calls == 0) as (λ b. GoesOn (After calls keep) (cond b (Blown keep) (After (calls - 1) keep))) [
-    | true ↦ inr refl
-    | false ↦ inl (calls - 1, omega arith, refl)
-  ]
+      | true ↦ inr refl
+      | false ↦ inl (calls - 1, omega arith, refl)
+    ]
 
 goes_on_burnt : (charge : Charge) → GoesOn charge (burnt charge)
 goes_on_burnt Off = refl

@@ -1,5 +1,5 @@
 -- Which listed calls are still to come, and whether the next one is listed.
-use Rattle.std.proofs.Common.{◌≡◌, ℕ, ◌+◌, ◌≤◌, ◌<◌, ◌==◌, ◌||◌, ◌&&◌, ◌-◌, ◌^◌, Bool, true, false, cond, not, List, [], ◌∷◌, length, get_or, Result, Ok, Err, nat_lt, arith, sym, ap, subst, ◌∙◌, refl}
+use Rattle.std.proofs.Common.{◌≡◌, ℕ, ◌+◌, ◌≤◌, ◌<◌, ◌==◌, ◌||◌, ◌&&◌, ◌-◌, ◌^◌, Bool, true, false, cond, not, List, [], ◌∷◌, get_or, Result, Ok, Err, nat_lt, arith, sym, ap, subst, ◌∙◌, refl}
 use Rattle.std.specs.Prelude.{is_err}
 use Rattle.std.specs.List.{list_any}
 use Rattle.std.specs.List.Sorted.{IsBinarySearchResult, IsPermutation, IsNonDecreasing}
@@ -20,9 +20,13 @@ pub left_after : (fails : List ℕ) (calls : ℕ) →
     left fails (calls + 1) + cond (list_any (λ n. n == calls + 1) fails) 1 0 ≤ left fails calls
 left_after [] calls = omega arith
 left_after (x ∷ fails) calls =
-    omega (arith, sum_by-cons (λ n. cond (nat_lt (calls + 1) n) 1 0) x fails,
-    sum_by-cons (λ n. cond (nat_lt calls n) 1 0) x fails, one_more x calls (list_any (λ n. n == calls + 1) fails),
-    left_after fails calls)
+    omega (
+      arith,
+      sum_by-cons (λ n. cond (nat_lt (calls + 1) n) 1 0) x fails,
+      sum_by-cons (λ n. cond (nat_lt calls n) 1 0) x fails,
+      one_more x calls (list_any (λ n. n == calls + 1) fails),
+      left_after fails calls,
+    )
 
 -- a list in another order lists as many calls to come
 pub left_alike : (xs ys : List ℕ) (calls : ℕ) → IsPermutation xs ys → left ys calls ≡ left xs calls
@@ -30,9 +34,9 @@ left_alike xs ys calls same = sum_by-IsPermutation (λ n. cond (nat_lt calls n) 
 
 other : (m n : ℕ) → (m ≡ n → ⊥) → (m == n) ≡ false
 other m n differ = elim (m == n) as (λ b. (m == n) ≡ b → b ≡ false) [
-    | true ↦ λ is. absurd (differ (eqb-true m n is))
-    | false ↦ λ is. refl
-  ] refl
+  | true ↦ λ is. absurd (differ (eqb-true m n is))
+  | false ↦ λ is. refl
+] refl
 
 -- a search of the listed numbers fails where the number is not listed
 pub searched_list : (fails : List ℕ) (call : ℕ) (found : Result ℕ ℕ) → IsNonDecreasing fails →
@@ -50,9 +54,9 @@ searched_list fails call (Err i) rising search_is =
 
 below_last : (calls : ℕ) → calls < 2 ^ 64 - 1 → nat_lt calls (2 ^ 64 - 1) ≡ true
 below_last calls below = elim (nat_lt calls (2 ^ 64 - 1)) as (λ b. nat_lt calls (2 ^ 64 - 1) ≡ b → b ≡ true) [
-    | true ↦ λ is. refl
-    | false ↦ λ is. absurd (omega (arith, below, ltb-false calls (2 ^ 64 - 1) is))
-  ] refl
+  | true ↦ λ is. refl
+  | false ↦ λ is. absurd (omega (arith, below, ltb-false calls (2 ^ 64 - 1) is))
+] refl
 
 -- what a search says of the next call
 pub due_is : (fails : List ℕ) (calls : ℕ) (found : Result ℕ ℕ) → calls < 2 ^ 64 - 1 → IsNonDecreasing fails →
@@ -67,5 +71,5 @@ pub left_due : (fails : List ℕ) (calls : ℕ) (found : Result ℕ ℕ) → IsN
     left fails (calls + 1) + cond (not (is_err found)) 1 0 ≤ left fails calls
 left_due fails calls found rising search_is =
     subst (λ b. left fails (calls + 1) + cond b 1 0 ≤ left fails calls)
-        (searched_list fails (calls + 1) found rising search_is)
+    (searched_list fails (calls + 1) found rising search_is)
     (left_after fails calls)

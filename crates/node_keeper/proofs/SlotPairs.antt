@@ -39,7 +39,7 @@ missed : (q k : List ℕ) (es : List (Vec ℕ Global × Slot)) → key_cmp q k �
 missed q k [] same below = refl
 missed q k (e ∷ es) same below =
     ap (λ o. cond (is_eq o) (Some e.1) (lookup (λ y. is_eq (key_cmp q y.items)) es))
-        (nat_list_cmp_total.congr q k e.0.items same ∙ below.0) ∙ missed q k es same below.1
+    (nat_list_cmp_total.congr q k e.0.items same ∙ below.0) ∙ missed q k es same below.1
 
 flatten-cond : (b : Bool) (x y : Option Slot) → option_flatten (cond b x y) ≡ cond b (option_flatten x)
     (option_flatten y)
@@ -51,7 +51,7 @@ find-shown : (q key : List ℕ) (slot : Slot) (others : List (List ℕ × List �
     → find key_cmp q (shown key slot others) ≡ option_flatten (cond (is_eq (key_cmp q key)) (Some slot) rest)
 find-shown q key None others rest same none =
     elim (is_eq (key_cmp q key)) as (λ b. is_eq (key_cmp q key) ≡ b → find key_cmp q others ≡ option_flatten
-        (cond b (Some None) rest)) [
+    (cond b (Some None) rest)) [
       | true ↦ λ e. same ∙ ap option_flatten (none e)
       | false ↦ λ e. same
     ] refl
@@ -132,8 +132,8 @@ pairs_turn : (key : List ℕ) (w : Option Slot) (m n : SlotMap) → IsInOrder m 
     pairs n ≡ with_at key (option_flatten w) (pairs m)
 pairs_turn key w m n s t u = same_space _ _ (λ q.
     get-pairs n q t ∙ ap option_flatten (u q) ∙ flatten-cond _ w (slot_at m q)
-        ∙ ap (cond (is_eq (key_cmp q key)) (option_flatten w)) (sym (get-pairs m q s))
-        ∙ sym (get-with_at key (option_flatten w) (pairs m) q))
+    ∙ ap (cond (is_eq (key_cmp q key)) (option_flatten w)) (sym (get-pairs m q s))
+    ∙ sym (get-with_at key (option_flatten w) (pairs m) q))
 
 keeps_slots : (key : List ℕ) (slot : Slot) (m n : SlotMap) → Turns key (Some slot) m n → (q : List ℕ) → HasSlot m q →
     HasSlot n q
@@ -220,7 +220,7 @@ after-below : (start : List ℕ) (xs : List (List ℕ × List ℕ)) → T (below
 after-below start [] h = refl
 after-below start (e ∷ es) h =
     elim (is_lt (key_cmp start e.0)) as (λ b. T (b && below_all key_cmp start es) →
-        cond b (e ∷ es) (after start es) ≡ e ∷ es) [
+    cond b (e ∷ es) (after start es) ≡ e ∷ es) [
       | true ↦ λ _. refl
       | false ↦ λ t. absurd t
     ] h
@@ -245,10 +245,10 @@ living-between start (e ∷ es) s =
     let rest = living-between start es s.1 in
     let others = filter (λ (e : Vec ℕ Global × Slot). is_lt (key_cmp start e.0.items) && true) es in
     elim (is_lt (key_cmp start e.0.items)) as (λ b. is_lt (key_cmp start e.0.items) ≡ b →
-        living (cond (b && true) (e ∷ others) others) ≡ after start (shown e.0.items e.1 (living es))) [
+    living (cond (b && true) (e ∷ others) others) ≡ after start (shown e.0.items e.1 (living es))) [
       | true ↦ λ h.
           let same =
-              after-below start (living es) (below-living start es (all_above start e.0.items es (is_less _ h) s.0)) in
+          after-below start (living es) (below-living start es (all_above start e.0.items es (is_less _ h) s.0)) in
           ap (shown e.0.items e.1) (rest ∙ same) ∙ sym (after-shown start e.0.items e.1 (living es) true h (λ _. same))
       | false ↦ λ h. rest ∙ sym (after-shown start e.0.items e.1 (living es) false h (λ no. absurd (false≢true no)))
     ] refl

@@ -28,7 +28,7 @@ pushed changes all c key new m n grew same old is =
     let held : undone all n ≡ undone changes m =
     ap (λ cs. undone cs n) grew ∙ ap (undone (changes ++ c ∷ [])) is
     ∙ subst (λ k. c.old ≡ get m k → undone (changes ++ c ∷ []) (with_at k new m) ≡ undone changes m) same
-        (undone-change changes c new m) old in
+    (undone-change changes c new m) old in
     λ i. (held i, is i)
 
 is_some-map : {A B : Type 0} (f : A → B) (o : Option A) → is_some (option_map f o) ≡ is_some o
@@ -52,11 +52,11 @@ pub undo_step : (changes : List Change) (j : ℕ) (c x : Change) (m n held : Spa
     undone (take j (set changes j x)) n ≡ held
 undo_step changes j c x m n held lt is back h =
     ap (λ cs. undone cs n) (take-set changes j x) ∙ ap (undone (take j changes)) back
-        ∙ sym (undone-push (take j changes) c m)
+    ∙ sym (undone-push (take j changes) c m)
     ∙ ap (λ cs. undone cs m) (ap (λ y. take j changes ++ y ∷ []) is ∙ sym (take_more changes j c lt)) ∙ h
 
 pub slots_step : (m n : SlotMap) (changes : List Change) (i j : ℕ) (x : Change) → j < i → HaveSlots m changes i →
     ((q : List ℕ) → HasSlot m q → HasSlot n q) → HaveSlots n (set changes j x) j
 slots_step m n changes i j x lt have keeps k d below =
     subst (λ (y : Change). HasSlot n y.key.items) (sym (get_or-set_other changes j k x d (λ e. absurd (omega arith))))
-        (keeps _ (have k d (omega arith)))
+    (keeps _ (have k d (omega arith)))

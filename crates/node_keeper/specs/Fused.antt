@@ -68,10 +68,10 @@ FailsCommit true kept old new result = (answer : Result (Unit {0}) KeepFault)
 FailsCommit false kept old new result = (result ≡ Err Failed) × (new.keeper ≡ old.keeper)
 
 pub record FusesCommit {K : Type 0} (kept : K → Kept) (old new : Fuse K) (result : Result (Unit {0}) KeepFault) : Type 0
-    where
-  pub burns : Burns (burnt_by_commit old.charge) old new
-  pub goes_on : GoesOn old.charge new.charge
-  pub doubts : new.own_doubts ≡ (if strikes_commit old.charge
-      && is_doubt result then capped (old.own_doubts + 1) else old.own_doubts)
-  pub fails : strikes_commit old.charge ≡ true → FailsCommit (keeps old.charge) kept old new result
-  pub passes : strikes_commit old.charge ≡ false → Commits (kept old.keeper) (kept new.keeper) result
+  where
+    pub burns : Burns (burnt_by_commit old.charge) old new
+    pub goes_on : GoesOn old.charge new.charge
+    pub doubts : new.own_doubts ≡ (if strikes_commit old.charge
+        && is_doubt result then capped (old.own_doubts + 1) else old.own_doubts)
+    pub fails : strikes_commit old.charge ≡ true → FailsCommit (keeps old.charge) kept old new result
+    pub passes : strikes_commit old.charge ≡ false → Commits (kept old.keeper) (kept new.keeper) result

@@ -33,8 +33,7 @@ impl Model for Journaled {
 
     ghost Value = { Space × Space };
 
-    ghost coded =
-        { coded× (code (coded_list coded_ℕ) (coded_list coded_ℕ)) (code (coded_list coded_ℕ) (coded_list coded_ℕ)) };
+    ghost coded = { coded× (code (coded_list coded_ℕ) (coded_list coded_ℕ)) (code (coded_list coded_ℕ) (coded_list coded_ℕ)) };
 
     ghost use Rattle.node_keeper.specs.Slots.{pairs};
     ghost use Rattle.node_keeper.specs.Journal.{undone, HaveSlots};

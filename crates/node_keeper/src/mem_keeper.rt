@@ -3,7 +3,7 @@ ghost use Rattle.std.specs.Prelude.{◌≡◌, ◌+◌, ◌≤◌, Some, None, O
 ghost use Rattle.std.specs.FinMap.{empty};
 ghost use Rattle.slon_base.specs.Keeper.{Begins, Gets, GetsNext, Counts, Changes, Commits, RollsBack, put_at, del_at};
 ghost use Rattle.node_keeper.specs.Plan.{Counted, CountsCall, IsFrom, capped, left};
-ghost use Rattle.node_keeper.specs.MemKept.{IsSettled, torn, is_open, ended};
+ghost use Rattle.node_keeper.specs.MemKept.{IsSettled, IsTracked, torn, is_open, ended, ended_in};
 
 use crate::fault_plan::FaultPlan;
 use crate::journaled::Journaled;
@@ -27,7 +27,7 @@ pub enum Phase {
 /// A store in memory.
 ///
 /// A call takes time in proportion to the logarithm of how many pairs its space has, and the end of a transaction in
-/// proportion to the changes in it, beside one look at each space. Only calls that copy a key or a value need memory,
+/// proportion to the changes in it. Only calls that copy a key or a value need memory,
 /// so a commit and a rollback need none.
 ///
 /// Where a call in a transaction failed, the transaction can only be rolled back: a commit of it holds nothing new and
@@ -40,7 +40,10 @@ pub struct MemKeeper {
     keep: bool,
     phase: Phase,
     doubts: u64,
+    // The space of each change of the transaction.
+    touched: Vec<u8>,
     ghost full: { vec_len spaces ≡ 256 },
+    ghost tracked: { IsTracked touched.items spaces.items },
     ghost settled: { IsSettled phase spaces.items },
 }
 
@@ -65,6 +68,7 @@ impl MemKeeper {
             keep,
             phase: Phase::Idle,
             doubts: 0,
+            touched: Vec::new(alloc),
         })
     }
 
@@ -104,7 +108,8 @@ impl MemKeeper {
         ensures keep { self.new.keep ≡ self.old.keep }
         ensures doubts { self.new.doubts ≡ self.old.doubts }
     {
-        end_all(self.spaces.as_mut_slice(), commits);
+        end_touched(self.spaces.as_mut_slice(), self.touched.as_slice(), commits);
+        self.touched.clear();
         self.phase = Phase::Idle;
     }
 }
@@ -177,6 +182,7 @@ impl Keeper for MemKeeper {
         if self.strikes() {
             return Err(KeepFault::Failed);
         }
+        self.touched.push(space)?;
         self.spaces[space as usize].put(self.alloc, key, value)?;
         Ok(())
     }
@@ -191,6 +197,7 @@ impl Keeper for MemKeeper {
         if self.strikes() {
             return Err(KeepFault::Failed);
         }
+        self.touched.push(space)?;
         self.spaces[space as usize].del(self.alloc, key)?;
         Ok(())
     }
@@ -242,11 +249,13 @@ impl Keeper for MemKeeper {
     }
 }
 
-// Ends the transaction in each space.
-fn end_all(spaces: &mut [Journaled], commits: bool)
-    ensures { spaces.new ≡ map (ended commits) spaces.old }
+// Ends the transaction in each of these spaces.
+fn end_touched(spaces: &mut [Journaled], touched: &[u8], commits: bool)
+    requires { length spaces.old ≡ 256 }
+    ensures len { length spaces.new ≡ 256 }
+    ensures ended { spaces.new ≡ ended_in commits touched.now spaces.old }
 {
-    for space in spaces.iter_mut() {
-        space.end(commits);
+    for space in touched {
+        spaces[*space as usize].end(commits);
     }
 }

@@ -23,8 +23,10 @@ impl MemShelf {
     /// of `keepers`, the numbers of its calls that fail and whether a commit that fails holds; where there is none, no
     /// call of the store fails.
     pub fn new(alloc: Global, fails: Vec<u64>, keepers: Vec<(Vec<u64>, bool)>) -> MemShelf
-        ensures told { shelved_of result.keepers.items result.plan ≡ record { promise = promised keepers.items;
-            faults = 0 } }
+        ensures told { shelved_of result.keepers.items result.plan ≡ record {
+          promise = promised keepers.items;
+          faults = 0;
+        } }
         ensures plan { IsFrom fails.items result.plan }
         ensures keepers { result.keepers.items ≡ keepers.items }
     {

@@ -20,6 +20,3 @@ pub use many::Many;
 pub use row::{RowIn, RowOut, STORED_LIMIT};
 pub use sink::Sink;
 pub use text::{Text, TextList};
-
-#[cfg(test)]
-mod tests;

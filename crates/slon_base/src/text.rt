@@ -1,5 +1,5 @@
 // Texts are UTF-8 and seen as their bytes; a list of texts is seen as the list of these.
-ghost use Rattle.std.specs.Prelude.{◌≡◌, IfOk, MatchOption};
+ghost use Rattle.std.specs.Prelude.{◌≡◌, IfOk, MatchOption, string_bytes};
 ghost use Rattle.std.specs.Str.{IsUtf8};
 
 use crate::Many;
@@ -29,6 +29,13 @@ impl Text {
         Ok(Text {
             inner: String::from_str(alloc, text)?,
         })
+    }
+
+    /// This text, with no copy.
+    pub fn from_string(text: String) -> Text
+        ensures { result ≡ string_bytes text }
+    {
+        Text { inner: text }
     }
 
     /// The text of these bytes, or `None` exactly where they are not UTF-8.

@@ -9,25 +9,25 @@ use Rattle.app_store.proofs.look.find_numbers.Goals as goal
 pub returns-in_err-find_number-clause-finds : goal.returns-in_err-find_number-clause-finds
 returns-in_err-find_number-clause-finds g c m seen stamp xids numbers a b d is =
     exit_as (NumbersAre stamp xids numbers) c.from_residual.result
-        (err_from_is_err_and c.from_residual.result c.from_residual.ensures.1)
+    (err_from_is_err_and c.from_residual.result c.from_residual.ensures.1)
     (c.in_err-find_number.ensures.says m (stamp_if stamp) seen (small_if stamp a) (stamp_at stamp xids numbers
-        (m 1) is))
+    (m 1) is))
 
 pub returns-in-None-clause-finds : goal.returns-in-None-clause-finds
 returns-in-None-clause-finds g c m seen stamp xids numbers a b d is =
     no_stamp stamp (rw c.in-None.is at (c.in_ok-find_number.ensures.says m (stamp_if stamp) seen (small_if stamp a)
-        (stamp_at stamp xids numbers (m 1) is)))
+    (stamp_at stamp xids numbers (m 1) is)))
 
 pub returns-in_err-xid_ceiling-in-Some-clause-finds : goal.returns-in_err-xid_ceiling-in-Some-clause-finds
 returns-in_err-xid_ceiling-in-Some-clause-finds g c m seen stamp xids numbers a b d is =
     let read = c.in_ok-find_number.ensures in
     let some = found_stamp c.in-Some.stamp stamp
-        (rw c.in-Some.is at (read.says m (stamp_if stamp) seen (small_if stamp a) (stamp_at stamp xids numbers
-        (m 1) is))) in
+    (rw c.in-Some.is at (read.says m (stamp_if stamp) seen (small_if stamp a) (stamp_at stamp xids numbers
+    (m 1) is))) in
     let later = sight_safe read.safe read.same ∙ seen in
     exit_as (NumbersAre stamp xids numbers) c.from_residual-in_err-xid_ceiling-in-Some.result
     (err_from_is_err_and c.from_residual-in_err-xid_ceiling-in-Some.result
-        c.from_residual-in_err-xid_ceiling-in-Some.ensures.1)
+    c.from_residual-in_err-xid_ceiling-in-Some.ensures.1)
     (c.in_err-xid_ceiling-in-Some.ensures.says m xids later b (xids_at stamp xids numbers (m 1) some.1 is))
 
 pub returns-in_err-number_ceiling-in-Some-clause-finds : goal.returns-in_err-number_ceiling-in-Some-clause-finds
@@ -35,12 +35,12 @@ returns-in_err-number_ceiling-in-Some-clause-finds g c m seen stamp xids numbers
     let read = c.in_ok-find_number.ensures in
     let next = c.in_ok-xid_ceiling-in-Some.ensures in
     let some = found_stamp c.in-Some.stamp stamp
-        (rw c.in-Some.is at (read.says m (stamp_if stamp) seen (small_if stamp a) (stamp_at stamp xids numbers
-        (m 1) is))) in
+    (rw c.in-Some.is at (read.says m (stamp_if stamp) seen (small_if stamp a) (stamp_at stamp xids numbers
+    (m 1) is))) in
     let later = sight_safe next.safe next.same ∙ sight_safe read.safe read.same ∙ seen in
     exit_as (NumbersAre stamp xids numbers) c.from_residual-in_err-number_ceiling-in-Some.result
     (err_from_is_err_and c.from_residual-in_err-number_ceiling-in-Some.result
-        c.from_residual-in_err-number_ceiling-in-Some.ensures.1)
+    c.from_residual-in_err-number_ceiling-in-Some.ensures.1)
     (c.in_err-number_ceiling-in-Some.ensures.says m numbers later d (actions_at stamp xids numbers (m 1) some.1 is))
 
 pub returns-in_ok-number_ceiling-in-Some-clause-finds : goal.returns-in_ok-number_ceiling-in-Some-clause-finds
@@ -48,10 +48,12 @@ returns-in_ok-number_ceiling-in-Some-clause-finds g c m seen stamp xids numbers 
     let read = c.in_ok-find_number.ensures in
     let next = c.in_ok-xid_ceiling-in-Some.ensures in
     let some = found_stamp c.in-Some.stamp stamp
-        (rw c.in-Some.is at (read.says m (stamp_if stamp) seen (small_if stamp a) (stamp_at stamp xids numbers
-        (m 1) is))) in
+    (rw c.in-Some.is at (read.says m (stamp_if stamp) seen (small_if stamp a) (stamp_at stamp xids numbers
+    (m 1) is))) in
     let then = sight_safe read.safe read.same ∙ seen in
-    let later = sight_safe next.safe next.same ∙ then in
-    (some.0, next.says m xids then b (xids_at stamp xids numbers (m 1) some.1 is),
-    c.in_ok-number_ceiling-in-Some.ensures.says m numbers later d (actions_at stamp xids numbers (m 1) some.1 is),
-        some.1)
+    let later = sight_safe next.safe next.same ∙ then in (
+      some.0,
+      next.says m xids then b (xids_at stamp xids numbers (m 1) some.1 is),
+      c.in_ok-number_ceiling-in-Some.ensures.says m numbers later d (actions_at stamp xids numbers (m 1) some.1 is),
+      some.1,
+    )

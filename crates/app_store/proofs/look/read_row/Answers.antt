@@ -5,4 +5,4 @@ pub returns : goal.returns
 returns g c =
     let read = c.get_pair.ensures in
     looks c.get_pair.result read.safe (says_within c.get_pair.result read.only)
-        (λ m seen. says_read _ c.get_pair.result read.only (read.gives m seen))
+    (λ m seen. says_read _ c.get_pair.result read.only (read.gives m seen))

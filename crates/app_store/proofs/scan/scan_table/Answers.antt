@@ -17,5 +17,5 @@ pub returns-clause-finds : goal.returns-clause-finds
 returns-clause-finds g c m seen table is =
     let rest = rest_after c.args.prefix.now table (m 3) is in
     c.in_ok-by_keys.ensures ∙ ap (λ rows. inserted rows empty)
-        (c.in_ok-rows.ensures.gives m rest.rows seen rest.can rest.spelled)
+    (c.in_ok-rows.ensures.gives m rest.rows seen rest.can rest.spelled)
     ∙ all_inserted c.args.prefix.now table (m 3) is

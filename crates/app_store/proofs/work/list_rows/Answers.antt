@@ -20,14 +20,14 @@ some_rows columns (Some n) rows all is some same = ap (λ r. Some r) same
 pub returns-in_err-listed : goal.returns-in_err-listed
 returns-in_err-listed g c =
     exit_as (Looks (ListsRows c.args.table.now) (g.K.Keeper.kept c.args.keeper.now)
-        (g.K.Keeper.kept c.scan_table.new.keeper)) c.from_residual-in_err-listed.result
+    (g.K.Keeper.kept c.scan_table.new.keeper)) c.from_residual-in_err-listed.result
     (err_from_is_err_and c.from_residual-in_err-listed.result c.from_residual-in_err-listed.ensures.1)
     (looks_then
-        (Err c.in_err-listed.field-0.0) c.in_err-listed.ensures.never c.in_err-listed.ensures.within
-            c.in_ok-columns.ensures c.in_ok-found.ensures.safe
+    (Err c.in_err-listed.field-0.0) c.in_err-listed.ensures.never c.in_err-listed.ensures.within
+    c.in_ok-columns.ensures c.in_ok-found.ensures.safe
     (λ m seen found held small spelled is.
     let same = c.in_ok-found.ensures.finds m (sight_after c.requires.idle c.in_ok-columns.ensures ∙ seen) held
-        (subst (λ p. IsTableOf p held (m rows)) (sym (c.as_slice-2.ensures ∙ c.in_ok-name.ensures)) is) in
+    (subst (λ p. IsTableOf p held (m rows)) (sym (c.as_slice-2.ensures ∙ c.in_ok-name.ensures)) is) in
     c.in_err-listed.ensures.says (subst (λ t. AllKeys (entries t)) (sym same) (all_keys _ held (m rows) is))))
 
 pub returns : goal.returns
@@ -35,11 +35,11 @@ returns g c =
     looks_then (Ok (Some c.in_ok-listed.field-0)) refl tt c.in_ok-columns.ensures c.in_ok-found.ensures.safe
     (λ m seen found held small spelled is.
     let same = c.in_ok-found.ensures.finds m (sight_after c.requires.idle c.in_ok-columns.ensures ∙ seen) held
-        (subst (λ p. IsTableOf p held (m rows)) (sym (c.as_slice-2.ensures ∙ c.in_ok-name.ensures)) is) in
+    (subst (λ p. IsTableOf p held (m rows)) (sym (c.as_slice-2.ensures ∙ c.in_ok-name.ensures)) is) in
     let rows_are = c.in_ok-listed.ensures.says (subst (λ t. AllKeys (entries t)) (sym same)
-        (all_keys _ held (m rows) is)) in
+    (all_keys _ held (m rows) is)) in
     let columns = c.in_ok-columns.ensures.gives m seen found small
-        (ap (get (m tables)) (c.as_slice.ensures ∙ c.in_ok-name.ensures) ∙ spelled) in
+    (ap (get (m tables)) (c.as_slice.ensures ∙ c.in_ok-name.ensures) ∙ spelled) in
     some_rows c.in_ok-columns.columns found c.in_ok-listed.field-0 (entries held) columns
-        (not_none c.is_none.result c.in_ok-columns.columns c.is_none.ensures c.if-is_none.false)
-        (rows_are ∙ ap entries same))
+    (not_none c.is_none.result c.in_ok-columns.columns c.is_none.ensures c.if-is_none.false)
+    (rows_are ∙ ap entries same))

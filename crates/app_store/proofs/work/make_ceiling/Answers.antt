@@ -12,6 +12,6 @@ returns-clause-works g c m held =
     subst (λ f. Leaves f m c.transact-2.result (g.K.Keeper.kept c.transact-2.new.keeper))
     (λ i other. put_at (last.space i) (last.key i) ((last.value ∙ c.as_slice-3.ensures ∙ c.in_ok-stamp.ensures) i)
     (put_at (first.space i) ((first.key ∙ c.as_slice.ensures ∙ c.in_ok-key.ensures) i)
-        ((first.value ∙ c.as_slice-2.ensures ∙ c.in_ok-ceiling.ensures) i)
+    ((first.value ∙ c.as_slice-2.ensures ∙ c.in_ok-ceiling.ensures) i)
     (write_all (none_written c.new-3.ensures i) other)))
     (c.transact-2.ensures.leaves m held)

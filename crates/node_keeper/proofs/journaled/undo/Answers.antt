@@ -13,11 +13,11 @@ loop-index-preserved-in-loop-index c = record {
       (pairs c.loop-index.slots.map) (pairs c.set.new.self.map) _ (omega (arith, c.loop-index.changes.ok))
       c.index_mut-change.ensures.value
       (c.set.ensures.pairs
-          ∙ ap (λ k. with_at k c.take-old.result (pairs c.loop-index.slots.map)) c.as_slice.ensures.value
-          ∙ ap (λ o. with_at c.index_mut-change.result.now.key.items o (pairs c.loop-index.slots.map))
-          c.take-old.ensures.value)
+      ∙ ap (λ k. with_at k c.take-old.result (pairs c.loop-index.slots.map)) c.as_slice.ensures.value
+      ∙ ap (λ o. with_at c.index_mut-change.result.now.key.items o (pairs c.loop-index.slots.map))
+      c.take-old.ensures.value)
       (subst (λ n. undone (take n c.loop-index.changes.items) (pairs c.loop-index.slots.map) ≡ undone
-          c.args.changes.now.items (pairs c.args.slots.now.map)) (omega arith) c.loop-index.invariant.undoes);
+      c.args.changes.now.items (pairs c.args.slots.now.map)) (omega arith) c.loop-index.invariant.undoes);
 }
 
 pub loop-index-preserved : goal.loop-index-preserved
@@ -29,9 +29,9 @@ loop-index-preserved c = record {
       (pairs c.loop-index.slots.map) (pairs c.set.new.self.map) _ (omega (arith, c.loop-index.changes.ok))
       c.index_mut-change.ensures.value
       (c.set.ensures.pairs
-          ∙ ap (λ k. with_at k c.take-old.result (pairs c.loop-index.slots.map)) c.as_slice.ensures.value
-          ∙ ap (λ o. with_at c.index_mut-change.result.now.key.items o (pairs c.loop-index.slots.map))
-          c.take-old.ensures.value)
+      ∙ ap (λ k. with_at k c.take-old.result (pairs c.loop-index.slots.map)) c.as_slice.ensures.value
+      ∙ ap (λ o. with_at c.index_mut-change.result.now.key.items o (pairs c.loop-index.slots.map))
+      c.take-old.ensures.value)
       (subst (λ n. undone (take n c.loop-index.changes.items) (pairs c.loop-index.slots.map) ≡ undone
-          c.args.changes.now.items (pairs c.args.slots.now.map)) (omega arith) c.loop-index.invariant.undoes);
+      c.args.changes.now.items (pairs c.args.slots.now.map)) (omega arith) c.loop-index.invariant.undoes);
 }

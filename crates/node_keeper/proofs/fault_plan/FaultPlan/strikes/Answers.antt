@@ -1,6 +1,6 @@
-use Rattle.std.proofs.Common.{◌≡◌, ◌∙◌, ◌+◌, ap, sym, not, cond, refl, arith, Bool, ℕ, true, false, Result}
+use Rattle.std.proofs.Common.{◌≡◌, ◌∙◌, ◌+◌, ap, sym, not, cond, refl, arith, ℕ}
 use Rattle.std.specs.Result.{is_err}
-use Rattle.node_keeper.specs.Plan.{left, capped}
+use Rattle.node_keeper.specs.Plan.{capped}
 use Rattle.node_keeper.proofs.Plans.{due_is, left_due}
 use Rattle.node_keeper.proofs.fault_plan.FaultPlan.strikes.Goals as goal
 
@@ -8,7 +8,7 @@ pub returns-then-is_err-clause-due : goal.returns-then-is_err-clause-due
 returns-then-is_err-clause-due c =
     ap not (sym c.if-is_err.true ∙ c.is_err.ensures.value)
     ∙ due_is c.args.self.now.fails.items c.args.self.now.calls c.binary_search.result
-        (omega arith) c.args.self.now.rising (rw c.deref.ensures.value at c.binary_search.ensures.position)
+    (omega arith) c.args.self.now.rising (rw c.deref.ensures.value at c.binary_search.ensures.position)
 
 pub returns-then-is_err-clause-counted : goal.returns-then-is_err-clause-counted
 returns-then-is_err-clause-counted c = record {
@@ -20,14 +20,17 @@ returns-then-is_err-clause-counted c = record {
 
 pub returns-then-is_err-clause-fewer : goal.returns-then-is_err-clause-fewer
 returns-then-is_err-clause-fewer c =
-    omega (arith, left_due c.args.self.now.fails.items c.args.self.now.calls c.binary_search.result
-        c.args.self.now.rising (rw c.deref.ensures.value at c.binary_search.ensures.position))
+    omega (
+      arith,
+      left_due c.args.self.now.fails.items c.args.self.now.calls c.binary_search.result
+          c.args.self.now.rising (rw c.deref.ensures.value at c.binary_search.ensures.position),
+    )
 
 pub returns-clause-due : goal.returns-clause-due
 returns-clause-due c =
     ap not (sym c.if-is_err.false ∙ c.is_err.ensures.value)
     ∙ due_is c.args.self.now.fails.items c.args.self.now.calls c.binary_search.result
-        (omega arith) c.args.self.now.rising (rw c.deref.ensures.value at c.binary_search.ensures.position)
+    (omega arith) c.args.self.now.rising (rw c.deref.ensures.value at c.binary_search.ensures.position)
 
 pub returns-clause-counted : goal.returns-clause-counted
 returns-clause-counted c = record {
@@ -40,6 +43,10 @@ returns-clause-counted c = record {
 pub returns-clause-fewer : goal.returns-clause-fewer
 returns-clause-fewer c =
     let listed : ◌≡◌ {A = ℕ} (cond (not (is_err c.binary_search.result)) 1 0) 1 =
-        ap (λ b. cond (not b) 1 0) (sym c.is_err.ensures.value ∙ c.if-is_err.false) in
-    omega (arith, listed, left_due c.args.self.now.fails.items c.args.self.now.calls c.binary_search.result
-        c.args.self.now.rising (rw c.deref.ensures.value at c.binary_search.ensures.position))
+    ap (λ b. cond (not b) 1 0) (sym c.is_err.ensures.value ∙ c.if-is_err.false) in
+    omega (
+      arith,
+      listed,
+      left_due c.args.self.now.fails.items c.args.self.now.calls c.binary_search.result
+          c.args.self.now.rising (rw c.deref.ensures.value at c.binary_search.ensures.position),
+    )

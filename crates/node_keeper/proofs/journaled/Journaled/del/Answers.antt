@@ -12,8 +12,10 @@ pub returns-clause-ok : goal.returns-clause-ok
 returns-clause-ok c =
     let items = rw c.unwrap.ensures at c.push.ensures.items in
     rw (← c.self.view_is)
-    (pushed c.self.inside.changes.items c.push.new.self.items (record { key = c.in_ok-copy.copy;
-        old = c.set-old.result }) c.args.key.now None (pairs c.self.inside.slots.map) (pairs c.set-old.new.self.map)
+    (pushed c.self.inside.changes.items c.push.new.self.items (record {
+      key = c.in_ok-copy.copy;
+      old = c.set-old.result;
+    }) c.args.key.now None (pairs c.self.inside.slots.map) (pairs c.set-old.new.self.map)
     (items ∙ ap (λ xs. xs ++ record { key = c.in_ok-copy.copy; old = c.set-old.result } ∷ [])
-        c.in_ok-reserve.ensures.items)
+    c.in_ok-reserve.ensures.items)
     c.in_ok-copy.ensures.items c.set-old.ensures.old c.set-old.ensures.pairs)

@@ -7,7 +7,7 @@ pub returns-clause-told : goal.returns-clause-told
 returns-clause-told c =
     let plan = c.new-2.ensures in
     let counted = ap (left c.new-2.result.fails.items) plan.calls
-        ∙ left_alike c.args.fails.items c.new-2.result.fails.items 0 plan.fails in
+    ∙ left_alike c.args.fails.items c.new-2.result.fails.items 0 plan.fails in
     λ i. record {
       held = Some (λ space. (c.loop-space.invariant.none space i).0);
       pending = None;

@@ -1,7 +1,7 @@
 // Stores, shelves and outputs in memory, used through their traits.
 ghost use Rattle.std.specs.Prelude.{◌≡◌, is_some, false};
 
-use crate::{Files, Fuse, Keeper, MemFiles, MemKeeper, MemShelf, MemSink, Shelf, Sink};
+use node_keeper::{Files, Fuse, Keeper, MemFiles, MemKeeper, MemShelf, MemSink, Shelf, Sink};
 use slon_base::{Bytes, KeepFault, OutFault, Text};
 use std::test::Fail;
 

@@ -1,5 +1,5 @@
-// Rows in their outer form, written and read.
-use crate::{ByteMap, RowFault, RowIn, RowOut, Text};
+// Rows in their outer form, written and read, and maps with keys of bytes.
+use slon_base::{ByteMap, RowFault, RowIn, RowOut, Text};
 use std::test::Fail;
 
 #[test]
