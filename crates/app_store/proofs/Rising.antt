@@ -1,12 +1,11 @@
 -- A database that begins, that goes down, and that comes up again.
 use Rattle.std.proofs.Common.{◌≡◌, ℕ, zero, suc, ◌+◌, ◌<◌, ◌≤◌, true, false, cond, List, Option, Some, None, Result, Ok, Err, refl, sym, ap, subst, ◌∙◌, ◌⊎◌, inl, inr, arith, is_some}
 use Rattle.std.specs.Prelude.{◌==◌, not}
-use Rattle.std.specs.Option.{option_map}
 use Rattle.std.specs.FinMap.{get, get-empty}
 use Rattle.std.proofs.lemmas.Bool.{false≢true, false_from_ne_true, eqb-true, eq-eqb}
 use Rattle.slon_base.specs.Counts.{Rose}
 use Rattle.slon_base.specs.Keeper.{Kept, Store, RollsBack, key_cmp, nothing}
-use Rattle.slon_base.specs.Codec.{number_bytes, list_bytes}
+use Rattle.slon_base.specs.Codec.{number_bytes}
 use Rattle.slon_base.specs.declared.fault.KeepFault.{KeepFault}
 use Rattle.slon_base.specs.declared.fault.Halt.TheVariants.{Doubt}
 use Rattle.node_keeper.specs.declared.charge.Charge.{Charge}
@@ -31,7 +30,7 @@ use Rattle.app_store.specs.Base.{Base, IsFresh}
 use Rattle.app_store.specs.Fits.{Fits, Runs, StandsAs, OpensAs}
 use Rattle.app_store.specs.Goes.{Begun, Founds, Fails as BeginFails, Doubts as BeginDoubts, is_memory, is_sure_fault}
 use Rattle.app_store.specs.Parts.{GoesDown, StartsWith, halt_of, settled, settled_by, is_stamp}
-use Rattle.app_store.specs.Spelled.{Holds, row_key, first_rows}
+use Rattle.app_store.specs.Spelled.{Holds, first_rows}
 use Rattle.store_rows.specs.Spending.{IsAtMost, Stays}
 use Rattle.store_rows.specs.Steps.{IsOutside, is_stop_failed}
 use Rattle.app_store.specs.Works.{Recovered, Was, Founded}

@@ -1,6 +1,5 @@
 -- What the reads and the transactions of a step do to the store, and why they stop.
 use Rattle.std.specs.Prelude.{◌≡◌, ◌⊎◌, ◌≤◌, Bool, true, false, Option, Some, None, Result, Ok, Err, OnOk, IfErr, is_some}
-use Rattle.std.specs.Option.{option_map}
 use Rattle.slon_base.specs.Keeper.{Kept, Store, sight}
 use Rattle.slon_base.specs.Counts.{Rose}
 use Rattle.store_rows.specs.declared.stop.Stop.{Stop}

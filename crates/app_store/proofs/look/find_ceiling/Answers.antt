@@ -1,4 +1,4 @@
-use Rattle.std.proofs.Common.{◌∙◌, Some}
+use Rattle.std.proofs.Common.{Some}
 use Rattle.std.proofs.lemmas.Result.{err_from_is_err_and}
 use Rattle.app_store.specs.Steps.{Says}
 use Rattle.app_store.proofs.Pending.{exit_as}
