@@ -6,37 +6,40 @@ use Rattle.std.specs.Str.{bytes_eq}
 use Rattle.std.specs.Ordering.{is_eq}
 use Rattle.std.specs.List.{AllByRecursion}
 use Rattle.std.specs.Cmp.Lexicographic.{nat_list_cmp_total}
-use Rattle.std.specs.FinMap.{get, insert, remove, empty, entries, entries_sorted, get-insert, get-remove, get-empty, get-entries, same_map}
+use Rattle.std.specs.FinMap.{get, insert, remove, entries, entries_sorted, get-insert, get-remove, get-entries}
 use Rattle.std.specs.FinMap.Entries.{find, is_sorted}
-use Rattle.std.proofs.lemmas.Bool.{false≢true, eqb-true}
+use Rattle.std.proofs.lemmas.Bool.{false≢true, eqb-true, eq-eqb}
 use Rattle.std.proofs.lemmas.Slice.Eq.{bytes_eq-Decides}
 use Rattle.slon_base.specs.Keeper.{Space, Store, key_cmp, put_at}
-use Rattle.slon_base.specs.Codec.{number_bytes, text_bytes, list_bytes}
+use Rattle.slon_base.specs.Codec.{number_bytes, text_bytes}
 use Rattle.slon_base.proofs.Spelled.{text_bytes-same}
-use Rattle.slon_model.specs.Place.{Place, find_named, standing_rows, table_after}
-use Rattle.app_store.specs.Spelled.{Holds, AreRows, IsSmall, Writes, over, meta, tables, rows, stamp_key, xid_ceiling_key, action_ceiling_key, log_status_key, numbers_space, meta_space, table_space, write_at, write_all, first_rows, new_table, new_ceiling, new_rows, is_unused}
-use Rattle.app_store.proofs.Order.{same_keys, equal_of, apart, tied, find_none, front_of, back_of}
+use Rattle.store_rows.specs.Space.{IsSpace, Any, Alters}
+use Rattle.store_rows.proofs.Spaces.{altered, same_space}
+use Rattle.store_rows.proofs.Order.{same_keys, equal_of, find_none, front_of, back_of}
+use Rattle.slon_model.specs.Names.{find_named}
+use Rattle.slon_model.specs.declared.numbering.Numbering.{Numbering}
+use Rattle.slon_model.specs.declared.numbering.Numbering.TheVariants.{Xids, Actions}
+use Rattle.slon_model.specs.Place.{Place, counter, with_counter, lifted, stamped, standing_rows}
+use Rattle.slon_model.specs.Moves.{tabled}
+use Rattle.app_store.specs.declared.look.Numbers.{Numbers}
+use Rattle.app_store.specs.Spelled.{Holds, AreRows, AreTables, IsMeta, IsSmall, Writes, over, meta, tables, rows, meta_key, stamp_key, xid_ceiling_key, action_ceiling_key, log_status_key, numbers_at, meta_at, write_at, write_all, first_rows, new_table, new_ceiling, new_rows, is_unused}
+
+-- a test that fails, and one that is passed by
+refuted : (b : Bool) → (b ≡ true → ⊥) → b ≡ false
+refuted true unless = absurd (unless refl)
+refuted false unless = refl
+
+other_number : (a b : ℕ) → (a ≡ b → ⊥) → (a == b) ≡ false
+other_number a b differ = refuted (a == b) (λ is. differ (eqb-true a b is))
+
+past_test : {A : Type 0} (b : Bool) (x y z : A) → b ≡ false → cond b x z ≡ cond b y z
+past_test true x y z is = absurd (false≢true (sym is))
+past_test false x y z is = refl
 
 -- ---- tables
 
-text_test : (a b : List ℕ) → is_eq (key_cmp (text_bytes a) (text_bytes b)) ≡ bytes_eq a b
-text_test a b =
-    elim (bytes_eq a b) as (λ same. bytes_eq a b ≡ same → is_eq (key_cmp (text_bytes a) (text_bytes b)) ≡ same) [
-      | true ↦ λ is. ap (λ x. is_eq (key_cmp (text_bytes a) (text_bytes x))) (sym ((bytes_eq-Decides a b).0 is)) ∙ tied (text_bytes a)
-      | false ↦ λ is. apart _ _ (λ same. false≢true (sym is ∙ (bytes_eq-Decides a b).1 (text_bytes-same a b same)))
-    ] refl
-
-pub get-table_space : (name : List ℕ) (ts : List (List ℕ × ℕ)) → get (table_space ts) (text_bytes name) ≡ option_map number_bytes (find_named name ts)
-get-table_space name [] = get-empty key_cmp (text_bytes name)
-get-table_space name (t ∷ ts) =
-    get-insert nat_list_cmp_total (table_space ts) (text_bytes t.0) (number_bytes t.1) (text_bytes name)
-    ∙ ap (λ b. cond b (Some (number_bytes t.1)) (get (table_space ts) (text_bytes name))) (text_test name t.0)
-    ∙ elim (bytes_eq name t.0) as (λ b. cond b (Some (number_bytes t.1)) (get (table_space ts) (text_bytes name)) ≡ option_map number_bytes (cond b (Some t.1) (find_named name ts))) [
-      | true ↦ refl
-      | false ↦ get-table_space name ts
-    ]
-
-pub columns_small : (name : List ℕ) (ts : List (List ℕ × ℕ)) → AllByRecursion (λ t. t.1 ≤ 16) ts → IsSmall (find_named name ts)
+pub columns_small : (name : List ℕ) (ts : List (List ℕ × ℕ)) → AllByRecursion (λ t. t.1 ≤ 16) ts →
+    IsSmall (find_named name ts)
 columns_small name [] narrow = tt
 columns_small name (t ∷ ts) narrow =
     elim (bytes_eq name t.0) as (λ b. IsSmall (cond b (Some t.1) (find_named name ts))) [
@@ -44,70 +47,92 @@ columns_small name (t ∷ ts) narrow =
       | false ↦ columns_small name ts narrow.1
     ]
 
-pub columns_of : (p : Place) (m : Store) (name : List ℕ) → Holds p m → get (m tables) (text_bytes name) ≡ option_map number_bytes (find_named name p.tables)
-columns_of p m name holds = ap (λ s. get s (text_bytes name)) holds.table_rows ∙ get-table_space name p.tables
+pub columns_of : (p : Place) (m : Store) (name : List ℕ) → Holds p m → get (m tables)
+    (text_bytes name) ≡ option_map number_bytes (find_named name p.tables)
+columns_of p m name holds = holds.table_rows.lookups name tt
 
--- ---- meta numbers
+table_put : (name : List ℕ) (columns : ℕ) (ts : List (List ℕ × ℕ)) (space : Space) → AreTables ts space →
+    AreTables ((name, columns) ∷ ts) (insert space (text_bytes name) (number_bytes columns))
+table_put name columns ts space =
+    altered text_bytes Any number_bytes Any (λ q. find_named q ts) (λ q. find_named q ((name, columns) ∷ ts)) space name
+    (Some columns) (λ a b one two same. text_bytes-same a b same) tt tt
+    (record {
+      here = ap (λ b. cond b (Some columns) (find_named name ts)) ((bytes_eq-Decides name name).1 refl);
+      there = λ j one differ. ap (λ b. cond b (Some columns) (find_named j ts))
+          (refuted (bytes_eq j name) (λ same. differ ((bytes_eq-Decides j name).0 same)));
+    })
 
-over_twice : {A : Type 0} (a b : Bool) (s t v w z : A) → cond a t (cond b w (cond a s (cond b v z))) ≡ cond a t (cond b w z)
-over_twice true b s t v w z = refl
-over_twice false true s t v w z = refl
-over_twice false false s t v w z = refl
+-- ---- the meta numbers
 
-over_once : {A : Type 0} (a : Bool) (s t z : A) → cond a t (cond a s z) ≡ cond a t z
-over_once true s t z = refl
-over_once false s t z = refl
+not_zero : (n : ℕ) → 0 < n → (n == 0) ≡ false
+not_zero n some = other_number n 0 (λ is. omega (arith, is, some))
 
-gets : (space : Space) (k v q : List ℕ) → get (insert space k v) q ≡ cond (is_eq (key_cmp q k)) (Some v) (get space q)
-gets space k v q = get-insert nat_list_cmp_total space k v q
+-- the space of meta numbers that are told by a function
+abbrev Numbered : (ℕ → Option (List ℕ)) → Space → Type 0
+Numbered entry = IsSpace meta_key Any (λ value. value) Any entry
 
-restamped : (old new xids numbers : ℕ) → insert (numbers_space old xids numbers) stamp_key (number_bytes new) ≡ numbers_space new xids numbers
-restamped old new xids numbers =
-    same_map nat_list_cmp_total same_keys _ _ (λ q.
-    gets (numbers_space old xids numbers) stamp_key (number_bytes new) q
-    ∙ ap (cond (is_eq (key_cmp q stamp_key)) (Some (number_bytes new))) (gets _ stamp_key (number_bytes old) q)
-    ∙ over_once (is_eq (key_cmp q stamp_key)) (Some (number_bytes old)) (Some (number_bytes new)) _
-    ∙ sym (gets _ stamp_key (number_bytes new) q))
+numbered : (key : ℕ) (value : List ℕ) (old new : ℕ → Option (List ℕ)) (space : Space) → Alters Any key
+    (Some value) old new → Numbered old space → Numbered new (insert space (meta_key key) value)
+numbered key value old new space = altered meta_key Any (λ v. v) Any old new space key (Some value)
+    (λ a b one two same. cc) tt tt
 
-xids_raised : (stamp xids numbers late more : ℕ) → insert (insert (numbers_space stamp xids numbers) xid_ceiling_key (number_bytes more)) stamp_key (number_bytes late) ≡ numbers_space late more numbers
-xids_raised stamp xids numbers late more =
-    same_map nat_list_cmp_total same_keys _ _ (λ q.
-    gets _ stamp_key (number_bytes late) q
-    ∙ ap (cond (is_eq (key_cmp q stamp_key)) (Some (number_bytes late))) (gets _ xid_ceiling_key (number_bytes more) q
-    ∙ ap (cond (is_eq (key_cmp q xid_ceiling_key)) (Some (number_bytes more))) (gets _ stamp_key (number_bytes stamp) q ∙ ap (cond (is_eq (key_cmp q stamp_key)) (Some (number_bytes stamp))) (gets _ xid_ceiling_key (number_bytes xids) q)))
-    ∙ over_twice (is_eq (key_cmp q stamp_key)) (is_eq (key_cmp q xid_ceiling_key)) (Some (number_bytes stamp)) (Some (number_bytes late)) (Some (number_bytes xids)) (Some (number_bytes more)) _
-    ∙ sym (gets _ stamp_key (number_bytes late) q ∙ ap (cond (is_eq (key_cmp q stamp_key)) (Some (number_bytes late))) (gets _ xid_ceiling_key (number_bytes more) q)))
+-- one more number
+added : (key : ℕ) (value : List ℕ) (old : ℕ → Option (List ℕ)) (space : Space) → Numbered old space →
+    Numbered (λ k. cond (k == key) (Some value) (old k)) (insert space (meta_key key) value)
+added key value old space = numbered key value old (λ k. cond (k == key) (Some value) (old k)) space (record {
+  here = ap (λ b. cond b (Some value) (old key)) (eq-eqb key key refl);
+  there = λ j one differ. ap (λ b. cond b (Some value) (old j)) (other_number j key differ);
+})
 
--- a key is not the ceiling of the ids and that of the numbers
-keys_apart : (q : List ℕ) → is_eq (key_cmp q xid_ceiling_key) ≡ true → is_eq (key_cmp q action_ceiling_key) ≡ false
-keys_apart q is = subst (λ k. is_eq (key_cmp k action_ceiling_key) ≡ false) (sym (same_keys q xid_ceiling_key (equal_of _ is))) refl
+abbrev meta_of : Numbers → ℕ → Option (List ℕ)
+meta_of n = meta_at n.stamp n.xid_ceiling n.number_ceiling
 
-over_past : {A : Type 0} (a b c : Bool) (s t v n w z : A) → (b ≡ true → c ≡ false) → cond a t (cond c w (cond a s (cond b v (cond c n z)))) ≡ cond a t (cond b v (cond c w z))
-over_past true b c s t v n w z other = refl
-over_past false true true s t v n w z other = absurd (false≢true (sym (other refl)))
-over_past false true false s t v n w z other = refl
-over_past false false true s t v n w z other = refl
-over_past false false false s t v n w z other = refl
+abbrev numbers_of : Numbers → ℕ → Option (List ℕ)
+numbers_of n = numbers_at n.stamp n.xid_ceiling n.number_ceiling
 
-numbers_raised : (stamp xids numbers late more : ℕ) → insert (insert (numbers_space stamp xids numbers) action_ceiling_key (number_bytes more)) stamp_key (number_bytes late) ≡ numbers_space late xids more
-numbers_raised stamp xids numbers late more =
-    same_map nat_list_cmp_total same_keys _ _ (λ q.
-    gets _ stamp_key (number_bytes late) q
-    ∙ ap (cond (is_eq (key_cmp q stamp_key)) (Some (number_bytes late))) (gets _ action_ceiling_key (number_bytes more) q
-    ∙ ap (cond (is_eq (key_cmp q action_ceiling_key)) (Some (number_bytes more))) (gets _ stamp_key (number_bytes stamp) q
-    ∙ ap (cond (is_eq (key_cmp q stamp_key)) (Some (number_bytes stamp))) (gets _ xid_ceiling_key (number_bytes xids) q
-    ∙ ap (cond (is_eq (key_cmp q xid_ceiling_key)) (Some (number_bytes xids))) (gets _ action_ceiling_key (number_bytes numbers) q))))
-    ∙ over_past (is_eq (key_cmp q stamp_key)) (is_eq (key_cmp q xid_ceiling_key)) (is_eq (key_cmp q action_ceiling_key)) (Some (number_bytes stamp)) (Some (number_bytes late)) (Some (number_bytes xids)) (Some (number_bytes numbers)) (Some (number_bytes more)) _ (keys_apart q)
-    ∙ sym (gets _ stamp_key (number_bytes late) q
-    ∙ ap (cond (is_eq (key_cmp q stamp_key)) (Some (number_bytes late))) (gets _ xid_ceiling_key (number_bytes xids) q
-    ∙ ap (cond (is_eq (key_cmp q xid_ceiling_key)) (Some (number_bytes xids))) (gets _ action_ceiling_key (number_bytes more) q))))
+-- another number at a key, where there is a stamp
+renumbered : (key : ℕ) (value : List ℕ) (old new : Numbers) → 0 < old.stamp → 0 < new.stamp →
+    numbers_of new key ≡ Some value → ((j : ℕ) → (j ≡ key → ⊥) → numbers_of new j ≡ numbers_of old j) → Alters Any key
+    (Some value) (meta_of old) (meta_of new)
+renumbered key value old new was some here there = record {
+  here = ap (λ b. cond b None (numbers_of new key)) (not_zero new.stamp some) ∙ here;
+  there = λ j one differ. ap (λ b. cond b None (numbers_of new j)) (not_zero new.stamp some) ∙ there j differ
+      ∙ sym (ap (λ b. cond b None (numbers_of old j)) (not_zero old.stamp was));
+}
 
--- with a stamp there are meta numbers
-pub meta_some : (stamp xids numbers : ℕ) → 0 < stamp → meta_space stamp xids numbers ≡ numbers_space stamp xids numbers
-meta_some stamp xids numbers some = ap (λ b. cond b empty (numbers_space stamp xids numbers)) (not_zero stamp some)
-  where
-    not_zero : (n : ℕ) → 0 < n → (n == 0) ≡ false
-    not_zero n lt = elim (n == 0) as (λ c. (n == 0) ≡ c → (n == 0) ≡ false) [ true ↦ λ is. let same = eqb-true n 0 is in absurd (omega (arith, same)) | false ↦ λ is. is ] refl
+restamped : (old : Numbers) (stamp : ℕ) (space : Space) → 0 < old.stamp → 0 < stamp → Numbered (meta_of old) space →
+    IsMeta stamp old.xid_ceiling old.number_ceiling (insert space stamp_key (number_bytes stamp))
+restamped old stamp space was some =
+    let new : Numbers = record { stamp = stamp; xid_ceiling = old.xid_ceiling; number_ceiling = old.number_ceiling } in
+    numbered 1 (number_bytes stamp) (meta_of old) (meta_of new) space
+    (renumbered 1 (number_bytes stamp) old new was some refl (λ j differ. past_test (j == 1) _ _ _
+    (other_number j 1 differ)))
+
+raised_xids : (old : Numbers) (xids : ℕ) (space : Space) → 0 < old.stamp → Numbered (meta_of old) space →
+    IsMeta old.stamp xids old.number_ceiling (insert space xid_ceiling_key (number_bytes xids))
+raised_xids old xids space was =
+    let new : Numbers = record { stamp = old.stamp; xid_ceiling = xids; number_ceiling = old.number_ceiling } in
+    numbered 2 (number_bytes xids) (meta_of old) (meta_of new) space
+    (renumbered 2 (number_bytes xids) old new was was refl (λ j differ.
+    ap (cond (j == 1) (Some (number_bytes old.stamp))) (past_test (j == 2) _ _ _ (other_number j 2 differ))))
+
+raised_numbers : (old : Numbers) (numbers : ℕ) (space : Space) → 0 < old.stamp → Numbered (meta_of old) space →
+    IsMeta old.stamp old.xid_ceiling numbers (insert space action_ceiling_key (number_bytes numbers))
+raised_numbers old numbers space was =
+    let new : Numbers = record { stamp = old.stamp; xid_ceiling = old.xid_ceiling; number_ceiling = numbers } in
+    numbered 3 (number_bytes numbers) (meta_of old) (meta_of new) space
+    (renumbered 3 (number_bytes numbers) old new was was refl (λ j differ.
+    ap (cond (j == 1) (Some (number_bytes old.stamp))) (ap (cond (j == 2) (Some (number_bytes old.xid_ceiling)))
+    (past_test (j == 3) _ _ _ (other_number j 3 differ)))))
+
+-- the first numbers, over none
+founded_meta : (xids numbers : ℕ) (space : Space) → IsMeta 0 xids numbers space →
+    IsMeta 1 65 65
+    (insert (insert (insert (insert space log_status_key (0 ∷ [])) action_ceiling_key
+    (number_bytes 65)) xid_ceiling_key (number_bytes 65)) stamp_key (number_bytes 1))
+founded_meta xids numbers space is =
+    added 1 (number_bytes 1) _ _ (added 2 (number_bytes 65) _ _ (added 3 (number_bytes 65) _ _
+    (added 6 (0 ∷ []) (λ k. None) space is)))
 
 -- ---- spaces that are not in use
 
@@ -118,104 +143,149 @@ unused_other space used is_used unused =
       | false ↦ λ is. is
     ] refl
 
-put_other : (used : ℕ) (key value : List ℕ) (m : Store) (space : ℕ) → is_unused used ≡ false → is_unused space ≡ true → put_at used key value m space ≡ m space
-put_other used key value m space is_used unused = ap (λ b. cond b (insert (m used) key value) (m space)) (unused_other space used is_used unused)
+put_other : (used : ℕ) (key value : List ℕ) (m : Store) (space : ℕ) → is_unused used ≡ false → is_unused space ≡ true →
+    put_at used key value m space ≡ m space
+put_other used key value m space is_used unused = ap (λ b. cond b (insert (m used) key value) (m space))
+    (unused_other space used is_used unused)
 
 -- ---- each transaction
 
+abbrev numbers_in : Place → Numbers
+numbers_in p = record { stamp = p.stamp; xid_ceiling = p.xids.ceiling; number_ceiling = p.numbers.ceiling }
+
 -- what is stored of a place is the same where its stored parts are
-pub holds_same : (p q : Place) (m : Store) → q.stamp ≡ p.stamp → q.xid_ceiling ≡ p.xid_ceiling → q.number_ceiling ≡ p.number_ceiling → q.tables ≡ p.tables → ((table : List ℕ) → standing_rows q table ≡ standing_rows p table) → Holds p m → Holds q m
+pub holds_same : (p q : Place) (m : Store) → q.stamp ≡ p.stamp → q.xids.ceiling ≡ p.xids.ceiling →
+    q.numbers.ceiling ≡ p.numbers.ceiling → q.tables ≡ p.tables →
+    ((table : List ℕ) → standing_rows q table ≡ standing_rows p table) → Holds p m → Holds q m
 holds_same p q m stamp xids numbers ts same holds = record {
-  meta_numbers = holds.meta_numbers ∙ ap (λ s. meta_space s p.xid_ceiling p.number_ceiling) (sym stamp) ∙ ap (λ x. meta_space q.stamp x p.number_ceiling) (sym xids) ∙ ap (λ n. meta_space q.stamp q.xid_ceiling n) (sym numbers);
-  table_rows = holds.table_rows ∙ ap table_space (sym ts);
-  rows_held = record {
-    lookups = λ table key text. holds.rows_held.lookups table key text ∙ ap (λ r. option_map list_bytes (get r key)) (sym (same table));
-    keys = holds.rows_held.keys;
-  };
+  meta_numbers = same_space holds.meta_numbers (λ key one. λ i. meta_at (stamp i) (xids i) (numbers i) key);
+  table_rows = same_space holds.table_rows (λ name one. ap (find_named name) ts);
+  rows_held = same_space holds.rows_held (λ i one. ap (λ r. get r i.1) (same i.0));
   others = holds.others;
 }
 
-pub holds_table : (p : Place) (m : Store) (name : List ℕ) (columns : ℕ) → 0 < p.stamp → Holds p m → Holds (table_after name columns p) (new_table (text_bytes name) (number_bytes columns) (number_bytes (p.stamp + 1)) m)
+pub holds_table : (p : Place) (m : Store) (name : List ℕ) (columns : ℕ) → 0 < p.stamp → Holds p m →
+    Holds (tabled name columns p) (new_table (text_bytes name) (number_bytes columns)
+    (number_bytes (p.stamp + 1)) m)
 holds_table p m name columns some holds = record {
-  meta_numbers = ap (λ s. insert s stamp_key (number_bytes (p.stamp + 1))) (holds.meta_numbers ∙ meta_some p.stamp p.xid_ceiling p.number_ceiling some) ∙ restamped p.stamp (p.stamp + 1) p.xid_ceiling p.number_ceiling ∙ sym (meta_some (p.stamp + 1) p.xid_ceiling p.number_ceiling (omega arith));
-  table_rows = ap (λ s. insert s (text_bytes name) (number_bytes columns)) holds.table_rows;
-  rows_held = record { lookups = holds.rows_held.lookups; keys = holds.rows_held.keys };
-  others = λ space unused. put_other meta stamp_key (number_bytes (p.stamp + 1)) (put_at tables (text_bytes name) (number_bytes columns) m) space refl unused ∙ put_other tables (text_bytes name) (number_bytes columns) m space refl unused ∙ holds.others space unused;
+  meta_numbers = restamped (numbers_in p) (p.stamp + 1) (m meta) some (omega arith) holds.meta_numbers;
+  table_rows = table_put name columns p.tables (m tables) holds.table_rows;
+  rows_held = holds.rows_held;
+  others = λ space unused. put_other meta stamp_key (number_bytes (p.stamp + 1)) (put_at tables (text_bytes name)
+      (number_bytes columns) m) space refl unused ∙ put_other tables (text_bytes name)
+      (number_bytes columns) m space refl unused ∙ holds.others space unused;
 }
 
-pub holds_xids : (p : Place) (m : Store) → 0 < p.stamp → Holds p m → Holds (record p { xid_ceiling = p.xid_ceiling + 64; stamp = p.stamp + 1 }) (new_ceiling xid_ceiling_key (number_bytes (p.xid_ceiling + 64)) (number_bytes (p.stamp + 1)) m)
+-- a ceiling that rises, with the stamp of its transaction
+ceiling_others : (p : Place) (m : Store) (key value stamp : List ℕ) → Holds p m → (space : ℕ) → is_unused space ≡ true →
+    new_ceiling key value stamp m space ≡ m space
+ceiling_others p m key value stamp holds space unused = put_other meta stamp_key stamp
+    (put_at meta key value m) space refl unused ∙ put_other meta key value m space refl unused
+
+pub holds_xids : (p : Place) (m : Store) → 0 < p.stamp → Holds p m →
+    Holds (stamped (with_counter Xids (lifted p.xids) p)) (new_ceiling xid_ceiling_key
+    (number_bytes (p.xids.ceiling + 64)) (number_bytes (p.stamp + 1)) m)
 holds_xids p m some holds = record {
-  meta_numbers = ap (λ s. insert (insert s xid_ceiling_key (number_bytes (p.xid_ceiling + 64))) stamp_key (number_bytes (p.stamp + 1))) (holds.meta_numbers ∙ meta_some p.stamp p.xid_ceiling p.number_ceiling some)
-      ∙ xids_raised p.stamp p.xid_ceiling p.number_ceiling (p.stamp + 1) (p.xid_ceiling + 64) ∙ sym (meta_some (p.stamp + 1) (p.xid_ceiling + 64) p.number_ceiling (omega arith));
+  meta_numbers = restamped (record (numbers_in p) { xid_ceiling = p.xids.ceiling + 64 }) (p.stamp + 1) _ some
+      (omega arith) (raised_xids (numbers_in p) (p.xids.ceiling + 64) (m meta) some holds.meta_numbers);
   table_rows = holds.table_rows;
-  rows_held = record { lookups = holds.rows_held.lookups; keys = holds.rows_held.keys };
-  others = λ space unused. put_other meta stamp_key (number_bytes (p.stamp + 1)) (put_at meta xid_ceiling_key (number_bytes (p.xid_ceiling + 64)) m) space refl unused ∙ put_other meta xid_ceiling_key (number_bytes (p.xid_ceiling + 64)) m space refl unused ∙ holds.others space unused;
+  rows_held = holds.rows_held;
+  others = λ space unused. ceiling_others p m xid_ceiling_key _ _ holds space unused ∙ holds.others space unused;
 }
 
-pub holds_numbers : (p : Place) (m : Store) → 0 < p.stamp → Holds p m → Holds (record p { number_ceiling = p.number_ceiling + 64; stamp = p.stamp + 1 }) (new_ceiling action_ceiling_key (number_bytes (p.number_ceiling + 64)) (number_bytes (p.stamp + 1)) m)
+pub holds_numbers : (p : Place) (m : Store) → 0 < p.stamp → Holds p m →
+    Holds (stamped (with_counter Actions (lifted p.numbers) p)) (new_ceiling action_ceiling_key
+    (number_bytes (p.numbers.ceiling + 64)) (number_bytes (p.stamp + 1)) m)
 holds_numbers p m some holds = record {
-  meta_numbers = ap (λ s. insert (insert s action_ceiling_key (number_bytes (p.number_ceiling + 64))) stamp_key (number_bytes (p.stamp + 1))) (holds.meta_numbers ∙ meta_some p.stamp p.xid_ceiling p.number_ceiling some)
-      ∙ numbers_raised p.stamp p.xid_ceiling p.number_ceiling (p.stamp + 1) (p.number_ceiling + 64) ∙ sym (meta_some (p.stamp + 1) p.xid_ceiling (p.number_ceiling + 64) (omega arith));
+  meta_numbers = restamped (record (numbers_in p) { number_ceiling = p.numbers.ceiling + 64 }) (p.stamp + 1) _ some
+      (omega arith) (raised_numbers (numbers_in p) (p.numbers.ceiling + 64) (m meta) some holds.meta_numbers);
   table_rows = holds.table_rows;
-  rows_held = record { lookups = holds.rows_held.lookups; keys = holds.rows_held.keys };
-  others = λ space unused. put_other meta stamp_key (number_bytes (p.stamp + 1)) (put_at meta action_ceiling_key (number_bytes (p.number_ceiling + 64)) m) space refl unused ∙ put_other meta action_ceiling_key (number_bytes (p.number_ceiling + 64)) m space refl unused ∙ holds.others space unused;
+  rows_held = holds.rows_held;
+  others = λ space unused. ceiling_others p m action_ceiling_key _ _ holds space unused ∙ holds.others space unused;
 }
+
+-- the key of a ceiling
+abbrev pub ceiling_key : Numbering → List ℕ
+ceiling_key Xids = xid_ceiling_key
+ceiling_key Actions = action_ceiling_key
+
+pub holds_lifted : (kind : Numbering) (p : Place) (m : Store) → 0 < p.stamp → Holds p m →
+    Holds (stamped (with_counter kind (lifted (counter kind p)) p)) (new_ceiling (ceiling_key kind) (number_bytes ((counter kind p).ceiling + 64)) (number_bytes (p.stamp + 1)) m)
+holds_lifted Xids p m some holds = holds_xids p m some holds
+holds_lifted Actions p m some holds = holds_numbers p m some holds
 
 -- the first rows are written where there was none
-pub holds_first : (p q : Place) (m : Store) → p.stamp ≡ 0 → q.stamp ≡ 1 → q.xid_ceiling ≡ 65 → q.number_ceiling ≡ 65 → q.tables ≡ p.tables → q.commits ≡ p.commits → q.actions ≡ p.actions → Holds p m → Holds q (first_rows (number_bytes 1) (number_bytes 65) m)
+pub holds_first : (p q : Place) (m : Store) → p.stamp ≡ 0 → q.stamp ≡ 1 → q.xids.ceiling ≡ 65 → q.numbers.ceiling ≡ 65 →
+    q.tables ≡ p.tables → q.commits ≡ p.commits → q.actions ≡ p.actions → Holds p m →
+    Holds q (first_rows (number_bytes 1) (number_bytes 65) m)
 holds_first p q m none stamp xids numbers ts commits actions holds = record {
-  meta_numbers = ap (λ s. insert (insert (insert (insert s log_status_key (0 ∷ [])) action_ceiling_key (number_bytes 65)) xid_ceiling_key (number_bytes 65)) stamp_key (number_bytes 1)) (holds.meta_numbers ∙ ap (λ s. meta_space s p.xid_ceiling p.number_ceiling) none)
-      ∙ ap (λ s. meta_space s 65 65) (sym stamp) ∙ ap (λ x. meta_space q.stamp x 65) (sym xids) ∙ ap (λ n. meta_space q.stamp q.xid_ceiling n) (sym numbers);
-  table_rows = holds.table_rows ∙ ap table_space (sym ts);
-  rows_held = record {
-    lookups = λ table key text. holds.rows_held.lookups table key text ∙ ap (λ r. option_map list_bytes (get r key)) (same table);
-    keys = holds.rows_held.keys;
-  };
+  meta_numbers = same_space (founded_meta p.xids.ceiling p.numbers.ceiling (m meta)
+      (subst (λ s. IsMeta s p.xids.ceiling p.numbers.ceiling (m meta)) none holds.meta_numbers))
+      (λ key one. λ i. meta_at (stamp i) (xids i) (numbers i) key);
+  table_rows = same_space holds.table_rows (λ name one. ap (find_named name) ts);
+  rows_held = same_space holds.rows_held
+      (λ i one. ap (λ c. get (standing_rows (record q { commits = c }) i.0) i.1) commits
+      ∙ ap (λ a. get (standing_rows (record p { actions = a }) i.0) i.1) actions);
   others = λ space unused.
-      put_other meta stamp_key (number_bytes 1) (put_at meta xid_ceiling_key (number_bytes 65) (put_at meta action_ceiling_key (number_bytes 65) (put_at meta log_status_key (0 ∷ []) m))) space refl unused
-      ∙ put_other meta xid_ceiling_key (number_bytes 65) (put_at meta action_ceiling_key (number_bytes 65) (put_at meta log_status_key (0 ∷ []) m)) space refl unused
+      put_other meta stamp_key (number_bytes 1) (put_at meta xid_ceiling_key (number_bytes 65)
+      (put_at meta action_ceiling_key (number_bytes 65) (put_at meta log_status_key (0 ∷ []) m))) space refl unused
+      ∙ put_other meta xid_ceiling_key (number_bytes 65) (put_at meta action_ceiling_key (number_bytes 65)
+      (put_at meta log_status_key (0 ∷ []) m)) space refl unused
       ∙ put_other meta action_ceiling_key (number_bytes 65) (put_at meta log_status_key (0 ∷ []) m) space refl unused
       ∙ put_other meta log_status_key (0 ∷ []) m space refl unused ∙ holds.others space unused;
 }
-  where
-    same : (table : List ℕ) → standing_rows p table ≡ standing_rows q table
-    same table = ap (λ c. standing_rows (record p { commits = c }) table) (sym commits) ∙ ap (λ a. standing_rows (record p { commits = q.commits; actions = a }) table) (sym actions)
 
 -- ---- the writes of a transaction
 
-found_entry : (e : List ℕ × Option (List ℕ)) (m : Store) (q : List ℕ) → get (write_at e.0 e.1 m rows) q ≡ cond (is_eq (key_cmp q e.0)) e.1 (get (m rows) q)
+found_entry : (e : List ℕ × Option (List ℕ)) (m : Store) (q : List ℕ) → get (write_at e.0 e.1 m rows) q ≡ cond
+    (is_eq (key_cmp q e.0)) e.1 (get (m rows) q)
 found_entry (k, None) m q = get-remove nat_list_cmp_total (m rows) k q
 found_entry (k, Some v) m q = get-insert nat_list_cmp_total (m rows) k v q
 
-get-write_all : (es : List (List ℕ × Option (List ℕ))) (m : Store) (q : List ℕ) → T (is_sorted key_cmp es) → get (write_all es m rows) q ≡ over (find key_cmp q es) (get (m rows) q)
+get-write_all : (es : List (List ℕ × Option (List ℕ))) (m : Store) (q : List ℕ) → T (is_sorted key_cmp es) →
+    get (write_all es m rows) q ≡ over (find key_cmp q es) (get (m rows) q)
 get-write_all [] m q sorted = refl
 get-write_all (e ∷ es) m q sorted =
     get-write_all es (write_at e.0 e.1 m) q (back_of _ _ sorted)
     ∙ ap (over (find key_cmp q es)) (found_entry e m q)
-    ∙ elim (is_eq (key_cmp q e.0)) as (λ b. is_eq (key_cmp q e.0) ≡ b → over (find key_cmp q es) (cond b e.1 (get (m rows) q)) ≡ over (cond b (Some e.1) (find key_cmp q es)) (get (m rows) q)) [
-      | true ↦ λ same. ap (λ o. over o e.1) (find_none q e.0 es (λ g less. ap (λ k. key_cmp k g) (same_keys q e.0 (equal_of _ same)) ∙ less) (front_of _ _ sorted))
+    ∙ elim (is_eq (key_cmp q e.0)) as (λ b. is_eq (key_cmp q e.0) ≡ b → over (find key_cmp q es)
+    (cond b e.1 (get (m rows) q)) ≡ over (cond b (Some e.1) (find key_cmp q es)) (get (m rows) q)) [
+      | true ↦ λ same. ap (λ o. over o e.1)
+          (find_none q e.0 es (λ g less. ap (λ k. key_cmp k g) (same_keys q e.0 (equal_of _ same)) ∙ less)
+          (front_of _ _ sorted))
       | false ↦ λ differ. refl
     ] refl
 
-write_other : (k : List ℕ) (v : Option (List ℕ)) (m : Store) (space : ℕ) → (space == rows) ≡ false → write_at k v m space ≡ m space
+write_other : (k : List ℕ) (v : Option (List ℕ)) (m : Store) (space : ℕ) → (space == rows) ≡ false →
+    write_at k v m space ≡ m space
 write_other k None m space other = ap (λ b. cond b (remove (m rows) k) (m space)) other
 write_other k (Some v) m space other = ap (λ b. cond b (insert (m rows) k v) (m space)) other
 
-write_all-other : (es : List (List ℕ × Option (List ℕ))) (m : Store) (space : ℕ) → (space == rows) ≡ false → write_all es m space ≡ m space
+write_all-other : (es : List (List ℕ × Option (List ℕ))) (m : Store) (space : ℕ) → (space == rows) ≡ false →
+    write_all es m space ≡ m space
 write_all-other [] m space other = refl
-write_all-other (e ∷ es) m space other = write_all-other es (write_at e.0 e.1 m) space other ∙ write_other e.0 e.1 m space other
+write_all-other (e ∷ es) m space other = write_all-other es (write_at e.0 e.1 m) space other
+    ∙ write_other e.0 e.1 m space other
 
 -- the rows of a transaction are put over those that stood
-pub holds_rows : (p q : Place) (m : Store) (writes : Writes) → 0 < p.stamp → q.stamp ≡ p.stamp + 1 → q.xid_ceiling ≡ p.xid_ceiling → q.number_ceiling ≡ p.number_ceiling → q.tables ≡ p.tables
-    → AreRows (standing_rows q) (write_all (entries writes) m rows) → Holds p m → Holds q (new_rows writes (number_bytes (p.stamp + 1)) m)
+pub holds_rows : (p q : Place) (m : Store) (writes : Writes) → 0 < p.stamp → q.stamp ≡ p.stamp + 1 →
+    q.xids.ceiling ≡ p.xids.ceiling → q.numbers.ceiling ≡ p.numbers.ceiling → q.tables ≡ p.tables
+    → AreRows (standing_rows q) (write_all (entries writes) m rows) → Holds p m →
+    Holds q (new_rows writes (number_bytes (p.stamp + 1)) m)
 holds_rows p q m writes some stamp xids numbers ts are holds = record {
-  meta_numbers = ap (λ s. insert s stamp_key (number_bytes (p.stamp + 1))) (write_all-other (entries writes) m meta refl ∙ holds.meta_numbers ∙ meta_some p.stamp p.xid_ceiling p.number_ceiling some) ∙ restamped p.stamp (p.stamp + 1) p.xid_ceiling p.number_ceiling
-      ∙ sym (meta_some (p.stamp + 1) p.xid_ceiling p.number_ceiling (omega arith)) ∙ ap (λ s. meta_space s p.xid_ceiling p.number_ceiling) (sym stamp) ∙ ap (λ x. meta_space q.stamp x p.number_ceiling) (sym xids) ∙ ap (λ n. meta_space q.stamp q.xid_ceiling n) (sym numbers);
-  table_rows = write_all-other (entries writes) m tables refl ∙ holds.table_rows ∙ ap table_space (sym ts);
-  rows_held = record { lookups = are.lookups; keys = are.keys };
-  others = λ space unused. put_other meta stamp_key (number_bytes (p.stamp + 1)) (write_all (entries writes) m) space refl unused
+  meta_numbers = same_space (restamped (numbers_in p) (p.stamp + 1) _ some (omega arith)
+      (subst (IsMeta p.stamp p.xids.ceiling p.numbers.ceiling)
+      (sym (write_all-other (entries writes) m meta refl)) holds.meta_numbers))
+      (λ key one. λ i. meta_at (stamp i) (xids i) (numbers i) key);
+  table_rows = subst (AreTables q.tables) (sym (write_all-other (entries writes) m tables refl))
+      (same_space holds.table_rows (λ name one. ap (find_named name) ts));
+  rows_held = are;
+  others = λ space unused. put_other meta stamp_key (number_bytes (p.stamp + 1))
+      (write_all (entries writes) m) space refl unused
       ∙ write_all-other (entries writes) m space (unused_other space rows refl unused) ∙ holds.others space unused;
 }
 
-pub get-written : (writes : Writes) (m : Store) (q : List ℕ) → get (write_all (entries writes) m rows) q ≡ over (get writes q) (get (m rows) q)
-get-written writes m q = get-write_all (entries writes) m q (entries_sorted writes) ∙ ap (λ o. over o (get (m rows) q)) (sym (get-entries writes q))
+pub get-written : (writes : Writes) (m : Store) (q : List ℕ) → get (write_all (entries writes) m rows) q ≡ over
+    (get writes q) (get (m rows) q)
+get-written writes m q = get-write_all (entries writes) m q (entries_sorted writes) ∙ ap (λ o. over o (get (m rows) q))
+    (sym (get-entries writes q))

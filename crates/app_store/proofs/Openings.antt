@@ -12,18 +12,19 @@ use Rattle.std.proofs.lemmas.Slice.Eq.{bytes_eq-Decides}
 use Rattle.slon_base.specs.Keeper.{key_cmp}
 use Rattle.slon_base.specs.Codec.{list_bytes, IsText}
 use Rattle.slon_base.proofs.Spelled.{text_front, text_bytes-same}
-use Rattle.slon_model.specs.Rows.{Rows, Action, Change, touches, is_on, member, apply, rows_by}
-use Rattle.slon_model.specs.Place.{Place, open_xids, seen_rows, standing_rows, own_count, written, committed}
+use Rattle.slon_model.specs.Rows.{Rows, Action, Change, change_key, touches, is_on, member, apply, rows_by}
+use Rattle.slon_model.specs.Place.{Place, open_xids, seen_rows, standing_rows, own_count}
+use Rattle.slon_model.specs.Moves.{written, committed}
+use Rattle.slon_model.proofs.Names.{bytes_same}
 use Rattle.slon_laws.specs.Sound.{Sound}
 use Rattle.slon_laws.specs.Keys.{change_at}
 use Rattle.slon_laws.proofs.Keys.{get-played, key_test}
-use Rattle.slon_laws.proofs.Opens.{bytes_same}
 use Rattle.app_store.specs.declared.opens.Transaction.{Transaction}
 use Rattle.app_store.specs.Fits.{IsOpened, has_written}
 use Rattle.app_store.specs.Spelled.{IsRowKey, row_key, over}
 use Rattle.app_store.specs.Written.{with_write}
-use Rattle.app_store.proofs.Order.{same_keys, equal_of, apart, tied}
-use Rattle.app_store.proofs.Places.{changed_key, touches_key, NoneOf, none_written, none_counted, none_later, counted_at_most, unwritten, seen_unwritten, written_by_one}
+use Rattle.store_rows.proofs.Order.{same_keys, equal_of, apart, tied}
+use Rattle.app_store.proofs.Places.{NoneOf, none_written, none_counted, none_later, counted_at_most, unwritten, seen_unwritten, written_by_one}
 
 -- ---- keys of rows
 
@@ -48,9 +49,9 @@ pub opened_same : (p q : Place) (x : ℕ) (t : Transaction) → q.actions ≡ p.
 opened_same p q x t actions commits o = subst (λ c. IsOpened (record q { commits = c }) x t) (sym commits) (subst (λ a. IsOpened (record q { commits = p.commits; actions = a }) x t) (sym actions)
     (record { xid_is = o.xid_is; count = o.count; sees = o.sees; wrote = o.wrote; keys = o.keys }))
 
-pub opened_new : (p q : Place) (x y : ℕ) → Sound p → q.actions ≡ p.actions → q.commits ≡ p.commits → p.next_xid ≡ x → y ≡ x → IsOpened q x (record { xid = y; actions = 0; writes = empty })
+pub opened_new : (p q : Place) (x y : ℕ) → Sound p → q.actions ≡ p.actions → q.commits ≡ p.commits → p.xids.next ≡ x → y ≡ x → IsOpened q x (record { xid = y; actions = 0; writes = empty })
 opened_new p q x y sound actions commits next is =
-    let none : NoneOf x p.actions = none_later p.next_xid x p.actions sound.known (omega (arith, next)) in
+    let none : NoneOf x p.actions = none_later p.xids.next x p.actions sound.known (omega (arith, next)) in
     opened_same p q x _ actions commits (record {
       xid_is = is;
       count = sym (none_counted x p.actions none);
@@ -69,7 +70,7 @@ skipped test table a key rows is = ap (λ b. option_map list_bytes (get (cond (b
 -- of another transaction
 pub opened_other : (p : Place) (x y : ℕ) (table : List ℕ) (change : Change) (t : Transaction) → (x == y) ≡ false → member x p.commits ≡ false → IsOpened p y t → IsOpened (written x table change p) y t
 opened_other p x y table change t differ open_still o =
-    let a : Action = record { number = p.next_number; xid = x; table = table; change = change } in
+    let a : Action = record { number = p.numbers.next; xid = x; table = table; change = change } in
     record {
       xid_is = o.xid_is;
       count = o.count ∙ ap (λ b. length (cond b (a ∷ filter (λ a. a.xid == y) p.actions) (filter (λ a. a.xid == y) p.actions))) (sym differ);
@@ -84,12 +85,12 @@ at_change : (b : Bool) (s w : Option (List ℕ)) (old there : Option (Option (Li
 at_change true s w old there z one other = one refl
 at_change false s w old there z one other = other refl
 
-pub opened_own : (p : Place) (x : ℕ) (table key : List ℕ) (change : Change) (value : Option (List ℕ)) (t : Transaction) → Sound p → IsText table → IsText key → changed_key change ≡ key → member x p.commits ≡ false → length p.actions + 1 < 2 ^ 64 →
+pub opened_own : (p : Place) (x : ℕ) (table key : List ℕ) (change : Change) (value : Option (List ℕ)) (t : Transaction) → Sound p → IsText table → IsText key → change_key change ≡ key → member x p.commits ≡ false → length p.actions + 1 < 2 ^ 64 →
     value ≡ option_map list_bytes (change_at change (get (seen_rows x p table) key)) → IsOpened p x t → IsOpened (written x table change p) x (with_write (row_key table key) value t)
 opened_own p x table key change value t sound text key_text is_key open_still room value_is o =
-    let a : Action = record { number = p.next_number; xid = x; table = table; change = change } in
+    let a : Action = record { number = p.numbers.next; xid = x; table = table; change = change } in
     let own : (x == x) ≡ true = eq-eqb x x refl in
-    let on : (other k : List ℕ) → (bytes_eq other table && bytes_eq k key) ≡ is_on other k a = λ other k. ap (λ b. bytes_eq other table && b) (ap (bytes_eq k) (sym is_key) ∙ sym (touches_key k change)) in
+    let on : (other k : List ℕ) → (bytes_eq other table && bytes_eq k key) ≡ is_on other k a = λ other k. ap (λ b. bytes_eq other table && b) (ap (bytes_eq k) (sym is_key)) in
     record {
       xid_is = o.xid_is;
       count = counted (own_count x p) t.actions o.count (omega (arith, counted_at_most x p.actions, room))

@@ -6,24 +6,15 @@ use Rattle.std.specs.Str.{bytes_eq}
 use Rattle.std.specs.FinMap.{get}
 use Rattle.std.proofs.lemmas.Bool.{false≢true, true≢false, false_from_ne_true, eqb-true, and_parts}
 use Rattle.std.proofs.lemmas.Slice.Eq.{bytes_eq-Decides}
-use Rattle.slon_model.specs.Rows.{Rows, Action, Change, Put, Set, Remove, touches, is_on, member, play, rows_by, holder_in}
-use Rattle.slon_model.specs.Place.{find_named, without}
-use Rattle.slon_laws.specs.Sound.{Pairs, IsLocked, conflicts, AreNamedOnce}
+use Rattle.slon_model.specs.Names.{Named, find_named, without}
+use Rattle.slon_model.specs.Rows.{Rows, Action, Change, change_key, touches, is_on, member, play, rows_by, holder_in}
+use Rattle.slon_laws.specs.Sound.{Pairs, IsLocked, conflicts, AreNamedOnce, ids_of}
 use Rattle.slon_model.specs.Snapshots.{Rising}
 use Rattle.slon_laws.proofs.Keys.{agree_at}
-use Rattle.slon_laws.proofs.Opens.{xids_of, bytes_same, member_without, member_taken}
+use Rattle.slon_model.proofs.Names.{bytes_same}
+use Rattle.slon_laws.proofs.Locks.{from_one_row}
+use Rattle.slon_laws.proofs.Opens.{member_without, member_taken}
 use Rattle.app_store.specs.Fits.{has_written}
-
--- the key of a change
-abbrev pub changed_key : Change → List ℕ
-changed_key (Put key row) = key
-changed_key (Set key columns) = key
-changed_key (Remove key) = key
-
-pub touches_key : (k : List ℕ) (c : Change) → touches k c ≡ bytes_eq k (changed_key c)
-touches_key k (Put key row) = refl
-touches_key k (Set key columns) = refl
-touches_key k (Remove key) = refl
 
 pub bytes_symmetric : (a b : List ℕ) → bytes_eq a b ≡ bytes_eq b a
 bytes_symmetric a b =
@@ -31,42 +22,6 @@ bytes_symmetric a b =
       | true ↦ λ is. sym ((bytes_eq-Decides b a).1 (sym ((bytes_eq-Decides a b).0 is)))
       | false ↦ λ is. sym (false_from_ne_true _ (λ same. false≢true (sym is ∙ (bytes_eq-Decides a b).1 (sym ((bytes_eq-Decides b a).0 same)))))
     ] refl
-
--- ---- names
-
-nothing_twice : {X : Type 0} (b : Bool) → ◌≡◌ {A = Option X} None (cond b None None)
-nothing_twice true = refl
-nothing_twice false = refl
-
-pub find_without : {X : Type 0} (q name : List ℕ) (es : List (List ℕ × X)) → find_named q (without name es) ≡ cond (bytes_eq q name) None (find_named q es)
-find_without q name [] = nothing_twice (bytes_eq q name)
-find_without {X} q name (e ∷ es) =
-    elim (bytes_eq name e.0) as (λ b. bytes_eq name e.0 ≡ b → find_named q (cond (not b) (e ∷ without name es) (without name es)) ≡ cond (bytes_eq q name) None (cond (bytes_eq q e.0) (Some e.1) (find_named q es))) [
-      | true ↦ λ here. find_without q name es ∙ ap (λ k. cond (bytes_eq q k) None (find_named q es)) (bytes_same name e.0 here) ∙ over (bytes_eq q e.0) (Some e.1) (find_named q es)
-          ∙ ap (λ k. cond (bytes_eq q k) None (cond (bytes_eq q e.0) (Some e.1) (find_named q es))) (sym (bytes_same name e.0 here))
-      | false ↦ λ other. ap (cond (bytes_eq q e.0) (Some e.1)) (find_without q name es) ∙ apart (bytes_eq q e.0) (bytes_eq q name) (Some e.1) (find_named q es)
-          (λ one two. false≢true (sym other ∙ (bytes_eq-Decides name e.0).1 (sym (bytes_same q name two) ∙ bytes_same q e.0 one)))
-    ] refl
-  where
-    over : (b : Bool) (x o : Option X) → cond b None o ≡ cond b None (cond b x o)
-    over true x o = refl
-    over false x o = refl
-
-    apart : (a b : Bool) (x o : Option X) → (a ≡ true → b ≡ true → ⊥) → cond a x (cond b None o) ≡ cond b None (cond a x o)
-    apart true true x o differ = absurd (differ refl refl)
-    apart true false x o differ = refl
-    apart false b x o differ = refl
-
--- what stands under a name after one more
-abbrev pub or_new : {X : Type 0} → Bool → X → Option X → Option X
-or_new b x None = cond b (Some x) None
-or_new b x (Some y) = Some y
-
-pub find_behind : {X : Type 0} (q name : List ℕ) (x : X) (es : List (List ℕ × X)) → find_named q (es ++ (name, x) ∷ []) ≡ or_new (bytes_eq q name) x (find_named q es)
-find_behind q name x [] = refl
-find_behind q name x (e ∷ es) =
-    ap (cond (bytes_eq q e.0) (Some e.1)) (find_behind q name x es)
-    ∙ elim (bytes_eq q e.0) as (λ b. cond b (Some e.1) (or_new (bytes_eq q name) x (find_named q es)) ≡ or_new (bytes_eq q name) x (cond b (Some e.1) (find_named q es))) [ true ↦ refl | false ↦ refl ]
 
 -- ---- ids
 
@@ -78,31 +33,31 @@ or_same : (a b c : Bool) → (a || (b || c)) ≡ ((a || b) || c)
 or_same true b c = refl
 or_same false b c = refl
 
-pub member_snoc : (z n : ℕ) (name : List ℕ) (os : List (List ℕ × ℕ)) → member z (xids_of (os ++ (name, n) ∷ [])) ≡ (member z (xids_of os) || (z == n))
+pub member_snoc : (z n : ℕ) (name : List ℕ) (os : Named ℕ) → member z (ids_of (os ++ (name, n) ∷ [])) ≡ (member z (ids_of os) || (z == n))
 member_snoc z n name [] = or_false (z == n)
   where
     or_false : (b : Bool) → (b || false) ≡ b
     or_false true = refl
     or_false false = refl
-member_snoc z n name (o ∷ os) = ap (λ b. (z == o.1) || b) (member_snoc z n name os) ∙ or_same (z == o.1) (member z (xids_of os)) (z == n)
+member_snoc z n name (o ∷ os) = ap (λ b. (z == o.1) || b) (member_snoc z n name os) ∙ or_same (z == o.1) (member z (ids_of os)) (z == n)
 
 -- another opened id stays open
-pub member_kept : (z x : ℕ) (name : List ℕ) (os : List (List ℕ × ℕ)) → AreNamedOnce os → find_named name os ≡ Some x → (z == x) ≡ false → member z (xids_of os) ≡ true → member z (xids_of (without name os)) ≡ true
+pub member_kept : (z x : ℕ) (name : List ℕ) (os : Named ℕ) → AreNamedOnce os → find_named name os ≡ Some x → (z == x) ≡ false → member z (ids_of os) ≡ true → member z (ids_of (without name os)) ≡ true
 member_kept z x name [] named found differ is = is
 member_kept z x name (o ∷ os) named found differ is =
-    elim (bytes_eq name o.0) as (λ b. bytes_eq name o.0 ≡ b → cond b (Some o.1) (find_named name os) ≡ Some x → member z (xids_of (cond (not b) (o ∷ without name os) (without name os))) ≡ true) [
+    elim (bytes_eq name o.0) as (λ b. bytes_eq name o.0 ≡ b → cond b (Some o.1) (find_named name os) ≡ Some x → member z (ids_of (cond (not b) (o ∷ without name os) (without name os))) ≡ true) [
       | true ↦ λ here first. let same : o.1 ≡ x = cc in
-          ap (λ es. member z (xids_of es)) (all_kept os (ap (λ k. find_named k os) (bytes_same name o.0 here) ∙ named.0)) ∙ elim (z == o.1) as (λ b. (z == o.1) ≡ b → (b || member z (xids_of os)) ≡ true → member z (xids_of os) ≡ true) [
+          ap (λ es. member z (ids_of es)) (all_kept os (ap (λ k. find_named k os) (bytes_same name o.0 here) ∙ named.0)) ∙ elim (z == o.1) as (λ b. (z == o.1) ≡ b → (b || member z (ids_of os)) ≡ true → member z (ids_of os) ≡ true) [
             | true ↦ λ one _. absurd (false≢true (sym differ ∙ ap (λ y. z == y) (sym same) ∙ one))
             | false ↦ λ _ more. more
           ] refl is
-      | false ↦ λ other later. elim (z == o.1) as (λ b. (b || member z (xids_of os)) ≡ true → (b || member z (xids_of (without name os))) ≡ true) [
+      | false ↦ λ other later. elim (z == o.1) as (λ b. (b || member z (ids_of os)) ≡ true → (b || member z (ids_of (without name os))) ≡ true) [
         | true ↦ λ _. refl
         | false ↦ λ more. member_kept z x name os named.1 later differ more
       ] is
     ] refl found
   where
-    all_kept : (es : List (List ℕ × ℕ)) → find_named name es ≡ None → without name es ≡ es
+    all_kept : (es : Named ℕ) → find_named name es ≡ None → without name es ≡ es
     all_kept [] none = refl
     all_kept (e ∷ es) none =
         elim (bytes_eq name e.0) as (λ b. cond b (Some e.1) (find_named name es) ≡ None → cond (not b) (e ∷ without name es) (without name es) ≡ e ∷ es) [
@@ -180,21 +135,16 @@ seen_unwritten x xs table key actions none = agree_at (λ a. member a.xid (x ∷
 
 -- ---- rows of one transaction
 
-on_parts : (table key : List ℕ) (a : Action) → is_on table key a ≡ true → (a.table ≡ table) × (changed_key a.change ≡ key)
+on_parts : (table key : List ℕ) (a : Action) → is_on table key a ≡ true → (a.table ≡ table) × (change_key a.change ≡ key)
 on_parts table key a on =
     let parts = and_parts (bytes_eq table a.table) (touches key a.change) on in
-    (sym (bytes_same table a.table parts.0), sym (bytes_same key (changed_key a.change) (sym (touches_key key a.change) ∙ parts.1)))
-
-meets_key : (c d : Change) → changed_key c ≡ changed_key d → Rattle.slon_laws.specs.Sound.meets c d ≡ true
-meets_key (Put key row) d same = touches_key key d ∙ (bytes_eq-Decides key (changed_key d)).1 same
-meets_key (Set key columns) d same = touches_key key d ∙ (bytes_eq-Decides key (changed_key d)).1 same
-meets_key (Remove key) d same = touches_key key d ∙ (bytes_eq-Decides key (changed_key d)).1 same
+    (sym (bytes_same table a.table parts.0), sym (bytes_same key (change_key a.change) (parts.1)))
 
 both_conflict : (table key : List ℕ) (a b : Action) → is_on table key a ≡ true → is_on table key b ≡ true → conflicts a b ≡ true
 both_conflict table key a b on also =
     let one = on_parts table key a on in
     let two = on_parts table key b also in
-    ap (λ x. x && Rattle.slon_laws.specs.Sound.meets a.change b.change) ((bytes_eq-Decides a.table b.table).1 (one.0 ∙ sym two.0)) ∙ meets_key a.change b.change (one.1 ∙ sym two.1)
+    from_one_row a b (one.0 ∙ sym two.0) (one.1 ∙ sym two.1)
 
 differ_from : (x y z : ℕ) → z ≡ y → (y == x) ≡ false → (z == x) ≡ false
 differ_from x y z same other = ap (λ n. n == x) same ∙ other
@@ -268,7 +218,7 @@ pub record Ended (x : ℕ) (before after : List ℕ) : Type 0 where
   pub gone : member x after ≡ true → ⊥
   pub kept : (z : ℕ) → (z == x) ≡ false → member z before ≡ true → member z after ≡ true
 
-pub ended_names : (x : ℕ) (name : List ℕ) (os : List (List ℕ × ℕ)) → AreNamedOnce os → Rising (xids_of os) → find_named name os ≡ Some x → Ended x (xids_of os) (xids_of (without name os))
+pub ended_names : (x : ℕ) (name : List ℕ) (os : Named ℕ) → AreNamedOnce os → Rising (ids_of os) → find_named name os ≡ Some x → Ended x (ids_of os) (ids_of (without name os))
 ended_names x name os named rising found = record {
   less = λ z is. member_without z name os is;
   gone = member_taken x name os named rising found;

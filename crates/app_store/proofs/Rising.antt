@@ -1,44 +1,46 @@
 -- A database that begins, that goes down, and that comes up again.
-use Rattle.std.proofs.Common.{◌≡◌, ℕ, zero, suc, ◌+◌, ◌<◌, ◌≤◌, true, false, cond, List, Option, Some, None, Result, Ok, Err, refl, sym, ap, subst, ◌∙◌, ◌⊎◌, inl, inr, arith, is_some}
-use Rattle.std.specs.Prelude.{◌==◌, not}
+use Rattle.std.proofs.Common.{◌≡◌, ℕ, zero, suc, ◌+◌, ◌<◌, ◌≤◌, Bool, true, false, cond, List, Option, Some, None, Result, Ok, Err, refl, sym, ap, subst, ◌∙◌, ◌⊎◌, inl, inr, arith, is_some}
+use Rattle.std.specs.Prelude.{◌==◌}
 use Rattle.std.specs.Option.{option_map}
 use Rattle.std.specs.FinMap.{get, get-empty}
 use Rattle.std.proofs.lemmas.Bool.{false≢true, false_from_ne_true, eqb-true, eq-eqb}
 use Rattle.slon_base.specs.Counts.{Rose}
 use Rattle.slon_base.specs.Keeper.{Kept, Store, RollsBack, key_cmp, nothing}
-use Rattle.slon_base.specs.Codec.{number_bytes, list_bytes}
-use Rattle.slon_base.specs.declared.fault.KeepFault.{KeepFault}
-use Rattle.slon_base.specs.declared.fault.Halt.TheVariants.{Doubt}
+use Rattle.slon_base.specs.Codec.{number_bytes}
 use Rattle.node_keeper.specs.declared.charge.Charge.{Charge}
-use Rattle.node_keeper.specs.declared.charge.Charge.TheVariants.{Off, After, AtCommit, Blown}
+use Rattle.node_keeper.specs.declared.charge.Charge.TheVariants.{Off}
 use Rattle.node_keeper.specs.declared.fuse.Fuse.{Fuse}
 use Rattle.node_keeper.specs.Charges.{bound}
 use Rattle.node_keeper.specs.Fused.{with_left, fuse_kept}
 use Rattle.slon_model.specs.declared.fault.DbFault.{DbFault}
-use Rattle.slon_model.specs.declared.fault.DbFault.TheVariants.{Halt}
-use Rattle.slon_model.specs.declared.command.Command.TheVariants.{Crash, Up}
+use Rattle.slon_model.specs.declared.fault.DbFault.TheVariants.{IsUp}
 use Rattle.slon_model.specs.declared.command.Crash.{Crash as CrashKind}
-use Rattle.slon_model.specs.declared.command.Crash.TheVariants.{Now}
+use Rattle.slon_model.specs.declared.command.Crash.TheVariants.{Now, After, AtCommit}
 use Rattle.slon_model.specs.declared.reply.Answer.{Answer}
 use Rattle.slon_model.specs.declared.reply.Answer.TheVariants.{Done}
-use Rattle.slon_model.specs.declared.reply.Answered.TheVariants.{Sure}
-use Rattle.slon_model.specs.Place.{Place, Standing, IsRunning, IsFallen, IsDoubtful, PlaceStep, Fails, bare_place, founded, new_place, surely, downed, fallen, doubted, drawn_for, prepared, changes, up_due, up_after, crash_after}
+use Rattle.slon_model.specs.declared.reply.Answered.TheVariants.{Sure, InDoubt}
+use Rattle.slon_model.specs.Tasks.{ToFound, ToCrash, ToRise}
+use Rattle.slon_model.specs.Place.{Place, Standing, IsRunning, IsFallen, IsDoubtful, Counter, bare_place, founded, surely, downed, fallen, doubted}
+use Rattle.slon_model.specs.Moves.{Stays, Founds, Falls, Rises, first_rows as with_first_rows, prepared, done, crashed, risen}
+use Rattle.slon_model.specs.Deciding.{Decision, Refuses, Accepts, AsDue, decide_by, decide, limited, settled, may_call}
 use Rattle.slon_laws.specs.Spelled.{IsSpelled}
-use Rattle.app_store.specs.declared.stop.Stop.{Stop}
-use Rattle.app_store.specs.declared.stop.Stop.TheVariants.{Failed as StopFailed, NoMemory as StopNoMemory, BadRow as StopBadRow}
+use Rattle.store_rows.specs.declared.stop.Stop.{Stop}
+use Rattle.store_rows.specs.declared.stop.Stop.TheVariants.{Failed as StopFailed, NoMemory as StopNoMemory}
 use Rattle.app_store.specs.declared.look.Numbers.{Numbers}
-use Rattle.app_store.specs.Base.{Base, IsFresh}
-use Rattle.app_store.specs.Fits.{Fits, Runs, StandsAs, OpensAs}
-use Rattle.app_store.specs.Goes.{Begun, Founds, Fails as BeginFails, Doubts as BeginDoubts, is_memory, is_sure_fault}
-use Rattle.app_store.specs.Parts.{GoesDown, StartsWith, halt_of, settled, settled_by, is_stamp}
+use Rattle.app_store.specs.Base.{Memory, Base, IsFresh, GoesDown}
+use Rattle.app_store.specs.Fits.{Fits, Runs, StandsAs, OpensAs, Ready}
+use Rattle.app_store.specs.Serves.{Comes, is_memory}
+use Rattle.app_store.specs.Parts.{FellTo, Fell, StartsWith, halt_of}
+use Rattle.app_store.specs.Settled.{settled_as, settled_by, is_stamp}
 use Rattle.app_store.specs.Spelled.{Holds, row_key, first_rows}
-use Rattle.app_store.specs.Spending.{IsAtMost, Stays}
-use Rattle.app_store.specs.Steps.{IsStopOfStore, is_stop_failed}
+use Rattle.store_rows.specs.Spending.{IsAtMost, Stays as StaysBelow}
 use Rattle.app_store.specs.Works.{Recovered, Was, Founded}
 use Rattle.app_store.proofs.Holding.{holds_same, holds_first}
-use Rattle.app_store.proofs.Places.{no_holder, or_true}
-use Rattle.app_store.proofs.Pending.{rose_later, stays, untold}
-use Rattle.app_store.proofs.Running.{answers_ok, due_running, fits_running, looked, up_running}
+use Rattle.app_store.proofs.Places.{no_holder}
+use Rattle.app_store.proofs.Pending.{untold}
+use Rattle.store_rows.proofs.Causes.{stays}
+use Rattle.store_rows.proofs.Spaces.{empty_space}
+use Rattle.app_store.proofs.Standing.{up_running, fits_running, looked, carried, fell, wavers, decided_up, rose_from, crashed_fits, Stopped}
 
 -- the first rows, over what was there
 abbrev pub with_first : Store → Store
@@ -48,150 +50,124 @@ with_first m = first_rows (number_bytes 1) (number_bytes 65) m
 
 pub holds_bare : Holds bare_place nothing
 holds_bare = record {
-  meta_numbers = refl;
-  table_rows = refl;
-  rows_held = record {
-    lookups = λ table key text. get-empty key_cmp (row_key table key) ∙ ap (option_map list_bytes) (sym (get-empty key_cmp key));
-    keys = λ q value found. let none = sym (get-empty key_cmp q) ∙ found in absurd cc;
-  };
+  meta_numbers = empty_space (λ key. refl);
+  table_rows = empty_space (λ name. refl);
+  rows_held = empty_space (λ i. get-empty key_cmp i.1);
   others = λ space unused. refl;
 }
 
 holds_founded : Holds (founded bare_place) (with_first nothing)
 holds_founded = holds_first bare_place (founded bare_place) nothing refl refl refl refl refl refl refl holds_bare
 
-pub begins_done : (kept : Kept) (b : Base) → IsFresh kept true None b → is_some kept.pending ≡ false → kept.held ≡ Some (with_first nothing) → (p : Place) × Begun (Ok tt) p × Fits p b
-begins_done kept b fresh idle held = (
-  new_place,
-  Founds refl refl,
-  fits_running new_place b (with_first nothing) refl runs (omega arith) (ap (λ k. k.held) fresh.kept_is ∙ held)
-      (holds_same (founded bare_place) new_place (with_first nothing) refl refl refl refl (λ t. refl) holds_founded),
-)
-  where
-    runs : Runs new_place b
-    runs = record {
-      up = fresh.up_is;
-      idle = ap (λ k. is_some k.pending) fresh.kept_is ∙ idle;
-      stamp = fresh.stamp;
-      settled = fresh.doubt_is;
-      founded = omega arith;
-      next_xid = fresh.next_xid;
-      xid_ceiling = fresh.xid_ceiling;
-      next_number = fresh.next_number;
-      number_ceiling = fresh.number_ceiling;
-      opened = λ name. subst (λ o. OpensAs new_place None o) (sym (ap (λ o. get o name) fresh.opens ∙ get-empty key_cmp name)) tt;
-      locked = λ table key text. fresh.locks table key;
-    }
+fresh_runs : (m : Memory) → IsFresh true None m → Runs (done Founds bare_place) m
+fresh_runs m fresh = record {
+  up = fresh.up_is;
+  stamp = fresh.stamp;
+  settled = fresh.doubt_is;
+  founded = omega arith;
+  xids = fresh.xids;
+  numbers = fresh.numbers;
+  opened = λ name. subst (λ o. OpensAs (done Founds bare_place) None o) (sym (ap (λ o. get o name) fresh.closed.opens_are ∙ get-empty key_cmp name)) tt;
+  locked = λ table key text. fresh.closed.locks_are table key;
+}
 
-pub begins_doubt : (kept : Kept) (b : Base) → IsFresh kept false (Some 1) b → (kept.held ≡ Some nothing) ⊎ (kept.held ≡ Some (with_first nothing)) → (p : Place) × Begun (Err (Halt Doubt)) p × Fits p b
-begins_doubt kept b fresh either =
-    elim either [
-      | inl before ↦ (
-        doubted false bare_place,
-        BeginDoubts false refl refl,
-        record { stands = (fresh.up_is, fresh.doubt_is, λ is. absurd (false≢true is)); told = omega arith; held = (nothing, ap (λ k. k.held) fresh.kept_is ∙ before, holds_same bare_place (doubted false bare_place) nothing refl refl refl refl (λ t. refl) holds_bare) },
-      )
-      | inr after ↦ (
-        doubted true (founded bare_place),
-        BeginDoubts true refl refl,
-        record { stands = (fresh.up_is, fresh.doubt_is, λ is. omega arith); told = omega arith; held = (with_first nothing, ap (λ k. k.held) fresh.kept_is ∙ after, holds_same (founded bare_place) (doubted true (founded bare_place)) (with_first nothing) refl refl refl refl (λ t. refl) holds_founded) },
-      )
-    ]
+pub begins_done : (b : Base) → IsFresh true None b.memory → b.kept.held ≡ Some (with_first nothing) → Comes ToFound bare_place (Ok (Sure Done)) b
+begins_done b fresh held =
+    carried ToFound bare_place (Accepts Done Founds) b refl
+    (fits_running (done Founds bare_place) b (with_first nothing) refl (fresh_runs b.memory fresh) (omega arith) held (holds_same (founded bare_place) (done Founds bare_place) (with_first nothing) refl refl refl refl (λ t. refl) holds_founded))
 
-pub begins_fault : (first : ℕ) (kept : Kept) (b new : Base) (stop : Stop) (fault : DbFault) → IsFresh kept false None b → GoesDown b new → fault ≡ halt_of stop b.kept.faults → is_memory fault ≡ false → kept.held ≡ Some nothing → IsStopOfStore stop → (is_stop_failed stop ≡ true → Rose first kept.faults) →
-    (p : Place) × Begun (Err fault) p × Fits p new
-begins_fault first kept b new StopFailed fault fresh down fault_is memory held only rose = (
-  fallen b.kept.faults bare_place,
-  BeginFails b.kept.faults (subst (λ k. Rose 0 k.faults) (sym fresh.kept_is) (rose_later {b = first} (omega arith) (rose refl))) (ap Err fault_is) refl,
-  record { stands = (down.up, down.doubt ∙ fresh.doubt_is); told = omega (arith, ap (λ k. k.faults) down.kept); held = (nothing, ap (λ k. k.held) (down.kept ∙ fresh.kept_is) ∙ held, holds_same bare_place (fallen b.kept.faults bare_place) nothing refl refl refl refl (λ t. refl) holds_bare) },
-)
-begins_fault first kept b new StopNoMemory fault fresh down fault_is memory held only rose = absurd (false≢true (sym memory ∙ ap is_memory fault_is))
-begins_fault first kept b new (StopBadRow space) fault fresh down fault_is memory held only rose = absurd only
+pub begins_doubt : (b : Base) → IsFresh false (Some 1) b.memory → (b.kept.held ≡ Some nothing) ⊎ (b.kept.held ≡ Some (with_first nothing)) → Comes ToFound bare_place (Ok (InDoubt Done)) b
+begins_doubt b fresh either =
+    wavers ToFound bare_place Done Founds b nothing (with_first nothing) refl refl (record { stamp = refl; told = refl; up = fresh.up_is; doubt = fresh.doubt_is }) (omega arith) holds_bare
+    (holds_same (founded bare_place) (done Founds bare_place) (with_first nothing) refl refl refl refl (λ t. refl) holds_founded) either
+
+-- a store that failed, of a database that stays down
+pub begins_fault : (old new : Base) (stop : Stop) (fault : DbFault) → old.memory.doubt ≡ None → new.kept.held ≡ Some nothing → Stopped stop fault old new → Comes ToFound bare_place (Err fault) new
+begins_fault old new StopFailed fault sure held s =
+    fell ToFound bare_place (Accepts Done Founds) fault new refl refl (Fell new.kept.faults false s.fault_is (rose_from (omega arith) (s.rose refl)) (record {
+      stands = (s.up, s.doubt ∙ sure);
+      told = omega arith;
+      held = (nothing, held, holds_same bare_place (fallen new.kept.faults bare_place) nothing refl refl refl refl (λ t. refl) holds_bare);
+    }))
+begins_fault old new StopNoMemory fault sure held s = absurd (false≢true (sym s.no_memory ∙ ap (λ f. is_memory (Rattle.slon_model.specs.World.halt_in f)) s.fault_is))
+begins_fault old new others fault sure held s = absurd s.only
 
 -- ---- a database that goes down
 
-prepared_crash : (database : List ℕ) (crash : CrashKind) (p : Place) → p.standing ≡ IsRunning → prepared (Crash database crash) p ≡ p
-prepared_crash database crash p is = ap (λ r. drawn_for r p) (due_running (Crash database crash) p refl is)
-
-crashes : (database : List ℕ) (crash : CrashKind) (p : Place) → p.standing ≡ IsRunning → PlaceStep (Crash database crash) p (Ok (Sure Done)) (crash_after crash p)
-crashes database crash p is = answers_ok (Crash database crash) p (crash_after crash p) Done (due_running (Crash database crash) p refl is) refl (ap (crash_after crash) (sym (prepared_crash database crash p is)))
-
-pub crashes_now : (database : List ℕ) (p : Place) (old new : Base) → Fits p old → old.up ≡ true → GoesDown old new → (q : Place) × PlaceStep (Crash database Now) p (Ok (Sure Done)) q × Fits q new
-crashes_now database p old new fits up down =
-    let runs = up_running p old fits up in (
-      crash_after Now p,
-      crashes database Now p runs.0,
-      record { stands = (down.up, down.doubt ∙ runs.1.settled); told = omega (arith, fits.told, ap (λ k. k.faults) down.kept); held = (fits.held.0, ap (λ k. k.held) down.kept ∙ fits.held.1, holds_same p (crash_after Now p) fits.held.0 refl refl refl refl (λ t. refl) fits.held.2) },
-    )
+pub crashes_now : (p : Place) (old new : Base) → Fits p old → old.memory.up ≡ true → GoesDown old.memory new.memory → new.kept ≡ old.kept → Comes (ToCrash Now) p (Ok (Sure Done)) new
+crashes_now p old new fits up down same =
+    carried (ToCrash Now) p (Accepts Done Falls) new (decided_up (ToCrash Now) p (Accepts Done Falls) (up_running p old fits up).0 refl)
+    (crashed_fits p old new fits up down.up down.doubt (ap (λ k. k.held) same) (omega (arith, ap (λ k. k.faults) same)))
 
 -- its store is to fail later
-pub crashes_later : (database : List ℕ) (crash : CrashKind) (p : Place) (old : Base) (kept : Kept) → crash_after crash p ≡ p → Fits p old → old.up ≡ true → kept ≡ with_left None old.kept → (q : Place) × PlaceStep (Crash database crash) p (Ok (Sure Done)) q × Fits q (record old { kept = kept })
-crashes_later database crash p old kept same fits up is =
-    let runs = up_running p old fits up in
-    (p, subst (PlaceStep (Crash database crash) p (Ok (Sure Done))) same (crashes database crash p runs.0), looked p old kept fits up (ap (λ k. k.held) is) (omega (arith, ap (λ k. k.faults) is)) (ap (λ k. is_some k.pending) is ∙ runs.1.idle))
+pub crashes_later : (crash : CrashKind) (p : Place) (old : Base) (kept : Kept) → Rattle.slon_model.specs.Deciding.decide_up (ToCrash crash) p ≡ Accepts Done Stays → Fits p old → old.memory.up ≡ true → kept ≡ with_left None old.kept →
+    Comes (ToCrash crash) p (Ok (Sure Done)) (record old { kept = kept })
+crashes_later crash p old kept same fits up is =
+    carried (ToCrash crash) p (Accepts Done Stays) _ (decided_up (ToCrash crash) p (Accepts Done Stays) (up_running p old fits up).0 same) (looked p old kept fits (ap (λ k. k.held) is) (omega (arith, ap (λ k. k.faults) is)))
 
 -- ---- a database that comes up
 
+pub is_up_already : (p : Place) (b : Base) → Fits p b → b.memory.up ≡ true → Comes ToRise p (Err IsUp) b
+is_up_already p b fits up = carried ToRise p (Refuses IsUp) b (decided_up ToRise p (Refuses IsUp) (up_running p b fits up).0 refl) fits
+
 -- a store that is to fail no more, after a rollback
-pub cleared : {T : Type 0} {left : Option ℕ} (old : Kept) {mid new : Kept} {result : Result T KeepFault} → mid ≡ with_left left old → RollsBack mid new result → (new.held ≡ old.held) × (old.faults ≤ new.faults)
+pub cleared : {T : Type 0} {left : Option ℕ} (old : Kept) {mid new : Kept} {result : Result T Rattle.slon_base.specs.declared.fault.KeepFault.KeepFault} → mid ≡ with_left left old → RollsBack mid new result → (new.held ≡ old.held) × (old.faults ≤ new.faults)
 cleared old same rolls = (rolls.held ∙ ap (λ k. k.held) same, omega (arith, ap (λ k. k.faults) same, rolls.cause.later))
 
-pub cleared_stays : {T : Type 0} {left : Option ℕ} (old : Kept) {mid new : Kept} {result : Result T KeepFault} → mid ≡ with_left left old → RollsBack mid new result → Stays left new.can_fail
+pub cleared_stays : {T : Type 0} {left : Option ℕ} (old : Kept) {mid new : Kept} {result : Result T Rattle.slon_base.specs.declared.fault.KeepFault.KeepFault} → mid ≡ with_left left old → RollsBack mid new result → StaysBelow left new.can_fail
 cleared_stays old same rolls n most = stays rolls.cause n (subst (λ k. IsAtMost n k.can_fail) (sym same) most)
 
 -- only a fuse that is off has a bound, and then it is that of the store below
-pub fuse_stays : {K : Type 0} (kept : K → Kept) (f : Fuse K) → Stays (fuse_kept kept f).can_fail (kept f.keeper).can_fail
+pub fuse_stays : {K : Type 0} (kept : K → Kept) (f : Fuse K) → StaysBelow (fuse_kept kept f).can_fail (kept f.keeper).can_fail
 fuse_stays kept f = below f.charge
   where
-    below : (charge : Charge) → Stays (bound charge (kept f.keeper).can_fail) (kept f.keeper).can_fail
+    below : (charge : Charge) → StaysBelow (bound charge (kept f.keeper).can_fail) (kept f.keeper).can_fail
     below Off n most = most
-    below (After calls keep) n most = untold (kept f.keeper).can_fail n most
-    below (AtCommit keep) n most = untold (kept f.keeper).can_fail n most
-    below (Blown keep) n most = untold (kept f.keeper).can_fail n most
+    below others n most = untold (kept f.keeper).can_fail n most
 
--- a fault is told of a stop for a failure
-pub stop_fails : (stop : Stop) (fault : DbFault) (count : ℕ) → fault ≡ halt_of stop count → not (is_sure_fault fault) ≡ true → is_stop_failed stop ≡ true
-stop_fails StopFailed fault count is failed = refl
-stop_fails StopNoMemory fault count is failed = absurd (false≢true (sym (ap (λ f. not (is_sure_fault f)) is) ∙ failed))
-stop_fails (StopBadRow space) fault count is failed = absurd (false≢true (sym (ap (λ f. not (is_sure_fault f)) is) ∙ failed))
+-- the decision where it is down
+pub rises_as : (p : Place) (m : Memory) (answer : Answer) → StandsAs p.standing p m → m.up ≡ false → settled p.standing ≡ answer → decide ToRise p ≡ Accepts answer Rises
+rises_as p m answer stands down is = by p.standing stands is
+  where
+    by : (s : Standing) → StandsAs s p m → settled s ≡ answer → limited p (decide_by s ToRise p) ≡ Accepts answer Rises
+    by IsRunning stands is = absurd (false≢true (sym down ∙ stands.up))
+    by IsFallen stands is = ap (λ a. Accepts a Rises) is
+    by (IsDoubtful d) stands is = ap (λ a. Accepts a Rises) is
 
 -- what is said of a commit in doubt, where the first rows stood
-settles_was : (s : Standing) (p : Place) (b : Base) → StandsAs s p b → b.up ≡ false → up_due s ≡ Ok (settled b.doubt (Some p.stamp))
-settles_was IsRunning p b stands down = absurd (false≢true (sym down ∙ stands.up))
-settles_was IsFallen p b stands down = ap (λ d. Ok (settled d (Some p.stamp))) (sym stands.1)
-settles_was (IsDoubtful true) p b stands down = ap (λ t. Ok (settled_by t)) (sym (eq-eqb p.stamp p.stamp refl)) ∙ ap (λ d. Ok (settled d (Some p.stamp))) (sym stands.1)
-settles_was (IsDoubtful false) p b stands down =
-    ap (λ t. Ok (settled_by t)) (sym (false_from_ne_true (p.stamp == (p.stamp + 1)) (λ is. let same = eqb-true p.stamp (p.stamp + 1) is in omega (arith, same)))) ∙ ap (λ d. Ok (settled d (Some p.stamp))) (sym stands.1)
+settles_was : (s : Standing) (p : Place) (m : Memory) → StandsAs s p m → m.up ≡ false → settled s ≡ settled_as m.doubt (Some p.stamp)
+settles_was IsRunning p m stands down = absurd (false≢true (sym down ∙ stands.up))
+settles_was IsFallen p m stands down = ap (λ d. settled_as d (Some p.stamp)) (sym stands.1)
+settles_was (IsDoubtful true) p m stands down = ap settled_by (sym (eq-eqb p.stamp p.stamp refl)) ∙ ap (λ d. settled_as d (Some p.stamp)) (sym stands.1)
+settles_was (IsDoubtful false) p m stands down =
+    ap settled_by (sym (false_from_ne_true (p.stamp == (p.stamp + 1)) (λ is. let same = eqb-true p.stamp (p.stamp + 1) is in omega (arith, same)))) ∙ ap (λ d. settled_as d (Some p.stamp)) (sym stands.1)
 
 -- where no first rows stood no commit stands
-settles_none : (s : Standing) (p : Place) (b : Base) → p.stamp ≡ 0 → StandsAs s p b → b.up ≡ false → up_due s ≡ Ok (settled b.doubt None)
-settles_none IsRunning p b none stands down = absurd (false≢true (sym down ∙ stands.up))
-settles_none IsFallen p b none stands down = ap (λ d. Ok (settled d None)) (sym stands.1)
-settles_none (IsDoubtful true) p b none stands down = let some = stands.2 refl in absurd (omega (arith, none, some))
-settles_none (IsDoubtful false) p b none stands down = ap (λ d. Ok (settled d None)) (sym stands.1)
+settles_none : (s : Standing) (p : Place) (m : Memory) → p.stamp ≡ 0 → StandsAs s p m → m.up ≡ false → settled s ≡ settled_as m.doubt None
+settles_none IsRunning p m none stands down = absurd (false≢true (sym down ∙ stands.up))
+settles_none IsFallen p m none stands down = ap (λ d. settled_as d None) (sym stands.1)
+settles_none (IsDoubtful true) p m none stands down = let some = stands.2 refl in absurd (omega (arith, none, some))
+settles_none (IsDoubtful false) p m none stands down = ap (λ d. settled_as d None) (sym stands.1)
 
-settled_changes : (doubt found : Option ℕ) → changes (Ok (settled doubt found)) ≡ true
-settled_changes None found = refl
-settled_changes (Some written) found = elim (is_stamp written found) as (λ t. changes (Ok (settled_by t)) ≡ true) [ true ↦ refl | false ↦ refl ]
+counter_is : (c : Counter) (n : ℕ) → n ≡ c.ceiling → ◌≡◌ {A = Counter} (record { next = n; ceiling = n }) (record { next = c.ceiling; ceiling = c.ceiling })
+counter_is c n is = λ i. record { next = is i; ceiling = is i }
 
-starts_fits : (p : Place) (n : Numbers) (b new : Base) (m : Store) → StartsWith n b new → n.stamp ≡ p.stamp → n.xid_ceiling ≡ p.xid_ceiling → n.number_ceiling ≡ p.number_ceiling → 0 < p.stamp → is_some b.kept.pending ≡ false → b.doubt ≡ None →
-    p.told ≤ b.kept.faults → b.kept.held ≡ Some m → Holds p m → Fits (up_after p) new
-starts_fits p n b new m starts stamp xids numbers some idle sure told held holds =
-    fits_running (up_after p) new m refl runs (omega (arith, told, ap (λ k. k.faults) starts.kept)) (ap (λ k. k.held) starts.kept ∙ held) (holds_same p (up_after p) m refl refl refl refl (λ t. refl) holds)
+-- a place with its first rows, of which these are the numbers
+starts_fits : (p : Place) (n : Numbers) (new : Base) (m : Store) → StartsWith n new.memory → n.stamp ≡ p.stamp → n.xid_ceiling ≡ p.xids.ceiling → n.number_ceiling ≡ p.numbers.ceiling → 0 < p.stamp →
+    p.told ≤ new.kept.faults → new.kept.held ≡ Some m → Holds p m → Fits (risen p) new
+starts_fits p n new m starts stamp xids numbers some told held holds =
+    fits_running (risen p) new m refl runs told held (holds_same p (risen p) m refl refl refl refl (λ t. refl) holds)
   where
-    runs : Runs (up_after p) new
+    runs : Runs (risen p) new.memory
     runs = record {
       up = starts.up;
-      idle = ap (λ k. is_some k.pending) starts.kept ∙ idle;
       stamp = starts.stamp ∙ stamp;
-      settled = starts.doubt ∙ sure;
+      settled = starts.doubt;
       founded = some;
-      next_xid = starts.next_xid ∙ xids;
-      xid_ceiling = starts.xid_ceiling ∙ xids;
-      next_number = starts.next_number ∙ numbers;
-      number_ceiling = starts.number_ceiling ∙ numbers;
-      opened = λ name. subst (λ o. OpensAs (up_after p) None o) (sym (ap (λ o. get o name) starts.opens ∙ get-empty key_cmp name)) tt;
-      locked = λ table key text. starts.locks table key ∙ sym (no_holder table key p.actions);
+      xids = starts.xids ∙ counter_is p.xids n.xid_ceiling xids;
+      numbers = starts.numbers ∙ counter_is p.numbers n.number_ceiling numbers;
+      opened = λ name. subst (λ o. OpensAs (risen p) None o) (sym (ap (λ o. get o name) starts.closed.opens_are ∙ get-empty key_cmp name)) tt;
+      locked = λ table key text. starts.closed.locks_are table key ∙ sym (no_holder table key p.actions);
     }
 
 -- what is held after the first rows are written where there was none
@@ -202,53 +178,54 @@ not_zero : (n : ℕ) → (n == 0) ≡ false → 0 < n
 not_zero zero is = absurd (false≢true (sym is))
 not_zero (suc n) is = omega arith
 
-pub rises_ok : (database : List ℕ) (p : Place) (old b new : Base) (answer : Answer) (found : Option ℕ) (n : Numbers) (fits : Fits p old) → IsSpelled p → old.up ≡ false → Recovered fits.held.0 p.stamp p.xid_ceiling p.number_ceiling found n b.kept.held → old.kept.faults ≤ b.kept.faults → is_some b.kept.pending ≡ false → b.doubt ≡ None →
-    answer ≡ settled old.doubt found → StartsWith n b new → (q : Place) × PlaceStep (Up database) p (Ok (Sure answer)) q × Fits q new
-rises_ok database p old b new answer found n fits spelled down (Was some found_is n_is held) later idle sure answer_is starts = (
-  up_after p,
-  subst (λ a. PlaceStep (Up database) p (Ok (Sure a)) (up_after p)) (sym (answer_is ∙ ap (settled old.doubt) found_is))
-      (answers_ok (Up database) p (up_after p) (settled old.doubt (Some p.stamp)) (settles_was p.standing p old fits.stands down) (settled_changes old.doubt (Some p.stamp)) (ap (λ t. up_after (cond t (founded p) p)) (sym some))),
-  starts_fits p n b new fits.held.0 starts (ap (λ k. k.stamp) n_is) (ap (λ k. k.xid_ceiling) n_is) (ap (λ k. k.number_ceiling) n_is) (not_zero p.stamp some) idle sure (omega (arith, fits.told, later)) held fits.held.2,
-)
-rises_ok database p old b new answer found n fits spelled down (Founded none found_is n_is held) later idle sure answer_is starts = (
-  up_after (founded p),
-  subst (λ a. PlaceStep (Up database) p (Ok (Sure a)) (up_after (founded p))) (sym (answer_is ∙ ap (settled old.doubt) found_is))
-      (answers_ok (Up database) p (up_after (founded p)) (settled old.doubt None) (settles_none p.standing p old none fits.stands down) (settled_changes old.doubt None) (ap (λ t. up_after (cond t (founded p) p)) (sym (eq-eqb p.stamp 0 none)))),
-  starts_fits (founded p) n b new (with_first fits.held.0) starts (ap (λ k. k.stamp) n_is) (ap (λ k. k.xid_ceiling) n_is ∙ sym (ap (λ n. n + 64) (spelled.bare none).0)) (ap (λ k. k.number_ceiling) n_is ∙ sym (ap (λ n. n + 64) (spelled.bare none).1)) (omega arith) idle sure (omega (arith, fits.told, later)) held
-      (rises_founded p fits.held.0 spelled none fits.held.2),
-)
+pub rises_ok : (p : Place) (old new : Base) (answer : Answer) (found : Option ℕ) (n : Numbers) (ready : Ready p old) → old.memory.up ≡ false → Recovered ready.fits.held.0 p.stamp p.xids.ceiling p.numbers.ceiling found n new.kept.held →
+    old.kept.faults ≤ new.kept.faults → answer ≡ settled_as old.memory.doubt found → StartsWith n new.memory → Comes ToRise p (Ok (Sure answer)) new
+rises_ok p old new answer found n ready down (Was some found_is n_is held) later answer_is starts =
+    let rows : with_first_rows p ≡ p = ap (λ t. cond t (founded p) p) some in
+    carried ToRise p (Accepts answer Rises) new
+    (rises_as p old.memory answer ready.fits.stands down (settles_was p.standing p old.memory ready.fits.stands down ∙ sym (answer_is ∙ ap (settled_as old.memory.doubt) found_is)))
+    (subst (λ q. Fits (risen q) new) (sym rows)
+    (starts_fits p n new ready.fits.held.0 starts (ap (λ k. k.stamp) n_is) (ap (λ k. k.xid_ceiling) n_is) (ap (λ k. k.number_ceiling) n_is) (not_zero p.stamp some) (omega (arith, ready.fits.told, later)) held ready.fits.held.2))
+rises_ok p old new answer found n ready down (Founded none found_is n_is held) later answer_is starts =
+    let rows : with_first_rows p ≡ founded p = ap (λ t. cond t (founded p) p) (eq-eqb p.stamp 0 none) in
+    let bare = ready.spelled.bare none in
+    carried ToRise p (Accepts answer Rises) new
+    (rises_as p old.memory answer ready.fits.stands down (settles_none p.standing p old.memory none ready.fits.stands down ∙ sym (answer_is ∙ ap (settled_as old.memory.doubt) found_is)))
+    (subst (λ q. Fits (risen q) new) (sym rows)
+    (starts_fits (founded p) n new (with_first ready.fits.held.0) starts (ap (λ k. k.stamp) n_is) (ap (λ k. k.xid_ceiling) n_is ∙ sym (ap (λ n. n + 64) bare.0)) (ap (λ k. k.number_ceiling) n_is ∙ sym (ap (λ n. n + 64) bare.1)) (omega arith)
+    (omega (arith, ready.fits.told, later)) held (rises_founded p ready.fits.held.0 ready.spelled none ready.fits.held.2)))
 
 -- it stays down, as it stood
-stays_as : (s : Standing) (p : Place) (count : ℕ) (old new : Base) → StandsAs s p old → old.up ≡ false → new.up ≡ false → new.doubt ≡ old.doubt → StandsAs (downed s) (fallen count p) new
+stays_as : (s : Standing) (p : Place) (count : ℕ) (old new : Memory) → StandsAs s p old → old.up ≡ false → new.up ≡ false → new.doubt ≡ old.doubt → StandsAs (downed s) (fallen count p) new
 stays_as IsRunning p count old new stands was down doubt = absurd (false≢true (sym was ∙ stands.up))
 stays_as IsFallen p count old new stands was down doubt = (down, doubt ∙ stands.1)
 stays_as (IsDoubtful d) p count old new stands was down doubt = (down, doubt ∙ stands.1, stands.2)
 
 -- it stays down, and its first rows stand now
-stays_founded : (s : Standing) (p : Place) (count : ℕ) (old new : Base) → p.stamp ≡ 0 → StandsAs s p old → old.up ≡ false → new.up ≡ false → new.doubt ≡ old.doubt → StandsAs (downed (surely s)) (fallen count (founded p)) new
+stays_founded : (s : Standing) (p : Place) (count : ℕ) (old new : Memory) → p.stamp ≡ 0 → StandsAs s p old → old.up ≡ false → new.up ≡ false → new.doubt ≡ old.doubt → StandsAs (downed (surely s)) (fallen count (founded p)) new
 stays_founded IsRunning p count old new none stands was down doubt = absurd (false≢true (sym was ∙ stands.up))
 stays_founded IsFallen p count old new none stands was down doubt = (down, doubt ∙ stands.1)
 stays_founded (IsDoubtful true) p count old new none stands was down doubt = let some = stands.2 refl in absurd (omega (arith, none, some))
 stays_founded (IsDoubtful false) p count old new none stands was down doubt = (down, doubt ∙ stands.1 ∙ ap (λ n. Some (n + 1)) none, λ _. omega arith)
 
-pub rises_err : (database : List ℕ) (p : Place) (old b new : Base) (stop : Stop) (fault : DbFault) (fits : Fits p old) → IsSpelled p → old.up ≡ false → (b.kept.held ≡ Some fits.held.0) ⊎ ((p.stamp ≡ 0) × (b.kept.held ≡ Some (with_first fits.held.0))) → IsStopOfStore stop → (is_stop_failed stop ≡ true → Rose old.kept.faults b.kept.faults) →
-    b.doubt ≡ old.doubt → GoesDown b new → fault ≡ halt_of stop b.kept.faults → is_memory fault ≡ false → (q : Place) × PlaceStep (Up database) p (Err fault) q × Fits q new
-rises_err database p old b new StopFailed fault fits spelled was either only rose doubt down fault_is memory =
-    elim either [
-      | inl before ↦ (
-        fallen b.kept.faults p,
-        Fails b.kept.faults false (or_true _) (rose_later fits.told (rose refl)) (ap Err fault_is) refl,
-        record { stands = stays_as p.standing p b.kept.faults old new fits.stands was down.up (down.doubt ∙ doubt); told = omega (arith, ap (λ k. k.faults) down.kept); held = (fits.held.0, ap (λ k. k.held) down.kept ∙ before, holds_same p (fallen b.kept.faults p) fits.held.0 refl refl refl refl (λ t. refl) fits.held.2) },
-      )
-      | inr after ↦ (
-        fallen b.kept.faults (founded p),
-        Fails b.kept.faults true (or_true _) (rose_later fits.told (rose refl)) (ap Err fault_is) (ap (λ t. fallen b.kept.faults (cond t (founded p) p)) (sym (eq-eqb p.stamp 0 after.0))),
-        record {
-          stands = stays_founded p.standing p b.kept.faults old new after.0 fits.stands was down.up (down.doubt ∙ doubt);
-          told = omega (arith, ap (λ k. k.faults) down.kept);
-          held = (with_first fits.held.0, ap (λ k. k.held) down.kept ∙ after.1, holds_same (founded p) (fallen b.kept.faults (founded p)) (with_first fits.held.0) refl refl refl refl (λ t. refl) (rises_founded p fits.held.0 spelled after.0 fits.held.2));
-        },
-      )
-    ]
-rises_err database p old b new StopNoMemory fault fits spelled was either only rose doubt down fault_is memory = absurd (false≢true (sym memory ∙ ap is_memory fault_is))
-rises_err database p old b new (StopBadRow space) fault fits spelled was either only rose doubt down fault_is memory = absurd only
+pub rises_err : (p : Place) (old new : Base) (stop : Stop) (fault : DbFault) (ready : Ready p old) → old.memory.up ≡ false → (new.kept.held ≡ Some ready.fits.held.0) ⊎ ((p.stamp ≡ 0) × (new.kept.held ≡ Some (with_first ready.fits.held.0))) →
+    Stopped stop fault old new → Comes ToRise p (Err fault) new
+rises_err p old new StopFailed fault ready was either s =
+    fell ToRise p (Accepts (settled p.standing) Rises) fault new (calls p.standing ready.fits.stands) (rises_as p old.memory (settled p.standing) ready.fits.stands was refl) (elim either [
+      | inl before ↦ Fell new.kept.faults false s.fault_is (rose_from ready.fits.told (s.rose refl)) (record {
+        stands = stays_as p.standing p new.kept.faults old.memory new.memory ready.fits.stands was s.up s.doubt;
+        told = omega arith;
+        held = (ready.fits.held.0, before, holds_same p (fallen new.kept.faults p) ready.fits.held.0 refl refl refl refl (λ t. refl) ready.fits.held.2);
+      })
+      | inr after ↦ Fell new.kept.faults true s.fault_is (rose_from ready.fits.told (s.rose refl)) (subst (λ q. Fits (fallen new.kept.faults q) new) (sym (ap (λ t. cond t (founded p) p) (eq-eqb p.stamp 0 after.0))) (record {
+        stands = stays_founded p.standing p new.kept.faults old.memory new.memory after.0 ready.fits.stands was s.up s.doubt;
+        told = omega arith;
+        held = (with_first ready.fits.held.0, after.1, holds_same (founded p) (fallen new.kept.faults (founded p)) (with_first ready.fits.held.0) refl refl refl refl (λ t. refl) (rises_founded p ready.fits.held.0 ready.spelled after.0 ready.fits.held.2));
+      }))
+    ])
+  where
+    calls : (s : Standing) → StandsAs s p old.memory → may_call s ToRise ≡ true
+    calls IsRunning stands = absurd (false≢true (sym was ∙ stands.up))
+    calls others stands = refl
+rises_err p old new StopNoMemory fault ready was either s = absurd (false≢true (sym s.no_memory ∙ ap (λ f. is_memory (Rattle.slon_model.specs.World.halt_in f)) s.fault_is))
+rises_err p old new others fault ready was either s = absurd s.only

@@ -8,20 +8,24 @@ use Rattle.std.specs.declared.cmp.Ordering.{Ordering}
 use Rattle.std.specs.declared.cmp.Ordering.TheVariants.{Less, Equal, Greater}
 use Rattle.std.specs.Cmp.{ranks}
 use Rattle.std.specs.BTreeSet.{insert_key}
-use Rattle.std.specs.FinMap.{get, entries, entries_sorted, get-entries}
+use Rattle.std.specs.FinMap.{get, empty, get-empty, entries, entries_sorted, get-entries}
 use Rattle.std.specs.FinMap.Entries.{find, is_sorted, below_all}
 use Rattle.std.proofs.lemmas.Bool.{false≢true, eq-eqb, eqb-true, or_cases, or_left, or_right, and_parts}
 use Rattle.slon_base.specs.Keeper.{key_cmp}
 use Rattle.slon_model.specs.Rows.{member}
-use Rattle.slon_model.specs.Place.{Place, is_running, IsRunning, IsFallen, IsDoubtful, Standing, find_named, open_xids, taken}
+use Rattle.slon_model.specs.Names.{Named, find_named}
+use Rattle.slon_model.specs.Place.{Place, is_running, open_xids, taken}
+use Rattle.slon_model.proofs.Names.{all_map, bytes_same, bytes_itself}
 use Rattle.slon_model.specs.Snapshots.{Snapshot, IsSnapshot, Rising, first_or}
-use Rattle.slon_laws.specs.Sound.{Sound, AreNamedOnce}
-use Rattle.slon_laws.proofs.Opens.{xids_of, all_map, member_all, all_member, bytes_same, bytes_itself, found_member}
+use Rattle.slon_laws.specs.Sound.{Sound, AreNamedOnce, ids_of}
+use Rattle.slon_laws.proofs.Opens.{member_all, all_member, found_member}
 use Rattle.app_store.specs.declared.opens.Transaction.{Transaction}
-use Rattle.app_store.specs.Base.{Base}
-use Rattle.app_store.specs.Fits.{Fits, Runs, StandsAs, OpensAs}
+use Rattle.app_store.specs.Base.{Memory, Base}
+use Rattle.app_store.specs.Closed.{IsClosed}
+use Rattle.app_store.specs.Fits.{Runs, OpensAs, Ready}
 use Rattle.app_store.specs.Taking.{put_xids, IsTakenOf}
-use Rattle.app_store.proofs.Order.{tied, equal_of, same_keys}
+use Rattle.store_rows.proofs.Order.{tied, equal_of, same_keys}
+use Rattle.app_store.proofs.Standing.{running_as}
 
 -- ---- an id put among others
 
@@ -146,17 +150,17 @@ entry_found y (e ∷ es) sorted is =
       | false ↦ λ other. (f.0, f.1, ap (λ b. cond b (Some e.1) (find key_cmp f.0 es)) other ∙ f.2, f.3)
     ] refl
 
-pub taken_of : (b : Base) (s : Snapshot) → s.xmax ≡ b.next_xid → s.xmin ≡ first_or s.xmax s.running → s.running ≡ put_xids [] (entries b.opens) → IsTakenOf b s
-taken_of b s last first running = record {
+pub taken_of : (m : Memory) (s : Snapshot) → s.xmax ≡ m.xids.next → s.xmin ≡ first_or s.xmax s.running → s.running ≡ put_xids [] (entries m.opens) → IsTakenOf m s
+taken_of m s last first running = record {
   last = last;
   first = first;
-  rising = subst Rising (sym running) (rising_all [] (entries b.opens) tt);
+  rising = subst Rising (sym running) (rising_all [] (entries m.opens) tt);
   lists = λ x. (
-    λ is. elim (all_only x [] (entries b.opens) (subst (λ xs. member x xs ≡ true) running is)) [
+    λ is. elim (all_only x [] (entries m.opens) (subst (λ xs. member x xs ≡ true) running is)) [
       | inl none ↦ absurd (false≢true none)
-      | inr among ↦ let f = entry_found x (entries b.opens) (true_of (is_sorted key_cmp (entries b.opens)) (entries_sorted b.opens)) among in (f.0, f.1, get-entries b.opens f.0 ∙ f.2, f.3)
+      | inr among ↦ let f = entry_found x (entries m.opens) (true_of (is_sorted key_cmp (entries m.opens)) (entries_sorted m.opens)) among in (f.0, f.1, get-entries m.opens f.0 ∙ f.2, f.3)
     ],
-    λ f. subst (λ xs. member x xs ≡ true) (sym running) (all_there x [] (entries b.opens) (inr (subst (λ y. member y (entry_xids (entries b.opens)) ≡ true) f.3 (found_entry f.0 f.1 (entries b.opens) (sym (get-entries b.opens f.0) ∙ f.2))))),
+    λ f. subst (λ xs. member x xs ≡ true) (sym running) (all_there x [] (entries m.opens) (inr (subst (λ y. member y (entry_xids (entries m.opens)) ≡ true) f.3 (found_entry f.0 f.1 (entries m.opens) (sym (get-entries m.opens f.0) ∙ f.2))))),
   );
 }
 
@@ -194,9 +198,9 @@ rising_same (x ∷ xs) (y ∷ ys) one two there back = λ i. same i ∷ rising_s
 
 -- ---- by the rules
 
-named_once : (y : ℕ) (os : List (List ℕ × ℕ)) → AreNamedOnce os → member y (xids_of os) ≡ true → (name : List ℕ) × (find_named name os ≡ Some y)
+named_once : (y : ℕ) (os : Named ℕ) → AreNamedOnce os → member y (ids_of os) ≡ true → (name : List ℕ) × (find_named name os ≡ Some y)
 named_once y [] named is = absurd (false≢true is)
-named_once y (o ∷ os) named is = elim (or_cases (y == o.1) (member y (xids_of os)) is) [
+named_once y (o ∷ os) named is = elim (or_cases (y == o.1) (member y (ids_of os)) is) [
   | inl same ↦ (o.0, ap (λ b. cond b (Some o.1) (find_named o.0 os)) (bytes_itself o.0) ∙ ap (λ n. Some n) (sym (eqb-true y o.1 same)))
   | inr more ↦ behind (named_once y os named.1 more)
 ]
@@ -215,35 +219,42 @@ opened_back : (p : Place) (name : List ℕ) (t : Transaction) (o : Option ℕ) �
 opened_back p name t None found opens = absurd opens
 opened_back p name t (Some x) found opens = subst (λ y. member y (open_xids p) ≡ true) (sym opens.xid_is) (found_member name x p.opens found)
 
-runs_of : (p : Place) (b : Base) (standing : Standing) → is_running standing ≡ true → StandsAs standing p b → Runs p b
-runs_of p b IsRunning is stands = stands
-runs_of p b IsFallen is stands = absurd (false≢true is)
-runs_of p b (IsDoubtful stood) is stands = absurd (false≢true is)
-
-pub taken_is : (b : Base) (s : Snapshot) → IsTakenOf b s → (p : Place) → Fits p b → Sound p → is_running p.standing ≡ true → s ≡ taken p
-taken_is b s is p fits sound running = λ i. record { xmin = (first i); xmax = (last i); running = (lists i) }
+pub taken_is : (b : Base) (s : Snapshot) → IsTakenOf b.memory s → (p : Place) → Ready p b → is_running p.standing ≡ true → s ≡ taken p
+taken_is b s is p ready running = λ i. record { xmin = (first i); xmax = (last i); running = (lists i) }
   where
-    runs : Runs p b
-    runs = runs_of p b p.standing running fits.stands
+    runs : Runs p b.memory
+    runs = running_as p b ready.fits running
 
-    last : s.xmax ≡ p.next_xid
-    last = is.last ∙ runs.next_xid
+    last : s.xmax ≡ p.xids.next
+    last = is.last ∙ ap (λ c. c.next) runs.xids
 
     lists : s.running ≡ open_xids p
-    lists = rising_same s.running (open_xids p) is.rising sound.running
+    lists = rising_same s.running (open_xids p) is.rising ready.sound.running
         (λ x among. let f = (is.lists x).0 among in subst (λ y. member y (open_xids p) ≡ true) f.3 (opened_back p f.0 f.1 (find_named f.0 p.opens) refl (subst (OpensAs p (find_named f.0 p.opens)) f.2 (runs.opened f.0))))
-        (λ x among. let f = named_once x p.opens sound.named among in let t = opened_there p f.0 x (get b.opens f.0) (subst (λ o. OpensAs p o (get b.opens f.0)) f.1 (runs.opened f.0)) in (is.lists x).1 (f.0, t.0, t.1, t.2))
+        (λ x among. let f = named_once x p.opens ready.sound.named among in
+        let t = opened_there p f.0 x (get b.memory.opens f.0) (subst (λ o. OpensAs p o (get b.memory.opens f.0)) f.1 (runs.opened f.0)) in (is.lists x).1 (f.0, t.0, t.1, t.2))
 
-    first : s.xmin ≡ first_or p.next_xid (open_xids p)
+    first : s.xmin ≡ first_or p.xids.next (open_xids p)
     first = is.first ∙ (λ i. first_or (last i) (lists i))
 
-pub taken_has_form : (b : Base) (s : Snapshot) → IsTakenOf b s → b.next_xid < 2 ^ 63 → (p : Place) → Fits p b → Sound p → is_running p.standing ≡ true → IsSnapshot s
-taken_has_form b s is few p fits sound running = record {
+pub taken_has_form : (b : Base) (s : Snapshot) → IsTakenOf b.memory s → b.memory.xids.next < 2 ^ 63 → (p : Place) → Ready p b → is_running p.standing ≡ true → IsSnapshot s
+taken_has_form b s is few p ready running = record {
   first = is.first;
   rising = is.rising;
-  below = all_member (λ x. x < s.xmax) s.running (λ x among. let opened = sound.opened x (subst (λ q. member x q.running ≡ true) same among) in let last = ap (λ q. q.xmax) same in omega (arith, opened, last));
+  below = all_member (λ x. x < s.xmax) s.running
+      (λ x among. let opened = ready.sound.opened x (subst (λ q. member x q.running ≡ true) same among) in let last = ap (λ q. q.xmax) same in omega (arith, opened, last));
   small = (let last = is.last in omega (arith, few, last));
 }
   where
     same : s ≡ taken p
-    same = taken_is b s is p fits sound running
+    same = taken_is b s is p ready running
+
+-- a database with nothing open lists no transaction
+pub taken_closed : (m : Memory) (s : Snapshot) → IsTakenOf m s → IsClosed m.opens m.locks → s.running ≡ []
+taken_closed m s is closed = none s.running (λ x among. let f = (is.lists x).0 among in
+    let found = sym (ap (λ o. get o f.0) closed.opens_are) ∙ f.2 in
+    let bad : None ≡ Some f.1 = sym (get-empty key_cmp f.0) ∙ found in absurd cc)
+  where
+    none : (xs : List ℕ) → ((x : ℕ) → member x xs ≡ true → ⊥) → xs ≡ []
+    none [] absent = refl
+    none (x ∷ xs) absent = absurd (absent x (or_left (x == x) (member x xs) (eq-eqb x x refl)))

@@ -1,169 +1,163 @@
--- The commands on tables and transactions: each way out leads by a step of the rules to a place that fits.
-use Rattle.std.proofs.Common.{◌≡◌, ℕ, ◌+◌, ◌<◌, ◌≤◌, Bool, true, false, cond, List, [], ◌∷◌, Option, Some, None, Result, Ok, Err, refl, sym, ap, subst, ◌∙◌, ◌⊎◌, inl, inr, arith, is_some}
-use Rattle.std.specs.Prelude.{◌==◌, ◌&&◌, ◌||◌, not}
+-- The tasks on tables and transactions: each way out leads by a step of the rules to a place that fits.
+use Rattle.std.proofs.Common.{◌≡◌, ℕ, ◌+◌, ◌<◌, ◌≤◌, Bool, true, false, cond, List, [], ◌∷◌, Option, Some, None, Ok, Err, refl, sym, ap, subst, ◌∙◌, ◌⊎◌, arith, is_some}
+use Rattle.std.specs.Prelude.{◌==◌, ◌||◌, ◌&&◌, not}
 use Rattle.std.specs.List.{AllByRecursion}
-use Rattle.std.specs.Option.{option_map}
 use Rattle.std.specs.Str.{bytes_eq}
-use Rattle.std.specs.Ordering.{is_eq}
 use Rattle.std.specs.Cmp.Lexicographic.{nat_list_cmp_total}
 use Rattle.std.specs.FinMap.{get, insert, remove, empty, entries, get-insert, get-remove}
-use Rattle.std.proofs.lemmas.Bool.{false≢true, false_from_ne_true, eqb-true}
-use Rattle.slon_base.specs.Counts.{Rose}
+use Rattle.std.proofs.lemmas.Bool.{false≢true, false_from_ne_true, eqb-true, le-leb, lt-leb}
 use Rattle.slon_base.specs.Keeper.{Kept, Store}
-use Rattle.slon_base.specs.Codec.{number_bytes, text_bytes}
+use Rattle.slon_base.specs.Codec.{number_bytes, text_bytes, IsText}
+use Rattle.slon_base.specs.declared.fault.Halt.TheVariants.{TooBig}
+use Rattle.slon_model.specs.declared.numbering.Numbering.TheVariants.{Xids}
 use Rattle.slon_model.specs.declared.fault.DbFault.{DbFault}
-use Rattle.slon_model.specs.declared.fault.DbFault.TheVariants.{TableExists, NameUsed, NoTransaction, NoTable}
-use Rattle.slon_model.specs.declared.command.Command.{Command}
-use Rattle.slon_model.specs.declared.command.Command.TheVariants.{Table, Begin, Commit, Abort, Rows}
+use Rattle.slon_model.specs.declared.fault.DbFault.TheVariants.{TableExists, NameUsed, NoTransaction, NoTable, Halt}
 use Rattle.slon_model.specs.declared.reply.Answer.{Answer}
 use Rattle.slon_model.specs.declared.reply.Answer.TheVariants.{Done, Opened, Committed, Listed}
-use Rattle.slon_model.specs.declared.reply.Answered.{Answered}
 use Rattle.slon_model.specs.declared.reply.Answered.TheVariants.{Sure, InDoubt}
+use Rattle.slon_model.specs.Names.{find_named, without as without_name}
 use Rattle.slon_model.specs.Rows.{Action, member, holder_in}
-use Rattle.slon_model.specs.Place.{Place, Standing, IsRunning, IsFallen, IsDoubtful, is_running, find_named, without as without_name, open_xids, holder, standing_rows, own_count, xid_raised, begin_due, begin_after, commit_by, committed, committed_by, abort_after, table_after, fallen, doubted, PlaceStep, Fails, Doubts, place_due, place_after, prepared, drawn_for, effect, changes, commits_in_store, is_up_command, running_due}
-use Rattle.slon_laws.specs.Sound.{Sound}
+use Rattle.slon_model.specs.Tasks.{Task, ToMake, ToOpen, ToCommit, ToAbort, ToList}
+use Rattle.slon_model.specs.Place.{Place, Counter, open_xids, holder, standing_rows, own_count, raised, drawn}
+use Rattle.slon_model.specs.Moves.{Move, Stays, Tables, Begins, Commits, Aborts, tabled, begun, committed, aborted, is_beyond, is_last_stamp, stored_limit}
+use Rattle.slon_model.specs.Deciding.{Decision, Refuses, Accepts, Overflows, refused_if, with_found, limited, decide}
+use Rattle.slon_model.proofs.Names.{bytes_same, find-without, find-behind}
+use Rattle.slon_laws.specs.Sound.{Sound, ids_of}
+use Rattle.slon_laws.proofs.Decides.{raised_same}
 use Rattle.slon_laws.proofs.Keys.{key_test}
-use Rattle.slon_laws.proofs.Opens.{xids_of, bytes_same, found_member, member_taken}
-use Rattle.slon_laws.proofs.Sounds.{sound_xid_raised}
+use Rattle.slon_laws.proofs.Opens.{found_member, member_taken}
+use Rattle.slon_laws.proofs.Sounds.{sound_raised}
 use Rattle.txn_core.specs.Locks.{holder_of, Locks, without as without_xid}
 use Rattle.app_store.specs.declared.opens.Transaction.{Transaction}
-use Rattle.app_store.specs.declared.stop.Stop.{Stop}
-use Rattle.app_store.specs.Base.{Base}
-use Rattle.app_store.specs.Fits.{Fits, Runs, OpensAs, IsOpened}
-use Rattle.app_store.specs.Goes.{is_memory}
-use Rattle.app_store.specs.Parts.{FellTo, Fell, halt_of}
+use Rattle.app_store.specs.Base.{Memory, Base, GoesDown}
+use Rattle.app_store.specs.Fits.{Fits, Runs, OpensAs, IsOpened, Ready}
+use Rattle.app_store.specs.Serves.{Comes}
+use Rattle.app_store.specs.Parts.{FellTo, RaisedTo, Raises, Bursts, StopsRaise}
 use Rattle.app_store.specs.Spelled.{Holds, AreRows, row_key, over, new_table, new_rows, write_all, rows}
-use Rattle.app_store.specs.Steps.{IsStopOfStore, is_stop_failed}
+use Rattle.store_rows.proofs.Spaces.{any_of}
 use Rattle.app_store.proofs.Holding.{holds_same, holds_table, holds_rows, get-written}
 use Rattle.app_store.proofs.Openings.{opened_same, opened_new, opened_committed}
-use Rattle.app_store.proofs.Places.{find_behind, or_new, member_snoc, holders_agree, NoneOf, counted_none, rows_agree, all_or, released, freed, ended_names, find_without}
-use Rattle.app_store.proofs.Running.{up_running, fits_running, answers_err, answers_ok, due_running, fell_by, looked, opens_same, raised_xids_same}
+use Rattle.app_store.proofs.Places.{member_snoc, holders_agree, counted_none, rows_agree, all_or, released, freed, ended_names}
+use Rattle.app_store.proofs.Standing.{up_running, fits_running, carried, fell, wavers, IsInDoubt, looked, opens_same, crashed_fits}
 
--- what a step comes to
-abbrev pub Comes : Command → Place → Result Answered DbFault → Base → Type 0
-Comes command p result new = (q : Place) × PlaceStep command p result q × Fits q new
+-- what the decision on a task is, of a database that is up
+pub decided : (task : Task) (p : Place) (b : Base) (d e : Decision) → Fits p b → b.memory.up ≡ true → Rattle.slon_model.specs.Deciding.decide_up task p ≡ d → limited p d ≡ e → decide task p ≡ e
+decided task p b d e fits up is within = Rattle.app_store.proofs.Standing.decided_up task p d (up_running p b fits up).0 is ∙ within
 
-is_up : (p : Place) → p.standing ≡ IsRunning → (command : Command) → (is_running p.standing || is_up_command command) ≡ true
-is_up p is command = ap (λ s. is_running s || is_up_command command) is
+within : (move : Move) (p : Place) (answer : Answer) → is_beyond move p ≡ false → limited p (Accepts answer move) ≡ Accepts answer move
+within move p answer is = ap (λ b. cond b Overflows (Accepts answer move)) is
 
--- a part that stopped
-pub from_fell : (command : Command) (p : Place) (fault : DbFault) (new : Base) → p.standing ≡ IsRunning → FellTo p (prepared command p) fault new → Comes command p (Err fault) new
-from_fell command p fault new is (Fell count stands same rose fits) = (fallen count (cond stands (prepared command p) p), Fails count stands (is_up p is command) rose (ap (λ f. Err f) same) refl, fits)
+-- ---- the limit
 
--- a stop of a command that has no transaction before its effect
-pub stopped : (command : Command) (p : Place) (old new : Base) (kept : Kept) (stop : Stop) (fault : DbFault) (fits : Fits p old) → old.up ≡ true → kept.held ≡ Some fits.held.0 → IsStopOfStore stop → (is_stop_failed stop ≡ true → Rose old.kept.faults kept.faults) → new.kept ≡ kept → new.up ≡ false → new.doubt ≡ old.doubt
-    → fault ≡ halt_of stop kept.faults → is_memory fault ≡ false → Comes command p (Err fault) new
-stopped command p old new kept stop fault fits up held only rose same down doubt fault_is memory =
-    let runs = up_running p old fits up in
-    plain (fell_by p p old new kept fits.held.0 fits.held.0 stop fault runs.0 runs.0 fits.told rose same down (doubt ∙ runs.1.settled) fault_is memory fits.held.2 fits.held.2 (inl held) only) runs.0
-  where
-    plain : FellTo p p fault new → p.standing ≡ IsRunning → Comes command p (Err fault) new
-    plain (Fell count true same_fault rose fits) is = (fallen count p, Fails count false (is_up p is command) rose (ap (λ f. Err f) same_fault) refl, fits)
-    plain (Fell count false same_fault rose fits) is = (fallen count p, Fails count false (is_up p is command) rose (ap (λ f. Err f) same_fault) refl, fits)
+small_stamp : (p : Place) (stamp : ℕ) → stamp ≡ p.stamp → stamp + 1 < stored_limit → is_last_stamp p ≡ false
+small_stamp p stamp is less = lt-leb stored_limit (p.stamp + 1) (omega (arith, is, less))
 
--- a commit in doubt
-pub in_doubt : (command : Command) (p q : Place) (answer : Answer) (old new : Base) (kept : Kept) (change : Store) (fits : Fits p old) → old.up ≡ true → place_due command p ≡ Ok answer → commits_in_store command p ≡ true → place_after command p ≡ q → q.stamp ≡ p.stamp + 1 → q.told ≡ p.told
-    → new.up ≡ false → new.doubt ≡ Some (old.stamp + 1) → new.kept ≡ kept → old.kept.faults ≤ kept.faults → Holds q change → (kept.held ≡ Some fits.held.0) ⊎ (kept.held ≡ Some change) → Comes command p (Ok (InDoubt answer)) new
-in_doubt command p q answer old new kept change fits up due commits after stamp told down doubt same later holds either =
-    let runs = up_running p old fits up in
-    let faults : new.kept.faults ≡ kept.faults = ap (λ k. k.faults) same in
-    let doubt_is : new.doubt ≡ Some (p.stamp + 1) = doubt ∙ ap (λ n. Some (n + 1)) runs.1.stamp in
-    elim either [
-      | inl before ↦ (
-        doubted false p,
-        Doubts answer false due commits refl refl,
-        record {
-          stands = (down, doubt_is, λ is. absurd (false≢true is));
-          told = omega (arith, fits.told, later, faults);
-          held = (fits.held.0, ap (λ k. k.held) same ∙ before, holds_same p (doubted false p) fits.held.0 refl refl refl refl (λ t. refl) fits.held.2);
-        },
-      )
-      | inr made ↦ (
-        doubted true q,
-        Doubts answer true due commits refl (ap (doubted true) (sym after)),
-        record {
-          stands = (down, doubt_is ∙ ap (λ n. Some n) (sym stamp), λ _. omega (arith, stamp));
-          told = omega (arith, fits.told, later, told, faults);
-          held = (change, ap (λ k. k.held) same ∙ made, holds_same q (doubted true q) change refl refl refl refl (λ t. refl) holds);
-        },
-      )
-    ]
+last_stamp : (p : Place) (stamp : ℕ) → stamp ≡ p.stamp → stored_limit ≤ stamp + 1 → is_last_stamp p ≡ true
+last_stamp p stamp is most = le-leb stored_limit (p.stamp + 1) (omega (arith, is, most))
+
+-- a number that would be too big takes the database down
+pub overflows : (task : Task) (p : Place) (answer : Answer) (move : Move) (old new : Base) (fits : Fits p old) → old.memory.up ≡ true → Rattle.slon_model.specs.Deciding.decide_up task p ≡ Accepts answer move →
+    is_beyond move p ≡ true → GoesDown old.memory new.memory → new.kept.held ≡ old.kept.held → old.kept.faults ≤ new.kept.faults → Comes task p (Err (Halt (TooBig 1))) new
+overflows task p answer move old new fits up is beyond down held later =
+    carried task p Overflows new (decided task p old (Accepts answer move) Overflows fits up is (ap (λ b. cond b Overflows (Accepts answer move)) beyond)) (crashed_fits p old new fits up down.up down.doubt held later)
 
 -- ---- tables
 
-table_due_is : (database name : List ℕ) (columns : ℕ) (p : Place) (b : Bool) → p.standing ≡ IsRunning → is_some (find_named name p.tables) ≡ b → place_due (Table database name columns) p ≡ cond b (Err TableExists) (Ok Done)
-table_due_is database name columns p b is there = due_running (Table database name columns) p refl is ∙ ap (λ t. cond t (Err TableExists) (Ok Done)) there
+table_decision : (table : List ℕ) (columns : ℕ) (p : Place) (b : Bool) → is_some (find_named table p.tables) ≡ b →
+    refused_if (is_some (find_named table p.tables)) TableExists (Accepts Done (Tables table columns)) ≡ refused_if b TableExists (Accepts Done (Tables table columns))
+table_decision table columns p b is = ap (λ t. refused_if t TableExists (Accepts Done (Tables table columns))) is
 
-pub table_refused : (database name : List ℕ) (columns : ℕ) (p : Place) (b : Base) (kept : Kept) (fits : Fits p b) → b.up ≡ true → is_some (find_named name p.tables) ≡ true → kept.held ≡ Some fits.held.0 → b.kept.faults ≤ kept.faults → is_some kept.pending ≡ false →
-    Comes (Table database name columns) p (Err TableExists) (record b { kept = kept })
-table_refused database name columns p b kept fits up there held later idle =
-    let runs = up_running p b fits up in
-    (p, answers_err (Table database name columns) p TableExists (table_due_is database name columns p true runs.0 there), looked p b kept fits up (held ∙ sym fits.held.1) later idle)
+pub table_refused : (table : List ℕ) (columns : ℕ) (p : Place) (b : Base) (kept : Kept) (fits : Fits p b) → b.memory.up ≡ true → is_some (find_named table p.tables) ≡ true →
+    kept.held ≡ Some fits.held.0 → b.kept.faults ≤ kept.faults → Comes (ToMake table columns) p (Err TableExists) (record b { kept = kept })
+table_refused table columns p b kept fits up there held later =
+    carried (ToMake table columns) p (Refuses TableExists) _ (decided _ p b (Refuses TableExists) (Refuses TableExists) fits up (table_decision table columns p true there) refl)
+    (looked p b kept fits (held ∙ sym fits.held.1) later)
 
-pub table_made : (database name : List ℕ) (columns : ℕ) (p : Place) (b : Base) (kept : Kept) (fits : Fits p b) → b.up ≡ true → is_some (find_named name p.tables) ≡ false → kept.held ≡ Some (new_table (text_bytes name) (number_bytes columns) (number_bytes (b.stamp + 1)) fits.held.0) → b.kept.faults ≤ kept.faults → is_some kept.pending ≡ false →
-    Comes (Table database name columns) p (Ok (Sure Done)) (record b { kept = kept; stamp = b.stamp + 1 })
-table_made database name columns p b kept fits up absent held later idle =
-    let runs = up_running p b fits up in
-    let due = table_due_is database name columns p false runs.0 absent in (
-      table_after name columns p,
-      answers_ok (Table database name columns) p (table_after name columns p) Done due refl (ap (λ r. table_after name columns (drawn_for r p)) (sym due)),
-      fits_running (table_after name columns p) _ _ runs.0
-          (record {
-            up = runs.1.up;
-            idle = idle;
-            stamp = ap (λ n. n + 1) runs.1.stamp;
-            settled = runs.1.settled;
-            founded = omega arith;
-            next_xid = runs.1.next_xid;
-            xid_ceiling = runs.1.xid_ceiling;
-            next_number = runs.1.next_number;
-            number_ceiling = runs.1.number_ceiling;
-            opened = λ q. opens_same p (table_after name columns p) (find_named q p.opens) (get b.opens q) refl refl (runs.1.opened q);
-            locked = runs.1.locked;
-          })
-          (omega (arith, fits.told, later)) held (subst (λ n. Holds (table_after name columns p) (new_table (text_bytes name) (number_bytes columns) (number_bytes (n + 1)) fits.held.0)) (sym runs.1.stamp) (holds_table p fits.held.0 name columns runs.1.founded fits.held.2)),
-    )
+table_runs : (table : List ℕ) (columns stamp : ℕ) (p : Place) (m : Memory) → Runs p m → stamp ≡ m.stamp + 1 → Runs (tabled table columns p) (record m { stamp = stamp })
+table_runs table columns stamp p m runs is = record {
+  up = runs.up;
+  stamp = is ∙ ap (λ n. n + 1) runs.stamp;
+  settled = runs.settled;
+  founded = omega arith;
+  xids = runs.xids;
+  numbers = runs.numbers;
+  opened = λ q. opens_same p (tabled table columns p) (find_named q p.opens) (get m.opens q) refl refl (runs.opened q);
+  locked = runs.locked;
+}
 
-pub table_doubted : (database name : List ℕ) (columns : ℕ) (p : Place) (b new : Base) (kept : Kept) (fits : Fits p b) → b.up ≡ true → is_some (find_named name p.tables) ≡ false → new.up ≡ false → new.doubt ≡ Some (b.stamp + 1) → new.kept ≡ kept → b.kept.faults ≤ kept.faults →
-    (kept.held ≡ Some fits.held.0) ⊎ (kept.held ≡ Some (new_table (text_bytes name) (number_bytes columns) (number_bytes (b.stamp + 1)) fits.held.0)) → Comes (Table database name columns) p (Ok (InDoubt Done)) new
-table_doubted database name columns p b new kept fits up absent down doubt same later either =
+table_holds : (table : List ℕ) (columns : ℕ) (p : Place) (b : Base) (fits : Fits p b) → Runs p b.memory →
+    Holds (tabled table columns p) (new_table (text_bytes table) (number_bytes columns) (number_bytes (b.memory.stamp + 1)) fits.held.0)
+table_holds table columns p b fits runs =
+    subst (λ n. Holds (tabled table columns p) (new_table (text_bytes table) (number_bytes columns) (number_bytes (n + 1)) fits.held.0)) (sym runs.stamp)
+    (holds_table p fits.held.0 table columns runs.founded fits.held.2)
+
+table_accepted : (table : List ℕ) (columns : ℕ) (p : Place) (b : Base) (fits : Fits p b) → b.memory.up ≡ true → is_some (find_named table p.tables) ≡ false → b.memory.stamp + 1 < stored_limit →
+    decide (ToMake table columns) p ≡ Accepts Done (Tables table columns)
+table_accepted table columns p b fits up absent less =
+    decided _ p b (Accepts Done (Tables table columns)) _ fits up (table_decision table columns p false absent)
+    (within (Tables table columns) p Done (small_stamp p b.memory.stamp (up_running p b fits up).1.stamp less))
+
+pub table_made : (table : List ℕ) (columns : ℕ) (p : Place) (b : Base) (kept : Kept) (fits : Fits p b) → b.memory.up ≡ true → is_some (find_named table p.tables) ≡ false → b.memory.stamp + 1 < stored_limit →
+    kept.held ≡ Some (new_table (text_bytes table) (number_bytes columns) (number_bytes (b.memory.stamp + 1)) fits.held.0) → b.kept.faults ≤ kept.faults →
+    Comes (ToMake table columns) p (Ok (Sure Done)) (record { kept = kept; memory = record b.memory { stamp = b.memory.stamp + 1 } })
+table_made table columns p b kept fits up absent less held later =
     let runs = up_running p b fits up in
-    let due = table_due_is database name columns p false runs.0 absent in
-    let after : place_after (Table database name columns) p ≡ table_after name columns p =
-    ap (λ r. cond (changes r) (table_after name columns (drawn_for r p)) p) due in
-    in_doubt (Table database name columns) p (table_after name columns p) Done b new kept (new_table (text_bytes name) (number_bytes columns) (number_bytes (b.stamp + 1)) fits.held.0) fits up due (ap (λ r. (true && Rattle.std.specs.Prelude.is_ok r) || Rattle.slon_model.specs.Place.commits_actions r) due) after refl refl down doubt same later
-    (subst (λ n. Holds (table_after name columns p) (new_table (text_bytes name) (number_bytes columns) (number_bytes (n + 1)) fits.held.0)) (sym runs.1.stamp) (holds_table p fits.held.0 name columns runs.1.founded fits.held.2)) either
+    carried (ToMake table columns) p (Accepts Done (Tables table columns)) _ (table_accepted table columns p b fits up absent less)
+    (fits_running (tabled table columns p) _ _ runs.0 (table_runs table columns (b.memory.stamp + 1) p b.memory runs.1 refl) (omega (arith, fits.told, later)) held (table_holds table columns p b fits runs.1))
+
+pub table_doubted : (table : List ℕ) (columns : ℕ) (p : Place) (b new : Base) (fits : Fits p b) → b.memory.up ≡ true → is_some (find_named table p.tables) ≡ false → b.memory.stamp + 1 < stored_limit →
+    new.memory.up ≡ false → new.memory.doubt ≡ Some (b.memory.stamp + 1) → b.kept.faults ≤ new.kept.faults →
+    (new.kept.held ≡ Some fits.held.0) ⊎ (new.kept.held ≡ Some (new_table (text_bytes table) (number_bytes columns) (number_bytes (b.memory.stamp + 1)) fits.held.0)) → Comes (ToMake table columns) p (Ok (InDoubt Done)) new
+table_doubted table columns p b new fits up absent less down doubt later either =
+    let runs = up_running p b fits up in
+    wavers (ToMake table columns) p Done (Tables table columns) new fits.held.0 _ (table_accepted table columns p b fits up absent less) refl
+    (record { stamp = refl; told = refl; up = down; doubt = doubt ∙ ap (λ n. Some (n + 1)) runs.1.stamp }) (omega (arith, fits.told, later)) fits.held.2 (table_holds table columns p b fits runs.1) either
+
+pub table_at_limit : (table : List ℕ) (columns : ℕ) (p : Place) (b new : Base) (fits : Fits p b) → b.memory.up ≡ true → is_some (find_named table p.tables) ≡ false → stored_limit ≤ b.memory.stamp + 1 →
+    GoesDown b.memory new.memory → new.kept.held ≡ b.kept.held → b.kept.faults ≤ new.kept.faults → Comes (ToMake table columns) p (Err (Halt (TooBig 1))) new
+table_at_limit table columns p b new fits up absent most down held later =
+    overflows (ToMake table columns) p Done (Tables table columns) b new fits up (table_decision table columns p false absent)
+    (last_stamp p b.memory.stamp (up_running p b fits up).1.stamp most) down held later
 
 -- ---- rows
 
-rows_due_is : (database table : List ℕ) (p : Place) (b : Bool) → p.standing ≡ IsRunning → is_some (find_named table p.tables) ≡ b → place_due (Rows database table) p ≡ cond b (Ok (Listed (entries (standing_rows p table)))) (Err NoTable)
-rows_due_is database table p b is there = due_running (Rows database table) p refl is ∙ ap (λ t. cond t (Ok (Listed (entries (standing_rows p table)))) (Err NoTable)) there
+rows_decision : (table : List ℕ) (p : Place) (o : Option ℕ) → find_named table p.tables ≡ o →
+    with_found (find_named table p.tables) NoTable (λ width. Accepts (Listed (entries (standing_rows p table))) Stays) ≡ with_found o NoTable (λ width. Accepts (Listed (entries (standing_rows p table))) Stays)
+rows_decision table p o is = ap (λ o. with_found o NoTable (λ width. Accepts (Listed (entries (standing_rows p table))) Stays)) is
 
-pub rows_refused : (database table : List ℕ) (p : Place) (b : Base) (kept : Kept) (fits : Fits p b) → b.up ≡ true → is_some (find_named table p.tables) ≡ false → kept.held ≡ b.kept.held → b.kept.faults ≤ kept.faults → is_some kept.pending ≡ false → Comes (Rows database table) p (Err NoTable) (record b { kept = kept })
-rows_refused database table p b kept fits up absent held later idle =
-    let runs = up_running p b fits up in
-    (p, answers_err (Rows database table) p NoTable (rows_due_is database table p false runs.0 absent), looked p b kept fits up held later idle)
+some_at : {X : Type 0} (o : Option X) → is_some o ≡ true → (x : X) × (o ≡ Some x)
+some_at None is = absurd (false≢true is)
+some_at (Some x) is = (x, refl)
 
-pub rows_listed : (database table : List ℕ) (p : Place) (b : Base) (kept : Kept) (listed : List (List ℕ × List (List ℕ))) (fits : Fits p b) → b.up ≡ true → is_some (find_named table p.tables) ≡ true → listed ≡ entries (standing_rows p table) → kept.held ≡ b.kept.held → b.kept.faults ≤ kept.faults → is_some kept.pending ≡ false →
-    Comes (Rows database table) p (Ok (Sure (Listed listed))) (record b { kept = kept })
-rows_listed database table p b kept listed fits up there same held later idle =
-    let runs = up_running p b fits up in
-    let due = rows_due_is database table p true runs.0 there in
-    (p, answers_ok (Rows database table) p p (Listed listed) (due ∙ ap (λ l. Ok (Listed l)) (sym same)) refl (ap (λ r. drawn_for r p) (sym due)), looked p b kept fits up held later idle)
+pub none_at : {X : Type 0} (o : Option X) → is_some o ≡ false → o ≡ None
+none_at None is = refl
+none_at (Some x) is = absurd (false≢true (sym is))
+
+pub rows_refused : (table : List ℕ) (p : Place) (b : Base) (kept : Kept) (fits : Fits p b) → b.memory.up ≡ true → is_some (find_named table p.tables) ≡ false →
+    kept.held ≡ b.kept.held → b.kept.faults ≤ kept.faults → Comes (ToList table) p (Err NoTable) (record b { kept = kept })
+rows_refused table p b kept fits up absent held later =
+    carried (ToList table) p (Refuses NoTable) _ (decided _ p b _ (Refuses NoTable) fits up (rows_decision table p None (none_at _ absent)) refl) (looked p b kept fits held later)
+
+pub rows_listed : (table : List ℕ) (p : Place) (b : Base) (kept : Kept) (listed : List (List ℕ × List (List ℕ))) (fits : Fits p b) → b.memory.up ≡ true → is_some (find_named table p.tables) ≡ true →
+    listed ≡ entries (standing_rows p table) → kept.held ≡ b.kept.held → b.kept.faults ≤ kept.faults → Comes (ToList table) p (Ok (Sure (Listed listed))) (record b { kept = kept })
+rows_listed table p b kept listed fits up there same held later =
+    let found = some_at (find_named table p.tables) there in
+    subst (λ l. Comes (ToList table) p (Ok (Sure (Listed l))) (record b { kept = kept })) (sym same)
+    (carried (ToList table) p (Accepts (Listed (entries (standing_rows p table))) Stays) _ (decided _ p b _ _ fits up (rows_decision table p (Some found.0) found.1) refl) (looked p b kept fits held later))
 
 -- ---- begin
 
 -- no transaction of a name is open
-not_named : (p : Place) (b : Base) (name : List ℕ) → Runs p b → is_some (get b.opens name) ≡ false → find_named name p.opens ≡ None
-not_named p b name runs none = by (find_named name p.opens) (get b.opens name) refl refl (runs.opened name)
+pub not_named : (p : Place) (m : Memory) (name : List ℕ) → Runs p m → get m.opens name ≡ None → find_named name p.opens ≡ None
+not_named p m name runs none = by (find_named name p.opens) (get m.opens name) refl none (runs.opened name)
   where
-    by : (x : Option ℕ) (t : Option Transaction) → find_named name p.opens ≡ x → get b.opens name ≡ t → OpensAs p x t → find_named name p.opens ≡ None
+    by : (x : Option ℕ) (t : Option Transaction) → find_named name p.opens ≡ x → t ≡ None → OpensAs p x t → find_named name p.opens ≡ None
     by None t x_is t_is o = x_is
     by (Some x) None x_is t_is o = absurd o
-    by (Some x) (Some t) x_is t_is o = absurd (false≢true (sym none ∙ ap is_some t_is))
+    by (Some x) (Some t) x_is t_is o = absurd cc
 
-pub is_named : (p : Place) (b : Base) (name : List ℕ) (t : Transaction) → Runs p b → get b.opens name ≡ Some t → (x : ℕ) × (find_named name p.opens ≡ Some x) × IsOpened p x t
-is_named p b name t runs is = by (find_named name p.opens) (get b.opens name) refl is (runs.opened name)
+pub is_named : (p : Place) (m : Memory) (name : List ℕ) (t : Transaction) → Runs p m → get m.opens name ≡ Some t → (x : ℕ) × (find_named name p.opens ≡ Some x) × IsOpened p x t
+is_named p m name t runs is = by (find_named name p.opens) (get m.opens name) refl is (runs.opened name)
   where
     by : (x : Option ℕ) (o : Option Transaction) → find_named name p.opens ≡ x → o ≡ Some t → OpensAs p x o → (x : ℕ) × (find_named name p.opens ≡ Some x) × IsOpened p x t
     by None None x_is o_is opened = absurd cc
@@ -171,259 +165,306 @@ is_named p b name t runs is = by (find_named name p.opens) (get b.opens name) re
     by (Some x) None x_is o_is opened = absurd cc
     by (Some x) (Some u) x_is o_is opened = let same : u ≡ t = cc in (x, x_is, subst (IsOpened p x) same opened)
 
-pub name_used : (database name : List ℕ) (p : Place) (b : Base) (fits : Fits p b) → b.up ≡ true → is_some (get b.opens name) ≡ true → Comes (Begin database name) p (Err NameUsed) b
-name_used database name p b fits up there =
+begin_decision : (name : List ℕ) (p : Place) (b : Bool) → is_some (find_named name p.opens) ≡ b →
+    refused_if (is_some (find_named name p.opens)) NameUsed (Accepts (Opened p.xids.next) (Begins name)) ≡ refused_if b NameUsed (Accepts (Opened p.xids.next) (Begins name))
+begin_decision name p b is = ap (λ t. refused_if t NameUsed (Accepts (Opened p.xids.next) (Begins name))) is
+
+pub name_used : (name : List ℕ) (p : Place) (b : Base) (fits : Fits p b) → b.memory.up ≡ true → is_some (get b.memory.opens name) ≡ true → Comes (ToOpen name) p (Err NameUsed) b
+name_used name p b fits up there =
     let runs = up_running p b fits up in
-    (p, answers_err (Begin database name) p NameUsed (due_running (Begin database name) p refl runs.0 ∙ ap (λ o. cond o (Err NameUsed) (Ok (Opened p.next_xid))) (some (get b.opens name) refl runs.1)), fits)
-  where
-    some : (o : Option Transaction) → get b.opens name ≡ o → Runs p b → is_some (find_named name p.opens) ≡ true
-    some None is runs = absurd (false≢true (sym (ap is_some is) ∙ there))
-    some (Some t) is runs = let named = is_named p b name t runs is in ap is_some named.1
+    let t = some_at (get b.memory.opens name) there in
+    let named = is_named p b.memory name t.0 runs.1 t.1 in
+    carried (ToOpen name) p (Refuses NameUsed) b (decided _ p b _ (Refuses NameUsed) fits up (begin_decision name p true (ap is_some named.1)) refl) fits
 
 -- a transaction more
-begun_runs : (p : Place) (b : Base) (name : List ℕ) (locks : Locks) (xid : ℕ) → Sound p → p.standing ≡ IsRunning → Runs p b → find_named name p.opens ≡ None → xid ≡ b.next_xid → Runs (begin_after name p) (record b { next_xid = b.next_xid + 1; opens = insert b.opens name (record { xid = xid; actions = 0; writes = empty }) })
-begun_runs p b name locks xid sound is runs none xid_is =
-    let new : Transaction = record { xid = xid; actions = 0; writes = empty } in
-    record {
-      up = runs.up;
-      idle = runs.idle;
-      stamp = runs.stamp;
-      settled = runs.settled;
-      founded = runs.founded;
-      next_xid = ap (λ n. n + 1) runs.next_xid;
-      xid_ceiling = runs.xid_ceiling;
-      next_number = runs.next_number;
-      number_ceiling = runs.number_ceiling;
-      opened = λ q. subst (λ x. OpensAs (begin_after name p) x (get (insert b.opens name new) q)) (sym (find_behind q name p.next_xid p.opens))
-          (subst (OpensAs (begin_after name p) (or_new (bytes_eq q name) p.next_xid (find_named q p.opens))) (sym (get-insert nat_list_cmp_total b.opens name new q ∙ ap (λ t. cond t (Some new) (get b.opens q)) (key_test q name)))
-          (by_name q (bytes_eq q name) refl));
-      locked = λ table key text. runs.locked table key text ∙ holders_agree table key (open_xids p) (open_xids (begin_after name p)) p.actions (older p.actions sound.known);
-    }
-  where
-    by_name : (q : List ℕ) (t : Bool) → bytes_eq q name ≡ t → OpensAs (begin_after name p) (or_new t p.next_xid (find_named q p.opens)) (cond t (Some (record { xid = xid; actions = 0; writes = empty })) (get b.opens q))
-    by_name q true same = subst (λ o. OpensAs (begin_after name p) (or_new true p.next_xid o) (Some (record { xid = xid; actions = 0; writes = empty }))) (sym (ap (λ k. find_named k p.opens) (bytes_same q name same) ∙ none))
-        (opened_new p (begin_after name p) p.next_xid xid sound refl refl refl (xid_is ∙ runs.next_xid))
-    by_name q false other = subst (λ o. OpensAs (begin_after name p) o (get b.opens q)) (kept (find_named q p.opens)) (opens_same p (begin_after name p) (find_named q p.opens) (get b.opens q) refl refl (runs.opened q))
-      where
-        kept : (o : Option ℕ) → o ≡ or_new false p.next_xid o
-        kept None = refl
-        kept (Some x) = refl
-
-    older : (actions : List Action) → AllByRecursion (λ a. a.xid < p.next_xid) actions → AllByRecursion (λ a. member a.xid (open_xids p) ≡ member a.xid (open_xids (begin_after name p))) actions
-    older [] known = tt
-    older (a ∷ rest) known = (sym (member_snoc a.xid p.next_xid name p.opens ∙ ap (λ t. member a.xid (xids_of p.opens) || t) (false_from_ne_true _ (λ same. let eq = eqb-true a.xid p.next_xid same in absurd (omega (arith, eq, known.0)))) ∙ or_false (member a.xid (xids_of p.opens))), older rest known.1)
-      where
-        or_false : (t : Bool) → (t || false) ≡ t
-        or_false true = refl
-        or_false false = refl
-
-pub begun : (database name : List ℕ) (p : Place) (b mid new : Base) (xid : ℕ) (fits : Fits p b) → Sound p → b.up ≡ true → is_some (get b.opens name) ≡ false → Fits (xid_raised p) mid → mid.up ≡ true → xid ≡ mid.next_xid
-    → new ≡ record mid { next_xid = mid.next_xid + 1; opens = insert mid.opens name (record { xid = xid; actions = 0; writes = empty }) } → Comes (Begin database name) p (Ok (Sure (Opened xid))) new
-begun database name p b mid new xid fits sound up none raised mid_up xid_is new_is =
-    let runs = up_running p b fits up in
-    let mid_runs = up_running (xid_raised p) mid raised mid_up in
-    let absent = not_named p b name runs.1 none in
-    let absent_mid : find_named name (xid_raised p).opens ≡ None = raised_xids_same (λ q. find_named name q.opens ≡ None) p absent absent in
-    let next_same : p.next_xid ≡ (xid_raised p).next_xid = raised_xids_same (λ q. p.next_xid ≡ q.next_xid) p refl refl in
-    let due : place_due (Begin database name) p ≡ Ok (Opened xid) = due_running (Begin database name) p refl runs.0 ∙ ap (λ o. cond (is_some o) (Err NameUsed) (Ok (Opened p.next_xid))) absent ∙ ap (λ n. Ok (Opened n)) (next_same ∙ sym mid_runs.1.next_xid ∙ sym xid_is) in
-    let q = begin_after name (xid_raised p) in (
-      q,
-      answers_ok (Begin database name) p q (Opened xid) due refl (ap (λ r. begin_after name (drawn_for r p)) (sym due)),
-      subst (Fits q) (sym new_is) (fits_running q _ raised.held.0 mid_runs.0 (begun_runs (xid_raised p) mid name mid.locks xid (sound_xid_raised p sound) mid_runs.0 mid_runs.1 absent_mid xid_is) raised.told raised.held.1
-          (holds_same (xid_raised p) q raised.held.0 refl refl refl refl (λ t. refl) raised.held.2)),
-    )
-
-pub begin_stopped : (database name : List ℕ) (p : Place) (b new : Base) (fault : DbFault) (fits : Fits p b) → b.up ≡ true → is_some (get b.opens name) ≡ false → FellTo p (xid_raised p) fault new → Comes (Begin database name) p (Err fault) new
-begin_stopped database name p b new fault fits up none fell =
-    let runs = up_running p b fits up in
-    let due : place_due (Begin database name) p ≡ Ok (Opened p.next_xid) = due_running (Begin database name) p refl runs.0 ∙ ap (λ o. cond (is_some o) (Err NameUsed) (Ok (Opened p.next_xid))) (not_named p b name runs.1 none) in
-    from_fell (Begin database name) p fault new runs.0 (subst (λ q. FellTo p q fault new) (ap (λ r. drawn_for r p) (sym due)) fell)
-
--- ---- the end of a transaction
-
-no_transaction : (p : Place) (b : Base) (name : List ℕ) → Runs p b → get b.opens name ≡ None → find_named name p.opens ≡ None
-no_transaction p b name runs none = not_named p b name runs (ap is_some none)
-
--- what was not there is taken away
-same_opens : (p : Place) (b : Base) (name : List ℕ) → Runs p b → get b.opens name ≡ None → Runs p (record b { opens = remove b.opens name })
-same_opens p b name runs none = record {
+begun_runs : (name : List ℕ) (p : Place) (m : Memory) (xids : Counter) (xid : ℕ) → Sound p → Runs p m → find_named name p.opens ≡ None → xid ≡ m.xids.next → xids ≡ drawn m.xids →
+    Runs (begun name p) (record m { xids = xids; opens = insert m.opens name (record { xid = xid; actions = 0; writes = empty }) })
+begun_runs name p m xids xid sound runs none xid_is xids_is = record {
   up = runs.up;
-  idle = runs.idle;
   stamp = runs.stamp;
   settled = runs.settled;
   founded = runs.founded;
-  next_xid = runs.next_xid;
-  xid_ceiling = runs.xid_ceiling;
-  next_number = runs.next_number;
-  number_ceiling = runs.number_ceiling;
-  opened = λ q. subst (OpensAs p (find_named q p.opens)) (sym (get-remove nat_list_cmp_total b.opens name q ∙ ap (λ t. cond t None (get b.opens q)) (key_test q name) ∙ unchanged q (bytes_eq q name) refl)) (runs.opened q);
+  xids = xids_is ∙ ap drawn runs.xids;
+  numbers = runs.numbers;
+  opened = λ q. subst (λ x. OpensAs (begun name p) x (get (insert m.opens name new) q)) (sym (find-behind q name p.xids.next p.opens))
+      (subst (OpensAs (begun name p) (behind q (find_named q p.opens))) (sym (get-insert nat_list_cmp_total m.opens name new q ∙ ap (λ t. cond t (Some new) (get m.opens q)) (key_test q name)))
+      (by_name q (bytes_eq q name) refl));
+  locked = λ table key text. runs.locked table key text ∙ holders_agree table key (open_xids p) (open_xids (begun name p)) p.actions (older p.actions sound.known);
+}
+  where
+    new : Transaction
+    new = record { xid = xid; actions = 0; writes = empty }
+
+    behind : List ℕ → Option ℕ → Option ℕ
+    behind q o = cond (is_some o) o (cond (bytes_eq q name) (Some p.xids.next) None)
+
+    stays : (q : List ℕ) (o : Option ℕ) (t : Option Transaction) → bytes_eq q name ≡ false → OpensAs p o t → OpensAs (begun name p) (behind q o) t
+    stays q None t other opens = subst (λ b. OpensAs (begun name p) (cond b (Some p.xids.next) None) t) (sym other) (opens_same p (begun name p) None t refl refl opens)
+    stays q (Some x) t other opens = opens_same p (begun name p) (Some x) t refl refl opens
+
+    by_name : (q : List ℕ) (t : Bool) → bytes_eq q name ≡ t → OpensAs (begun name p) (behind q (find_named q p.opens)) (cond t (Some new) (get m.opens q))
+    by_name q true same =
+        subst (λ o. OpensAs (begun name p) (behind q o) (Some new)) (sym (ap (λ k. find_named k p.opens) (bytes_same q name same) ∙ none))
+        (subst (λ b. OpensAs (begun name p) (cond b (Some p.xids.next) None) (Some new)) (sym same) (opened_new p (begun name p) p.xids.next xid sound refl refl refl (xid_is ∙ ap (λ c. c.next) runs.xids)))
+    by_name q false other = stays q (find_named q p.opens) (get m.opens q) other (runs.opened q)
+
+    or_false : (t : Bool) → (t || false) ≡ t
+    or_false true = refl
+    or_false false = refl
+
+    older : (actions : List Action) → AllByRecursion (λ a. a.xid < p.xids.next) actions → AllByRecursion (λ a. member a.xid (open_xids p) ≡ member a.xid (open_xids (begun name p))) actions
+    older [] known = tt
+    older (a ∷ rest) known =
+        (sym (member_snoc a.xid p.xids.next name p.opens ∙ ap (λ t. member a.xid (ids_of p.opens) || t) (false_from_ne_true _ (λ same. let eq = eqb-true a.xid p.xids.next same in absurd (omega (arith, eq, known.0)))) ∙ or_false (member a.xid (ids_of p.opens))), older rest known.1)
+
+-- what comes of the ceiling that rises first
+pub begins_on : (name : List ℕ) (p : Place) (b mid new : Base) (xid : ℕ) → Ready p b → b.memory.up ≡ true → get b.memory.opens name ≡ None → RaisedTo Xids p (Ok tt) mid → mid.memory.up ≡ true → xid ≡ mid.memory.xids.next
+    → new ≡ record mid { memory = record mid.memory { xids = drawn mid.memory.xids; opens = insert mid.memory.opens name (record { xid = xid; actions = 0; writes = empty }) } } → Comes (ToOpen name) p (Ok (Sure (Opened xid))) new
+begins_on name p b mid new xid ready up none (Raises is less fits) mid_up xid_is new_is =
+    let q = raised Xids p in
+    let same = raised_same Xids p in
+    let runs = up_running q mid fits mid_up in
+    let absent = not_named p b.memory name (up_running p b ready.fits up).1 none in
+    let absent_mid : find_named name q.opens ≡ None = ap (find_named name) same.opens ∙ absent in
+    let number : xid ≡ p.xids.next = xid_is ∙ ap (λ c. c.next) runs.1.xids ∙ same.xid in
+    subst (λ n. Comes (ToOpen name) p (Ok (Sure (Opened n))) new) (sym number)
+    (carried (ToOpen name) p (Accepts (Opened p.xids.next) (Begins name)) new
+    (decided _ p b _ _ ready.fits up (begin_decision name p false (ap is_some absent)) (within (Begins name) p (Opened p.xids.next) less))
+    (subst (Fits (begun name q)) (sym new_is) (fits_running (begun name q) _ fits.held.0 runs.0
+    (begun_runs name q mid.memory (drawn mid.memory.xids) xid (sound_raised Xids p ready.sound) runs.1 absent_mid xid_is refl) fits.told fits.held.1
+    (holds_same q (begun name q) fits.held.0 refl refl refl refl (λ t. refl) fits.held.2))))
+begins_on name p b mid new xid ready up none (Bursts is most fits) mid_up xid_is new_is = absurd cc
+begins_on name p b mid new xid ready up none (StopsRaise fault less is fell) mid_up xid_is new_is = absurd cc
+
+pub begin_stopped : (name : List ℕ) (p : Place) (b new : Base) (fault : DbFault) → Ready p b → b.memory.up ≡ true → get b.memory.opens name ≡ None → RaisedTo Xids p (Err fault) new → Comes (ToOpen name) p (Err fault) new
+begin_stopped name p b new fault ready up none raises = by raises
+  where
+    accepted : Rattle.slon_model.specs.Deciding.decide_up (ToOpen name) p ≡ Accepts (Opened p.xids.next) (Begins name)
+    accepted = begin_decision name p false (ap is_some (not_named p b.memory name (up_running p b ready.fits up).1 none))
+
+    by : RaisedTo Xids p (Err fault) new → Comes (ToOpen name) p (Err fault) new
+    by (Raises is less fits) = absurd cc
+    by (Bursts is most fits) =
+        let same : fault ≡ Halt (TooBig 1) = cc in
+        subst (λ f. Comes (ToOpen name) p (Err f) new) (sym same)
+        (carried (ToOpen name) p Overflows new (decided _ p b _ Overflows ready.fits up accepted (ap (λ b. cond b Overflows (Accepts (Opened p.xids.next) (Begins name))) most)) fits)
+    by (StopsRaise other less is stops) =
+        let same : fault ≡ other = cc in
+        fell (ToOpen name) p (Accepts (Opened p.xids.next) (Begins name)) fault new (ap (λ s. Rattle.slon_model.specs.Deciding.may_call s (ToOpen name)) (up_running p b ready.fits up).0)
+        (decided _ p b _ _ ready.fits up accepted (within (Begins name) p (Opened p.xids.next) less)) (subst (λ f. FellTo p (raised Xids p) f new) (sym same) stops)
+
+-- ---- the end of a transaction
+
+-- what was not there is taken away
+same_opens : (p : Place) (m : Memory) (name : List ℕ) → Runs p m → get m.opens name ≡ None → Runs p (record m { opens = remove m.opens name })
+same_opens p m name runs none = record {
+  up = runs.up;
+  stamp = runs.stamp;
+  settled = runs.settled;
+  founded = runs.founded;
+  xids = runs.xids;
+  numbers = runs.numbers;
+  opened = λ q. subst (OpensAs p (find_named q p.opens)) (sym (get-remove nat_list_cmp_total m.opens name q ∙ ap (λ t. cond t None (get m.opens q)) (key_test q name) ∙ unchanged q (bytes_eq q name) refl)) (runs.opened q);
   locked = runs.locked;
 }
   where
-    unchanged : (q : List ℕ) (t : Bool) → bytes_eq q name ≡ t → cond t None (get b.opens q) ≡ get b.opens q
-    unchanged q true same = sym (ap (get b.opens) (bytes_same q name same) ∙ none)
+    unchanged : (q : List ℕ) (t : Bool) → bytes_eq q name ≡ t → cond t None (get m.opens q) ≡ get m.opens q
+    unchanged q true same = sym (ap (get m.opens) (bytes_same q name same) ∙ none)
     unchanged q false other = refl
 
-pub commit_refused : (database name : List ℕ) (p : Place) (b : Base) (fits : Fits p b) → b.up ≡ true → get b.opens name ≡ None → Comes (Commit database name) p (Err NoTransaction) (record b { opens = remove b.opens name })
-commit_refused database name p b fits up none =
+pub end_refused : (task : Task) (name : List ℕ) (go : ℕ → Decision) (p : Place) (b : Base) (fits : Fits p b) → b.memory.up ≡ true → get b.memory.opens name ≡ None →
+    Rattle.slon_model.specs.Deciding.decide_up task p ≡ with_found (find_named name p.opens) NoTransaction go → Comes task p (Err NoTransaction) (record b { memory = record b.memory { opens = remove b.memory.opens name } })
+end_refused task name go p b fits up none is =
     let runs = up_running p b fits up in
-    (p, answers_err (Commit database name) p NoTransaction (due_running (Commit database name) p refl runs.0 ∙ ap (commit_by p) (no_transaction p b name runs.1 none)), fits_running p _ fits.held.0 runs.0 (same_opens p b name runs.1 none) fits.told fits.held.1 fits.held.2)
-
-pub abort_refused : (database name : List ℕ) (p : Place) (b : Base) (fits : Fits p b) → b.up ≡ true → get b.opens name ≡ None → Comes (Abort database name) p (Err NoTransaction) (record b { opens = remove b.opens name })
-abort_refused database name p b fits up none =
-    let runs = up_running p b fits up in
-    (p, answers_err (Abort database name) p NoTransaction (due_running (Abort database name) p refl runs.0 ∙ ap (λ o. cond (is_some o) (Ok Done) (Err NoTransaction)) (no_transaction p b name runs.1 none)), fits_running p _ fits.held.0 runs.0 (same_opens p b name runs.1 none) fits.told fits.held.1 fits.held.2)
+    carried task p (Refuses NoTransaction) _ (decided task p b _ (Refuses NoTransaction) fits up (is ∙ ap (λ o. with_found o NoTransaction go) (not_named p b.memory name runs.1 none)) refl)
+    (fits_running p _ fits.held.0 runs.0 (same_opens p b.memory name runs.1 none) fits.told fits.held.1 fits.held.2)
 
 -- two names have two ids
 pub ids_differ : (p : Place) (name q : List ℕ) (x y : ℕ) → Sound p → find_named name p.opens ≡ Some x → find_named q p.opens ≡ Some y → bytes_eq q name ≡ false → (y == x) ≡ false
 ids_differ p name q x y sound named found other = false_from_ne_true _ (λ same.
-    let there : find_named q (without_name name p.opens) ≡ Some y = find_without q name p.opens ∙ ap (λ t. cond t None (find_named q p.opens)) other ∙ found in
-    member_taken x name p.opens sound.named sound.running named (ap (λ z. member z (xids_of (without_name name p.opens))) (sym (eqb-true y x same)) ∙ found_member q y (without_name name p.opens) there))
+    let there : find_named q (without_name name p.opens) ≡ Some y = find-without q name p.opens ∙ ap (λ t. cond t None (find_named q p.opens)) other ∙ found in
+    member_taken x name p.opens sound.named sound.running named (ap (λ z. member z (ids_of (without_name name p.opens))) (sym (eqb-true y x same)) ∙ found_member q y (without_name name p.opens) there))
 
 freed_same : (x : ℕ) (o : Option ℕ) → without_xid x o ≡ freed x o
 freed_same x None = refl
 freed_same x (Some y) = refl
 
--- the code without the transaction, where the others stay as they were
-closed_runs : (p q : Place) (b : Base) (name : List ℕ) (x : ℕ) (stamp : ℕ) (kept : Kept) (locks : Locks) → Sound p → Runs p b → find_named name p.opens ≡ Some x → q.opens ≡ without_name name p.opens → q.actions ≡ p.actions → q.next_xid ≡ p.next_xid → q.xid_ceiling ≡ p.xid_ceiling → q.next_number ≡ p.next_number → q.number_ceiling ≡ p.number_ceiling
-    → is_some kept.pending ≡ false → stamp ≡ q.stamp → 0 < q.stamp → ((y : ℕ) (t : Transaction) → member y (open_xids p) ≡ true → (y == x) ≡ false → IsOpened p y t → IsOpened q y t) → ((table key : List ℕ) → holder_of table key locks ≡ without_xid x (holder_of table key b.locks))
-    → Runs q (record b { kept = kept; stamp = stamp; opens = remove b.opens name; locks = locks })
-closed_runs p q b name x stamp kept locks sound runs named opens actions next xids numbers ceiling idle stamp_is founded keep freed_locks =
+-- A transaction of the rules and of the code, which ends, and the locks without its own.
+pub record Ending (p : Place) (name : List ℕ) (t : Transaction) (locks : Locks) (m : Memory) : Type 0 where
+  pub xid : ℕ
+  pub named : find_named name p.opens ≡ Some xid
+  pub there : get m.opens name ≡ Some t
+  pub opened : IsOpened p xid t
+  pub frees : (table key : List ℕ) → holder_of table key locks ≡ without_xid xid (holder_of table key m.locks)
+
+pub ending : (p : Place) (name : List ℕ) (locks : Locks) (m : Memory) (t : Transaction) → Runs p m → get m.opens name ≡ Some t →
+    ((table key : List ℕ) → holder_of table key locks ≡ without_xid t.xid (holder_of table key m.locks)) → Ending p name t locks m
+ending p name locks m t runs there frees =
+    let named = is_named p m name t runs there in
     record {
-      up = runs.up;
-      idle = idle;
-      stamp = stamp_is;
-      settled = runs.settled;
-      founded = founded;
-      next_xid = runs.next_xid ∙ sym next;
-      xid_ceiling = runs.xid_ceiling ∙ sym xids;
-      next_number = runs.next_number ∙ sym numbers;
-      number_ceiling = runs.number_ceiling ∙ sym ceiling;
-      opened = λ k. subst (λ o. OpensAs q (find_named k o) (get (remove b.opens name) k)) (sym opens)
-          (subst (λ o. OpensAs q o (get (remove b.opens name) k)) (sym (find_without k name p.opens))
-          (subst (OpensAs q (cond (bytes_eq k name) None (find_named k p.opens))) (sym (get-remove nat_list_cmp_total b.opens name k ∙ ap (λ t. cond t None (get b.opens k)) (key_test k name)))
-          (by_name k (bytes_eq k name) refl)));
-      locked = λ table key text. freed_locks table key ∙ ap (without_xid x) (runs.locked table key text) ∙ freed_same x (holder table key p)
-          ∙ sym (released table key x (open_xids p) (xids_of (without_name name p.opens)) p.actions (ended_names x name p.opens sound.named sound.running named) sound.locked)
-          ∙ ap (λ os. holder_in table key (xids_of os) p.actions) (sym opens) ∙ ap (holder_in table key (open_xids q)) (sym actions);
+      xid = named.0;
+      named = named.1;
+      there = there;
+      opened = named.2;
+      frees = λ table key. frees table key ∙ ap (λ n. without_xid n (holder_of table key m.locks)) named.2.xid_is;
     }
+
+-- the place after the end of a transaction, where the others stay as they were
+record IsEnded (p q : Place) (name : List ℕ) (x : ℕ) : Type 0 where
+  opens : q.opens ≡ without_name name p.opens
+  actions : q.actions ≡ p.actions
+  xids : q.xids ≡ p.xids
+  numbers : q.numbers ≡ p.numbers
+  founded : 0 < q.stamp
+  keep : (y : ℕ) (t : Transaction) → member y (open_xids p) ≡ true → (y == x) ≡ false → IsOpened p y t → IsOpened q y t
+
+ended_runs : {t : Transaction} (p q : Place) (m : Memory) (name : List ℕ) (stamp : ℕ) (locks : Locks) → Sound p → Runs p m → (e : Ending p name t locks m) → IsEnded p q name e.xid → stamp ≡ q.stamp →
+    Runs q (record m { stamp = stamp; opens = remove m.opens name; locks = locks })
+ended_runs p q m name stamp locks sound runs e ended stamp_is = record {
+  up = runs.up;
+  stamp = stamp_is;
+  settled = runs.settled;
+  founded = ended.founded;
+  xids = runs.xids ∙ sym ended.xids;
+  numbers = runs.numbers ∙ sym ended.numbers;
+  opened = λ k. subst (λ o. OpensAs q (find_named k o) (get (remove m.opens name) k)) (sym ended.opens)
+      (subst (λ o. OpensAs q o (get (remove m.opens name) k)) (sym (find-without k name p.opens))
+      (subst (OpensAs q (cond (bytes_eq k name) None (find_named k p.opens))) (sym (get-remove nat_list_cmp_total m.opens name k ∙ ap (λ t. cond t None (get m.opens k)) (key_test k name)))
+      (by_name k (bytes_eq k name) refl)));
+  locked = λ table key text. e.frees table key ∙ ap (without_xid e.xid) (runs.locked table key text) ∙ freed_same e.xid (holder table key p)
+      ∙ sym (released table key e.xid (open_xids p) (ids_of (without_name name p.opens)) p.actions (ended_names e.xid name p.opens sound.named sound.running e.named) sound.locked)
+      ∙ ap (λ os. holder_in table key (ids_of os) p.actions) (sym ended.opens) ∙ ap (holder_in table key (open_xids q)) (sym ended.actions);
+}
   where
     other : (k : List ℕ) → bytes_eq k name ≡ false → (o : Option ℕ) (t : Option Transaction) → find_named k p.opens ≡ o → OpensAs p o t → OpensAs q o t
     other k differ None None is opened = tt
     other k differ None (Some t) is opened = opened
     other k differ (Some y) None is opened = opened
-    other k differ (Some y) (Some t) is opened = keep y t (found_member k y p.opens is) (ids_differ p name k x y sound named is differ) opened
+    other k differ (Some y) (Some t) is opened = ended.keep y t (found_member k y p.opens is) (ids_differ p name k e.xid y sound e.named is differ) opened
 
-    by_name : (k : List ℕ) (t : Bool) → bytes_eq k name ≡ t → OpensAs q (cond t None (find_named k p.opens)) (cond t None (get b.opens k))
+    by_name : (k : List ℕ) (t : Bool) → bytes_eq k name ≡ t → OpensAs q (cond t None (find_named k p.opens)) (cond t None (get m.opens k))
     by_name k true same = tt
-    by_name k false differ = other k differ (find_named k p.opens) (get b.opens k) refl (runs.opened k)
+    by_name k false differ = other k differ (find_named k p.opens) (get m.opens k) refl (runs.opened k)
 
-pub aborted : (database name : List ℕ) (p : Place) (b new : Base) (t : Transaction) (locks : Locks) (fits : Fits p b) → Sound p → b.up ≡ true → get b.opens name ≡ Some t → ((table key : List ℕ) → holder_of table key locks ≡ without_xid t.xid (holder_of table key b.locks)) →
-    new ≡ record b { opens = remove b.opens name; locks = locks } → Comes (Abort database name) p (Ok (Sure Done)) new
-aborted database name p b new t locks fits sound up there freed_locks new_is =
-    let runs = up_running p b fits up in
-    let named = is_named p b name t runs.1 there in
-    let x = named.0 in
-    let q = abort_after name p in
-    let due : place_due (Abort database name) p ≡ Ok Done = due_running (Abort database name) p refl runs.0 ∙ ap (λ o. cond (is_some o) (Ok Done) (Err NoTransaction)) named.1 in (
-      q,
-      answers_ok (Abort database name) p q Done due refl (ap (λ r. abort_after name (drawn_for r p)) (sym due)),
-      subst (Fits q) (sym new_is) (fits_running q _ fits.held.0 runs.0
-          (closed_runs p q b name x b.stamp b.kept locks sound runs.1 named.1 refl refl refl refl refl refl runs.1.idle runs.1.stamp runs.1.founded (λ y u opened differ o. opened_same p q y u refl refl o) (λ table key. freed_locks table key ∙ ap (λ n. without_xid n (holder_of table key b.locks)) named.2.xid_is))
-          fits.told fits.held.1 (holds_same p q fits.held.0 refl refl refl refl (λ u. refl) fits.held.2)),
-    )
+-- the memory without the transaction
+abbrev pub without_one : List ℕ → ℕ → Locks → Memory → Memory
+without_one name stamp locks m = record m { stamp = stamp; opens = remove m.opens name; locks = locks }
+
+ended_by : (task : Task) (p : Place) (b : Base) (name : List ℕ) (go : ℕ → Decision) (d : Decision) (xid : ℕ) (fits : Fits p b) → b.memory.up ≡ true → find_named name p.opens ≡ Some xid →
+    Rattle.slon_model.specs.Deciding.decide_up task p ≡ with_found (find_named name p.opens) NoTransaction go → limited p (go xid) ≡ d → decide task p ≡ d
+ended_by task p b name go d xid fits up named is limit = decided task p b _ d fits up (is ∙ ap (λ o. with_found o NoTransaction go) named) limit
+
+pub aborts : (name : List ℕ) (p : Place) (b new : Base) (t : Transaction) (locks : Locks) → Ready p b → b.memory.up ≡ true → get b.memory.opens name ≡ Some t →
+    ((table key : List ℕ) → holder_of table key locks ≡ without_xid t.xid (holder_of table key b.memory.locks)) →
+    new ≡ record b { memory = without_one name b.memory.stamp locks b.memory } → Comes (ToAbort name) p (Ok (Sure Done)) new
+aborts name p b new t locks ready up there frees new_is =
+    let runs = up_running p b ready.fits up in
+    let e = (ending p name locks b.memory t runs.1 there frees) in
+    let q = aborted name p in
+    carried (ToAbort name) p (Accepts Done (Aborts name)) new (ended_by (ToAbort name) p b name (λ xid. Accepts Done (Aborts name)) _ e.xid ready.fits up e.named refl refl)
+    (subst (Fits q) (sym new_is) (fits_running q _ ready.fits.held.0 runs.0
+    (ended_runs p q b.memory name b.memory.stamp locks ready.sound runs.1 e
+    (record { opens = refl; actions = refl; xids = refl; numbers = refl; founded = runs.1.founded; keep = λ y u opened differ o. opened_same p q y u refl refl o }) runs.1.stamp)
+    ready.fits.told ready.fits.held.1 (holds_same p q ready.fits.held.0 refl refl refl refl (λ u. refl) ready.fits.held.2)))
 
 -- ---- commits
-
-commit_due_is : (database name : List ℕ) (p : Place) (x count : ℕ) → p.standing ≡ IsRunning → find_named name p.opens ≡ Some x → count ≡ own_count x p → place_due (Commit database name) p ≡ Ok (Committed count)
-commit_due_is database name p x count is named same = due_running (Commit database name) p refl is ∙ ap (commit_by p) named ∙ ap (λ n. Ok (Committed n)) (sym same)
-
-commit_effect : (database name : List ℕ) (p : Place) (x count : ℕ) → place_due (Commit database name) p ≡ Ok (Committed count) → find_named name p.opens ≡ Some x → committed name x p ≡ effect (Commit database name) (prepared (Commit database name) p)
-commit_effect database name p x count due named = sym (ap (λ r. effect (Commit database name) (drawn_for r p)) due ∙ ap (λ o. committed_by name o p) named)
 
 -- the rows that stand after a commit are those that the transaction saw
 rows_after : (p : Place) (x : ℕ) (name : List ℕ) (m : Store) (t : Transaction) → IsOpened p x t → Holds p m → AreRows (standing_rows (committed name x p)) (write_all (entries t.writes) m rows)
 rows_after p x name m t o holds = record {
-  lookups = λ table key text. get-written t.writes m (row_key table key) ∙ ap (over (get t.writes (row_key table key))) (holds.rows_held.lookups table key text) ∙ sym (o.sees table key text);
+  lookups = λ i text. get-written t.writes m (row_key i.0 i.1) ∙ ap (over (get t.writes (row_key i.0 i.1))) (holds.rows_held.lookups i text) ∙ sym (o.sees i.0 i.1 text);
+  spelled = λ i text. any_of (get (standing_rows (committed name x p) i.0) i.1);
   keys = λ q value is. by q value (get t.writes q) refl (sym (get-written t.writes m q) ∙ is);
 }
   where
-    by : (q value : List ℕ) (w : Option (Option (List ℕ))) → get t.writes q ≡ w → over w (get (m rows) q) ≡ Some value → Rattle.app_store.specs.Spelled.IsRowKey q
+    by : (q value : List ℕ) (w : Option (Option (List ℕ))) → get t.writes q ≡ w → over w (get (m rows) q) ≡ Some value → (i : List ℕ × List ℕ) × IsText i.0 × (q ≡ row_key i.0 i.1)
     by q value None same is = holds.rows_held.keys q value is
-    by q value (Some w) same is = o.keys q (ap is_some same)
+    by q value (Some w) same is = let key = o.keys q (ap is_some same) in ((key.0, key.1), key.3, key.2)
 
 committed_others : (p : Place) (name : List ℕ) (x : ℕ) → Sound p → find_named name p.opens ≡ Some x → (y : ℕ) (u : Transaction) → member y (open_xids p) ≡ true → (y == x) ≡ false → IsOpened p y u → IsOpened (committed name x p) y u
 committed_others p name x sound named y u opened differ o = opened_committed p name x y u sound (found_member name x p.opens named) opened differ o
 
-pub committed_none : (database name : List ℕ) (p : Place) (b new : Base) (t : Transaction) (locks : Locks) (fits : Fits p b) → Sound p → b.up ≡ true → get b.opens name ≡ Some t → ((table key : List ℕ) → holder_of table key locks ≡ without_xid t.xid (holder_of table key b.locks)) → t.actions ≡ 0 →
-    new ≡ record b { opens = remove b.opens name; locks = locks } → Comes (Commit database name) p (Ok (Sure (Committed t.actions))) new
-committed_none database name p b new t locks fits sound up there freed_locks zero new_is =
-    let runs = up_running p b fits up in
-    let named = is_named p b name t runs.1 there in
-    let x = named.0 in
-    let q = committed name x p in
-    let due = commit_due_is database name p x t.actions runs.0 named.1 named.2.count in
-    let none : NoneOf x p.actions = counted_none x p.actions (sym named.2.count ∙ zero) in
-    let stamp_same : q.stamp ≡ p.stamp = ap (λ n. cond (n == 0) p.stamp (p.stamp + 1)) (sym named.2.count ∙ zero) in (
-      q,
-      answers_ok (Commit database name) p q (Committed t.actions) due refl (commit_effect database name p x t.actions due named.1),
-      subst (Fits q) (sym new_is) (fits_running q _ fits.held.0 runs.0
-          (closed_runs p q b name x b.stamp b.kept locks sound runs.1 named.1 refl refl refl refl refl refl runs.1.idle (runs.1.stamp ∙ sym stamp_same) (omega (arith, runs.1.founded, stamp_same)) (committed_others p name x sound named.1) (λ table key. freed_locks table key ∙ ap (λ n. without_xid n (holder_of table key b.locks)) named.2.xid_is))
-          fits.told fits.held.1 (holds_same p q fits.held.0 stamp_same refl refl refl (λ u. rows_agree _ _ u p.actions (all_or x p.commits p.actions none)) fits.held.2)),
-    )
+commit_limit : (name : List ℕ) (xid : ℕ) (p : Place) (b : Bool) → (not (own_count xid p == 0) && is_last_stamp p) ≡ b →
+    limited p (Accepts (Committed (own_count xid p)) (Commits name xid)) ≡ cond b Overflows (Accepts (Committed (own_count xid p)) (Commits name xid))
+commit_limit name xid p b is = ap (λ t. cond t Overflows (Accepts (Committed (own_count xid p)) (Commits name xid))) is
 
 not_zero : (n : ℕ) → 0 < n → (n == 0) ≡ false
 not_zero n lt = false_from_ne_true _ (λ is. let same = eqb-true n 0 is in absurd (omega (arith, same, lt)))
 
--- the store of a commit with actions
-committed_holds : (p : Place) (b : Base) (name : List ℕ) (x : ℕ) (t : Transaction) (fits : Fits p b) → Runs p b → IsOpened p x t → 0 < t.actions → Holds (committed name x p) (new_rows t.writes (number_bytes (b.stamp + 1)) fits.held.0)
+pub commits_none : (name : List ℕ) (p : Place) (b new : Base) (t : Transaction) (locks : Locks) → Ready p b → b.memory.up ≡ true → get b.memory.opens name ≡ Some t →
+    ((table key : List ℕ) → holder_of table key locks ≡ without_xid t.xid (holder_of table key b.memory.locks)) → t.actions ≡ 0 →
+    new ≡ record b { memory = without_one name b.memory.stamp locks b.memory } → Comes (ToCommit name) p (Ok (Sure (Committed t.actions))) new
+commits_none name p b new t locks ready up there frees zero new_is =
+    let runs = up_running p b ready.fits up in
+    let e = (ending p name locks b.memory t runs.1 there frees) in
+    let count : t.actions ≡ own_count e.xid p = e.opened.count in
+    let none : own_count e.xid p ≡ 0 = sym count ∙ zero in
+    let q = committed name e.xid p in
+    let stamp_same : q.stamp ≡ p.stamp = ap (λ n. cond (n == 0) p.stamp (p.stamp + 1)) none in
+    subst (λ n. Comes (ToCommit name) p (Ok (Sure (Committed n))) new) (sym count)
+    (carried (ToCommit name) p (Accepts (Committed (own_count e.xid p)) (Commits name e.xid)) new
+    (ended_by (ToCommit name) p b name (λ xid. Accepts (Committed (own_count xid p)) (Commits name xid)) _ e.xid ready.fits up e.named refl
+    (commit_limit name e.xid p false (ap (λ n. not (n == 0) && is_last_stamp p) none)))
+    (subst (Fits q) (sym new_is) (fits_running q _ ready.fits.held.0 runs.0
+    (ended_runs p q b.memory name b.memory.stamp locks ready.sound runs.1 e
+    (record { opens = refl; actions = refl; xids = refl; numbers = refl; founded = omega (arith, runs.1.founded, stamp_same); keep = committed_others p name e.xid ready.sound e.named }) (runs.1.stamp ∙ sym stamp_same))
+    ready.fits.told ready.fits.held.1 (holds_same p q ready.fits.held.0 stamp_same refl refl refl (λ u. rows_agree _ _ u p.actions (all_or e.xid p.commits p.actions (counted_none e.xid p.actions none))) ready.fits.held.2))))
+
+-- a commit with actions
+commit_stamp : (name : List ℕ) (x : ℕ) (p : Place) → 0 < own_count x p → (committed name x p).stamp ≡ p.stamp + 1
+commit_stamp name x p some = ap (λ b. cond b p.stamp (p.stamp + 1)) (not_zero (own_count x p) some)
+
+committed_holds : (p : Place) (b : Base) (name : List ℕ) (x : ℕ) (t : Transaction) (fits : Fits p b) → Runs p b.memory → IsOpened p x t → 0 < own_count x p →
+    Holds (committed name x p) (new_rows t.writes (number_bytes (b.memory.stamp + 1)) fits.held.0)
 committed_holds p b name x t fits runs o some =
     subst (λ n. Holds (committed name x p) (new_rows t.writes (number_bytes (n + 1)) fits.held.0)) (sym runs.stamp)
-    (holds_rows p (committed name x p) fits.held.0 t.writes runs.founded (ap (λ b. cond b p.stamp (p.stamp + 1)) (not_zero (own_count x p) (omega (arith, some, o.count)))) refl refl refl (rows_after p x name fits.held.0 t o fits.held.2) fits.held.2)
+    (holds_rows p (committed name x p) fits.held.0 t.writes runs.founded (commit_stamp name x p some) refl refl refl (rows_after p x name fits.held.0 t o fits.held.2) fits.held.2)
 
-pub committed_some : (database name : List ℕ) (p : Place) (b new : Base) (kept : Kept) (t : Transaction) (locks : Locks) (fits : Fits p b) → Sound p → b.up ≡ true → get b.opens name ≡ Some t → ((table key : List ℕ) → holder_of table key locks ≡ without_xid t.xid (holder_of table key b.locks)) → 0 < t.actions →
-    kept.held ≡ Some (new_rows t.writes (number_bytes (b.stamp + 1)) fits.held.0) → b.kept.faults ≤ kept.faults → is_some kept.pending ≡ false → new ≡ record b { kept = kept; stamp = b.stamp + 1; opens = remove b.opens name; locks = locks } → Comes (Commit database name) p (Ok (Sure (Committed t.actions))) new
-committed_some database name p b new kept t locks fits sound up there freed_locks some held later idle new_is =
-    let runs = up_running p b fits up in
-    let named = is_named p b name t runs.1 there in
-    let x = named.0 in
-    let q = committed name x p in
-    let due = commit_due_is database name p x t.actions runs.0 named.1 named.2.count in
-    let stamped : q.stamp ≡ p.stamp + 1 = ap (λ b. cond b p.stamp (p.stamp + 1)) (not_zero (own_count x p) (omega (arith, some, named.2.count))) in (
-      q,
-      answers_ok (Commit database name) p q (Committed t.actions) due refl (commit_effect database name p x t.actions due named.1),
-      subst (Fits q) (sym new_is) (fits_running q _ _ runs.0
-          (closed_runs p q b name x (b.stamp + 1) kept locks sound runs.1 named.1 refl refl refl refl refl refl idle (ap (λ n. n + 1) runs.1.stamp ∙ sym stamped) (omega (arith, stamped)) (committed_others p name x sound named.1) (λ table key. freed_locks table key ∙ ap (λ n. without_xid n (holder_of table key b.locks)) named.2.xid_is))
-          (omega (arith, fits.told, later)) held (committed_holds p b name x t fits runs.1 named.2 some)),
-    )
+commit_accepted : (name : List ℕ) (p : Place) (b : Base) (x : ℕ) (fits : Fits p b) → b.memory.up ≡ true → find_named name p.opens ≡ Some x → b.memory.stamp + 1 < stored_limit →
+    decide (ToCommit name) p ≡ Accepts (Committed (own_count x p)) (Commits name x)
+commit_accepted name p b x fits up named less =
+    ended_by (ToCommit name) p b name (λ xid. Accepts (Committed (own_count xid p)) (Commits name xid)) _ x fits up named refl
+    (commit_limit name x p false (ap (λ t. not (own_count x p == 0) && t) (small_stamp p b.memory.stamp (up_running p b fits up).1.stamp less) ∙ and_false (not (own_count x p == 0))))
+  where
+    and_false : (t : Bool) → (t && false) ≡ false
+    and_false true = refl
+    and_false false = refl
 
-pub commit_doubted : (database name : List ℕ) (p : Place) (b new : Base) (kept : Kept) (t : Transaction) (fits : Fits p b) → b.up ≡ true → get b.opens name ≡ Some t → 0 < t.actions → new.up ≡ false → new.doubt ≡ Some (b.stamp + 1) → new.kept ≡ kept → b.kept.faults ≤ kept.faults →
-    (kept.held ≡ Some fits.held.0) ⊎ (kept.held ≡ Some (new_rows t.writes (number_bytes (b.stamp + 1)) fits.held.0)) → Comes (Commit database name) p (Ok (InDoubt (Committed t.actions))) new
-commit_doubted database name p b new kept t fits up there some down doubt same later either =
-    let runs = up_running p b fits up in
-    let named = is_named p b name t runs.1 there in
-    let x = named.0 in
-    let due = commit_due_is database name p x t.actions runs.0 named.1 named.2.count in
-    let after : place_after (Commit database name) p ≡ committed name x p =
-    ap (λ r. cond (changes r) (effect (Commit database name) (prepared (Commit database name) p)) p) due ∙ sym (commit_effect database name p x t.actions due named.1) in
-    in_doubt (Commit database name) p (committed name x p) (Committed t.actions) b new kept _ fits up due
-    (ap (λ r. (false && Rattle.std.specs.Prelude.is_ok r) || Rattle.slon_model.specs.Place.commits_actions r) due ∙ ap not (not_zero t.actions some)) after
-    (ap (λ b. cond b p.stamp (p.stamp + 1)) (not_zero (own_count x p) (omega (arith, some, named.2.count)))) refl down doubt same later (committed_holds p b name x t fits runs.1 named.2 some) either
+pub commits_some : (name : List ℕ) (p : Place) (b new : Base) (kept : Kept) (t : Transaction) (locks : Locks) (ready : Ready p b) → b.memory.up ≡ true → get b.memory.opens name ≡ Some t →
+    ((table key : List ℕ) → holder_of table key locks ≡ without_xid t.xid (holder_of table key b.memory.locks)) → 0 < t.actions → b.memory.stamp + 1 < stored_limit →
+    kept.held ≡ Some (new_rows t.writes (number_bytes (b.memory.stamp + 1)) ready.fits.held.0) → b.kept.faults ≤ kept.faults →
+    new ≡ record { kept = kept; memory = without_one name (b.memory.stamp + 1) locks b.memory } → Comes (ToCommit name) p (Ok (Sure (Committed t.actions))) new
+commits_some name p b new kept t locks ready up there frees some less held later new_is =
+    let runs = up_running p b ready.fits up in
+    let e = (ending p name locks b.memory t runs.1 there frees) in
+    let count : t.actions ≡ own_count e.xid p = e.opened.count in
+    let any : 0 < own_count e.xid p = omega (arith, some, count) in
+    let q = committed name e.xid p in
+    let stamped = commit_stamp name e.xid p any in
+    subst (λ n. Comes (ToCommit name) p (Ok (Sure (Committed n))) new) (sym count)
+    (carried (ToCommit name) p (Accepts (Committed (own_count e.xid p)) (Commits name e.xid)) new (commit_accepted name p b e.xid ready.fits up e.named less)
+    (subst (Fits q) (sym new_is) (fits_running q _ _ runs.0
+    (ended_runs p q b.memory name (b.memory.stamp + 1) locks ready.sound runs.1 e
+    (record { opens = refl; actions = refl; xids = refl; numbers = refl; founded = omega (arith, stamped); keep = committed_others p name e.xid ready.sound e.named }) (ap (λ n. n + 1) runs.1.stamp ∙ sym stamped))
+    (omega (arith, ready.fits.told, later)) held (committed_holds p b name e.xid t ready.fits runs.1 e.opened any))))
 
--- ---- what calls answered
+pub commit_doubted : (name : List ℕ) (p : Place) (b new : Base) (t : Transaction) (ready : Ready p b) → b.memory.up ≡ true → get b.memory.opens name ≡ Some t → 0 < t.actions → b.memory.stamp + 1 < stored_limit →
+    new.memory.up ≡ false → new.memory.doubt ≡ Some (b.memory.stamp + 1) → b.kept.faults ≤ new.kept.faults →
+    (new.kept.held ≡ Some ready.fits.held.0) ⊎ (new.kept.held ≡ Some (new_rows t.writes (number_bytes (b.memory.stamp + 1)) ready.fits.held.0)) → Comes (ToCommit name) p (Ok (InDoubt (Committed t.actions))) new
+commit_doubted name p b new t ready up there some less down doubt later either =
+    let runs = up_running p b ready.fits up in
+    let named = is_named p b.memory name t runs.1 there in
+    let any : 0 < own_count named.0 p = omega (arith, some, named.2.count) in
+    subst (λ n. Comes (ToCommit name) p (Ok (InDoubt (Committed n))) new) (sym named.2.count)
+    (wavers (ToCommit name) p (Committed (own_count named.0 p)) (Commits name named.0) new ready.fits.held.0 _ (commit_accepted name p b named.0 ready.fits up named.1 less) (ap not (not_zero (own_count named.0 p) any))
+    (record { stamp = commit_stamp name named.0 p any; told = refl; up = down; doubt = doubt ∙ ap (λ n. Some (n + 1)) runs.1.stamp }) (omega (arith, ready.fits.told, later)) ready.fits.held.2
+    (committed_holds p b name named.0 t ready.fits runs.1 named.2 any) either)
 
-pub some_actions : (n : ℕ) → (n ≡ 0 → ⊥) → 0 < n
-some_actions n differ = omega (arith, differ)
-
-pub none_is : {A : Type 0} (x : A) (b : Bool) → None ≡ cond b (Some x) None → b ≡ false
-none_is x true is = absurd cc
-none_is x false is = refl
-
-pub some_is : {A : Type 0} (y x : A) (b : Bool) → Some y ≡ cond b (Some x) None → (b ≡ true) × (y ≡ x)
-some_is y x true is = (refl, ap (λ o. Rattle.std.specs.Prelude.unwrap_or o y) is)
-some_is y x false is = absurd cc
-
-pub says_stop : {A : Type 0} (right : A) (stop : Stop) → Rattle.app_store.specs.Steps.Says right (Err stop) → IsStopOfStore stop
-says_stop right Rattle.app_store.specs.declared.stop.Stop.TheVariants.Failed says = tt
-says_stop right Rattle.app_store.specs.declared.stop.Stop.TheVariants.NoMemory says = tt
-says_stop right (Rattle.app_store.specs.declared.stop.Stop.TheVariants.BadRow space) says = says
+pub commit_at_limit : (name : List ℕ) (p : Place) (b new : Base) (t : Transaction) → Ready p b → b.memory.up ≡ true → get b.memory.opens name ≡ Some t → 0 < t.actions → stored_limit ≤ b.memory.stamp + 1 →
+    GoesDown b.memory new.memory → new.kept ≡ b.kept → Comes (ToCommit name) p (Err (Halt (TooBig 1))) new
+commit_at_limit name p b new t ready up there some most down same =
+    let runs = up_running p b ready.fits up in
+    let named = is_named p b.memory name t runs.1 there in
+    let any : 0 < own_count named.0 p = omega (arith, some, named.2.count) in
+    overflows (ToCommit name) p (Committed (own_count named.0 p)) (Commits name named.0) b new ready.fits up (ap (λ o. with_found o NoTransaction (λ xid. Accepts (Committed (own_count xid p)) (Commits name xid))) named.1)
+    (ap (λ z. not z && is_last_stamp p) (not_zero (own_count named.0 p) any) ∙ last_stamp p b.memory.stamp runs.1.stamp most) down (ap (λ k. k.held) same) (omega (arith, ap (λ k. k.faults) same))

@@ -1,14 +1,17 @@
 -- When the code of a database agrees with what the rules know of it.
-use Rattle.std.specs.Prelude.{◌≡◌, ℕ, ◌+◌, ◌≤◌, ◌<◌, ◌^◌, ◌==◌, ◌&&◌, ◌||◌, if◌then◌else◌, Bool, true, false, List, [], ◌∷◌, Option, Some, None, is_some}
+use Rattle.std.specs.Prelude.{◌≡◌, ℕ, ◌+◌, ◌≤◌, ◌<◌, ◌==◌, ◌&&◌, ◌||◌, if◌then◌else◌, Bool, true, false, List, [], ◌∷◌, Option, Some, None, is_some}
 use Rattle.std.specs.Option.{option_map}
 use Rattle.std.specs.FinMap.{get}
 use Rattle.slon_base.specs.Keeper.{Store}
 use Rattle.slon_base.specs.Codec.{list_bytes, IsText}
+use Rattle.slon_model.specs.Names.{find_named}
 use Rattle.slon_model.specs.Rows.{Action, is_on}
-use Rattle.slon_model.specs.Place.{Place, Standing, IsRunning, IsFallen, IsDoubtful, find_named, holder, seen_rows, standing_rows, own_count}
+use Rattle.slon_model.specs.Place.{Place, Standing, IsRunning, IsFallen, IsDoubtful, holder, seen_rows, standing_rows, own_count}
+use Rattle.slon_laws.specs.Sound.{Sound}
+use Rattle.slon_laws.specs.Spelled.{IsSpelled}
 use Rattle.txn_core.specs.Locks.{holder_of}
 use Rattle.app_store.specs.declared.opens.Transaction.{Transaction}
-use Rattle.app_store.specs.Base.{Base}
+use Rattle.app_store.specs.Base.{Memory, Base}
 use Rattle.app_store.specs.Spelled.{Holds, IsRowKey, over, row_key}
 
 -- the transaction wrote the row
@@ -21,7 +24,8 @@ pub record IsOpened (p : Place) (xid : ℕ) (t : Transaction) : Type 0 where
   pub xid_is : t.xid ≡ xid
   pub count : t.actions ≡ own_count xid p
   -- a row that it sees is what it wrote there, or else the row that stands
-  pub sees : (table key : List ℕ) → IsText table → option_map list_bytes (get (seen_rows xid p table) key) ≡ over (get t.writes (row_key table key)) (option_map list_bytes (get (standing_rows p table) key))
+  pub sees : (table key : List ℕ) → IsText table → option_map list_bytes (get (seen_rows xid p table) key)
+      ≡ over (get t.writes (row_key table key)) (option_map list_bytes (get (standing_rows p table) key))
   -- it wrote exactly the rows of its actions
   pub wrote : (table key : List ℕ) → IsText table → is_some (get t.writes (row_key table key)) ≡ has_written xid table key p.actions
   pub keys : (q : List ℕ) → is_some (get t.writes q) ≡ true → IsRowKey q
@@ -32,39 +36,36 @@ OpensAs p None (Some t) = ⊥
 OpensAs p (Some xid) None = ⊥
 OpensAs p (Some xid) (Some t) = IsOpened p xid t
 
--- a database that is up
-pub record Runs (p : Place) (b : Base) : Type 0 where
-  pub up : b.up ≡ true
-  pub idle : is_some b.kept.pending ≡ false
-  pub stamp : b.stamp ≡ p.stamp
-  pub settled : b.doubt ≡ None
+-- the memory of a database that is up
+pub record Runs (p : Place) (m : Memory) : Type 0 where
+  pub up : m.up ≡ true
+  pub stamp : m.stamp ≡ p.stamp
+  pub settled : m.doubt ≡ None
   -- its first rows stand
   pub founded : 0 < p.stamp
-  pub next_xid : b.next_xid ≡ p.next_xid
-  pub xid_ceiling : b.xid_ceiling ≡ p.xid_ceiling
-  pub next_number : b.next_number ≡ p.next_number
-  pub number_ceiling : b.number_ceiling ≡ p.number_ceiling
-  pub opened : (name : List ℕ) → OpensAs p (find_named name p.opens) (get b.opens name)
-  pub locked : (table key : List ℕ) → IsText table → holder_of table key b.locks ≡ holder table key p
+  pub xids : m.xids ≡ p.xids
+  pub numbers : m.numbers ≡ p.numbers
+  pub opened : (name : List ℕ) → OpensAs p (find_named name p.opens) (get m.opens name)
+  pub locked : (table key : List ℕ) → IsText table → holder_of table key m.locks ≡ holder table key p
 
 -- the stamp that the commit in doubt would have written
 abbrev pub doubtful_stamp : Bool → Place → ℕ
 doubtful_stamp stands p = if stands then p.stamp else p.stamp + 1
 
-abbrev pub StandsAs : Standing → Place → Base → Type 0
-StandsAs IsRunning p b = Runs p b
-StandsAs IsFallen p b = (b.up ≡ false) × (b.doubt ≡ None)
+abbrev pub StandsAs : Standing → Place → Memory → Type 0
+StandsAs IsRunning p m = Runs p m
+StandsAs IsFallen p m = (m.up ≡ false) × (m.doubt ≡ None)
 -- a commit that stands has written its stamp
-StandsAs (IsDoubtful stands) p b = (b.up ≡ false) × (b.doubt ≡ Some (doubtful_stamp stands p)) × (stands ≡ true → 0 < p.stamp)
+StandsAs (IsDoubtful stands) p m = (m.up ≡ false) × (m.doubt ≡ Some (doubtful_stamp stands p)) × (stands ≡ true → 0 < p.stamp)
 
 -- The code agrees with the rules, over a store that tells what it holds.
 pub record Fits (p : Place) (b : Base) : Type 0 where
-  pub stands : StandsAs p.standing p b
+  pub stands : StandsAs p.standing p b.memory
   pub told : p.told ≤ b.kept.faults
   pub held : (m : Store) × (b.kept.held ≡ Some m) × Holds p m
 
--- the stamp and the ceilings have room to rise once more
-pub record HasRoom (p : Place) : Type 0 where
-  pub stamp : p.stamp + 1 < 2 ^ 63
-  pub xids : p.xid_ceiling + 64 < 2 ^ 63
-  pub numbers : p.number_ceiling + 64 < 2 ^ 63
+-- it does, and the place has what each place of a legal history has
+pub record Ready (p : Place) (b : Base) : Type 0 where
+  pub fits : Fits p b
+  pub sound : Sound p
+  pub spelled : IsSpelled p

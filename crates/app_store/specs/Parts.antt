@@ -1,113 +1,63 @@
--- What the parts of a command do to a database that is up.
-use Rattle.std.specs.Prelude.{◌≡◌, ℕ, ◌==◌, ◌≤◌, if◌then◌else◌, not, Bool, true, false, List, Option, Some, None, Result, Ok, Err}
-use Rattle.std.specs.FinMap.{empty}
+-- What the parts of a task do to a database that is up.
+use Rattle.std.specs.Prelude.{◌≡◌, ℕ, ◌≤◌, if◌then◌else◌, Bool, true, false, Option, Some, None, Result, Ok, Err}
 use Rattle.slon_base.specs.Counts.{Rose}
 use Rattle.slon_base.specs.Keeper.{Kept}
-use Rattle.slon_base.specs.declared.fault.Halt.TheVariants.{Fault, Doubt, NoMemory as HaltNoMemory, BadRow as HaltBadRow}
+use Rattle.slon_base.specs.declared.fault.Halt.{Halt as HaltOf}
+use Rattle.slon_base.specs.declared.fault.Halt.TheVariants.{Fault, Doubt, TooBig as HaltTooBig, NoMemory as HaltNoMemory, BadRow as HaltBadRow}
+use Rattle.slon_model.specs.declared.numbering.Numbering.{Numbering}
 use Rattle.slon_model.specs.declared.fault.DbFault.{DbFault}
 use Rattle.slon_model.specs.declared.fault.DbFault.TheVariants.{Halt}
-use Rattle.slon_model.specs.declared.reply.Answered.{Answered}
-use Rattle.slon_model.specs.declared.reply.Answered.TheVariants.{Sure, InDoubt}
-use Rattle.slon_model.specs.Place.{Place, is_running, fallen, written}
-use Rattle.app_store.specs.declared.stop.Stop.{Stop}
-use Rattle.app_store.specs.declared.stop.Stop.TheVariants.{Failed, NoMemory, BadRow}
-use Rattle.app_store.specs.Base.{Base}
-use Rattle.app_store.specs.Fits.{Fits, HasRoom}
-use Rattle.app_store.specs.Spending.{Stays, Spends}
-use Rattle.app_store.specs.Goes.{is_out_of_memory, is_sure_fault}
+use Rattle.slon_model.specs.Place.{Place, fallen, raised}
+use Rattle.slon_model.specs.Moves.{is_last, crashed}
+use Rattle.store_rows.specs.declared.stop.Stop.{Stop}
+use Rattle.store_rows.specs.declared.stop.Stop.TheVariants.{Failed, NoMemory, BadRow, TooBig}
 use Rattle.app_store.specs.declared.look.Numbers.{Numbers}
-use Rattle.txn_core.specs.Locks.{holder_of}
-use Rattle.slon_model.specs.declared.reply.Answer.{Answer}
-use Rattle.slon_model.specs.declared.reply.Answer.TheVariants.{Done, Kept as IsKept, Lost as IsLost}
+use Rattle.app_store.specs.Closed.{IsClosed}
+use Rattle.app_store.specs.Base.{Memory, Base}
+use Rattle.app_store.specs.Fits.{Fits, Ready}
+use Rattle.store_rows.specs.Spending.{Stays, Spends}
+use Rattle.app_store.specs.Serves.{halts, is_memory, is_failure, Need, IsBig}
 
 -- why a database went down, by the stop and the count of faults of its store
 abbrev pub halt_of : Stop → ℕ → DbFault
 halt_of Failed count = Halt (Fault count)
 halt_of NoMemory count = Halt HaltNoMemory
 halt_of (BadRow space) count = Halt (HaltBadRow space)
-
--- what a database that goes down leaves
-pub record GoesDown (old new : Base) : Type 0 where
-  pub kept : new.kept ≡ old.kept
-  pub up : new.up ≡ false
-  pub doubt : new.doubt ≡ old.doubt
-  pub stamp : new.stamp ≡ old.stamp
-  pub xid_ceiling : new.xid_ceiling ≡ old.xid_ceiling
-  pub next_xid : new.next_xid ≡ old.next_xid
-  pub next_number : new.next_number ≡ old.next_number
-  pub number_ceiling : new.number_ceiling ≡ old.number_ceiling
+halt_of (TooBig space) count = Halt (HaltTooBig space)
 
 -- a stop at the store: it failed, and the place is as it was or as the other one
 pub data FellTo (p also : Place) (fault : DbFault) (new : Base) : Type 0 where
   Fell : (count : ℕ) (stands : Bool) → fault ≡ Halt (Fault count) → Rose p.told count → Fits (fallen count (if stands then also else p)) new → FellTo p also fault new
 
--- a part that leads to a place, or stops
-abbrev pub LeadsTo : Place → Place → Result (Unit {0}) DbFault → Base → Type 0
-LeadsTo p q (Ok u) new = Fits q new
-LeadsTo p q (Err fault) new = FellTo p q fault new
+-- a ceiling rises where a draw needs it; or it would pass the limit; or the store fails
+pub data RaisedTo (kind : Numbering) (p : Place) (result : Result (Unit {0}) DbFault) (new : Base) : Type 0 where
+  Raises : result ≡ Ok tt → is_last kind p ≡ false → Fits (raised kind p) new → RaisedTo kind p result new
+  Bursts : result ≡ Err (Halt (HaltTooBig 1)) → is_last kind p ≡ true → Fits (crashed p) new → RaisedTo kind p result new
+  StopsRaise : (fault : DbFault) → is_last kind p ≡ false → result ≡ Err fault → FellTo p (raised kind p) fault new → RaisedTo kind p result new
 
-abbrev pub Raises : (Place → Place) → Base → Result (Unit {0}) DbFault → Base → Type 0
-Raises raised old result new = (p : Place) → Fits p old → is_running p.standing ≡ true → HasRoom p → is_out_of_memory result ≡ false → LeadsTo p (raised p) result new
+-- a part from every place that fits, unless there was no memory
+abbrev pub FromPlace : {T : Type 0} → (Place → Result T DbFault → Base → Type 0) → Base → Result T DbFault → Base → Type 0
+FromPlace does old result new = (p : Place) → Ready p old → is_memory (halts result) ≡ false → does p result new
 
--- faults have their cause
-abbrev pub FaultCaused : Kept → DbFault → Kept → Type 0
-FaultCaused old (Halt (Fault count)) new = Rose old.faults new.faults × (count ≡ new.faults)
-FaultCaused old (Halt Doubt) new = ⊥
-FaultCaused old fault new = Unit {0}
-
-abbrev pub PartCaused : {T : Type 0} → Kept → Result T DbFault → Kept → Type 0
-PartCaused old (Ok x) new = Unit {0}
-PartCaused old (Err fault) new = FaultCaused old fault new
-
-abbrev pub is_part_sure : {T : Type 0} → Result T DbFault → Bool
-is_part_sure (Ok x) = true
-is_part_sure (Err fault) = is_sure_fault fault
-
--- a commit of the effect is in doubt
-abbrev pub is_doubt : Result Answered DbFault → Bool
-is_doubt (Ok (Sure answer)) = false
-is_doubt (Ok (InDoubt answer)) = true
-is_doubt (Err fault) = false
+-- a fault has its cause
+abbrev pub PartCaused : Kept → Option HaltOf → Kept → Type 0
+PartCaused old (Some (Fault count)) new = Rose old.faults new.faults × (count ≡ new.faults)
+PartCaused old (Some Doubt) new = ⊥
+PartCaused old others new = Unit {0}
 
 -- what is promised of a part over every store
-pub record Part {T : Type 0} (old new : Base) (result : Result T DbFault) : Type 0 where
+pub record Part {T : Type 0} (need : Need) (old new : Base) (result : Result T DbFault) : Type 0 where
   pub later : old.kept.faults ≤ new.kept.faults
-  pub caused : PartCaused old.kept result new.kept
+  pub caused : PartCaused old.kept (halts result) new.kept
   pub still : Stays old.kept.can_fail new.kept.can_fail
-  pub spends : Spends (not (is_part_sure result)) old.kept.can_fail new.kept.can_fail
+  pub spends : Spends (is_failure (halts result)) old.kept.can_fail new.kept.can_fail
+  pub big : IsBig need (halts result) new.memory
 
--- what is said of a commit that was in doubt
-abbrev pub settled_by : Bool → Answer
-settled_by true = IsKept
-settled_by false = IsLost
-
-abbrev pub is_stamp : ℕ → Option ℕ → Bool
-is_stamp written None = false
-is_stamp written (Some stamp) = stamp == written
-
-abbrev pub settled : Option ℕ → Option ℕ → Answer
-settled None stamp = Done
-settled (Some written) stamp = settled_by (is_stamp written stamp)
-
-abbrev pub without_doubt : Base → Base
-without_doubt b = record b { doubt = None }
-
--- a database that goes on from these numbers, with no transaction open
-pub record StartsWith (n : Numbers) (old new : Base) : Type 0 where
-  pub kept : new.kept ≡ old.kept
+-- a database that goes on from these numbers, with no transaction open and no commit in doubt
+pub record StartsWith (n : Numbers) (new : Memory) : Type 0 where
   pub up : new.up ≡ true
-  pub doubt : new.doubt ≡ old.doubt
+  pub doubt : new.doubt ≡ None
   pub stamp : new.stamp ≡ n.stamp
-  pub next_xid : new.next_xid ≡ n.xid_ceiling
-  pub xid_ceiling : new.xid_ceiling ≡ n.xid_ceiling
-  pub next_number : new.next_number ≡ n.number_ceiling
-  pub number_ceiling : new.number_ceiling ≡ n.number_ceiling
-  pub opens : new.opens ≡ empty
-  pub locks : (table key : List ℕ) → holder_of table key new.locks ≡ None
-
--- a number may be drawn
-abbrev pub is_ready_xid : Base → Bool
-is_ready_xid b = not (b.next_xid == b.xid_ceiling)
-
-abbrev pub is_ready_number : Base → Bool
-is_ready_number b = not (b.next_number == b.number_ceiling)
+  pub xids : new.xids ≡ record { next = n.xid_ceiling; ceiling = n.xid_ceiling }
+  pub numbers : new.numbers ≡ record { next = n.number_ceiling; ceiling = n.number_ceiling }
+  pub closed : IsClosed new.opens new.locks

@@ -1,11 +1,14 @@
 -- How a database stands in its store, space by space.
 use Rattle.std.specs.Prelude.{◌≡◌, ℕ, ◌==◌, ◌||◌, if◌then◌else◌, not, ◌<◌, ◌^◌, Bool, true, List, [], ◌∷◌, ◌++◌, length, slice_index_or, Option, Some, None}
-use Rattle.std.specs.Option.{option_map}
-use Rattle.std.specs.FinMap.{FinMap, get, insert, empty, entries}
+use Rattle.std.specs.FinMap.{FinMap, get, empty, entries}
 use Rattle.slon_base.specs.Keeper.{Space, Store, put_at, del_at, key_cmp}
 use Rattle.slon_base.specs.Codec.{number_bytes, text_bytes, list_bytes, IsText}
+use Rattle.store_rows.specs.Space.{IsSpace, Any}
 use Rattle.slon_model.specs.Rows.{Rows}
+use Rattle.slon_model.specs.Names.{find_named}
 use Rattle.slon_model.specs.Place.{Place, standing_rows}
+use Rattle.app_store.specs.declared.layout.TheConstants.{META, TABLES, ROWS}
+use Rattle.app_store.specs.declared.transact.Put.{Put}
 
 -- a text whose length can be spelled
 abbrev pub IsShort : List ℕ → Type 0
@@ -21,39 +24,49 @@ IsSmall (Some n) = n < 2 ^ 63
 
 -- the spaces in use
 abbrev pub meta : ℕ
-meta = 1
+meta = META
 
 abbrev pub tables : ℕ
-tables = 2
+tables = TABLES
 
 abbrev pub rows : ℕ
-rows = 3
+rows = ROWS
 
--- the keys of the meta numbers
+-- the key of a meta number
+abbrev pub meta_key : ℕ → List ℕ
+meta_key number = number ∷ []
+
 abbrev pub stamp_key : List ℕ
-stamp_key = 1 ∷ []
+stamp_key = meta_key 1
 
 abbrev pub xid_ceiling_key : List ℕ
-xid_ceiling_key = 2 ∷ []
+xid_ceiling_key = meta_key 2
 
 abbrev pub action_ceiling_key : List ℕ
-action_ceiling_key = 3 ∷ []
+action_ceiling_key = meta_key 3
 
 abbrev pub log_status_key : List ℕ
-log_status_key = 6 ∷ []
+log_status_key = meta_key 6
 
--- the meta numbers of a database with this stamp and these ceilings; without a stamp there are none
-abbrev pub numbers_space : ℕ → ℕ → ℕ → Space
-numbers_space stamp xids numbers =
-    insert (insert (insert (insert empty log_status_key (0 ∷ [])) action_ceiling_key (number_bytes numbers)) xid_ceiling_key (number_bytes xids)) stamp_key (number_bytes stamp)
+-- the values of the meta numbers by the numbers of their keys
+abbrev pub numbers_at : ℕ → ℕ → ℕ → ℕ → Option (List ℕ)
+numbers_at stamp xids numbers key =
+    if key == 1 then Some (number_bytes stamp)
+    else (if key == 2 then Some (number_bytes xids)
+    else (if key == 3 then Some (number_bytes numbers)
+    else (if key == 6 then Some (0 ∷ []) else None)))
 
-abbrev pub meta_space : ℕ → ℕ → ℕ → Space
-meta_space stamp xids numbers = if stamp == 0 then empty else numbers_space stamp xids numbers
+-- without a stamp there are none
+abbrev pub meta_at : ℕ → ℕ → ℕ → ℕ → Option (List ℕ)
+meta_at stamp xids numbers key = if stamp == 0 then None else numbers_at stamp xids numbers key
 
--- each table under its name, with its number of columns
-abbrev pub table_space : List (List ℕ × ℕ) → Space
-table_space [] = empty
-table_space (t ∷ ts) = insert (table_space ts) (text_bytes t.0) (number_bytes t.1)
+-- the space of the meta numbers, with this stamp and these ceilings
+abbrev pub IsMeta : ℕ → ℕ → ℕ → Space → Type 0
+IsMeta stamp xids numbers = IsSpace meta_key Any (λ value. value) Any (meta_at stamp xids numbers)
+
+-- the space of the tables: each under its name, with its number of columns
+abbrev pub AreTables : List (List ℕ × ℕ) → Space → Type 0
+AreTables ts = IsSpace text_bytes Any number_bytes Any (λ name. find_named name ts)
 
 -- the key of a row: its table and its key
 abbrev pub row_key : List ℕ → List ℕ → List ℕ
@@ -63,10 +76,10 @@ row_key table key = text_bytes table ++ text_bytes key
 abbrev pub IsRowKey : List ℕ → Type 0
 IsRowKey q = (table : List ℕ) × (key : List ℕ) × (q ≡ row_key table key) × IsText table × IsText key
 
--- the space of the rows holds exactly these rows of each table
-pub record AreRows (standing : List ℕ → Rows) (space : Space) : Type 0 where
-  pub lookups : (table key : List ℕ) → IsText table → get space (row_key table key) ≡ option_map list_bytes (get (standing table) key)
-  pub keys : (q value : List ℕ) → get space q ≡ Some value → IsRowKey q
+-- the space of the rows: each row under its table and its key
+abbrev pub AreRows : (List ℕ → Rows) → Space → Type 0
+AreRows standing = IsSpace {I = List ℕ × List ℕ} (λ i. row_key i.0 i.1) (λ i. IsText i.0) list_bytes Any
+    (λ i. get (standing i.0) i.1)
 
 -- the spaces not in use
 abbrev pub is_unused : ℕ → Bool
@@ -74,8 +87,8 @@ is_unused space = not (space == meta || space == tables || space == rows)
 
 -- What a store holds of a database, and it holds nothing else.
 pub record Holds (p : Place) (m : Store) : Type 0 where
-  pub meta_numbers : m meta ≡ meta_space p.stamp p.xid_ceiling p.number_ceiling
-  pub table_rows : m tables ≡ table_space p.tables
+  pub meta_numbers : IsMeta p.stamp p.xids.ceiling p.numbers.ceiling (m meta)
+  pub table_rows : AreTables p.tables (m tables)
   pub rows_held : AreRows (standing_rows p) (m rows)
   pub others : (space : ℕ) → is_unused space ≡ true → m space ≡ empty
 
@@ -97,10 +110,16 @@ abbrev pub write_all : List (List ℕ × Option (List ℕ)) → Store → Store
 write_all [] m = m
 write_all (e ∷ es) m = write_all es (write_at e.0 e.1 m)
 
+-- pairs put one after the other
+abbrev pub put_all : List Put → Store → Store
+put_all [] m = m
+put_all (p ∷ ps) m = put_all ps (put_at p.space p.key.now p.value.now m)
+
 -- the first rows of a database, with its stamp and its ceilings
 abbrev pub first_rows : List ℕ → List ℕ → Store → Store
 first_rows stamp ceiling m =
-    put_at meta stamp_key stamp (put_at meta xid_ceiling_key ceiling (put_at meta action_ceiling_key ceiling (put_at meta log_status_key (0 ∷ []) m)))
+    put_at meta stamp_key stamp (put_at meta xid_ceiling_key ceiling (put_at meta action_ceiling_key ceiling
+    (put_at meta log_status_key (0 ∷ []) m)))
 
 -- a new table, with the stamp of its transaction
 abbrev pub new_table : List ℕ → List ℕ → List ℕ → Store → Store

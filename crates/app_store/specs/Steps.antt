@@ -1,36 +1,27 @@
 -- What the reads and the transactions of a step do to the store, and why they stop.
-use Rattle.std.specs.Prelude.{◌≡◌, ◌⊎◌, ◌≤◌, Bool, true, false, Option, Some, None, Result, Ok, Err, OnOk, is_some}
-use Rattle.std.specs.Option.{option_map}
+use Rattle.std.specs.Prelude.{◌≡◌, ◌⊎◌, ◌≤◌, Bool, true, false, Option, Some, None, Result, Ok, Err, OnOk, IfErr, is_some}
 use Rattle.slon_base.specs.Keeper.{Kept, Store, sight}
 use Rattle.slon_base.specs.Counts.{Rose}
-use Rattle.app_store.specs.declared.stop.Stop.{Stop}
-use Rattle.app_store.specs.declared.stop.Stop.TheVariants.{Failed, NoMemory, BadRow}
+use Rattle.store_rows.specs.declared.stop.Stop.{Stop}
+use Rattle.store_rows.specs.Spending.{Stays, Spends}
+use Rattle.store_rows.specs.Steps.{Rises, Gives, IsOutside, IsWithinLimit, is_failed, is_stop_failed}
 use Rattle.app_store.specs.declared.transact.Made.{Made}
 use Rattle.app_store.specs.declared.transact.Made.TheVariants.{Done, InDoubt}
-use Rattle.app_store.specs.Spending.{Stays, Spends}
-
--- the store failed
-abbrev pub is_stop_failed : Stop → Bool
-is_stop_failed Failed = true
-is_stop_failed NoMemory = false
-is_stop_failed (BadRow space) = false
-
-abbrev pub is_failed : {T : Type 0} → Result T Stop → Bool
-is_failed (Ok x) = false
-is_failed (Err stop) = is_stop_failed stop
 
 -- a bound on the failures to come is kept, and a failure takes one from it
 pub record IsSure {T : Type 0} (old new : Kept) (result : Result T Stop) : Type 0 where
   pub still : Stays old.can_fail new.can_fail
   pub spends : Spends (is_failed result) old.can_fail new.can_fail
 
--- faults are told where the count rose
+-- faults are told where the count rose, and no number is above the limit
 pub record IsCounted {T : Type 0} (old new : Kept) (result : Result T Stop) : Type 0 where
   pub later : old.faults ≤ new.faults
   pub failed : is_failed result ≡ true → Rose old.faults new.faults
+  pub within : IfErr result IsWithinLimit
 
 -- a look at the store, which changes nothing
-pub record Looks {T : Type 0} (says : Store → Result T Stop → Type 0) (old new : Kept) (result : Result T Stop) : Type 0 where
+pub record Looks {T : Type 0} (says : Store → Result T Stop → Type 0) (old new : Kept)
+    (result : Result T Stop) : Type 0 where
   pub sure : IsSure old new result
   pub counted : IsCounted old new result
   pub held : new.held ≡ old.held
@@ -40,10 +31,18 @@ pub record Looks {T : Type 0} (says : Store → Result T Stop → Type 0) (old n
 
 -- the result is this one, or there was no memory, or the store failed
 abbrev pub Says : {T : Type 0} → T → Result T Stop → Type 0
-Says right (Ok x) = x ≡ right
-Says right (Err Failed) = Unit {0}
-Says right (Err NoMemory) = Unit {0}
-Says right (Err (BadRow space)) = ⊥
+Says right = Gives (λ x. x ≡ right)
+
+-- a transaction begins
+pub record Starts (old new : Kept) (result : Result (Unit {0}) Stop) : Type 0 where
+  pub still : Stays old.can_fail new.can_fail
+  pub spends : Spends (is_failed result) old.can_fail new.can_fail
+  pub later : old.faults ≤ new.faults
+  pub rises : Rises (is_failed result) old.faults new.faults
+  pub held : new.held ≡ old.held
+  pub doubts : new.doubts ≡ old.doubts
+  pub only : IfErr result IsOutside
+  pub opened : OnOk result (new.pending ≡ Some old.held)
 
 -- no transaction is left pending, but where its commit is in doubt
 abbrev pub Closes : Kept → Result Made Stop → Type 0
@@ -63,17 +62,11 @@ Doubts old new (Ok Done) = new.doubts ≡ old.doubts
 Doubts old new (Ok InDoubt) = Rose old.faults new.faults × Rose old.doubts new.doubts
 Doubts old new (Err stop) = new.doubts ≡ old.doubts
 
--- no row was out of its form
-abbrev pub IsStopOfStore : Stop → Type 0
-IsStopOfStore Failed = Unit {0}
-IsStopOfStore NoMemory = Unit {0}
-IsStopOfStore (BadRow space) = ⊥
-
 -- what the end of a transaction leaves
 abbrev pub EndsAs : Kept → Kept → Result Made Stop → Type 0
 EndsAs old new (Ok Done) = old.pending ≡ Some new.held
 EndsAs old new (Ok InDoubt) = (new.held ≡ old.held) ⊎ (old.pending ≡ Some new.held)
-EndsAs old new (Err stop) = (new.held ≡ old.held) × IsStopOfStore stop
+EndsAs old new (Err stop) = (new.held ≡ old.held) × IsOutside stop
 
 pub record Finishes (old new : Kept) (result : Result Made Stop) : Type 0 where
   pub still : Stays old.can_fail new.can_fail
@@ -87,7 +80,7 @@ pub record Finishes (old new : Kept) (result : Result Made Stop) : Type 0 where
 abbrev pub Leaves : (Store → Store) → Store → Result Made Stop → Kept → Type 0
 Leaves change m (Ok Done) new = new.held ≡ Some (change m)
 Leaves change m (Ok InDoubt) new = (new.held ≡ Some m) ⊎ (new.held ≡ Some (change m))
-Leaves change m (Err stop) new = (new.held ≡ Some m) × IsStopOfStore stop
+Leaves change m (Err stop) new = (new.held ≡ Some m) × IsOutside stop
 
 -- a transaction
 pub record Transacts (change : Store → Store) (old new : Kept) (result : Result Made Stop) : Type 0 where
@@ -97,22 +90,6 @@ pub record Transacts (change : Store → Store) (old new : Kept) (result : Resul
   pub closed : Closes new result
   pub doubts : Doubts old new result
   pub leaves : (m : Store) → old.held ≡ Some m → Leaves change m result new
-
--- where it stopped, no row was out of its form
-abbrev pub OnlyStore : {T : Type 0} → Result T Stop → Type 0
-OnlyStore (Ok x) = Unit {0}
-OnlyStore (Err stop) = IsStopOfStore stop
-
--- a part of a transaction that is pending
-pub record Puts (change : Store → Store) (old new : Kept) (result : Result (Unit {0}) Stop) : Type 0 where
-  pub still : Stays old.can_fail new.can_fail
-  pub spends : Spends (is_failed result) old.can_fail new.can_fail
-  pub counted : IsCounted old new result
-  pub held : new.held ≡ old.held
-  pub doubts : new.doubts ≡ old.doubts
-  pub opened : is_some new.pending ≡ true
-  pub only : OnlyStore result
-  pub put : OnOk result (new.pending ≡ option_map (option_map change) old.pending)
 
 -- what is promised of a transaction over every store
 pub record Tries (old new : Kept) (result : Result Made Stop) : Type 0 where
@@ -141,7 +118,7 @@ DoubtsOr old new (Err stop) = new.doubts ≡ old.doubts
 abbrev pub LeavesOr : Bool → (Store → Store) → Store → Result (Option Made) Stop → Kept → Type 0
 LeavesOr refused change m (Ok None) new = (refused ≡ true) × (new.held ≡ Some m)
 LeavesOr refused change m (Ok (Some made)) new = (refused ≡ false) × Leaves change m (Ok made) new
-LeavesOr refused change m (Err stop) new = (new.held ≡ Some m) × IsStopOfStore stop
+LeavesOr refused change m (Err stop) new = (new.held ≡ Some m) × IsOutside stop
 
 pub record TriesOr (old new : Kept) (result : Result (Option Made) Stop) : Type 0 where
   pub still : Stays old.can_fail new.can_fail

@@ -6,7 +6,8 @@ use Rattle.std.specs.FinMap.{get}
 use Rattle.slon_model.specs.Rows.{member}
 use Rattle.slon_model.specs.Snapshots.{Snapshot, Rising, first_or}
 use Rattle.app_store.specs.declared.opens.Transaction.{Transaction}
-use Rattle.app_store.specs.Base.{Base, Opens}
+use Rattle.app_store.specs.Closed.{Opens}
+use Rattle.app_store.specs.Base.{Memory}
 
 -- the ids of these transactions, put among others in their order
 abbrev pub put_xids : List ℕ → List (List ℕ × Transaction) → List ℕ
@@ -18,8 +19,8 @@ abbrev pub IsOpen : ℕ → Opens → Type 0
 IsOpen xid opens = (name : List ℕ) × (t : Transaction) × (get opens name ≡ Some t) × (t.xid ≡ xid)
 
 -- It ends at the next id, and lists the ids of the open transactions, ascending and no others.
-pub record IsTakenOf (b : Base) (s : Snapshot) : Type 0 where
-  pub last : s.xmax ≡ b.next_xid
+pub record IsTakenOf (m : Memory) (s : Snapshot) : Type 0 where
+  pub last : s.xmax ≡ m.xids.next
   pub first : s.xmin ≡ first_or s.xmax s.running
   pub rising : Rising s.running
-  pub lists : (x : ℕ) → (member x s.running ≡ true) ↔ IsOpen x b.opens
+  pub lists : (x : ℕ) → (member x s.running ≡ true) ↔ IsOpen x m.opens

@@ -1,48 +1,50 @@
 -- What the parts of a write do to a database that is up.
-use Rattle.std.specs.Prelude.{◌≡◌, ℕ, ◌==◌, false, List, Option, Some, None, Result, Ok, Err}
+use Rattle.std.specs.Prelude.{◌≡◌, ◌==◌, ℕ, false, true, List, Option, Some, None, Result, Ok, Err}
 use Rattle.std.specs.Option.{option_map}
 use Rattle.std.specs.FinMap.{get}
-use Rattle.slon_base.specs.Codec.{list_bytes, IsText}
+use Rattle.slon_base.specs.Codec.{list_bytes}
+use Rattle.slon_base.specs.declared.fault.Halt.TheVariants.{TooBig}
+use Rattle.slon_model.specs.declared.numbering.Numbering.TheVariants.{Actions}
 use Rattle.slon_model.specs.declared.fault.DbFault.{DbFault}
-use Rattle.slon_model.specs.declared.fault.DbFault.TheVariants.{Locked, NoTable, NoTransaction}
-use Rattle.slon_model.specs.declared.reply.Answer.{Answer}
-use Rattle.slon_model.specs.declared.reply.Answer.TheVariants.{Acted, Unchanged}
+use Rattle.slon_model.specs.declared.fault.DbFault.TheVariants.{Locked, NoTable, NoTransaction, Halt}
 use Rattle.slon_model.specs.declared.reply.Answered.{Answered}
-use Rattle.slon_model.specs.declared.reply.Answered.TheVariants.{Sure}
-use Rattle.slon_model.specs.Rows.{Row, Change, Put, Set, Remove}
-use Rattle.slon_model.specs.Place.{Place, find_named, holder, seen_rows, number_raised, written, unless_held, if_new, if_there, key_of, row_of}
-use Rattle.slon_laws.specs.Sound.{Sound}
-use Rattle.slon_laws.specs.Spelled.{IsSpelled}
+use Rattle.slon_model.specs.Names.{find_named}
+use Rattle.slon_model.specs.Rows.{Change, change_key}
+use Rattle.slon_model.specs.Tasks.{Write, write_by}
+use Rattle.slon_model.specs.Place.{Place, holder, seen_rows, raised}
+use Rattle.slon_model.specs.Moves.{Writes, prepared, done, is_last, crashed}
+use Rattle.slon_model.specs.Deciding.{Decision, limited, decide_row, result_of, move_of, sure}
 use Rattle.slon_laws.specs.Keys.{change_at}
-use Rattle.slon_laws.specs.Moves.{IsFree, change_key}
+use Rattle.slon_laws.specs.Allowed.{IsFree}
 use Rattle.app_store.specs.declared.writes.Target.{Target}
 use Rattle.app_store.specs.Base.{Base}
-use Rattle.app_store.specs.Fits.{Fits, HasRoom}
-use Rattle.app_store.specs.Goes.{is_out_of_memory}
-use Rattle.app_store.specs.Parts.{FellTo}
+use Rattle.app_store.specs.Fits.{Fits, Ready}
+use Rattle.app_store.specs.Parts.{FellTo, FromPlace}
+use Rattle.app_store.specs.Serves.{is_memory, trouble}
 use Rattle.app_store.specs.Spelled.{row_key}
 
-abbrev pub acted_as : Result ℕ DbFault → Result Answered DbFault
-acted_as (Ok number) = Ok (Sure (Acted number))
-acted_as (Err fault) = Err fault
-
--- a call from every place that fits, is sound and can be spelled
-abbrev pub FromPlace : {T : Type 0} → (Place → Result T DbFault → Base → Type 0) → Base → Result T DbFault → Base → Type 0
-FromPlace does old result new = (p : Place) → Fits p old → Sound p → IsSpelled p → HasRoom p → is_out_of_memory result ≡ false → does p result new
+-- what came of a decision: it was carried out, or the store stopped before its effect
+pub data Follows (d : Decision) (p : Place) (result : Result Answered DbFault) (new : Base) : Type 0 where
+  Carried : result ≡ sure (result_of d) → Fits (done (move_of d) p) new → Follows d p result new
+  StopsAt : (fault : DbFault) → result ≡ Err fault → FellTo p (prepared (move_of d) p) fault new → Follows d p result new
 
 -- the transaction and the width of a table, or what is missing
 pub data FoundWidth (name table : List ℕ) (p : Place) (result : Result (ℕ × ℕ) DbFault) (new : Base) : Type 0 where
-  HasWidth : (xid width : ℕ) → result ≡ Ok (xid, width) → find_named name p.opens ≡ Some xid → find_named table p.tables ≡ Some width → Fits p new → FoundWidth name table p result new
-  IsClosed : result ≡ Err NoTransaction → find_named name p.opens ≡ None → Fits p new → FoundWidth name table p result new
-  HasNoTable : (xid : ℕ) → result ≡ Err NoTable → find_named name p.opens ≡ Some xid → find_named table p.tables ≡ None → Fits p new → FoundWidth name table p result new
+  HasWidth : (xid width : ℕ) → result ≡ Ok (xid, width) → find_named name p.opens ≡ Some xid → find_named table p.tables ≡ Some width → Fits p new →
+      FoundWidth name table p result new
+  IsUnknown : result ≡ Err NoTransaction → find_named name p.opens ≡ None → Fits p new → FoundWidth name table p result new
+  HasNoTable : (xid : ℕ) → result ≡ Err NoTable → find_named name p.opens ≡ Some xid → find_named table p.tables ≡ None → Fits p new →
+      FoundWidth name table p result new
   StopsWidth : (fault : DbFault) → result ≡ Err fault → FellTo p p fault new → FoundWidth name table p result new
 
-abbrev pub FindsWidth : List ℕ → List ℕ → Base → Result (ℕ × ℕ) DbFault → Base → Type 0
-FindsWidth name table = FromPlace (FoundWidth name table)
+-- a row that a transaction of this id may write, with its spelled values as it sees them
+pub record IsTarget (xid : ℕ) (table key : List ℕ) (p : Place) (t : Target) : Type 0 where
+  pub key_is : t.key ≡ row_key table key
+  pub seen_is : t.seen ≡ option_map list_bytes (get (seen_rows xid p table) key)
 
 -- the row was read as the transaction sees it
 pub data ReadTarget (xid : ℕ) (table key : List ℕ) (p : Place) (result : Result Target DbFault) (new : Base) : Type 0 where
-  HasTarget : (t : Target) → result ≡ Ok t → t.key ≡ row_key table key → t.seen ≡ option_map list_bytes (get (seen_rows xid p table) key) → Fits p new → ReadTarget xid table key p result new
+  HasTarget : (t : Target) → result ≡ Ok t → IsTarget xid table key p t → Fits p new → ReadTarget xid table key p result new
   StopsTarget : (fault : DbFault) → result ≡ Err fault → FellTo p p fault new → ReadTarget xid table key p result new
 
 abbrev pub ReadsTarget : List ℕ → List ℕ → List ℕ → Base → Result Target DbFault → Base → Type 0
@@ -50,54 +52,35 @@ ReadsTarget name table key = FromPlace (λ p result new. (xid : ℕ) → find_na
 
 -- the row was found free and read, or another transaction wrote it
 pub data FoundRow (xid : ℕ) (table key : List ℕ) (p : Place) (result : Result Target DbFault) (new : Base) : Type 0 where
-  HasRow : (t : Target) → result ≡ Ok t → IsFree xid (holder table key p) → t.key ≡ row_key table key → t.seen ≡ option_map list_bytes (get (seen_rows xid p table) key) → Fits p new → FoundRow xid table key p result new
-  IsHeld : (other : ℕ) → result ≡ Err (Locked other) → holder table key p ≡ Some other → (other == xid) ≡ false → Fits p new → FoundRow xid table key p result new
+  HasRow : (t : Target) → result ≡ Ok t → IsFree xid (holder table key p) → IsTarget xid table key p t → Fits p new → FoundRow xid table key p result new
+  IsHeld : (other : ℕ) → result ≡ Err (Locked other) → holder table key p ≡ Some other → (other == xid) ≡ false → Fits p new →
+      FoundRow xid table key p result new
   StopsRow : (fault : DbFault) → result ≡ Err fault → FellTo p p fault new → FoundRow xid table key p result new
 
 abbrev pub FindsRow : List ℕ → ℕ → List ℕ → List ℕ → Base → Result Target DbFault → Base → Type 0
 FindsRow name xid table key = FromPlace (λ p result new. find_named name p.opens ≡ Some xid → FoundRow xid table key p result new)
 
--- a write was added, or the store stopped as the ceiling rose
+-- a write was added, or its number passed the limit, or the store stopped as the ceiling rose
 pub data AddedWrite (xid : ℕ) (table : List ℕ) (change : Change) (p : Place) (result : Result ℕ DbFault) (new : Base) : Type 0 where
-  Adds : (number : ℕ) → result ≡ Ok number → number ≡ p.next_number → Fits (written xid table change (number_raised p)) new → AddedWrite xid table change p result new
-  StopsWrite : (fault : DbFault) → result ≡ Err fault → FellTo p (number_raised p) fault new → AddedWrite xid table change p result new
+  Adds : (number : ℕ) → result ≡ Ok number → number ≡ p.numbers.next → is_last Actions p ≡ false → Fits (done (Writes xid table change) p) new →
+      AddedWrite xid table change p result new
+  BurstsWrite : result ≡ Err (Halt (TooBig 1)) → is_last Actions p ≡ true → Fits (crashed p) new → AddedWrite xid table change p result new
+  StopsWrite : (fault : DbFault) → is_last Actions p ≡ false → result ≡ Err fault → FellTo p (raised Actions p) fault new →
+      AddedWrite xid table change p result new
+
+-- what a write may be added to: an open transaction, and a row that it may write
+pub record MayAdd (w : Write) (xid : ℕ) (key spelled : List ℕ) (value : Option (List ℕ)) (p : Place) : Type 0 where
+  pub opened : find_named w.name p.opens ≡ Some xid
+  pub free : IsFree xid (holder w.table (change_key w.change) p)
+  pub key_is : change_key w.change ≡ key
+  pub spelled_is : spelled ≡ row_key w.table key
+  pub value_is : value ≡ option_map list_bytes (change_at w.change (get (seen_rows xid p w.table) key))
 
 abbrev pub AddsWrite : List ℕ → ℕ → List ℕ → List ℕ → List ℕ → Option (List ℕ) → Base → Result ℕ DbFault → Base → Type 0
-AddsWrite name xid table key spelled value = FromPlace (λ p result new. (change : Change) → find_named name p.opens ≡ Some xid → IsFree xid (holder table key p) → change_key change ≡ key → IsText table → IsText key → spelled ≡ row_key table key →
-    value ≡ option_map list_bytes (change_at change (get (seen_rows xid p table) key)) → AddedWrite xid table change p result new)
+AddsWrite name xid table key spelled value =
+    FromPlace (λ p result new. (change : Change) → MayAdd (write_by name table change) xid key spelled value p → AddedWrite xid table change p result new)
 
--- What a write is to do with its row.
-pub data RowWrite : Type 0 where
-  InsertOf : (values : List (List ℕ)) → RowWrite
-  UpdateOf : (key : List ℕ) (columns : List (ℕ × List ℕ)) → RowWrite
-  DeleteOf : (key : List ℕ) → RowWrite
-
-abbrev pub write_key : RowWrite → List ℕ
-write_key (InsertOf values) = key_of values
-write_key (UpdateOf key columns) = key
-write_key (DeleteOf key) = key
-
-abbrev pub write_change : RowWrite → Change
-write_change (InsertOf values) = Put (key_of values) (row_of values)
-write_change (UpdateOf key columns) = Set key columns
-write_change (DeleteOf key) = Remove key
-
-abbrev pub write_acts : RowWrite → ℕ → Option Row → Result Answer DbFault
-write_acts (InsertOf values) number = if_new number
-write_acts (UpdateOf key columns) number = if_there number
-write_acts (DeleteOf key) number = if_there number
-
--- the answer that the rules give to a write of a row that fits its table
-abbrev pub row_due : RowWrite → ℕ → List ℕ → Place → Result Answer DbFault
-row_due w xid table p = unless_held xid (holder table (write_key w) p) (write_acts w p.next_number (get (seen_rows xid p table) (write_key w)))
-
--- a write of a row was refused, left all as it was, was taken, or stopped before its effect
-pub data Written (w : RowWrite) (xid : ℕ) (table : List ℕ) (p : Place) (result : Result Answered DbFault) (new : Base) : Type 0 where
-  Refuses : (fault : DbFault) → row_due w xid table p ≡ Err fault → result ≡ Err fault → Fits p new → Written w xid table p result new
-  LeavesAll : row_due w xid table p ≡ Ok Unchanged → result ≡ Ok (Sure Unchanged) → Fits p new → Written w xid table p result new
-  Acts : (number : ℕ) → row_due w xid table p ≡ Ok (Acted number) → result ≡ Ok (Sure (Acted number)) → Fits (written xid table (write_change w) (number_raised p)) new → Written w xid table p result new
-  StopsBefore : (fault : DbFault) → result ≡ Err fault → FellTo p p fault new → Written w xid table p result new
-  StopsRaised : (number : ℕ) (fault : DbFault) → row_due w xid table p ≡ Ok (Acted number) → result ≡ Err fault → FellTo p (number_raised p) fault new → Written w xid table p result new
-
-abbrev pub Writes : RowWrite → List ℕ → ℕ → List ℕ → Base → Result Answered DbFault → Base → Type 0
-Writes w name xid table = FromPlace (λ p result new. find_named name p.opens ≡ Some xid → Written w xid table p result new)
+-- the write of a row that fits its table
+abbrev pub WritesRow : Write → ℕ → Base → Result Answered DbFault → Base → Type 0
+WritesRow w xid old result new =
+    (p : Place) → Ready p old → is_memory (trouble result) ≡ false → find_named w.name p.opens ≡ Some xid → Follows (limited p (decide_row xid w p)) p result new

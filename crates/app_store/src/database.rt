@@ -1,19 +1,18 @@
-// One database: its store, its numbers, and its open transactions with their locks.
-ghost use Rattle.std.specs.Prelude.{◌≡◌, ◌≢◌, ◌≤◌, ◌<◌, ◌^◌, ◌+◌, ℕ, List, IfOk, OnOk, OnErr, Ok, Err, Some, None, false, is_some, true, not, if◌then◌else◌};
+// One database: its store and its memory; how it begins, goes down and comes up again.
+ghost use Rattle.std.specs.Prelude.{◌≡◌, ◌≤◌, ℕ, List, OnOk, OnErr, true, false, is_some, not, if◌then◌else◌, Ok, Err, Some};
 ghost use Rattle.node_keeper.specs.Fused.{fuse_kept};
-ghost use Rattle.app_store.specs.Works.{AreSmall};
 
-use crate::Stop;
-use crate::look::Numbers;
-use crate::numbers::{FIRST_CEILING, raise, recover};
-use crate::opens::Opens;
-use crate::transact::{ACTION_CEILING, Made, XID_CEILING};
+use crate::ceilings::{Unlifted, lift};
+use crate::falls::{fall, overflow};
+use crate::layout::{ACTION_CEILING, XID_CEILING};
+use crate::numbers::recover;
+use crate::state::{State, settled};
+use crate::transact::Made;
 use crate::work::make_database;
 use node_keeper::{Fuse, Keeper};
-use slon_base::{ByteMap, Halt, STORED_LIMIT};
-use slon_model::{Answer, Answered, Crash, DbFault};
+use slon_base::Halt;
+use slon_model::{Answer, Answered, Crash, DbFault, Numbering};
 use std::alloc::Global;
-use txn_core::{BLOCK, Counters, LockTable};
 
 /// One database over a store behind a fuse.
 ///
@@ -23,30 +22,21 @@ use txn_core::{BLOCK, Counters, LockTable};
 pub struct Database<K: Keeper> {
     pub(crate) alloc: Global,
     pub(crate) keeper: Fuse<K>,
-    pub(crate) up: bool,
-    // The stamp of the commit that is in doubt.
-    pub(crate) doubt: Option<u64>,
-    pub(crate) stamp: u64,
-    pub(crate) xids: Counters,
-    pub(crate) numbers: Counters,
-    pub(crate) opens: Opens,
-    pub(crate) locks: LockTable,
-    ghost idle: { up ≡ true → is_some (fuse_kept K.kept keeper).pending ≡ false },
-    ghost small: { stamp < 2 ^ 63 },
+    pub(crate) state: State,
+    ghost idle: { state.up ≡ true → is_some (fuse_kept K.kept keeper).pending ≡ false },
 }
 
 impl<K: Keeper> Database<K> {
-    ghost use Rattle.std.specs.Prelude.{[], ◌∷◌};
     ghost use Rattle.slon_base.specs.Keeper.{nothing};
-    ghost use Rattle.slon_model.specs.declared.command.Command.TheVariants.{Crash as CrashCommand, Up as UpCommand};
-    ghost use Rattle.slon_model.specs.Place.{xid_raised, number_raised};
+    ghost use Rattle.slon_model.specs.Tasks.{ToFound, ToCrash, ToRise};
     ghost use Rattle.slon_model.specs.declared.fault.DbFault.TheVariants.{Down as IsDown};
     ghost use Rattle.slon_model.specs.declared.reply.Answer.TheVariants.{Done as IsDone};
     ghost use Rattle.slon_model.specs.declared.reply.Answered.TheVariants.{Sure as IsSure};
-    ghost use Rattle.app_store.specs.Base.{base_of, IsFresh};
-    ghost use Rattle.app_store.specs.Goes.{Begins, Refuses, Goes, Caused, IsCertain, StaysDown, MakingCaused, IsBigAt, BigCaused, Need, NeedsXid, NeedsNumber, NeedsNothing, Arms, is_made};
-    ghost use Rattle.app_store.specs.Spending.{Stays, Spends};
-    ghost use Rattle.app_store.specs.Parts.{GoesDown, Raises, Part, StartsWith, halt_of, settled, without_doubt, is_ready_xid, is_ready_number};
+    ghost use Rattle.app_store.specs.Base.{Base, base_of, memory_of};
+    ghost use Rattle.app_store.specs.Serves.{Serves, Founds, settled, NeedsNext, counter_in};
+    ghost use Rattle.app_store.specs.Parts.{Part, FromPlace, RaisedTo};
+    ghost use Rattle.app_store.specs.Fuses.{Arms};
+    ghost use Rattle.std.specs.Prelude.{◌≢◌};
 
     /// The database of a store that holds no row yet: its first rows are written.
     ///
@@ -54,231 +44,149 @@ impl<K: Keeper> Database<K> {
     ///
     /// `NotEmpty` where the store holds a row, `Fault` and `Doubt` where it failed; the database is down then.
     pub fn create(alloc: Global, keeper: Fuse<K>) -> (Database<K>, Result<(), DbFault>)
-        ensures begins { Begins (fuse_kept K.kept keeper) result.1 (base_of K.kept result.0) }
-        ensures later { (fuse_kept K.kept keeper).faults ≤ (base_of K.kept result.0).kept.faults }
-        ensures caused { MakingCaused (fuse_kept K.kept keeper) result.1 (base_of K.kept result.0).kept }
-        ensures still { Stays (fuse_kept K.kept keeper).can_fail (base_of K.kept result.0).kept.can_fail }
-        ensures spends { Spends (not (is_made result.1)) (fuse_kept K.kept keeper).can_fail (base_of K.kept result.0).kept.can_fail }
-        ensures full { Refuses (fuse_kept K.kept keeper) result.1 (base_of K.kept result.0) }
-        ensures big { BigCaused NeedsNothing result.1 (base_of K.kept result.0) }
-        ensures down { OnErr result.1 ((base_of K.kept result.0).up ≡ false) }
+        ensures founds { Founds (fuse_kept K.kept keeper) (settled result.1) (base_of K.kept result.0) }
+        ensures down { OnErr result.1 (result.0.state.up ≡ false) }
     {
         let mut keeper = keeper;
         let _ = keeper.rollback();
         match make_database(alloc, &mut keeper) {
             Ok(made) => match made {
                 None => {
-                    let database = Database::fresh(alloc, keeper, false, None);
-                    (database, Err(DbFault::NotEmpty))
+                    let state = State::fresh(alloc, false, None);
+                    (
+                        Database {
+                            alloc,
+                            keeper,
+                            state,
+                        },
+                        Err(DbFault::NotEmpty),
+                    )
                 }
                 Some(made) => match made {
-                    Made::Done => (Database::fresh(alloc, keeper, true, None), Ok(())),
+                    Made::Done => {
+                        let state = State::fresh(alloc, true, None);
+                        (
+                            Database {
+                                alloc,
+                                keeper,
+                                state,
+                            },
+                            Ok(()),
+                        )
+                    }
                     Made::InDoubt => {
-                        let database = Database::fresh(alloc, keeper, false, Some(1));
-                        (database, Err(DbFault::Halt(Halt::Doubt)))
+                        let state = State::fresh(alloc, false, Some(1));
+                        let fault = DbFault::Halt(Halt::Doubt);
+                        (
+                            Database {
+                                alloc,
+                                keeper,
+                                state,
+                            },
+                            Err(fault),
+                        )
                     }
                 },
             },
             Err(stop) => {
-                let mut database = Database::fresh(alloc, keeper, false, None);
-                let fault = database.fall(stop);
-                (database, Err(fault))
+                let mut state = State::fresh(alloc, false, None);
+                let fault = fall(alloc, &mut state, &keeper, stop);
+                (
+                    Database {
+                        alloc,
+                        keeper,
+                        state,
+                    },
+                    Err(fault),
+                )
             }
         }
     }
 
-    fn fresh(alloc: Global, keeper: Fuse<K>, up: bool, doubt: Option<u64>) -> Database<K>
-        requires { up ≡ true → is_some (fuse_kept K.kept keeper).pending ≡ false }
-        ensures { IsFresh (fuse_kept K.kept keeper) up doubt (base_of K.kept result) }
+    /// Raises a ceiling if the next number is at it.
+    pub(crate) fn raise(&mut self, kind: Numbering) -> Result<(), DbFault>
+        requires { self.old.state.up ≡ true }
+        ensures part { Part (NeedsNext kind) (base_of K.kept self.old) (base_of K.kept self.new) result }
+        ensures raises { FromPlace (RaisedTo kind) (base_of K.kept self.old) result (base_of K.kept self.new) }
+        ensures ready { OnOk result ((counter_in kind (memory_of self.new.state)).next ≢ (counter_in kind (memory_of self.new.state)).ceiling) }
+        ensures up { OnOk result (self.new.state.up ≡ true) }
     {
-        let mut xids = Counters::resume(FIRST_CEILING);
-        let mut numbers = Counters::resume(FIRST_CEILING);
-        xids.raise();
-        numbers.raise();
-        Database {
-            alloc,
-            keeper,
-            up,
-            doubt,
-            stamp: 1,
-            xids,
-            numbers,
-            opens: ByteMap::new(alloc),
-            locks: LockTable::new(alloc),
-        }
-    }
-
-    /// Takes the database down: what was open is forgotten.
-    pub(crate) fn take_down(&mut self)
-        ensures down { GoesDown (base_of K.kept self.old) (base_of K.kept self.new) }
-        ensures keeper { self.new.keeper ≡ self.old.keeper }
-    {
-        self.up = false;
-        self.opens = ByteMap::new(self.alloc);
-        self.locks = LockTable::new(self.alloc);
-    }
-
-    /// Takes the database down for a stop, and says why, as its caller is told.
-    pub(crate) fn fall(&mut self, stop: Stop) -> DbFault
-        ensures down { GoesDown (base_of K.kept self.old) (base_of K.kept self.new) }
-        ensures fault { result ≡ halt_of stop (base_of K.kept self.old).kept.faults }
-        ensures big { (need : Need) → IsBigAt need result (base_of K.kept self.new) }
-    {
-        self.take_down();
-        DbFault::Halt(match stop {
-            Stop::Failed => Halt::Fault {
-                count: self.keeper.faults(),
+        match kind {
+            Numbering::Xids => match lift(
+                self.alloc,
+                &mut self.keeper,
+                &XID_CEILING,
+                &mut self.state.xids,
+                &mut self.state.stamp,
+            ) {
+                Ok(()) => Ok(()),
+                Err(unlifted) => match unlifted {
+                    Unlifted::TooBig => Err(overflow(self.alloc, &mut self.state)),
+                    Unlifted::Stopped(stop) => {
+                        Err(fall(self.alloc, &mut self.state, &self.keeper, stop))
+                    }
+                },
             },
-            Stop::NoMemory => Halt::NoMemory,
-            Stop::BadRow { space } => Halt::BadRow { space },
-        })
-    }
-
-    /// Takes the database down because a number would pass the limit of stored numbers.
-    pub(crate) fn overflow(&mut self) -> DbFault
-        ensures down { GoesDown (base_of K.kept self.old) (base_of K.kept self.new) }
-        ensures fault { result ≡ DbFault.Halt (Halt.TooBig 1) }
-    {
-        self.take_down();
-        DbFault::Halt(Halt::TooBig { space: 1 })
-    }
-
-    /// Raises the ceiling of the ids if the next one is at it.
-    pub(crate) fn raise_xids(&mut self) -> Result<(), DbFault>
-        requires { self.old.up ≡ true }
-        ensures part { Part (base_of K.kept self.old) (base_of K.kept self.new) result }
-        ensures big { BigCaused NeedsXid result (base_of K.kept self.new) }
-        ensures raises { Raises xid_raised (base_of K.kept self.old) result (base_of K.kept self.new) }
-        ensures ready { OnOk result (is_ready_xid (base_of K.kept self.new) ≡ true) }
-        ensures up { OnOk result (self.new.up ≡ true) }
-    {
-        if !self.xids.must_raise() {
-            return Ok(());
-        }
-        if self.stamp >= STORED_LIMIT || self.xids.ceiling() > STORED_LIMIT - BLOCK {
-            return Err(self.overflow());
-        }
-        match raise(
-            self.alloc,
-            &mut self.keeper,
-            &XID_CEILING,
-            &mut self.xids,
-            &mut self.stamp,
-        ) {
-            Ok(()) => Ok(()),
-            Err(stop) => {
-                self.up = false;
-                Err(self.fall(stop))
-            }
-        }
-    }
-
-    /// Raises the ceiling of the numbers of actions if the next one is at it.
-    pub(crate) fn raise_numbers(&mut self) -> Result<(), DbFault>
-        requires { self.old.up ≡ true }
-        ensures part { Part (base_of K.kept self.old) (base_of K.kept self.new) result }
-        ensures big { BigCaused NeedsNumber result (base_of K.kept self.new) }
-        ensures raises { Raises number_raised (base_of K.kept self.old) result (base_of K.kept self.new) }
-        ensures ready { OnOk result (is_ready_number (base_of K.kept self.new) ≡ true) }
-        ensures up { OnOk result (self.new.up ≡ true) }
-    {
-        if !self.numbers.must_raise() {
-            return Ok(());
-        }
-        if self.stamp >= STORED_LIMIT || self.numbers.ceiling() > STORED_LIMIT - BLOCK {
-            return Err(self.overflow());
-        }
-        match raise(
-            self.alloc,
-            &mut self.keeper,
-            &ACTION_CEILING,
-            &mut self.numbers,
-            &mut self.stamp,
-        ) {
-            Ok(()) => Ok(()),
-            Err(stop) => {
-                self.up = false;
-                Err(self.fall(stop))
-            }
+            Numbering::Actions => match lift(
+                self.alloc,
+                &mut self.keeper,
+                &ACTION_CEILING,
+                &mut self.state.numbers,
+                &mut self.state.stamp,
+            ) {
+                Ok(()) => Ok(()),
+                Err(unlifted) => match unlifted {
+                    Unlifted::TooBig => Err(overflow(self.alloc, &mut self.state)),
+                    Unlifted::Stopped(stop) => {
+                        Err(fall(self.alloc, &mut self.state, &self.keeper, stop))
+                    }
+                },
+            },
         }
     }
 
     /// Takes the database down at once, or has its store fail later.
-    pub fn crash(&mut self, crash: Crash) -> Result<Answered, DbFault>
-        ensures goes { (database : List ℕ) → Goes (CrashCommand database crash) (base_of K.kept self.old) result (base_of K.kept self.new) }
-        ensures answer { result ≡ (if self.old.up then Ok (IsSure IsDone) else Err IsDown) }
-        ensures arms { (database : List ℕ) → Arms K.kept (CrashCommand database crash) self.old.up self.old.keeper self.new.keeper }
-        ensures later { (base_of K.kept self.old).kept.faults ≤ (base_of K.kept self.new).kept.faults }
-        ensures big { BigCaused NeedsNothing result (base_of K.kept self.new) }
-        ensures caused { (database : List ℕ) → Caused (CrashCommand database crash) (base_of K.kept self.old).kept result (base_of K.kept self.new).kept }
-        ensures certain { (database : List ℕ) → IsCertain (CrashCommand database crash) (base_of K.kept self.old).kept (base_of K.kept self.new).kept result }
-        ensures down { (database : List ℕ) → StaysDown (CrashCommand database crash) (base_of K.kept self.old) result (base_of K.kept self.new) }
+    ///
+    /// # Errors
+    ///
+    /// `Down` where it is down.
+    pub fn crash(&mut self, crash: Crash) -> Result<(), DbFault>
+        ensures serves { Serves (ToCrash crash) (base_of K.kept self.old) (settled result) (base_of K.kept self.new) }
+        ensures answer { result ≡ (if self.old.state.up then Ok tt else Err IsDown) }
+        ensures arms { Arms K.kept (ToCrash crash) self.old self.new }
     {
-        if !self.up {
+        if !self.state.up {
             return Err(DbFault::Down);
         }
         match crash {
-            Crash::Now => self.take_down(),
+            Crash::Now => self.state.take_down(self.alloc),
             Crash::After { calls, keep } => self.keeper.arm(u64::from(calls), keep),
             Crash::AtCommit { keep } => self.keeper.arm_commit(keep),
         }
-        Ok(Answered::Sure(Answer::Done))
+        Ok(())
     }
 
     /// Brings the database up again, and says whether a commit that was in doubt stands.
+    ///
+    /// # Errors
+    ///
+    /// `IsUp` where it is up, and `Fault`, `BadRow` and `NoMemory` where its store stopped.
     pub fn up(&mut self) -> Result<Answered, DbFault>
-        ensures goes { (database : List ℕ) → Goes (UpCommand database) (base_of K.kept self.old) result (base_of K.kept self.new) }
-        ensures arms { (database : List ℕ) → Arms K.kept (UpCommand database) self.old.up self.old.keeper self.new.keeper }
-        ensures later { (base_of K.kept self.old).kept.faults ≤ (base_of K.kept self.new).kept.faults }
-        ensures big { BigCaused NeedsNothing result (base_of K.kept self.new) }
-        ensures caused { (database : List ℕ) → Caused (UpCommand database) (base_of K.kept self.old).kept result (base_of K.kept self.new).kept }
-        ensures certain { (database : List ℕ) → IsCertain (UpCommand database) (base_of K.kept self.old).kept (base_of K.kept self.new).kept result }
+        ensures serves { Serves ToRise (base_of K.kept self.old) result (base_of K.kept self.new) }
+        ensures arms { Arms K.kept ToRise self.old self.new }
     {
-        if self.up {
+        if self.state.up {
             return Err(DbFault::IsUp);
         }
         self.keeper.disarm();
         let _ = self.keeper.rollback();
         match recover(self.alloc, &mut self.keeper) {
             Ok((stamp, numbers)) => {
-                let answer = self.settle(stamp);
-                self.start(numbers);
+                let answer = settled(self.state.doubt, stamp);
+                self.state = State::starting(self.alloc, numbers);
                 Ok(Answered::Sure(answer))
             }
-            Err(stop) => {
-                self.up = false;
-                Err(self.fall(stop))
-            }
+            Err(stop) => Err(fall(self.alloc, &mut self.state, &self.keeper, stop)),
         }
-    }
-
-    /// What is said of the commit in doubt, by the stamp that was found.
-    fn settle(&mut self, stamp: Option<u64>) -> Answer
-        ensures answer { result ≡ settled self.old.doubt stamp }
-        ensures same { base_of K.kept self.new ≡ without_doubt (base_of K.kept self.old) }
-    {
-        match self.doubt.take() {
-            None => Answer::Done,
-            Some(written) => {
-                if stamp == Some(written) {
-                    return Answer::Kept;
-                }
-                Answer::Lost
-            }
-        }
-    }
-
-    /// Goes on from these numbers, with no transaction open.
-    fn start(&mut self, numbers: Numbers)
-        requires idle { is_some (fuse_kept K.kept self.old.keeper).pending ≡ false }
-        requires small { AreSmall (Some numbers) }
-        ensures starts { StartsWith numbers (base_of K.kept self.old) (base_of K.kept self.new) }
-    {
-        self.up = true;
-        self.stamp = numbers.stamp;
-        self.xids = Counters::resume(numbers.xid_ceiling);
-        self.numbers = Counters::resume(numbers.number_ceiling);
-        self.opens = ByteMap::new(self.alloc);
-        self.locks = LockTable::new(self.alloc);
     }
 }

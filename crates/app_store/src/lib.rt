@@ -1,14 +1,17 @@
 //! One database over a store: its tables, its transactions and its rows.
 #![tactic(auto)]
 
+mod ceilings;
 mod database;
+mod falls;
+mod layout;
 mod look;
 mod numbers;
 mod obey;
 mod opens;
 mod scan;
 mod spelling;
-mod stop;
+mod state;
 mod transact;
 mod transactions;
 mod work;
@@ -17,5 +20,5 @@ mod writes;
 pub use database::Database;
 pub use node_keeper::{Fuse, Keeper};
 pub use slon_model::DbFault;
-pub use stop::Stop;
+pub use store_rows::Stop;
 pub use txn_core::Snapshot;

@@ -1,16 +1,18 @@
 // What a step reads before it decides.
-ghost use Rattle.std.specs.Prelude.{◌≡◌, ◌<◌, ◌^◌, ℕ, List, Option, Some, is_some, false, Ok, IfOk, IfErr};
+ghost use Rattle.std.specs.Prelude.{◌≡◌, ◌<◌, ◌^◌, ℕ, List, Option, Some, is_some, false, Ok, OnOk, IfOk, IfErr};
 ghost use Rattle.std.specs.Option.{option_map};
 ghost use Rattle.std.specs.FinMap.{get};
+ghost use Rattle.slon_base.specs.Keeper.{Store, sight};
 ghost use Rattle.slon_base.specs.Codec.{number_bytes};
+ghost use Rattle.store_rows.specs.Steps.{Safe, IsWithinLimit};
+ghost use Rattle.store_rows.specs.declared.stop.Stop.TheVariants.{BadRow};
 ghost use Rattle.app_store.specs.Spelled.{meta, tables, rows, IsSmall};
 ghost use Rattle.app_store.specs.Works.{FindsNumbers, AreSmall};
 ghost use Rattle.app_store.specs.Steps.{Looks, Says};
-ghost use Rattle.app_store.specs.declared.stop.Stop.TheVariants.{BadRow};
 
-use crate::Stop;
-use crate::transact::{ACTION_CEILING, META, ROWS, STAMP, TABLES, XID_CEILING};
+use crate::layout::{ACTION_CEILING, META, ROWS, STAMP, TABLES, XID_CEILING};
 use slon_base::{Bytes, Keeper, RowIn};
+use store_rows::{Stop, get_pair};
 
 /// The number that a value of a space spells.
 fn read_number(space: u8, bytes: &Bytes) -> Result<u64, Stop>
@@ -28,37 +30,35 @@ fn read_number(space: u8, bytes: &Bytes) -> Result<u64, Stop>
     }
 }
 
+/// The number at a key, if there is one.
+fn find_number<K: Keeper>(keeper: &mut K, space: u8, key: &[u8]) -> Result<Option<u64>, Stop>
+    ensures safe { Safe (K.kept keeper.old) (K.kept keeper.new) result }
+    ensures same { OnOk result ((K.kept keeper.new).pending ≡ (K.kept keeper.old).pending) }
+    ensures within { IfErr result IsWithinLimit }
+    ensures says { (m : Store) (number : Option ℕ) → sight (K.kept keeper.old) ≡ Some m → IsSmall number →
+        get (m space) key.now ≡ option_map number_bytes number → Says number result }
+    ensures small { IfOk result IsSmall }
+{
+    match get_pair(keeper, space, key)? {
+        None => Ok(None),
+        Some(bytes) => Ok(Some(read_number(space, &bytes)?)),
+    }
+}
+
 /// How many columns a table has, by the spelled name, if there is one.
-#[tactic(auto, using(crate::proofs::Pending::stays))]
 pub(crate) fn find_columns<K: Keeper>(keeper: &mut K, table: &[u8]) -> Result<Option<u64>, Stop>
-    ensures { Looks (λ m result. (columns : Option ℕ) → IsSmall columns → get (m tables) table.now ≡ option_map number_bytes columns → Says columns result)
+    ensures { Looks (λ m result. (columns : Option ℕ) → IsSmall columns →
+        get (m tables) table.now ≡ option_map number_bytes columns → Says columns result)
         (K.kept keeper.old) (K.kept keeper.new) result }
 {
-    match keeper.get(TABLES, table)? {
-        None => Ok(None),
-        Some(bytes) => Ok(Some(read_number(TABLES, &bytes)?)),
-    }
+    find_number(keeper, TABLES, table)
 }
 
 /// The spelled values of a row of this spelled key, if it is there.
-#[tactic(auto, using(crate::proofs::Pending::stays))]
 pub(crate) fn read_row<K: Keeper>(keeper: &mut K, key: &[u8]) -> Result<Option<Bytes>, Stop>
     ensures { Looks (λ m result. Says (get (m rows) key.now) result) (K.kept keeper.old) (K.kept keeper.new) result }
 {
-    Ok(keeper.get(ROWS, key)?)
-}
-
-/// A meta number, if it is there.
-#[tactic(auto, using(crate::proofs::Pending::stays))]
-fn find_number<K: Keeper>(keeper: &mut K, key: &[u8]) -> Result<Option<u64>, Stop>
-    ensures looks { Looks (λ m result. (number : Option ℕ) → IsSmall number → get (m meta) key.now ≡ option_map number_bytes number → Says number result)
-        (K.kept keeper.old) (K.kept keeper.new) result }
-    ensures small { IfOk result IsSmall }
-{
-    match keeper.get(META, key)? {
-        None => Ok(None),
-        Some(bytes) => Ok(Some(read_number(META, &bytes)?)),
-    }
+    get_pair(keeper, ROWS, key)
 }
 
 /// The stamp and the ceilings of a database.
@@ -71,11 +71,14 @@ pub(crate) struct Numbers {
 
 /// A ceiling, which is there where the stamp is.
 fn find_ceiling<K: Keeper>(keeper: &mut K, key: &[u8]) -> Result<u64, Stop>
-    ensures looks { Looks (λ m result. (number : ℕ) → number < 2 ^ 63 → get (m meta) key.now ≡ Some (number_bytes number) → Says number result)
-        (K.kept keeper.old) (K.kept keeper.new) result }
+    ensures safe { Safe (K.kept keeper.old) (K.kept keeper.new) result }
+    ensures same { OnOk result ((K.kept keeper.new).pending ≡ (K.kept keeper.old).pending) }
+    ensures within { IfErr result IsWithinLimit }
+    ensures says { (m : Store) (number : ℕ) → sight (K.kept keeper.old) ≡ Some m → number < 2 ^ 63 →
+        get (m meta) key.now ≡ Some (number_bytes number) → Says number result }
     ensures small { IfOk result (λ n. n < 2 ^ 63) }
 {
-    match find_number(keeper, key)? {
+    match find_number(keeper, META, key)? {
         Some(number) => Ok(number),
         None => Err(Stop::BadRow { space: META }),
     }
@@ -83,11 +86,13 @@ fn find_ceiling<K: Keeper>(keeper: &mut K, key: &[u8]) -> Result<u64, Stop>
 
 /// The stamp and the ceilings of a database, if its first rows are there.
 pub(crate) fn find_numbers<K: Keeper>(keeper: &mut K) -> Result<Option<Numbers>, Stop>
-    requires { is_some (K.kept keeper.old).pending ≡ false }
-    ensures looks { Looks FindsNumbers (K.kept keeper.old) (K.kept keeper.new) result }
+    ensures safe { Safe (K.kept keeper.old) (K.kept keeper.new) result }
+    ensures same { OnOk result ((K.kept keeper.new).pending ≡ (K.kept keeper.old).pending) }
+    ensures within { IfErr result IsWithinLimit }
+    ensures finds { (m : Store) → sight (K.kept keeper.old) ≡ Some m → FindsNumbers m result }
     ensures small { IfOk result AreSmall }
 {
-    match find_number(keeper, &STAMP)? {
+    match find_number(keeper, META, &STAMP)? {
         None => Ok(None),
         Some(stamp) => {
             let xid_ceiling = find_ceiling(keeper, &XID_CEILING)?;

@@ -2,16 +2,16 @@
 ghost use Rattle.std.specs.Prelude.{◌≡◌, ◌<◌, ◌^◌, ◌+◌, ℕ, IfOk, OnOk, Some, false, is_some};
 ghost use Rattle.slon_base.specs.Keeper.{Store};
 ghost use Rattle.slon_base.specs.Codec.{number_bytes};
-ghost use Rattle.app_store.specs.Spelled.{meta, meta_space, new_ceiling};
+ghost use Rattle.app_store.specs.Spelled.{meta, IsMeta, new_ceiling};
 ghost use Rattle.app_store.specs.Steps.{IsSure, IsCounted};
 ghost use Rattle.app_store.specs.Works.{AreSmall, RaisesTo, RecoversTo};
 
-use crate::Stop;
 use crate::look::{Numbers, find_numbers};
 use crate::transact::Made;
 use crate::work::{found, make_ceiling};
 use slon_base::Keeper;
 use std::alloc::Global;
+use store_rows::Stop;
 use txn_core::{BLOCK, Counters};
 
 /// The first number, and the ceilings before the first rows are written.
@@ -30,7 +30,9 @@ pub(crate) fn raise<K: Keeper>(
     requires stamp { stamp.old + 1 < 2 ^ 63 }
     ensures sure { IsSure (K.kept keeper.old) (K.kept keeper.new) result }
     ensures counted { IsCounted (K.kept keeper.old) (K.kept keeper.new) result }
-    ensures raises { (m : Store) → (K.kept keeper.old).held ≡ Some m → RaisesTo (new_ceiling key.now (number_bytes (counters.old.ceiling + 64)) (number_bytes (stamp.old + 1))) m result (K.kept keeper.new) }
+    ensures raises { (m : Store) → (K.kept keeper.old).held ≡ Some m →
+        RaisesTo (new_ceiling key.now (number_bytes (counters.old.ceiling + 64))
+        (number_bytes (stamp.old + 1))) m result (K.kept keeper.new) }
     ensures next { counters.new.next ≡ counters.old.next }
     ensures ceiling { counters.new.ceiling ≡ counters.old.ceiling + 64 }
     ensures stamp { OnOk result (stamp.new ≡ stamp.old + 1) }
@@ -56,7 +58,9 @@ pub(crate) fn recover<K: Keeper>(
     requires { is_some (K.kept keeper.old).pending ≡ false }
     ensures sure { IsSure (K.kept keeper.old) (K.kept keeper.new) result }
     ensures counted { IsCounted (K.kept keeper.old) (K.kept keeper.new) result }
-    ensures recovers { (m : Store) (stamp xids numbers : ℕ) → (K.kept keeper.old).held ≡ Some m → stamp < 2 ^ 63 → xids < 2 ^ 63 → numbers < 2 ^ 63 → m meta ≡ meta_space stamp xids numbers → RecoversTo m stamp xids numbers result (K.kept keeper.new) }
+    ensures recovers { (m : Store) (stamp xids numbers : ℕ) → (K.kept keeper.old).held ≡ Some m → stamp < 2 ^ 63 →
+        xids < 2 ^ 63 → numbers < 2 ^ 63 → IsMeta stamp xids numbers (m meta) → RecoversTo m stamp xids numbers result
+        (K.kept keeper.new) }
     ensures small { IfOk result (λ r. AreSmall (Some r.1)) }
     ensures idle { OnOk result (is_some (K.kept keeper.new).pending ≡ false) }
 {

@@ -1,12 +1,87 @@
-// One command, by what it is.
-ghost use Rattle.std.specs.Prelude.{◌≡◌, ◌≤◌, ℕ, Ok, Err, if◌then◌else◌};
+// One command, by its task.
+ghost use Rattle.std.specs.Prelude.{◌≡◌, ℕ, Ok, Err, if◌then◌else◌};
+ghost use Rattle.slon_model.specs.Tasks.{ToTell, subject_of};
 ghost use Rattle.slon_model.specs.Spoken.{IsSpoken};
 ghost use Rattle.app_store.specs.Base.{base_of};
-ghost use Rattle.app_store.specs.Goes.{Goes, Caused, IsCertain, StaysDown, BigCaused, Arms, need_of};
+ghost use Rattle.app_store.specs.Serves.{Serves, ServesOn, answered, settled};
+ghost use Rattle.app_store.specs.Answers as answers;
+ghost use Rattle.app_store.specs.Fuses.{ArmsOn};
 
 use crate::database::Database;
 use node_keeper::Keeper;
-use slon_model::{Answer, Answered, Command, DbFault};
+use slon_base::Halt;
+use slon_model::{Answer, Answered, Command, DbFault, TableRows};
+
+/// The answer to a transaction that was opened.
+fn opened(method: Result<u64, DbFault>) -> Result<Answered, DbFault>
+    ensures { result ≡ answered answers.opened method }
+{
+    match method {
+        Ok(xid) => Ok(Answered::Sure(Answer::Opened { xid })),
+        Err(fault) => Err(fault),
+    }
+}
+
+/// The answer to a new row.
+fn inserted(method: Result<u64, DbFault>) -> Result<Answered, DbFault>
+    ensures { result ≡ answered answers.acted method }
+{
+    match method {
+        Ok(number) => Ok(Answered::Sure(Answer::Acted { number })),
+        Err(fault) => Err(fault),
+    }
+}
+
+/// The answer to a row that is changed or taken away, if it is there.
+fn changed(method: Result<Option<u64>, DbFault>) -> Result<Answered, DbFault>
+    ensures { result ≡ answered answers.acted_or_not method }
+{
+    match method {
+        Ok(acted) => match acted {
+            None => Ok(Answered::Sure(Answer::Unchanged)),
+            Some(number) => Ok(Answered::Sure(Answer::Acted { number })),
+        },
+        Err(fault) => Err(fault),
+    }
+}
+
+/// The answer to a commit, which may be in doubt.
+fn committed(method: Result<(u64, bool), DbFault>) -> Result<Answered, DbFault>
+    ensures { result ≡ answered answers.committed method }
+{
+    match method {
+        Ok((actions, doubt)) => {
+            if doubt {
+                return Ok(Answered::InDoubt(Answer::Committed { actions }));
+            }
+            Ok(Answered::Sure(Answer::Committed { actions }))
+        }
+        Err(fault) => Err(fault),
+    }
+}
+
+/// The answer to a list of rows.
+fn listed(method: Result<TableRows, DbFault>) -> Result<Answered, DbFault>
+    ensures { result ≡ answered answers.listed method }
+{
+    match method {
+        Ok(rows) => Ok(Answered::Sure(Answer::Listed { rows })),
+        Err(fault) => Err(fault),
+    }
+}
+
+/// The answer to what gives nothing back.
+fn done(method: Result<(), DbFault>) -> Result<Answered, DbFault>
+    ensures { result ≡ settled method }
+{
+    match method {
+        Ok(()) => Ok(Answered::Sure(Answer::Done)),
+        Err(fault) => match fault {
+            DbFault::Halt(Halt::Doubt) => Ok(Answered::InDoubt(Answer::Done)),
+            other => Err(other),
+        },
+    }
+}
 
 impl<K: Keeper> Database<K> {
     /// Runs a command that a line can say, and answers as the rules say for a place that fits the database.
@@ -17,51 +92,46 @@ impl<K: Keeper> Database<K> {
     /// method of the command refuses, and `Fault`, `BadRow`, `TooBig` and `NoMemory` where it stopped.
     pub fn obey(&mut self, command: &Command) -> Result<Answered, DbFault>
         requires { IsSpoken command.now }
-        ensures goes { Goes command.now (base_of K.kept self.old) result (base_of K.kept self.new) }
-        ensures later { (base_of K.kept self.old).kept.faults ≤ (base_of K.kept self.new).kept.faults }
-        ensures big { BigCaused (need_of command.now) result (base_of K.kept self.new) }
-        ensures arms { Arms K.kept command.now self.old.up self.old.keeper self.new.keeper }
-        ensures caused { Caused command.now (base_of K.kept self.old).kept result (base_of K.kept self.new).kept }
-        ensures certain { IsCertain command.now (base_of K.kept self.old).kept (base_of K.kept self.new).kept result }
-        ensures down { StaysDown command.now (base_of K.kept self.old) result (base_of K.kept self.new) }
+        ensures serves { ServesOn (subject_of command.now) (base_of K.kept self.old) result (base_of K.kept self.new) }
+        ensures arms { ArmsOn K.kept (subject_of command.now) self.old self.new }
     {
         match command {
             Command::Database { .. } => Err(DbFault::Down),
-            Command::Table { table, columns, .. } => self.table(table, *columns),
-            Command::Begin { transaction, .. } => self.begin(transaction),
+            Command::Table { table, columns, .. } => done(self.table(table, *columns)),
+            Command::Begin { transaction, .. } => opened(self.begin(transaction)),
             Command::Insert {
                 transaction,
                 table,
                 values,
                 ..
-            } => self.insert(transaction, table, values),
+            } => inserted(self.insert(transaction, table, values)),
             Command::Update {
                 transaction,
                 table,
                 key,
                 columns,
                 ..
-            } => self.update(transaction, table, key, columns),
+            } => changed(self.update(transaction, table, key, columns)),
             Command::Delete {
                 transaction,
                 table,
                 key,
                 ..
-            } => self.delete(transaction, table, key),
-            Command::Commit { transaction, .. } => self.commit(transaction),
-            Command::Abort { transaction, .. } => self.abort(transaction),
-            Command::Rows { table, .. } => self.rows(table),
+            } => changed(self.delete(transaction, table, key)),
+            Command::Commit { transaction, .. } => committed(self.commit(transaction)),
+            Command::Abort { transaction, .. } => done(self.abort(transaction)),
+            Command::Rows { table, .. } => listed(self.rows(table)),
             Command::Status { .. } => self.status(),
-            Command::Crash { crash, .. } => self.crash(*crash),
+            Command::Crash { crash, .. } => done(self.crash(*crash)),
             Command::Up { .. } => self.up(),
         }
     }
 
     /// The node of the database and the rows of its log, both 0 before there is a cluster.
-    fn status(&self) -> Result<Answered, DbFault>
-        ensures { result ≡ (if self.now.up then Ok (Answered.Sure (Answer.Status 0 0)) else Err DbFault.Down) }
+    fn status(&mut self) -> Result<Answered, DbFault>
+        ensures { Serves ToTell (base_of K.kept self.old) result (base_of K.kept self.new) }
     {
-        if !self.up {
+        if !self.state.up {
             return Err(DbFault::Down);
         }
         Ok(Answered::Sure(Answer::Status { node: 0, log: 0 }))

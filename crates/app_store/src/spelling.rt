@@ -1,29 +1,18 @@
 // Keys and values of rows, as their bytes.
 ghost use Rattle.std.specs.Prelude.{◌≡◌, ◌<◌, ◌^◌, length, IfOk, drop, All, take};
-ghost use Rattle.slon_base.specs.Codec.{number_bytes, text_bytes, list_bytes};
+ghost use Rattle.slon_base.specs.Codec.{text_bytes, list_bytes, IsText};
 ghost use Rattle.app_store.specs.Spelled.{row_key, IsShort, AreShort};
 
 use slon_base::{Bytes, RowOut, Text};
 use std::alloc::{AllocError, Global};
-
-/// A number as a value.
-pub(crate) fn spell_number(alloc: Global, number: u64) -> Result<Bytes, AllocError>
-    requires { number < 2 ^ 63 }
-    ensures { IfOk result (λ b. b ≡ number_bytes number) }
-{
-    let mut out = RowOut::new(alloc);
-    out.u64(number)?;
-    Ok(out.finish())
-}
+use store_rows::spelling;
 
 /// The key of a table.
 pub(crate) fn spell_table(alloc: Global, table: &Text) -> Result<Bytes, AllocError>
-    requires { IsShort table.now }
+    requires { IsText table.now }
     ensures { IfOk result (λ b. b ≡ text_bytes table.now) }
 {
-    let mut out = RowOut::new(alloc);
-    out.text(table.as_slice())?;
-    Ok(out.finish())
+    spelling(alloc, table)
 }
 
 /// The key of a row.
@@ -39,7 +28,7 @@ pub(crate) fn spell_key(alloc: Global, table: &Text, key: &Text) -> Result<Bytes
 }
 
 /// The value of a row.
-#[tactic(auto, unfolding(slon_base::specs::Codec::list_bytes))]
+#[tactic(auto, unfolding(slon_base::specs::Codec::many_bytes))]
 pub(crate) fn spell_values(alloc: Global, values: &[Text]) -> Result<Bytes, AllocError>
     requires few { length values.now < 2 ^ 32 }
     requires short { AreShort values.now }

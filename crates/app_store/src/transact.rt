@@ -1,28 +1,14 @@
-// Each transaction of the store: its changes, the stamp and the commit.
-ghost use Rattle.std.specs.Prelude.{◌≡◌, true, false, is_some};
-ghost use Rattle.app_store.specs.Spelled.{first_rows, new_table, new_ceiling, new_rows, write_all};
-ghost use Rattle.app_store.specs.Steps.{Transacts, Finishes, Puts};
+// Each transaction of the store: its changes and the commit.
+ghost use Rattle.std.specs.Prelude.{◌≡◌, true, false, is_some, OnOk, IfErr};
+ghost use Rattle.std.specs.Option.{option_map};
 ghost use Rattle.std.specs.FinMap.{entries};
+ghost use Rattle.store_rows.specs.Steps.{Safe, IsOutside};
+ghost use Rattle.app_store.specs.Spelled.{put_all, write_all};
+ghost use Rattle.app_store.specs.Steps.{Starts, Transacts, Finishes};
 
-use crate::Stop;
+use crate::layout::ROWS;
 use slon_base::{ByteMap, Bytes, KeepFault, Keeper};
-
-/// The space of the meta numbers.
-pub const META: u8 = 1;
-
-/// The space of the tables.
-pub const TABLES: u8 = 2;
-
-/// The space of the rows.
-pub const ROWS: u8 = 3;
-
-pub(crate) const STAMP: [u8; 1] = [1];
-
-pub(crate) const XID_CEILING: [u8; 1] = [2];
-
-pub(crate) const ACTION_CEILING: [u8; 1] = [3];
-
-const LOG_STATUS: [u8; 1] = [6];
+use store_rows::{Stop, del_pair, put_pair};
 
 /// What a transaction of the store came to.
 #[derive(Clone, Copy, Debug, PartialEq, Eq)]
@@ -33,8 +19,40 @@ pub enum Made {
     InDoubt,
 }
 
+/// A pair that a transaction puts.
+#[derive(Clone, Copy)]
+pub struct Put<'a> {
+    pub(crate) space: u8,
+    pub(crate) key: &'a [u8],
+    pub(crate) value: &'a [u8],
+}
+
+impl<'a> Put<'a> {
+    /// This value at this key of the space.
+    pub(crate) fn new(space: u8, key: &'a [u8], value: &'a [u8]) -> Put<'a>
+        ensures space { result.space ≡ space }
+        ensures key { result.key.now ≡ key.now }
+        ensures value { result.value.now ≡ value.now }
+    {
+        Put { space, key, value }
+    }
+}
+
+/// Begins.
+#[tactic(auto, using(store_rows::proofs::Causes::stays))]
+fn begin<K: Keeper>(keeper: &mut K) -> Result<(), Stop>
+    requires { is_some (K.kept keeper.old).pending ≡ false }
+    ensures { Starts (K.kept keeper.old) (K.kept keeper.new) result }
+{
+    match keeper.begin() {
+        Ok(()) => Ok(()),
+        Err(KeepFault::Failed) => Err(Stop::Failed),
+        Err(KeepFault::NoMemory) => Err(Stop::NoMemory),
+    }
+}
+
 /// Commits.
-#[tactic(auto, using(crate::proofs::Pending::stays))]
+#[tactic(auto, using(store_rows::proofs::Causes::stays))]
 fn finish<K: Keeper>(keeper: &mut K) -> Result<Made, Stop>
     requires { is_some (K.kept keeper.old).pending ≡ true }
     ensures { Finishes (K.kept keeper.old) (K.kept keeper.new) result }
@@ -46,85 +64,49 @@ fn finish<K: Keeper>(keeper: &mut K) -> Result<Made, Stop>
     }
 }
 
-/// Writes the first rows of a new database.
-#[tactic(auto, using(crate::proofs::Pending::stays))]
-pub(crate) fn write_first_rows<K: Keeper>(
-    keeper: &mut K,
-    stamp: &[u8],
-    ceiling: &[u8],
-) -> Result<Made, Stop>
-    requires { is_some (K.kept keeper.old).pending ≡ false }
-    ensures { Transacts (first_rows stamp.now ceiling.now) (K.kept keeper.old) (K.kept keeper.new) result }
-{
-    keeper.begin()?;
-    keeper.put(META, &LOG_STATUS, &[0])?;
-    keeper.put(META, &ACTION_CEILING, ceiling)?;
-    keeper.put(META, &XID_CEILING, ceiling)?;
-    keeper.put(META, &STAMP, stamp)?;
-    finish(keeper)
-}
-
-/// Writes the row of a new table.
-#[tactic(auto, using(crate::proofs::Pending::stays))]
-pub(crate) fn write_table<K: Keeper>(
-    keeper: &mut K,
-    table: &[u8],
-    columns: &[u8],
-    stamp: &[u8],
-) -> Result<Made, Stop>
-    requires { is_some (K.kept keeper.old).pending ≡ false }
-    ensures { Transacts (new_table table.now columns.now stamp.now) (K.kept keeper.old) (K.kept keeper.new) result }
-{
-    keeper.begin()?;
-    keeper.put(TABLES, table, columns)?;
-    keeper.put(META, &STAMP, stamp)?;
-    finish(keeper)
-}
-
-/// Writes a ceiling that rises, which stands at this key.
-#[tactic(auto, using(crate::proofs::Pending::stays))]
-pub(crate) fn write_ceiling<K: Keeper>(
-    keeper: &mut K,
-    key: &[u8],
-    ceiling: &[u8],
-    stamp: &[u8],
-) -> Result<Made, Stop>
-    requires { is_some (K.kept keeper.old).pending ≡ false }
-    ensures { Transacts (new_ceiling key.now ceiling.now stamp.now) (K.kept keeper.old) (K.kept keeper.new) result }
-{
-    keeper.begin()?;
-    keeper.put(META, key, ceiling)?;
-    keeper.put(META, &STAMP, stamp)?;
-    finish(keeper)
-}
-
 /// Puts rows into the transaction that is pending, and takes rows away.
-#[tactic(auto, using(crate::proofs::Pending::stays))]
-fn put_rows<K: Keeper>(keeper: &mut K, writes: &ByteMap<Option<Bytes>>) -> Result<(), Stop>
+fn write_rows<K: Keeper>(keeper: &mut K, rows: &ByteMap<Option<Bytes>>) -> Result<(), Stop>
     requires { is_some (K.kept keeper.old).pending ≡ true }
-    ensures { Puts (write_all (entries writes.now)) (K.kept keeper.old) (K.kept keeper.new) result }
+    ensures safe { Safe (K.kept keeper.old) (K.kept keeper.new) result }
+    ensures only { IfErr result IsOutside }
+    ensures put { OnOk result ((K.kept keeper.new).pending ≡
+        option_map (option_map (write_all (entries rows.now))) (K.kept keeper.old).pending) }
 {
-    for (key, value) in writes.iter() {
+    for (key, value) in rows.iter() {
         match value {
-            Some(value) => keeper.put(ROWS, key.as_slice(), value.as_slice())?,
-            None => keeper.del(ROWS, key.as_slice())?,
+            Some(value) => put_pair(keeper, ROWS, key.as_slice(), value.as_slice())?,
+            None => del_pair(keeper, ROWS, key.as_slice())?,
         }
     }
     Ok(())
 }
 
-/// Writes what a transaction wrote.
-#[tactic(auto, using(crate::proofs::Pending::stays))]
-pub(crate) fn write_rows<K: Keeper>(
+/// Puts pairs into the transaction that is pending.
+fn put_pairs<K: Keeper>(keeper: &mut K, puts: &[Put<'_>]) -> Result<(), Stop>
+    requires { is_some (K.kept keeper.old).pending ≡ true }
+    ensures safe { Safe (K.kept keeper.old) (K.kept keeper.new) result }
+    ensures only { IfErr result IsOutside }
+    ensures put { OnOk result ((K.kept keeper.new).pending ≡
+        option_map (option_map (put_all puts.now)) (K.kept keeper.old).pending) }
+{
+    for put in puts {
+        put_pair(keeper, put.space, put.key, put.value)?;
+    }
+    Ok(())
+}
+
+/// Writes rows, and then puts pairs, in one transaction.
+pub(crate) fn transact<K: Keeper>(
     keeper: &mut K,
-    writes: &ByteMap<Option<Bytes>>,
-    stamp: &[u8],
+    rows: &ByteMap<Option<Bytes>>,
+    puts: &[Put<'_>],
 ) -> Result<Made, Stop>
     requires { is_some (K.kept keeper.old).pending ≡ false }
-    ensures { Transacts (new_rows writes.now stamp.now) (K.kept keeper.old) (K.kept keeper.new) result }
+    ensures { Transacts (λ m. put_all puts.now (write_all (entries rows.now) m))
+        (K.kept keeper.old) (K.kept keeper.new) result }
 {
-    keeper.begin()?;
-    put_rows(keeper, writes)?;
-    keeper.put(META, &STAMP, stamp)?;
+    begin(keeper)?;
+    write_rows(keeper, rows)?;
+    put_pairs(keeper, puts)?;
     finish(keeper)
 }

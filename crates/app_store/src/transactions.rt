@@ -1,23 +1,28 @@
-// The commands of a database on its tables and its transactions.
-ghost use Rattle.std.specs.Prelude.{◌≡◌, ◌≤◌, ℕ, List, IfOk, true};
+// The tasks of a database on its tables and its transactions.
+ghost use Rattle.std.specs.Prelude.{◌≡◌, ◌≤◌, ◌+◌, ℕ, List, IfOk, true, false, []};
 ghost use Rattle.slon_base.specs.Codec.{IsText};
-ghost use Rattle.slon_model.specs.declared.command.Command.TheVariants.{Table as TableCommand, Begin as BeginCommand, Commit as CommitCommand, Abort as AbortCommand, Rows as RowsCommand};
-ghost use Rattle.app_store.specs.Base.{base_of};
-ghost use Rattle.app_store.specs.Goes.{Goes, Caused, IsCertain, StaysDown, BigCaused, NeedsStamp, NeedsXid, NeedsNothing};
-ghost use Rattle.app_store.specs.Fits.{Fits};
-ghost use Rattle.app_store.specs.Taking.{IsTakenOf};
-ghost use Rattle.slon_laws.specs.Sound.{Sound};
+ghost use Rattle.slon_model.specs.Tasks.{ToMake, ToOpen, ToCommit, ToAbort, ToList};
+ghost use Rattle.slon_model.specs.Moves.{stored_limit};
+ghost use Rattle.slon_model.specs.Spoken.{most_columns};
 ghost use Rattle.slon_model.specs.Place.{Place, is_running, taken};
 ghost use Rattle.slon_model.specs.Snapshots.{first_or, IsSnapshot};
 ghost use Rattle.txn_core.specs.Snapshots.{seen_as};
+ghost use Rattle.app_store.specs.Base.{base_of, memory_of};
+ghost use Rattle.app_store.specs.Fits.{Ready};
+ghost use Rattle.app_store.specs.Serves.{Serves, answered, settled};
+ghost use Rattle.app_store.specs.Answers.{opened, committed, listed};
+ghost use Rattle.app_store.specs.Taking.{IsTakenOf};
 
 use crate::database::Database;
+use crate::falls::{fall, overflow};
+use crate::look::find_columns;
 use crate::opens::{open, open_xids};
+use crate::spelling::spell_table;
 use crate::transact::Made;
 use crate::work::{list_rows, make_rows, make_table};
 use node_keeper::Keeper;
-use slon_base::{STORED_LIMIT, Text};
-use slon_model::{Answer, Answered, DbFault};
+use slon_base::{Halt, STORED_LIMIT, Text};
+use slon_model::{DbFault, Numbering, TableRows};
 use std::alloc::AllocError;
 use txn_core::Snapshot;
 
@@ -32,177 +37,179 @@ fn least(xids: &[u64], next: u64) -> u64
 }
 
 impl<K: Keeper> Database<K> {
-    /// Makes a table with so many columns. Refused where a table has the name.
-    pub fn table(&mut self, table: &Text, columns: u32) -> Result<Answered, DbFault>
+    /// Makes a table with this number of columns.
+    ///
+    /// # Errors
+    ///
+    /// `TableExists` where a table has the name; `TooBig`, and what stopped the store.
+    pub fn table(&mut self, table: &Text, columns: u32) -> Result<(), DbFault>
         requires text { IsText table.now }
-        requires narrow { columns ≤ 16 }
-        ensures goes { (database : List ℕ) → Goes (TableCommand database table.now columns) (base_of K.kept self.old) result (base_of K.kept self.new) }
-        ensures later { (base_of K.kept self.old).kept.faults ≤ (base_of K.kept self.new).kept.faults }
-        ensures big { BigCaused NeedsStamp result (base_of K.kept self.new) }
-        ensures caused { (database : List ℕ) → Caused (TableCommand database table.now columns) (base_of K.kept self.old).kept result (base_of K.kept self.new).kept }
-        ensures certain { (database : List ℕ) → IsCertain (TableCommand database table.now columns) (base_of K.kept self.old).kept (base_of K.kept self.new).kept result }
-        ensures down { (database : List ℕ) → StaysDown (TableCommand database table.now columns) (base_of K.kept self.old) result (base_of K.kept self.new) }
+        requires narrow { columns ≤ most_columns }
+        ensures { Serves (ToMake table.now columns) (base_of K.kept self.old) (settled result) (base_of K.kept self.new) }
     {
-        if !self.up {
+        if !self.state.up {
             return Err(DbFault::Down);
         }
-        if self.stamp >= STORED_LIMIT {
-            return Err(self.overflow());
+        if self.state.stamp >= STORED_LIMIT {
+            return self.table_at_limit(table);
         }
-        let stamp = self.stamp + 1;
+        let stamp = self.state.stamp + 1;
         match make_table(self.alloc, &mut self.keeper, table, columns, stamp) {
             Ok(made) => match made {
                 None => Err(DbFault::TableExists),
                 Some(made) => match made {
                     Made::Done => {
-                        self.stamp = stamp;
-                        Ok(Answered::Sure(Answer::Done))
+                        self.state.stamp = stamp;
+                        Ok(())
                     }
                     Made::InDoubt => {
-                        self.up = false;
-                        self.take_down();
-                        self.doubt = Some(stamp);
-                        Ok(Answered::InDoubt(Answer::Done))
+                        self.state.take_down(self.alloc);
+                        self.state.doubt = Some(stamp);
+                        Err(DbFault::Halt(Halt::Doubt))
                     }
                 },
             },
-            Err(stop) => {
-                self.up = false;
-                Err(self.fall(stop))
-            }
+            Err(stop) => Err(fall(self.alloc, &mut self.state, &self.keeper, stop)),
         }
     }
 
-    /// Opens a transaction and answers its id. Refused where one of the name is open.
-    pub fn begin(&mut self, name: &Text) -> Result<Answered, DbFault>
-        ensures goes { (database : List ℕ) → Goes (BeginCommand database name.now) (base_of K.kept self.old) result (base_of K.kept self.new) }
-        ensures later { (base_of K.kept self.old).kept.faults ≤ (base_of K.kept self.new).kept.faults }
-        ensures big { BigCaused NeedsXid result (base_of K.kept self.new) }
-        ensures caused { (database : List ℕ) → Caused (BeginCommand database name.now) (base_of K.kept self.old).kept result (base_of K.kept self.new).kept }
-        ensures certain { (database : List ℕ) → IsCertain (BeginCommand database name.now) (base_of K.kept self.old).kept (base_of K.kept self.new).kept result }
-        ensures down { (database : List ℕ) → StaysDown (BeginCommand database name.now) (base_of K.kept self.old) result (base_of K.kept self.new) }
+    /// Refuses a table where the stamp can rise no more.
+    fn table_at_limit(&mut self, table: &Text) -> Result<(), DbFault>
+        requires up { self.old.state.up ≡ true }
+        requires limit { stored_limit ≤ self.old.state.stamp + 1 }
+        requires text { IsText table.now }
+        ensures { (columns : ℕ) → Serves (ToMake table.now columns) (base_of K.kept self.old) (settled result) (base_of K.kept self.new) }
     {
-        if !self.up {
+        let key = spell_table(self.alloc, table)?;
+        match find_columns(&mut self.keeper, key.as_slice()) {
+            Ok(found) => match found {
+                Some(_) => Err(DbFault::TableExists),
+                None => Err(overflow(self.alloc, &mut self.state)),
+            },
+            Err(stop) => Err(fall(self.alloc, &mut self.state, &self.keeper, stop)),
+        }
+    }
+
+    /// Opens a transaction and answers its id.
+    ///
+    /// # Errors
+    ///
+    /// `NameUsed` where one of the name is open; `TooBig`, and what stopped the store.
+    pub fn begin(&mut self, name: &Text) -> Result<u64, DbFault>
+        ensures { Serves (ToOpen name.now) (base_of K.kept self.old) (answered opened result) (base_of K.kept self.new) }
+    {
+        if !self.state.up {
             return Err(DbFault::Down);
         }
-        if self.opens.contains_key(name.as_slice()) {
+        if self.state.opens.contains_key(name.as_slice()) {
             return Err(DbFault::NameUsed);
         }
-        match self.raise_xids() {
+        match self.raise(Numbering::Xids) {
             Ok(()) => {
-                let xid = self.xids.draw();
-                open(self.alloc, &mut self.opens, name.as_slice(), xid)?;
-                Ok(Answered::Sure(Answer::Opened { xid }))
+                let xid = self.state.xids.draw();
+                open(self.alloc, &mut self.state.opens, name.as_slice(), xid)?;
+                Ok(xid)
             }
             Err(fault) => Err(fault),
         }
     }
 
-    /// Makes what a transaction wrote stand, and answers how many actions that were. Refused where no transaction of the
-    /// name is open. Without actions there is no call on the store.
-    pub fn commit(&mut self, name: &Text) -> Result<Answered, DbFault>
-        ensures goes { (database : List ℕ) → Goes (CommitCommand database name.now) (base_of K.kept self.old) result (base_of K.kept self.new) }
-        ensures later { (base_of K.kept self.old).kept.faults ≤ (base_of K.kept self.new).kept.faults }
-        ensures big { BigCaused NeedsStamp result (base_of K.kept self.new) }
-        ensures caused { (database : List ℕ) → Caused (CommitCommand database name.now) (base_of K.kept self.old).kept result (base_of K.kept self.new).kept }
-        ensures certain { (database : List ℕ) → IsCertain (CommitCommand database name.now) (base_of K.kept self.old).kept (base_of K.kept self.new).kept result }
-        ensures down { (database : List ℕ) → StaysDown (CommitCommand database name.now) (base_of K.kept self.old) result (base_of K.kept self.new) }
+    /// Makes what a transaction wrote stand. Answers how many actions that were, and whether the commit is in doubt. Without
+    /// actions there is no call on the store.
+    ///
+    /// # Errors
+    ///
+    /// `NoTransaction` where none of the name is open; `TooBig`, and what stopped the store.
+    pub fn commit(&mut self, name: &Text) -> Result<(u64, bool), DbFault>
+        ensures { Serves (ToCommit name.now) (base_of K.kept self.old) (answered committed result) (base_of K.kept self.new) }
     {
-        if !self.up {
+        if !self.state.up {
             return Err(DbFault::Down);
         }
-        match self.opens.remove(name.as_slice()) {
+        match self.state.opens.remove(name.as_slice()) {
             None => Err(DbFault::NoTransaction),
             Some(transaction) => {
-                self.locks.release_all(transaction.xid);
+                self.state.locks.release_all(transaction.xid);
                 let actions = transaction.actions;
                 if actions == 0 {
-                    return Ok(Answered::Sure(Answer::Committed { actions }));
+                    return Ok((actions, false));
                 }
-                if self.stamp >= STORED_LIMIT {
-                    return Err(self.overflow());
+                if self.state.stamp >= STORED_LIMIT {
+                    return Err(overflow(self.alloc, &mut self.state));
                 }
-                let stamp = self.stamp + 1;
+                let stamp = self.state.stamp + 1;
                 match make_rows(self.alloc, &mut self.keeper, &transaction.writes, stamp) {
                     Ok(made) => match made {
                         Made::Done => {
-                            self.stamp = stamp;
-                            Ok(Answered::Sure(Answer::Committed { actions }))
+                            self.state.stamp = stamp;
+                            Ok((actions, false))
                         }
                         Made::InDoubt => {
-                            self.up = false;
-                            self.take_down();
-                            self.doubt = Some(stamp);
-                            Ok(Answered::InDoubt(Answer::Committed { actions }))
+                            self.state.take_down(self.alloc);
+                            self.state.doubt = Some(stamp);
+                            Ok((actions, true))
                         }
                     },
-                    Err(stop) => {
-                        self.up = false;
-                        Err(self.fall(stop))
-                    }
+                    Err(stop) => Err(fall(self.alloc, &mut self.state, &self.keeper, stop)),
                 }
             }
         }
     }
 
-    /// Forgets what a transaction wrote. Refused where no transaction of the name is open.
-    pub fn abort(&mut self, name: &Text) -> Result<Answered, DbFault>
-        ensures goes { (database : List ℕ) → Goes (AbortCommand database name.now) (base_of K.kept self.old) result (base_of K.kept self.new) }
-        ensures later { (base_of K.kept self.old).kept.faults ≤ (base_of K.kept self.new).kept.faults }
-        ensures big { BigCaused NeedsNothing result (base_of K.kept self.new) }
-        ensures caused { (database : List ℕ) → Caused (AbortCommand database name.now) (base_of K.kept self.old).kept result (base_of K.kept self.new).kept }
-        ensures certain { (database : List ℕ) → IsCertain (AbortCommand database name.now) (base_of K.kept self.old).kept (base_of K.kept self.new).kept result }
-        ensures down { (database : List ℕ) → StaysDown (AbortCommand database name.now) (base_of K.kept self.old) result (base_of K.kept self.new) }
+    /// Forgets what a transaction wrote.
+    ///
+    /// # Errors
+    ///
+    /// `NoTransaction` where none of the name is open.
+    pub fn abort(&mut self, name: &Text) -> Result<(), DbFault>
+        ensures { Serves (ToAbort name.now) (base_of K.kept self.old) (settled result) (base_of K.kept self.new) }
     {
-        if !self.up {
+        if !self.state.up {
             return Err(DbFault::Down);
         }
-        match self.opens.remove(name.as_slice()) {
+        match self.state.opens.remove(name.as_slice()) {
             None => Err(DbFault::NoTransaction),
             Some(transaction) => {
-                self.locks.release_all(transaction.xid);
-                Ok(Answered::Sure(Answer::Done))
+                self.state.locks.release_all(transaction.xid);
+                Ok(())
             }
         }
     }
 
-    /// The rows of a table that stand, ascending by key. Refused where there is no such table.
-    pub fn rows(&mut self, table: &Text) -> Result<Answered, DbFault>
+    /// The rows of a table that stand, ascending by key.
+    ///
+    /// # Errors
+    ///
+    /// `NoTable` where there is no such table, and what stopped the store.
+    pub fn rows(&mut self, table: &Text) -> Result<TableRows, DbFault>
         requires { IsText table.now }
-        ensures goes { (database : List ℕ) → Goes (RowsCommand database table.now) (base_of K.kept self.old) result (base_of K.kept self.new) }
-        ensures later { (base_of K.kept self.old).kept.faults ≤ (base_of K.kept self.new).kept.faults }
-        ensures big { BigCaused NeedsNothing result (base_of K.kept self.new) }
-        ensures caused { (database : List ℕ) → Caused (RowsCommand database table.now) (base_of K.kept self.old).kept result (base_of K.kept self.new).kept }
-        ensures certain { (database : List ℕ) → IsCertain (RowsCommand database table.now) (base_of K.kept self.old).kept (base_of K.kept self.new).kept result }
-        ensures down { (database : List ℕ) → StaysDown (RowsCommand database table.now) (base_of K.kept self.old) result (base_of K.kept self.new) }
+        ensures { Serves (ToList table.now) (base_of K.kept self.old) (answered listed result) (base_of K.kept self.new) }
     {
-        if !self.up {
+        if !self.state.up {
             return Err(DbFault::Down);
         }
         match list_rows(self.alloc, &mut self.keeper, table) {
             Ok(found) => match found {
                 None => Err(DbFault::NoTable),
-                Some(rows) => Ok(Answered::Sure(Answer::Listed { rows })),
+                Some(rows) => Ok(rows),
             },
-            Err(stop) => {
-                self.up = false;
-                Err(self.fall(stop))
-            }
+            Err(stop) => Err(fall(self.alloc, &mut self.state, &self.keeper, stop)),
         }
     }
 
-    /// The snapshot that is taken now, which sees the transactions that have ended.
+    /// The snapshot that is taken now, which sees the transactions that have ended. It lists none while the database is down.
     ///
     /// # Errors
     ///
     /// `AllocError` where there is no memory.
     pub fn snapshot(&self) -> Result<Snapshot, AllocError>
-        ensures lists { IfOk result (λ s. IsTakenOf (base_of K.kept self.now) (seen_as s)) }
-        ensures taken { (p : Place) → Fits p (base_of K.kept self.now) → Sound p → is_running p.standing ≡ true → IfOk result (λ s. seen_as s ≡ taken p) }
-        ensures form { (p : Place) → Fits p (base_of K.kept self.now) → Sound p → is_running p.standing ≡ true → IfOk result (λ s. IsSnapshot (seen_as s)) }
+        ensures lists { IfOk result (λ s. IsTakenOf (memory_of self.now.state) (seen_as s)) }
+        ensures down { self.now.state.up ≡ false → IfOk result (λ s. (seen_as s).running ≡ []) }
+        ensures taken { (p : Place) → Ready p (base_of K.kept self.now) → is_running p.standing ≡ true → IfOk result (λ s. seen_as s ≡ taken p) }
+        ensures form { (p : Place) → Ready p (base_of K.kept self.now) → is_running p.standing ≡ true → IfOk result (λ s. IsSnapshot (seen_as s)) }
     {
-        let running = open_xids(self.alloc, &self.opens)?;
-        let xmax = self.xids.next();
+        let running = open_xids(self.alloc, &self.state.opens)?;
+        let xmax = self.state.xids.next();
         Ok(Snapshot {
             xmin: least(running.as_slice(), xmax),
             xmax,

@@ -1,31 +1,36 @@
 // The work of each command on the store: what is read first, and then the transaction.
-ghost use Rattle.std.specs.Prelude.{◌≡◌, ◌<◌, ◌^◌, ◌≤◌, ℕ, List, length, map, Option, Some, None, true, false, is_some, if◌then◌else◌, IfOk, unwrap_or};
+ghost use Rattle.std.specs.Prelude.{◌≡◌, ◌<◌, ◌^◌, ◌≤◌, ℕ, List, length, map, Option, Some, None, true, false, is_some, if◌then◌else◌, IfOk, IfErr, OnOk, unwrap_or};
 ghost use Rattle.std.specs.Option.{option_map};
 ghost use Rattle.std.specs.FinMap.{get, entries};
-ghost use Rattle.slon_base.specs.Keeper.{Store, nothing};
+ghost use Rattle.slon_base.specs.Keeper.{Store, sight, nothing};
 ghost use Rattle.slon_base.specs.Codec.{number_bytes, text_bytes, list_bytes, IsText, AllTexts, AreTexts};
 ghost use Rattle.slon_model.specs.Rows.{Row, column_value, updated};
 ghost use Rattle.app_store.specs.Spelled.{tables, first_rows, new_table, new_ceiling, new_rows, IsSmall};
 ghost use Rattle.app_store.specs.Scan.{AllKeys};
-ghost use Rattle.app_store.specs.Steps.{Looks, Says, Leaves, LeavesOr, Tries, TriesOr, is_failed};
+ghost use Rattle.store_rows.specs.Steps.{Safe, IsOutside, IsWithinLimit, is_failed};
+ghost use Rattle.app_store.specs.Steps.{Looks, Says, Leaves, LeavesOr, Tries, TriesOr};
 ghost use Rattle.app_store.specs.Works.{ListsRows, TellsEmpty, HasPair};
 
-use crate::Stop;
+use crate::layout::{ACTION_CEILING, LOG_STATUS, META, ROWS, STAMP, TABLES, XID_CEILING};
 use crate::look::find_columns;
-use crate::scan::{read_values, row_stop, scan_table};
-use crate::spelling::{spell_number, spell_table, spell_values};
-use crate::transact::{Made, ROWS, write_ceiling, write_first_rows, write_rows, write_table};
+use crate::scan::scan_table;
+use crate::spelling::spell_table;
+use crate::transact::{Made, Put, transact};
 use slon_base::{ByteMap, Bytes, Keeper, Text, TextList};
 use slon_model::TableRows;
 use std::alloc::{AllocError, Global};
+use store_rows::{Stop, count_pairs, read_alone, spelling};
 use txn_core::BLOCK;
 
 /// Whether the store has no pair in any space.
 fn is_empty<K: Keeper>(keeper: &mut K) -> Result<bool, Stop>
-    ensures { Looks TellsEmpty (K.kept keeper.old) (K.kept keeper.new) result }
+    ensures safe { Safe (K.kept keeper.old) (K.kept keeper.new) result }
+    ensures same { OnOk result ((K.kept keeper.new).pending ≡ (K.kept keeper.old).pending) }
+    ensures only { IfErr result IsOutside }
+    ensures tells { (m : Store) → sight (K.kept keeper.old) ≡ Some m → IfOk result (TellsEmpty m) }
 {
     for space in 0..256u16 {
-        if keeper.count(space as u8)? > 0 {
+        if count_pairs(keeper, space as u8)? > 0 {
             return Ok(false);
         }
     }
@@ -36,19 +41,28 @@ fn is_empty<K: Keeper>(keeper: &mut K) -> Result<bool, Stop>
 pub(crate) fn found<K: Keeper>(alloc: Global, keeper: &mut K) -> Result<Made, Stop>
     requires { is_some (K.kept keeper.old).pending ≡ false }
     ensures tries { Tries (K.kept keeper.old) (K.kept keeper.new) result }
-    ensures works { (m : Store) → (K.kept keeper.old).held ≡ Some m → Leaves (first_rows (number_bytes 1) (number_bytes 65)) m result (K.kept keeper.new) }
+    ensures works { (m : Store) → (K.kept keeper.old).held ≡ Some m →
+        Leaves (first_rows (number_bytes 1) (number_bytes 65)) m result (K.kept keeper.new) }
 {
-    let stamp = spell_number(alloc, 1)?;
-    let ceiling = spell_number(alloc, 1 + BLOCK)?;
-    write_first_rows(keeper, stamp.as_slice(), ceiling.as_slice())
+    let stamp = spelling(alloc, &1u64)?;
+    let ceiling = spelling(alloc, &(1 + BLOCK))?;
+    let puts = [
+        Put::new(META, &LOG_STATUS, &[0]),
+        Put::new(META, &ACTION_CEILING, ceiling.as_slice()),
+        Put::new(META, &XID_CEILING, ceiling.as_slice()),
+        Put::new(META, &STAMP, stamp.as_slice()),
+    ];
+    transact(keeper, &ByteMap::new(alloc), &puts)
 }
 
 /// Writes the first rows of a new database into an empty store. Refused where the store has a row.
 pub(crate) fn make_database<K: Keeper>(alloc: Global, keeper: &mut K) -> Result<Option<Made>, Stop>
     requires { is_some (K.kept keeper.old).pending ≡ false }
     ensures tries { TriesOr (K.kept keeper.old) (K.kept keeper.new) result }
-    ensures works { (K.kept keeper.old).held ≡ Some nothing → LeavesOr false (first_rows (number_bytes 1) (number_bytes 65)) nothing result (K.kept keeper.new) }
-    ensures full { (m : Store) → HasPair m → (K.kept keeper.old).held ≡ Some m → LeavesOr true (first_rows (number_bytes 1) (number_bytes 65)) m result (K.kept keeper.new) }
+    ensures works { (K.kept keeper.old).held ≡ Some nothing → LeavesOr false (first_rows (number_bytes 1)
+        (number_bytes 65)) nothing result (K.kept keeper.new) }
+    ensures full { (m : Store) → HasPair m → (K.kept keeper.old).held ≡ Some m → LeavesOr true
+        (first_rows (number_bytes 1) (number_bytes 65)) m result (K.kept keeper.new) }
 {
     let empty = is_empty(keeper)?;
     if !empty {
@@ -69,17 +83,23 @@ pub(crate) fn make_table<K: Keeper>(
     requires text { IsText table.now }
     requires room { stamp < 2 ^ 63 }
     ensures tries { TriesOr (K.kept keeper.old) (K.kept keeper.new) result }
-    ensures works { (m : Store) (found : Option ℕ) → (K.kept keeper.old).held ≡ Some m → IsSmall found → get (m tables) (text_bytes table.now) ≡ option_map number_bytes found →
-        LeavesOr (is_some found) (new_table (text_bytes table.now) (number_bytes columns) (number_bytes stamp)) m result (K.kept keeper.new) }
+    ensures works { (m : Store) (found : Option ℕ) → (K.kept keeper.old).held ≡ Some m → IsSmall found → get (m tables)
+        (text_bytes table.now) ≡ option_map number_bytes found →
+        LeavesOr (is_some found) (new_table (text_bytes table.now) (number_bytes columns) (number_bytes stamp)) m result
+        (K.kept keeper.new) }
 {
     let key = spell_table(alloc, table)?;
     let found = find_columns(keeper, key.as_slice())?;
     if found.is_some() {
         return Ok(None);
     }
-    let columns = spell_number(alloc, columns as u64)?;
-    let stamp = spell_number(alloc, stamp)?;
-    Ok(Some(write_table(keeper, key.as_slice(), columns.as_slice(), stamp.as_slice())?))
+    let columns = spelling(alloc, &u64::from(columns))?;
+    let stamp = spelling(alloc, &stamp)?;
+    let puts = [
+        Put::new(TABLES, key.as_slice(), columns.as_slice()),
+        Put::new(META, &STAMP, stamp.as_slice()),
+    ];
+    Ok(Some(transact(keeper, &ByteMap::new(alloc), &puts)?))
 }
 
 /// Raises the ceiling that stands at this key.
@@ -94,11 +114,17 @@ pub(crate) fn make_ceiling<K: Keeper>(
     requires small { ceiling < 2 ^ 63 }
     requires room { stamp < 2 ^ 63 }
     ensures tries { Tries (K.kept keeper.old) (K.kept keeper.new) result }
-    ensures works { (m : Store) → (K.kept keeper.old).held ≡ Some m → Leaves (new_ceiling key.now (number_bytes ceiling) (number_bytes stamp)) m result (K.kept keeper.new) }
+    ensures works { (m : Store) → (K.kept keeper.old).held ≡ Some m → Leaves (new_ceiling key.now (number_bytes ceiling)
+        (number_bytes stamp)) m result (K.kept keeper.new) }
 {
-    let ceiling = spell_number(alloc, ceiling)?;
-    let stamp = spell_number(alloc, stamp)?;
-    write_ceiling(keeper, key, ceiling.as_slice(), stamp.as_slice())
+    let key = Bytes::from_slice(alloc, key)?;
+    let ceiling = spelling(alloc, &ceiling)?;
+    let stamp = spelling(alloc, &stamp)?;
+    let puts = [
+        Put::new(META, key.as_slice(), ceiling.as_slice()),
+        Put::new(META, &STAMP, stamp.as_slice()),
+    ];
+    transact(keeper, &ByteMap::new(alloc), &puts)
 }
 
 /// Writes what a transaction wrote.
@@ -111,10 +137,11 @@ pub(crate) fn make_rows<K: Keeper>(
     requires idle { is_some (K.kept keeper.old).pending ≡ false }
     requires room { stamp < 2 ^ 63 }
     ensures tries { Tries (K.kept keeper.old) (K.kept keeper.new) result }
-    ensures works { (m : Store) → (K.kept keeper.old).held ≡ Some m → Leaves (new_rows writes.now (number_bytes stamp)) m result (K.kept keeper.new) }
+    ensures works { (m : Store) → (K.kept keeper.old).held ≡ Some m →
+        Leaves (new_rows writes.now (number_bytes stamp)) m result (K.kept keeper.new) }
 {
-    let stamp = spell_number(alloc, stamp)?;
-    write_rows(keeper, writes, stamp.as_slice())
+    let stamp = spelling(alloc, &stamp)?;
+    transact(keeper, writes, &[Put::new(META, &STAMP, stamp.as_slice())])
 }
 
 /// A row with new values for columns.
@@ -138,7 +165,8 @@ fn with_columns(
 
 /// The new value of a column, if it has one.
 fn find_column(columns: &[(u32, Text)], number: usize) -> Option<&Text>
-    ensures { (old : List ℕ) → unwrap_or (option_map (λ value. value.now) result) old ≡ column_value columns.now number old }
+    ensures { (old : List ℕ) →
+        unwrap_or (option_map (λ value. value.now) result) old ≡ column_value columns.now number old }
 {
     for (column, value) in columns {
         if *column as usize == number {
@@ -155,15 +183,17 @@ pub(crate) fn update_values(
     columns: &[(u32, Text)],
 ) -> Result<Bytes, Stop>
     requires { AllTexts (map (λ c. c.1) columns.now) }
-    ensures says { (row : Row) → AreTexts row → values.now ≡ list_bytes row → Says (list_bytes (updated columns.now row)) result }
+    ensures says { (row : Row) → AreTexts row → values.now ≡ list_bytes row →
+        Says (list_bytes (updated columns.now row)) result }
     ensures never { is_failed result ≡ false }
+    ensures within { IfErr result IsWithinLimit }
 {
-    match read_values(alloc, values.as_slice()) {
+    match read_alone::<TextList>(alloc, ROWS, values.as_slice()) {
         Ok(values) => {
             let row = with_columns(alloc, values.as_slice(), columns)?;
-            Ok(spell_values(alloc, row.as_slice())?)
+            Ok(spelling(alloc, &row)?)
         }
-        Err(fault) => Err(row_stop(fault)),
+        Err(stop) => Err(stop),
     }
 }
 
@@ -171,6 +201,7 @@ pub(crate) fn update_values(
 fn listed(alloc: Global, found: ByteMap<TextList>) -> Result<TableRows, Stop>
     ensures says { AllKeys (entries found) → Says (entries found) result }
     ensures never { is_failed result ≡ false }
+    ensures within { IfErr result IsWithinLimit }
 {
     let mut rows = TableRows::new(alloc);
     for (key, values) in found.into_entries() {

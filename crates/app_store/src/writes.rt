@@ -1,22 +1,26 @@
-// The commands of a database that write rows.
+// The tasks of a database that write rows.
 ghost use Rattle.std.specs.Prelude.{◌≡◌, ◌≤◌, ◌<◌, ◌^◌, ◌∷◌, ◌==◌, ◌&&◌, nat_le, ℕ, List, length, map, true, false, OnOk};
 ghost use Rattle.slon_base.specs.Codec.{IsText, AllTexts};
-ghost use Rattle.slon_model.specs.declared.command.Command.TheVariants.{Insert as InsertCommand, Update as UpdateCommand, Delete as DeleteCommand};
-ghost use Rattle.slon_model.specs.Place as rules;
-ghost use Rattle.app_store.specs.Base.{Base, base_of};
-ghost use Rattle.app_store.specs.Goes.{Goes, Caused, IsCertain, StaysDown, BigCaused, Need, NeedsNumber};
-ghost use Rattle.app_store.specs.Parts.{Part, is_doubt};
+ghost use Rattle.slon_model.specs.declared.numbering.Numbering.TheVariants.{Actions as NumbersActions};
+ghost use Rattle.slon_model.specs.Rows.{Put, Set, Remove};
+ghost use Rattle.slon_model.specs.Tasks.{Write, ToWrite, write_by, key_of, row_of};
+ghost use Rattle.slon_model.specs.Deciding as rules;
 ghost use Rattle.txn_core.specs.Locks.{holder_of, without};
-ghost use Rattle.app_store.specs.Targets.{FindsWidth, ReadsTarget, FindsRow, AddsWrite, Writes, InsertOf, UpdateOf, DeleteOf, acted_as};
+ghost use Rattle.app_store.specs.Base.{base_of};
+ghost use Rattle.app_store.specs.Serves.{Serves, answered, halts, NeedsNothing, NeedsNext};
+ghost use Rattle.app_store.specs.Answers.{acted, acted_or_not};
+ghost use Rattle.app_store.specs.Parts.{Part, FromPlace};
+ghost use Rattle.app_store.specs.Targets.{FoundWidth, ReadsTarget, FindsRow, AddsWrite, WritesRow};
 
 use crate::database::Database;
+use crate::falls::fall;
 use crate::look::{find_columns, read_row};
 use crate::opens::{write, written};
 use crate::spelling::{spell_key, spell_table, spell_values};
 use crate::work::update_values;
 use node_keeper::Keeper;
 use slon_base::{Bytes, Halt, Text, TextList};
-use slon_model::{Answer, Answered, ColumnList, DbFault};
+use slon_model::{ColumnList, DbFault, Numbering};
 use txn_core::LockFault;
 
 /// The greatest number of columns of a table.
@@ -38,36 +42,23 @@ fn are_columns(columns: &[(u32, Text)], width: u64) -> bool
         .all(|column| 2 <= column.0 && u64::from(column.0) <= width)
 }
 
-/// Whether so many values make a row of a table of this width.
+/// Whether the values are as many as a table of this width has columns.
 fn are_values(values: &TextList, width: u64) -> bool
     ensures { result ≡ (nat_le (length values.now) 16 && (length values.now == width)) }
 {
     values.len() <= MOST_COLUMNS && values.len() as u64 == width
 }
 
-/// The answer to a write that was added.
-fn acted(added: Result<u64, DbFault>) -> Result<Answered, DbFault>
-    ensures value { result ≡ acted_as added }
-    ensures definite { is_doubt result ≡ false }
-    ensures big { (need : Need) (b : Base) → BigCaused need added b → BigCaused need result b }
-{
-    match added {
-        Ok(number) => Ok(Answered::Sure(Answer::Acted { number })),
-        Err(fault) => Err(fault),
-    }
-}
-
 impl<K: Keeper> Database<K> {
     /// The id of the open transaction of this name, and the number of columns of the table.
     fn find_width(&mut self, name: &Text, table: &Text) -> Result<(u64, u64), DbFault>
-        requires up { self.old.up ≡ true }
+        requires up { self.old.state.up ≡ true }
         requires text { IsText table.now }
-        ensures part { Part (base_of K.kept self.old) (base_of K.kept self.new) result }
-        ensures big { (need : Need) → BigCaused need result (base_of K.kept self.new) }
-        ensures finds { FindsWidth name.now table.now (base_of K.kept self.old) result (base_of K.kept self.new) }
-        ensures up { OnOk result (self.new.up ≡ true) }
+        ensures part { Part NeedsNothing (base_of K.kept self.old) (base_of K.kept self.new) result }
+        ensures finds { FromPlace (FoundWidth name.now table.now) (base_of K.kept self.old) result (base_of K.kept self.new) }
+        ensures up { OnOk result (self.new.state.up ≡ true) }
     {
-        match self.opens.get(name.as_slice()) {
+        match self.state.opens.get(name.as_slice()) {
             None => Err(DbFault::NoTransaction),
             Some(transaction) => {
                 let xid = transaction.xid;
@@ -77,10 +68,7 @@ impl<K: Keeper> Database<K> {
                         None => Err(DbFault::NoTable),
                         Some(columns) => Ok((xid, columns)),
                     },
-                    Err(stop) => {
-                        self.up = false;
-                        Err(self.fall(stop))
-                    }
+                    Err(stop) => Err(fall(self.alloc, &mut self.state, &self.keeper, stop)),
                 }
             }
         }
@@ -88,9 +76,9 @@ impl<K: Keeper> Database<K> {
 
     /// The other transaction that wrote a row, if one did.
     fn other_holder(&self, xid: u64, table: &Text, key: &Text) -> Option<u64>
-        ensures { result ≡ without xid (holder_of table.now key.now self.now.locks) }
+        ensures { result ≡ without xid (holder_of table.now key.now self.now.state.locks) }
     {
-        match self.locks.holder(table.as_slice(), key.as_slice()) {
+        match self.state.locks.holder(table.as_slice(), key.as_slice()) {
             None => None,
             Some(holder) => {
                 if holder == xid {
@@ -103,23 +91,20 @@ impl<K: Keeper> Database<K> {
 
     /// A row as the transaction of this name sees it.
     fn read_target(&mut self, name: &Text, table: &Text, key: &Text) -> Result<Target, DbFault>
-        requires up { self.old.up ≡ true }
+        requires up { self.old.state.up ≡ true }
         requires text { IsText table.now }
         requires key { IsText key.now }
-        ensures part { Part (base_of K.kept self.old) (base_of K.kept self.new) result }
-        ensures big { (need : Need) → BigCaused need result (base_of K.kept self.new) }
+        ensures part { Part NeedsNothing (base_of K.kept self.old) (base_of K.kept self.new) result }
         ensures reads { ReadsTarget name.now table.now key.now (base_of K.kept self.old) result (base_of K.kept self.new) }
-        ensures up { OnOk result (self.new.up ≡ true) }
+        ensures up { OnOk result (self.new.state.up ≡ true) }
     {
         let row_key = spell_key(self.alloc, table, key)?;
-        match written(self.alloc, &self.opens, name.as_slice(), row_key.as_slice())? {
+        let opens = &self.state.opens;
+        match written(self.alloc, opens, name.as_slice(), row_key.as_slice())? {
             Some(seen) => Ok(Target { key: row_key, seen }),
             None => match read_row(&mut self.keeper, row_key.as_slice()) {
                 Ok(seen) => Ok(Target { key: row_key, seen }),
-                Err(stop) => {
-                    self.up = false;
-                    Err(self.fall(stop))
-                }
+                Err(stop) => Err(fall(self.alloc, &mut self.state, &self.keeper, stop)),
             },
         }
     }
@@ -132,13 +117,12 @@ impl<K: Keeper> Database<K> {
         table: &Text,
         key: &Text,
     ) -> Result<Target, DbFault>
-        requires up { self.old.up ≡ true }
+        requires up { self.old.state.up ≡ true }
         requires text { IsText table.now }
         requires key { IsText key.now }
-        ensures part { Part (base_of K.kept self.old) (base_of K.kept self.new) result }
-        ensures big { (need : Need) → BigCaused need result (base_of K.kept self.new) }
+        ensures part { Part NeedsNothing (base_of K.kept self.old) (base_of K.kept self.new) result }
         ensures finds { FindsRow name.now xid table.now key.now (base_of K.kept self.old) result (base_of K.kept self.new) }
-        ensures up { OnOk result (self.new.up ≡ true) }
+        ensures up { OnOk result (self.new.state.up ≡ true) }
     {
         match self.other_holder(xid, table, key) {
             Some(xid) => Err(DbFault::Locked { xid }),
@@ -156,18 +140,20 @@ impl<K: Keeper> Database<K> {
         row_key: &Bytes,
         value: Option<Bytes>,
     ) -> Result<u64, DbFault>
-        requires up { self.old.up ≡ true }
-        ensures part { Part (base_of K.kept self.old) (base_of K.kept self.new) result }
-        ensures big { BigCaused NeedsNumber result (base_of K.kept self.new) }
+        requires up { self.old.state.up ≡ true }
+        requires text { IsText table.now }
+        requires key { IsText key.now }
+        ensures part { Part (NeedsNext NumbersActions) (base_of K.kept self.old) (base_of K.kept self.new) result }
         ensures adds { AddsWrite name.now xid table.now key.now row_key.now value (base_of K.kept self.old) result (base_of K.kept self.new) }
     {
-        match self.raise_numbers() {
-            Ok(()) => match self.locks.take(xid, table.as_slice(), key.as_slice()) {
+        match self.raise(Numbering::Actions) {
+            Ok(()) => match self.state.locks.take(xid, table.as_slice(), key.as_slice()) {
                 Ok(()) => {
-                    let number = self.numbers.draw();
+                    let number = self.state.numbers.draw();
+                    let opens = &mut self.state.opens;
                     write(
                         self.alloc,
-                        &mut self.opens,
+                        opens,
                         name.as_slice(),
                         row_key.as_slice(),
                         value,
@@ -183,26 +169,20 @@ impl<K: Keeper> Database<K> {
         }
     }
 
-    /// Writes a row and answers the number of the action. The first value is the key. Refused where no transaction of the
-    /// name is open, there is no such table or it has another number of columns, another open transaction wrote the
-    /// row, or the transaction sees a row of the key.
-    pub fn insert(
-        &mut self,
-        name: &Text,
-        table: &Text,
-        values: &TextList,
-    ) -> Result<Answered, DbFault>
+    /// Writes a row and answers the number of the action. The first value is the key.
+    ///
+    /// # Errors
+    ///
+    /// `NoTransaction` where no transaction of the name is open, `NoTable` where there is no such table, `BadWidth` where it
+    /// has another number of columns, `Locked` where another open transaction wrote the row, `Duplicate` where the
+    /// transaction sees a row of the key; `TooBig`, and what stopped the store.
+    pub fn insert(&mut self, name: &Text, table: &Text, values: &TextList) -> Result<u64, DbFault>
         requires text { IsText table.now }
         requires texts { AllTexts values.now }
         requires some { 0 < length values.now }
-        ensures goes { (database : List ℕ) → Goes (InsertCommand database name.now table.now values.now) (base_of K.kept self.old) result (base_of K.kept self.new) }
-        ensures later { (base_of K.kept self.old).kept.faults ≤ (base_of K.kept self.new).kept.faults }
-        ensures big { BigCaused NeedsNumber result (base_of K.kept self.new) }
-        ensures caused { (database : List ℕ) → Caused (InsertCommand database name.now table.now values.now) (base_of K.kept self.old).kept result (base_of K.kept self.new).kept }
-        ensures certain { (database : List ℕ) → IsCertain (InsertCommand database name.now table.now values.now) (base_of K.kept self.old).kept (base_of K.kept self.new).kept result }
-        ensures down { (database : List ℕ) → StaysDown (InsertCommand database name.now table.now values.now) (base_of K.kept self.old) result (base_of K.kept self.new) }
+        ensures { Serves (ToWrite (write_by name.now table.now (Put (key_of values.now) (row_of values.now)))) (base_of K.kept self.old) (answered acted result) (base_of K.kept self.new) }
     {
-        if !self.up {
+        if !self.state.up {
             return Err(DbFault::Down);
         }
         match self.find_width(name, table) {
@@ -225,16 +205,14 @@ impl<K: Keeper> Database<K> {
         table: &Text,
         key: &Text,
         row: &[Text],
-    ) -> Result<Answered, DbFault>
-        requires up { self.old.up ≡ true }
+    ) -> Result<u64, DbFault>
+        requires up { self.old.state.up ≡ true }
         requires text { IsText table.now }
         requires key { IsText key.now }
         requires texts { AllTexts row.now }
         requires few { length row.now < 2 ^ 16 }
-        ensures part { Part (base_of K.kept self.old) (base_of K.kept self.new) result }
-        ensures big { BigCaused NeedsNumber result (base_of K.kept self.new) }
-        ensures writes { Writes (InsertOf (key.now ∷ row.now)) name.now xid table.now (base_of K.kept self.old) result (base_of K.kept self.new) }
-        ensures definite { is_doubt result ≡ false }
+        ensures part { Part (NeedsNext NumbersActions) (base_of K.kept self.old) (base_of K.kept self.new) result }
+        ensures writes { WritesRow (write_by name.now table.now (Put key.now row.now)) xid (base_of K.kept self.old) (answered acted result) (base_of K.kept self.new) }
     {
         match self.find_row(name, xid, table, key) {
             Ok(target) => {
@@ -243,7 +221,7 @@ impl<K: Keeper> Database<K> {
                     Some(_) => Err(DbFault::Duplicate),
                     None => {
                         let value = spell_values(self.alloc, row)?;
-                        acted(self.add_write(name, xid, table, key, &row_key, Some(value)))
+                        self.add_write(name, xid, table, key, &row_key, Some(value))
                     }
                 }
             }
@@ -251,27 +229,26 @@ impl<K: Keeper> Database<K> {
         }
     }
 
-    /// Gives columns of a row new values and answers the number of the action, or that there is no row of the key.
-    /// Refused where no transaction of the name is open, there is no such table, a column is not from 2 to its width,
-    /// or another open transaction wrote the row.
+    /// Gives columns of a row new values and answers the number of the action, or none where there is no row of the key.
+    ///
+    /// # Errors
+    ///
+    /// `NoTransaction` where no transaction of the name is open, `NoTable` where there is no such table, `BadWidth` where a
+    /// column is not from 2 to its width, `Locked` where another open transaction wrote the row; `TooBig`, and what stopped
+    /// the store.
     pub fn update(
         &mut self,
         name: &Text,
         table: &Text,
         key: &Text,
         columns: &ColumnList,
-    ) -> Result<Answered, DbFault>
+    ) -> Result<Option<u64>, DbFault>
         requires text { IsText table.now }
         requires key { IsText key.now }
         requires texts { AllTexts (map (λ c. c.1) columns.now) }
-        ensures goes { (database : List ℕ) → Goes (UpdateCommand database name.now table.now key.now columns.now) (base_of K.kept self.old) result (base_of K.kept self.new) }
-        ensures later { (base_of K.kept self.old).kept.faults ≤ (base_of K.kept self.new).kept.faults }
-        ensures big { BigCaused NeedsNumber result (base_of K.kept self.new) }
-        ensures caused { (database : List ℕ) → Caused (UpdateCommand database name.now table.now key.now columns.now) (base_of K.kept self.old).kept result (base_of K.kept self.new).kept }
-        ensures certain { (database : List ℕ) → IsCertain (UpdateCommand database name.now table.now key.now columns.now) (base_of K.kept self.old).kept (base_of K.kept self.new).kept result }
-        ensures down { (database : List ℕ) → StaysDown (UpdateCommand database name.now table.now key.now columns.now) (base_of K.kept self.old) result (base_of K.kept self.new) }
+        ensures { Serves (ToWrite (write_by name.now table.now (Set key.now columns.now))) (base_of K.kept self.old) (answered acted_or_not result) (base_of K.kept self.new) }
     {
-        if !self.up {
+        if !self.state.up {
             return Err(DbFault::Down);
         }
         match self.find_width(name, table) {
@@ -293,26 +270,24 @@ impl<K: Keeper> Database<K> {
         table: &Text,
         key: &Text,
         columns: &[(u32, Text)],
-    ) -> Result<Answered, DbFault>
-        requires up { self.old.up ≡ true }
+    ) -> Result<Option<u64>, DbFault>
+        requires up { self.old.state.up ≡ true }
         requires text { IsText table.now }
         requires key { IsText key.now }
         requires texts { AllTexts (map (λ c. c.1) columns.now) }
-        ensures part { Part (base_of K.kept self.old) (base_of K.kept self.new) result }
-        ensures big { BigCaused NeedsNumber result (base_of K.kept self.new) }
-        ensures writes { Writes (UpdateOf key.now columns.now) name.now xid table.now (base_of K.kept self.old) result (base_of K.kept self.new) }
-        ensures definite { is_doubt result ≡ false }
+        ensures part { Part (NeedsNext NumbersActions) (base_of K.kept self.old) (base_of K.kept self.new) result }
+        ensures writes { WritesRow (write_by name.now table.now (Set key.now columns.now)) xid (base_of K.kept self.old) (answered acted_or_not result) (base_of K.kept self.new) }
     {
         match self.find_row(name, xid, table, key) {
             Ok(target) => {
                 let Target { key: row_key, seen } = target;
                 match seen {
-                    None => Ok(Answered::Sure(Answer::Unchanged)),
+                    None => Ok(None),
                     Some(values) => match update_values(self.alloc, &values, columns) {
                         Ok(value) => {
-                            acted(self.add_write(name, xid, table, key, &row_key, Some(value)))
+                            some(self.add_write(name, xid, table, key, &row_key, Some(value)))
                         }
-                        Err(stop) => Err(self.fall(stop)),
+                        Err(stop) => Err(fall(self.alloc, &mut self.state, &self.keeper, stop)),
                     },
                 }
             }
@@ -320,19 +295,18 @@ impl<K: Keeper> Database<K> {
         }
     }
 
-    /// Takes a row away and answers the number of the action, or that there is no row of the key. Refused where no
-    /// transaction of the name is open, there is no such table, or another open transaction wrote the row.
-    pub fn delete(&mut self, name: &Text, table: &Text, key: &Text) -> Result<Answered, DbFault>
+    /// Takes a row away and answers the number of the action, or none where there is no row of the key.
+    ///
+    /// # Errors
+    ///
+    /// `NoTransaction` where no transaction of the name is open, `NoTable` where there is no such table, `Locked` where
+    /// another open transaction wrote the row; `TooBig`, and what stopped the store.
+    pub fn delete(&mut self, name: &Text, table: &Text, key: &Text) -> Result<Option<u64>, DbFault>
         requires text { IsText table.now }
         requires key { IsText key.now }
-        ensures goes { (database : List ℕ) → Goes (DeleteCommand database name.now table.now key.now) (base_of K.kept self.old) result (base_of K.kept self.new) }
-        ensures later { (base_of K.kept self.old).kept.faults ≤ (base_of K.kept self.new).kept.faults }
-        ensures big { BigCaused NeedsNumber result (base_of K.kept self.new) }
-        ensures caused { (database : List ℕ) → Caused (DeleteCommand database name.now table.now key.now) (base_of K.kept self.old).kept result (base_of K.kept self.new).kept }
-        ensures certain { (database : List ℕ) → IsCertain (DeleteCommand database name.now table.now key.now) (base_of K.kept self.old).kept (base_of K.kept self.new).kept result }
-        ensures down { (database : List ℕ) → StaysDown (DeleteCommand database name.now table.now key.now) (base_of K.kept self.old) result (base_of K.kept self.new) }
+        ensures { Serves (ToWrite (write_by name.now table.now (Remove key.now))) (base_of K.kept self.old) (answered acted_or_not result) (base_of K.kept self.new) }
     {
-        if !self.up {
+        if !self.state.up {
             return Err(DbFault::Down);
         }
         match self.find_width(name, table) {
@@ -348,24 +322,33 @@ impl<K: Keeper> Database<K> {
         xid: u64,
         table: &Text,
         key: &Text,
-    ) -> Result<Answered, DbFault>
-        requires up { self.old.up ≡ true }
+    ) -> Result<Option<u64>, DbFault>
+        requires up { self.old.state.up ≡ true }
         requires text { IsText table.now }
         requires key { IsText key.now }
-        ensures part { Part (base_of K.kept self.old) (base_of K.kept self.new) result }
-        ensures big { BigCaused NeedsNumber result (base_of K.kept self.new) }
-        ensures writes { Writes (DeleteOf key.now) name.now xid table.now (base_of K.kept self.old) result (base_of K.kept self.new) }
-        ensures definite { is_doubt result ≡ false }
+        ensures part { Part (NeedsNext NumbersActions) (base_of K.kept self.old) (base_of K.kept self.new) result }
+        ensures writes { WritesRow (write_by name.now table.now (Remove key.now)) xid (base_of K.kept self.old) (answered acted_or_not result) (base_of K.kept self.new) }
     {
         match self.find_row(name, xid, table, key) {
             Ok(target) => {
                 let Target { key: row_key, seen } = target;
                 match seen {
-                    None => Ok(Answered::Sure(Answer::Unchanged)),
-                    Some(_) => acted(self.add_write(name, xid, table, key, &row_key, None)),
+                    None => Ok(None),
+                    Some(_) => some(self.add_write(name, xid, table, key, &row_key, None)),
                 }
             }
             Err(fault) => Err(fault),
         }
+    }
+}
+
+/// The number of a write that was added.
+fn some(added: Result<u64, DbFault>) -> Result<Option<u64>, DbFault>
+    ensures value { answered acted_or_not result ≡ answered acted added }
+    ensures halts { halts result ≡ halts added }
+{
+    match added {
+        Ok(number) => Ok(Some(number)),
+        Err(fault) => Err(fault),
     }
 }

@@ -17,35 +17,45 @@ pub settled_store : (spaces : List (Space × Space)) → IsSettled Idle spaces �
 settled_store spaces settled = λ i space. same_entries_map _ _ (settled refl space) i
 
 -- what reads see is pending
-pub seen : (spaces : List (Space × Space)) (phase : Phase) (plan : FaultPlan) (doubts : ℕ) (m : Store) → IsSettled phase spaces → sight (mem_kept spaces plan phase doubts) ≡ Some m → (space : ℕ) → pending_store spaces space ≡ m space
+pub seen : (spaces : List (Space × Space)) (phase : Phase) (plan : FaultPlan) (doubts : ℕ) (m : Store) →
+    IsSettled phase spaces → sight (mem_kept spaces plan phase doubts) ≡ Some m → (space : ℕ) →
+    pending_store spaces space ≡ m space
 seen spaces Idle plan doubts m settled e space = ap (λ s. s space) (settled_store spaces settled ∙ same_some _ _ e)
 seen spaces Open plan doubts m settled e space = ap (λ s. s space) (same_some _ _ e)
 seen spaces Torn plan doubts m settled e space = cc
 
-ended-at : (commits : Bool) (spaces : List (Space × Space)) (space : ℕ) → get_or (map (ended commits) spaces) space (empty, empty) ≡ ended commits (get_or spaces space (empty, empty))
+ended-at : (commits : Bool) (spaces : List (Space × Space)) (space : ℕ) → get_or (map (ended commits) spaces) space
+    (empty, empty) ≡ ended commits (get_or spaces space (empty, empty))
 ended-at true spaces space = get_or-map (ended true) spaces space (empty, empty)
 ended-at false spaces space = get_or-map (ended false) spaces space (empty, empty)
 
-pub settled_end : (commits : Bool) (spaces : List (Space × Space)) (space : ℕ) → entries (pending_store (map (ended commits) spaces) space) ≡ entries (held_store (map (ended commits) spaces) space)
-settled_end commits spaces space = ap (λ p. entries p.1) (ended-at commits spaces space) ∙ both commits ∙ sym (ap (λ p. entries p.0) (ended-at commits spaces space))
+pub settled_end : (commits : Bool) (spaces : List (Space × Space)) (space : ℕ) →
+    entries (pending_store (map (ended commits) spaces) space) ≡ entries (held_store (map (ended commits) spaces) space)
+settled_end commits spaces space = ap (λ p. entries p.1) (ended-at commits spaces space) ∙ both commits
+    ∙ sym (ap (λ p. entries p.0) (ended-at commits spaces space))
   where
-    both : (b : Bool) → entries (ended b (get_or spaces space (empty, empty))).1 ≡ entries (ended b (get_or spaces space (empty, empty))).0
+    both : (b : Bool) → entries (ended b (get_or spaces space (empty, empty))).1 ≡ entries
+        (ended b (get_or spaces space (empty, empty))).0
     both true = refl
     both false = refl
 
-pub held_end : (commits : Bool) (spaces : List (Space × Space)) → held_store (map (ended commits) spaces) ≡ (if commits then pending_store spaces else held_store spaces)
+pub held_end : (commits : Bool) (spaces : List (Space × Space)) →
+    held_store (map (ended commits) spaces) ≡ (if commits then pending_store spaces else held_store spaces)
 held_end true spaces = λ i space. (ended-at true spaces space i).0
 held_end false spaces = λ i space. (ended-at false spaces space i).0
 
 -- what a commit that fails leaves
-pub in_doubt : (commits rest : Bool) (phase : Phase) (spaces : List (Space × Space)) → commits ≡ (is_open phase && rest) → (Some (held_store (map (ended commits) spaces)) ≡ Some (held_store spaces)) ⊎ (pending_in phase (pending_store spaces) ≡ Some (Some (held_store (map (ended commits) spaces))))
+pub in_doubt : (commits rest : Bool) (phase : Phase) (spaces : List (Space × Space)) →
+    commits ≡ (is_open phase && rest) → (Some (held_store (map (ended commits) spaces)) ≡ Some (held_store spaces))
+    ⊎ (pending_in phase (pending_store spaces) ≡ Some (Some (held_store (map (ended commits) spaces))))
 in_doubt false rest phase spaces e = inl (ap Some (held_end false spaces))
 in_doubt true rest Idle spaces e = absurd (false≢true (sym e))
 in_doubt true rest Open spaces e = inr (ap (λ s. Some (Some s)) (sym (held_end true spaces)))
 in_doubt true rest Torn spaces e = absurd (false≢true (sym e))
 
 -- one more empty space
-pub empty_push : (spaces : List (Space × Space)) → ((space : ℕ) → get_or spaces space (empty, empty) ≡ (empty, empty)) → (space : ℕ) → get_or (spaces ++ (empty, empty) ∷ []) space (empty, empty) ≡ (empty, empty)
+pub empty_push : (spaces : List (Space × Space)) → ((space : ℕ) → get_or spaces space (empty, empty) ≡ (empty, empty)) →
+    (space : ℕ) → get_or (spaces ++ (empty, empty) ∷ []) space (empty, empty) ≡ (empty, empty)
 empty_push [] h zero = refl
 empty_push [] h (suc n) = refl
 empty_push (p ∷ spaces) h zero = h zero

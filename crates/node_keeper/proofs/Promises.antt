@@ -8,7 +8,8 @@ use Rattle.slon_base.specs.Shelf.{IsAsPromised}
 use Rattle.node_keeper.specs.MemShelved.{can_fail, promised}
 use Rattle.node_keeper.specs.Told.{fresh}
 
-pub as_promised : (keepers : List (Vec ℕ Global × Bool)) (place : ℕ) (k : Kept) → k ≡ fresh (can_fail (slice_get keepers place)) → IsAsPromised (promised keepers place) k
+pub as_promised : (keepers : List (Vec ℕ Global × Bool)) (place : ℕ) (k : Kept) →
+    k ≡ fresh (can_fail (slice_get keepers place)) → IsAsPromised (promised keepers place) k
 as_promised keepers place k is = record {
   told = λ _. (nothing, ap (λ x. x.held) is);
   empty = λ _ _. ap (λ x. x.held) is;

@@ -1,5 +1,5 @@
 -- What calls make of the charge of a fuse.
-use Rattle.std.specs.Prelude.{ℕ, ◌-◌, ◌==◌, Bool, true, false, if◌then◌else◌, Option, None}
+use Rattle.std.specs.Prelude.{◌≡◌, ◌⊎◌, ℕ, ◌≤◌, ◌-◌, ◌==◌, Bool, true, false, if◌then◌else◌, Option, None}
 use Rattle.node_keeper.specs.declared.charge.Charge.{Charge}
 use Rattle.node_keeper.specs.declared.charge.Charge.TheVariants.{Off, After, AtCommit, Blown}
 
@@ -44,3 +44,11 @@ bound Off left = left
 bound (After calls keep) left = None
 bound (AtCommit keep) left = None
 bound (Blown keep) left = None
+
+-- How a charge can go on over calls: what it was told stays, fewer calls are let through, and it stays blown once it
+-- is.
+abbrev pub GoesOn : Charge → Charge → Type 0
+GoesOn Off new = new ≡ Off
+GoesOn (After calls keep) new = ((left : ℕ) × (left ≤ calls) × (new ≡ After left keep)) ⊎ (new ≡ Blown keep)
+GoesOn (AtCommit keep) new = (new ≡ AtCommit keep) ⊎ (new ≡ Blown keep)
+GoesOn (Blown keep) new = new ≡ Blown keep

@@ -5,4 +5,9 @@ use Rattle.node_keeper.specs.declared.mem_files.MemFiles.{MemFiles}
 use Rattle.node_keeper.specs.NamedFiles.{named, rest_of}
 
 abbrev pub filed_of : MemFiles → Filed
-filed_of f = record { names = Some (named f.files.items); stack = map (λ e. Some (rest_of f.files.items e)) f.stack.items; faults = f.plan.faults }
+filed_of f = record {
+  names = Some (named f.files.items);
+  stack =
+      map (λ e. Some (rest_of f.files.items e)) f.stack.items;
+  faults = f.plan.faults;
+}

@@ -1,5 +1,5 @@
 -- What a store in memory tells.
-use Rattle.std.specs.Prelude.{◌≡◌, ℕ, Bool, true, false, List, Option, Some, None, slice_index_or, if◌then◌else◌}
+use Rattle.std.specs.Prelude.{◌≡◌, ℕ, Bool, true, false, List, [], ◌∷◌, ◌==◌, ◌||◌, Option, Some, None, slice_index_or, slice_set, if◌then◌else◌}
 use Rattle.std.specs.FinMap.{empty, entries}
 use Rattle.slon_base.specs.Keeper.{Space, Store, Kept}
 use Rattle.node_keeper.specs.declared.fault_plan.FaultPlan.{FaultPlan}
@@ -22,7 +22,8 @@ pending_in Torn store = Some None
 
 -- with no transaction, what is pending is what is held
 abbrev pub IsSettled : Phase → List (Space × Space) → Type 0
-IsSettled phase spaces = phase ≡ Idle → (space : ℕ) → entries (pending_store spaces space) ≡ entries (held_store spaces space)
+IsSettled phase spaces = phase ≡ Idle → (space : ℕ) → entries (pending_store spaces space) ≡ entries
+    (held_store spaces space)
 
 -- the phase after a call that failed
 abbrev pub torn : Phase → Phase
@@ -38,6 +39,23 @@ is_open Torn = false
 -- a space after a transaction that holds what was pending, or does not
 abbrev pub ended : Bool → Space × Space → Space × Space
 ended commits p = if commits then (p.1, p.1) else (p.0, p.0)
+
+-- the space is among these
+abbrev pub is_touched : List ℕ → ℕ → Bool
+is_touched [] space = false
+is_touched (t ∷ ts) space = (t == space) || is_touched ts space
+
+-- what is pending is what is held in each space that no change of the transaction is in
+abbrev pub IsTracked : List ℕ → List (Space × Space) → Type 0
+IsTracked touched spaces =
+    (space : ℕ) → is_touched touched space ≡ false → entries (pending_store spaces space) ≡ entries
+    (held_store spaces space)
+
+-- the spaces after the end of a transaction in these
+abbrev pub ended_in : Bool → List ℕ → List (Space × Space) → List (Space × Space)
+ended_in commits [] spaces = spaces
+ended_in commits (t ∷ ts) spaces =
+    ended_in commits ts (slice_set spaces t (ended commits (slice_index_or spaces t (empty, empty))))
 
 -- the store as it is told
 abbrev pub mem_kept : List (Space × Space) → FaultPlan → Phase → ℕ → Kept

@@ -18,7 +18,12 @@ keeps (Some made) = made.1
 
 -- the stores begin empty, tell their rows and fail as their items list
 abbrev pub promised : List (Vec ℕ Global × Bool) → ℕ → Promise
-promised keepers place = record { begins_empty = true; tells_rows = true; can_fail = Some (can_fail (slice_get keepers place)) }
+promised keepers place = record {
+  begins_empty = true;
+  tells_rows = true;
+  can_fail =
+      Some (can_fail (slice_get keepers place));
+}
 
 abbrev pub shelved_of : List (Vec ℕ Global × Bool) → FaultPlan → Shelved
 shelved_of keepers plan = record { promise = promised keepers; faults = plan.faults }

@@ -8,7 +8,7 @@ use Rattle.node_keeper.specs.Plan.{is_due}
 abbrev pub kept_of : MemKeeper → Kept
 kept_of k = mem_kept k.spaces.items k.plan k.phase k.doubts
 
--- an empty store of which so many calls can fail
+-- an empty store of which this number of calls can fail
 abbrev pub fresh : ℕ → Kept
 fresh left = record { held = Some nothing; pending = None; can_fail = Some left; faults = 0; doubts = 0 }
 

@@ -7,7 +7,7 @@ ghost use Rattle.node_keeper.specs.Charges.{burnt, burnt_by_commit, is_blown};
 pub enum Charge {
     /// To fail no call.
     Off,
-    /// To let so many calls through, and to fail the next one.
+    /// To let this number of calls through, and to fail the next one.
     After { calls: u64, keep: bool },
     /// To fail the next commit.
     AtCommit { keep: bool },

@@ -1,7 +1,7 @@
 // A store that passes calls on, and fails them from a call on, as it is told.
 ghost use Rattle.std.specs.Prelude.{◌≡◌, None, is_some, true, false};
 ghost use Rattle.slon_base.specs.Keeper.{Begins, Gets, GetsNext, Counts, Changes, Commits, RollsBack, put_at, del_at};
-ghost use Rattle.node_keeper.specs.Charges.{burnt, is_blown, strikes};
+ghost use Rattle.node_keeper.specs.Charges.{burnt, burnt_by_commit, is_blown, strikes, strikes_commit, GoesOn};
 ghost use Rattle.node_keeper.specs.Fused.{fuse_kept, with_left, IsCharged, Burns, Fuses, FusesCommit, FusesRollback, masked};
 
 use crate::charge::Charge;
@@ -9,11 +9,14 @@ use slon_base::{Bytes, KeepFault, Keeper};
 
 /// A store that passes calls on to another one, and can be told to fail them from a call on.
 ///
-/// The calls that can fail are `begin`, `get`, `next_after`, `count`, `put`, `del`, `commit` and `rollback`. From the first
-/// one on that it fails it is blown: it fails every call, and counts each as a fault, until it is told otherwise. What it
+/// The calls that can fail are `begin`, `get`, `next_after`, `count`, `put`, `del`, `commit` and `rollback`. From the
+/// first
+/// one on that it fails it is blown: it fails every call, and counts each as a fault, until it is told otherwise. What
+/// it
 /// counted stays counted, whatever it is told.
 ///
-/// A commit that it fails is durable all the same if it was told to keep it: it answers `Failed` though the wrapped store
+/// A commit that it fails is durable all the same if it was told to keep it: it answers `Failed` though the wrapped
+/// store
 /// made the commit, or what the wrapped store answered where that failed. Else the commit is not made. A rollback
 /// always reaches the wrapped store, so that nothing is pending afterwards. No other call that it fails does.
 #[derive(Drop)]
@@ -65,7 +68,8 @@ impl<K: Keeper> Fuse<K> {
     /// Fails no call from now on.
     pub fn disarm(&mut self)
         ensures charged { IsCharged Charge.Off self.old self.new }
-        ensures kept { fuse_kept K.kept self.new ≡ with_left (K.kept self.old.keeper).can_fail (fuse_kept K.kept self.old) }
+        ensures kept { fuse_kept K.kept self.new ≡ with_left (K.kept self.old.keeper).can_fail
+            (fuse_kept K.kept self.old) }
     {
         self.charge = Charge::Off;
     }
@@ -88,10 +92,22 @@ impl<K: Keeper> Fuse<K> {
     fn strikes(&mut self) -> bool
         ensures fails { result ≡ strikes self.old.charge }
         ensures burns { Burns (burnt self.old.charge) self.old self.new }
+        ensures goes_on { GoesOn self.old.charge self.new.charge }
         ensures doubts { self.new.own_doubts ≡ self.old.own_doubts }
         ensures keeper { self.new.keeper ≡ self.old.keeper }
     {
         self.burn(self.charge.burnt())
+    }
+
+    // Counts a commit, and says whether the fuse fails it.
+    fn strikes_commit(&mut self) -> bool
+        ensures fails { result ≡ strikes_commit self.old.charge }
+        ensures burns { Burns (burnt_by_commit self.old.charge) self.old self.new }
+        ensures goes_on { GoesOn self.old.charge self.new.charge }
+        ensures doubts { self.new.own_doubts ≡ self.old.own_doubts }
+        ensures keeper { self.new.keeper ≡ self.old.keeper }
+    {
+        self.burn(self.charge.burnt_by_commit())
     }
 }
 
@@ -151,7 +167,8 @@ impl<K: Keeper> Keeper for Fuse<K> {
 
     fn put(&mut self, space: u8, key: &[u8], value: &[u8]) -> Result<(), KeepFault>
         requires { is_some (K.kept self.old.keeper).pending ≡ true }
-        ensures changes { Changes (put_at space key.now value.now) (fuse_kept K.kept self.old) (fuse_kept K.kept self.new) result }
+        ensures changes { Changes (put_at space key.now value.now) (fuse_kept K.kept self.old)
+            (fuse_kept K.kept self.new) result }
         ensures fuses { Fuses (Changes (put_at space key.now value.now)) K.kept self.old self.new result }
     {
         if self.strikes() {
@@ -162,7 +179,8 @@ impl<K: Keeper> Keeper for Fuse<K> {
 
     fn del(&mut self, space: u8, key: &[u8]) -> Result<(), KeepFault>
         requires { is_some (K.kept self.old.keeper).pending ≡ true }
-        ensures changes { Changes (del_at space key.now) (fuse_kept K.kept self.old) (fuse_kept K.kept self.new) result }
+        ensures changes { Changes (del_at space key.now) (fuse_kept K.kept self.old)
+            (fuse_kept K.kept self.new) result }
         ensures fuses { Fuses (Changes (del_at space key.now)) K.kept self.old self.new result }
     {
         if self.strikes() {
@@ -176,7 +194,7 @@ impl<K: Keeper> Keeper for Fuse<K> {
         ensures commits { Commits (fuse_kept K.kept self.old) (fuse_kept K.kept self.new) result }
         ensures fuses { FusesCommit K.kept self.old self.new result }
     {
-        if !self.burn(self.charge.burnt_by_commit()) {
+        if !self.strikes_commit() {
             return self.keeper.commit();
         }
         let fault = match self.charge {

@@ -17,6 +17,3 @@ pub use mem_keeper::MemKeeper;
 pub use mem_shelf::MemShelf;
 pub use mem_sink::MemSink;
 pub use slon_base::{Files, Keeper, Shelf, Sink};
-
-#[cfg(test)]
-mod tests;

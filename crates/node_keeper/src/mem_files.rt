@@ -1,7 +1,8 @@
 // Files in memory, with calls that fail as it was told.
-ghost use Rattle.std.specs.Prelude.{◌≡◌, ◌+◌, ◌^◌, ◌<◌, Some, [], length, nat_eq, position};
+ghost use Rattle.std.specs.Prelude.{◌≡◌, ◌+◌, ◌^◌, ◌<◌, Some, Err, [], true, length, nat_eq, position};
 ghost use Rattle.std.specs.Cmp.Lexicographic.{pointwise};
-ghost use Rattle.node_keeper.specs.Plan.{IsFrom};
+ghost use Rattle.node_keeper.specs.Plan.{Counted, IsFrom, is_due};
+ghost use Rattle.slon_base.specs.Outside.{Enters, ReadsOn, Leaves};
 ghost use Rattle.node_keeper.specs.NamedFiles.{named, rest_of};
 
 use crate::fault_plan::FaultPlan;
@@ -52,7 +53,11 @@ impl Files for MemFiles {
 
     ghost filed = { filed_of };
 
-    fn enter(&mut self, name: &[u8]) -> Result<bool, OutFault> {
+    fn enter(&mut self, name: &[u8]) -> Result<bool, OutFault>
+        ensures enters { Enters name.now (filed_of self.old) (filed_of self.new) result }
+        ensures fails { is_due self.old.plan.fails.items self.old.plan.calls ≡ true → result ≡ Err OutFault.Failed }
+        ensures plan { Counted self.old.plan self.new.plan }
+    {
         if self.plan.strikes() {
             return Err(OutFault::Failed);
         }
@@ -65,7 +70,13 @@ impl Files for MemFiles {
         }
     }
 
-    fn read(&mut self, into: &mut [u8]) -> Result<usize, OutFault> {
+    fn read(&mut self, into: &mut [u8]) -> Result<usize, OutFault>
+        requires entered { 0 < length (filed_of self.old).stack }
+        requires room { 0 < length into.old }
+        ensures reads { ReadsOn into.new (filed_of self.old) (filed_of self.new) result }
+        ensures fails { is_due self.old.plan.fails.items self.old.plan.calls ≡ true → result ≡ Err OutFault.Failed }
+        ensures plan { Counted self.old.plan self.new.plan }
+    {
         if self.plan.strikes() {
             return Err(OutFault::Failed);
         }
@@ -76,7 +87,11 @@ impl Files for MemFiles {
         Ok(count)
     }
 
-    fn leave(&mut self) {
+    fn leave(&mut self)
+        requires { 0 < length (filed_of self.old).stack }
+        ensures leaves { Leaves (filed_of self.old) (filed_of self.new) }
+        ensures plan { self.new.plan ≡ self.old.plan }
+    {
         let _ = self.stack.pop_front();
     }
 

@@ -2,8 +2,8 @@
 ghost use Rattle.std.specs.Prelude.{◌≡◌, ◌+◌, ◌≤◌, Some, None, Ok, Err, vec_len, map, slice_index_or, true, false, OnOk, OnErr, IfErr, IfOk, is_err, is_some, length, not, ◌&&◌, ◌||◌, min, ◌-◌, ◌^◌, if◌then◌else◌};
 ghost use Rattle.std.specs.FinMap.{empty};
 ghost use Rattle.slon_base.specs.Keeper.{Begins, Gets, GetsNext, Counts, Changes, Commits, RollsBack, put_at, del_at};
-ghost use Rattle.node_keeper.specs.Plan.{CountsCall, IsFrom, left};
-ghost use Rattle.node_keeper.specs.MemKept.{IsSettled, torn, is_open, ended};
+ghost use Rattle.node_keeper.specs.Plan.{Counted, CountsCall, IsFrom, capped, left};
+ghost use Rattle.node_keeper.specs.MemKept.{IsSettled, IsTracked, torn, is_open, ended, ended_in};
 
 use crate::fault_plan::FaultPlan;
 use crate::journaled::Journaled;
@@ -27,7 +27,7 @@ pub enum Phase {
 /// A store in memory.
 ///
 /// A call takes time in proportion to the logarithm of how many pairs its space has, and the end of a transaction in
-/// proportion to the changes in it, beside one look at each space. Only calls that copy a key or a value need memory,
+/// proportion to the changes in it. Only calls that copy a key or a value need memory,
 /// so a commit and a rollback need none.
 ///
 /// Where a call in a transaction failed, the transaction can only be rolled back: a commit of it holds nothing new and
@@ -40,7 +40,10 @@ pub struct MemKeeper {
     keep: bool,
     phase: Phase,
     doubts: u64,
+    // The space of each change of the transaction.
+    touched: Vec<u8>,
     ghost full: { vec_len spaces ≡ 256 },
+    ghost tracked: { IsTracked touched.items spaces.items },
     ghost settled: { IsSettled phase spaces.items },
 }
 
@@ -65,6 +68,7 @@ impl MemKeeper {
             keep,
             phase: Phase::Idle,
             doubts: 0,
+            touched: Vec::new(alloc),
         })
     }
 
@@ -73,6 +77,7 @@ impl MemKeeper {
         ensures counts { CountsCall self.old.plan self.new.plan result }
         ensures spaces { self.new.spaces.items ≡ self.old.spaces.items }
         ensures doubts { self.new.doubts ≡ self.old.doubts }
+        ensures keep { self.new.keep ≡ self.old.keep }
         ensures phase { self.new.phase ≡ (if result then torn self.old.phase else self.old.phase) }
     {
         let strikes = self.plan.strikes();
@@ -100,9 +105,11 @@ impl MemKeeper {
         ensures spaces { self.new.spaces.items ≡ map (ended commits) self.old.spaces.items }
         ensures phase { self.new.phase ≡ Phase.Idle }
         ensures plan { self.new.plan ≡ self.old.plan }
+        ensures keep { self.new.keep ≡ self.old.keep }
         ensures doubts { self.new.doubts ≡ self.old.doubts }
     {
-        end_all(self.spaces.as_mut_slice(), commits);
+        end_touched(self.spaces.as_mut_slice(), self.touched.as_slice(), commits);
+        self.touched.clear();
         self.phase = Phase::Idle;
     }
 }
@@ -116,6 +123,8 @@ impl Keeper for MemKeeper {
         requires { is_some (kept_of self.old).pending ≡ false }
         ensures begins { Begins (kept_of self.old) (kept_of self.new) result }
         ensures fails { is_err result ≡ fails_next self.old }
+        ensures plan { Counted self.old.plan self.new.plan }
+        ensures keep { self.new.keep ≡ self.old.keep }
     {
         if self.strikes() {
             return Err(KeepFault::Failed);
@@ -127,6 +136,8 @@ impl Keeper for MemKeeper {
     fn get(&mut self, space: u8, key: &[u8]) -> Result<Option<Bytes>, KeepFault>
         ensures gets { Gets space key.now (kept_of self.old) (kept_of self.new) result }
         ensures fails { fails_next self.old ≡ true → result ≡ Err KeepFault.Failed }
+        ensures plan { Counted self.old.plan self.new.plan }
+        ensures keep { self.new.keep ≡ self.old.keep }
     {
         if self.strikes() {
             return Err(KeepFault::Failed);
@@ -140,6 +151,8 @@ impl Keeper for MemKeeper {
     fn next_after(&mut self, space: u8, key: &[u8]) -> Result<Option<(Bytes, Bytes)>, KeepFault>
         ensures gets { GetsNext space key.now (kept_of self.old) (kept_of self.new) result }
         ensures fails { fails_next self.old ≡ true → result ≡ Err KeepFault.Failed }
+        ensures plan { Counted self.old.plan self.new.plan }
+        ensures keep { self.new.keep ≡ self.old.keep }
     {
         if self.strikes() {
             return Err(KeepFault::Failed);
@@ -150,6 +163,8 @@ impl Keeper for MemKeeper {
     fn count(&mut self, space: u8) -> Result<u64, KeepFault>
         ensures counts { Counts space (kept_of self.old) (kept_of self.new) result }
         ensures fails { is_err result ≡ fails_next self.old }
+        ensures plan { Counted self.old.plan self.new.plan }
+        ensures keep { self.new.keep ≡ self.old.keep }
     {
         if self.strikes() {
             return Err(KeepFault::Failed);
@@ -161,10 +176,13 @@ impl Keeper for MemKeeper {
         requires { is_some (kept_of self.old).pending ≡ true }
         ensures changes { Changes (put_at space key.now value.now) (kept_of self.old) (kept_of self.new) result }
         ensures fails { fails_next self.old ≡ true → result ≡ Err KeepFault.Failed }
+        ensures plan { Counted self.old.plan self.new.plan }
+        ensures keep { self.new.keep ≡ self.old.keep }
     {
         if self.strikes() {
             return Err(KeepFault::Failed);
         }
+        self.touched.push(space)?;
         self.spaces[space as usize].put(self.alloc, key, value)?;
         Ok(())
     }
@@ -173,10 +191,13 @@ impl Keeper for MemKeeper {
         requires { is_some (kept_of self.old).pending ≡ true }
         ensures changes { Changes (del_at space key.now) (kept_of self.old) (kept_of self.new) result }
         ensures fails { fails_next self.old ≡ true → result ≡ Err KeepFault.Failed }
+        ensures plan { Counted self.old.plan self.new.plan }
+        ensures keep { self.new.keep ≡ self.old.keep }
     {
         if self.strikes() {
             return Err(KeepFault::Failed);
         }
+        self.touched.push(space)?;
         self.spaces[space as usize].del(self.alloc, key)?;
         Ok(())
     }
@@ -185,6 +206,10 @@ impl Keeper for MemKeeper {
         requires { is_some (kept_of self.old).pending ≡ true }
         ensures commits { Commits (kept_of self.old) (kept_of self.new) result }
         ensures fails { is_err result ≡ (fails_next self.old || not (is_open self.old.phase)) }
+        ensures plan { Counted self.old.plan self.new.plan }
+        ensures keep { self.new.keep ≡ self.old.keep }
+        ensures doubts { self.new.doubts ≡
+            (if fails_next self.old then capped (self.old.doubts + 1) else self.old.doubts) }
         ensures ends { self.new.spaces.items ≡ map (ended (would_hold self.old)) self.old.spaces.items }
     {
         let strikes = self.plan.strikes();
@@ -204,6 +229,8 @@ impl Keeper for MemKeeper {
     fn rollback(&mut self) -> Result<(), KeepFault>
         ensures rolls_back { RollsBack (kept_of self.old) (kept_of self.new) result }
         ensures fails { is_err result ≡ fails_next self.old }
+        ensures plan { Counted self.old.plan self.new.plan }
+        ensures keep { self.new.keep ≡ self.old.keep }
     {
         let strikes = self.plan.strikes();
         self.end(false);
@@ -222,11 +249,13 @@ impl Keeper for MemKeeper {
     }
 }
 
-// Ends the transaction in each space.
-fn end_all(spaces: &mut [Journaled], commits: bool)
-    ensures { spaces.new ≡ map (ended commits) spaces.old }
+// Ends the transaction in each of these spaces.
+fn end_touched(spaces: &mut [Journaled], touched: &[u8], commits: bool)
+    requires { length spaces.old ≡ 256 }
+    ensures len { length spaces.new ≡ 256 }
+    ensures ended { spaces.new ≡ ended_in commits touched.now spaces.old }
 {
-    for space in spaces.iter_mut() {
-        space.end(commits);
+    for space in touched {
+        spaces[*space as usize].end(commits);
     }
 }

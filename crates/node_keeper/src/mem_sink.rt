@@ -1,7 +1,7 @@
 // An output in memory, with writes that fail as it was told.
 ghost use Rattle.std.specs.Prelude.{◌≡◌, ◌++◌, take, Err, [], Some, is_err, true};
 ghost use Rattle.slon_base.specs.Outside.{Writes};
-ghost use Rattle.node_keeper.specs.Plan.{IsFrom, is_due};
+ghost use Rattle.node_keeper.specs.Plan.{Counted, IsFrom, is_due};
 
 use crate::fault_plan::FaultPlan;
 use slon_base::{OutFault, Sink};
@@ -48,7 +48,10 @@ impl Sink for MemSink {
     fn write(&mut self, piece: &[u8]) -> Result<(), OutFault>
         ensures writes { Writes piece.now (poured_of self.old) (poured_of self.new) result }
         ensures fails { is_due self.old.plan.fails.items self.old.plan.calls ≡ true → is_err result ≡ true }
-        ensures takes { result ≡ Err OutFault.Failed → self.new.written.items ≡ self.old.written.items ++ take self.old.takes piece.now }
+        ensures plan { Counted self.old.plan self.new.plan }
+        ensures limit { self.new.takes ≡ self.old.takes }
+        ensures takes { result ≡ Err OutFault.Failed →
+            self.new.written.items ≡ self.old.written.items ++ take self.old.takes piece.now }
     {
         if self.plan.strikes() {
             let taken = piece.len().min(self.takes);

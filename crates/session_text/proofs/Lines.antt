@@ -70,7 +70,7 @@ lines_broken bs rest h = ap lines_of_parts (split_broken bs rest h) ∙ split_mo
 pub lines_open : (bs : List ℕ) → behind bs ≡ None → 0 < length bs → lines bs ≡ bs ∷ []
 lines_open bs h some = ap lines_of_parts (split_open bs h) ∙ grind (arith, nat_tests)
 
--- what a part of a buffer is behind so many of its bytes
+-- what a part of a buffer is behind its first bytes
 drop-slice_range : (buffer : List ℕ) (start end k : ℕ) → start + k ≤ end → drop k (slice_range buffer start end) ≡ slice_range buffer (start + k) end
 drop-slice_range buffer start end k h =
     let e : end - start ≡ k + (end - (start + k)) = omega arith in

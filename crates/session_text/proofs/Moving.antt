@@ -167,7 +167,7 @@ hands_last_too_long kept line bytes old now files m long =
     let cut = ap length m.cut ∙ length-take kept bytes in
     record { rest = []; comes = m.comes; takes = (bytes, omega arith, lines_open bytes m.unbroken (omega arith)); left = over_left bytes m.unbroken; size = over_size kept line bytes old now files m; taken = m.count; none = λ e. cc }
 
--- what was left before a reading that gave so many bytes
+-- what was left before a reading that gave this number of bytes
 pub read_on : (into : List ℕ) (n : ℕ) (before after : Option (List ℕ)) (left : List ℕ) → Reads into n before after → before ≡ Some left → (rest : List ℕ) × (after ≡ Some rest) × (left ≡ slice_range into 0 n ++ rest) × (n ≡ 0 → left ≡ [])
 read_on into n None after left h told = cc
 read_on into n (Some bytes) after left h told =

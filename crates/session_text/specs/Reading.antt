@@ -6,11 +6,11 @@ pub record Reading : Type 0 where
   pub unread : List ℕ
   pub taken : ℕ
 
--- a line has at most so many bytes
+-- the greatest length of a line, in bytes
 abbrev pub line_limit : ℕ
 line_limit = 8192
 
--- a session has at most so many bytes
+-- the greatest length of a session, in bytes
 abbrev pub session_limit : ℕ
 session_limit = 16777216
 

@@ -7,7 +7,7 @@ use crate::words::{Misread, name_of, number_of};
 use slon_model::{Command, Crash};
 use std::alloc::Global;
 
-/// A crash waits for at most so many calls.
+/// The greatest number of calls that a crash waits for.
 const CALL_LIMIT: u32 = 1_000_000;
 
 /// Whether a commit that fails stands: `keep` or `lose`.

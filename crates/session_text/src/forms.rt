@@ -4,10 +4,10 @@ ghost use Rattle.std.specs.Char.{is_ascii_digit};
 ghost use Rattle.std.specs.List.{list_all, position};
 ghost use Rattle.slon_model.specs.Forms as form;
 
-/// A name has at most so many bytes.
+/// The greatest length of a name, in bytes.
 const NAME_LIMIT: usize = 31;
 
-/// A value has at most so many bytes.
+/// The greatest length of a value, in bytes.
 const VALUE_LIMIT: usize = 64;
 
 /// A letter, a digit, `_`, `-` or `.`.

@@ -6,13 +6,7 @@ mod forms;
 mod laws;
 mod line_reader;
 mod print;
-#[cfg(test)]
-mod print_tests;
 mod read;
-#[cfg(test)]
-mod read_tests;
-#[cfg(test)]
-mod reader_tests;
 mod words;
 mod writes;
 

@@ -12,13 +12,13 @@ use std::alloc::{AllocError, Global};
 use std::marker::Model;
 use thiserror::Error;
 
-/// A line has at most so many bytes, without its newline and one carriage return before that.
+/// The greatest length of a line in bytes, without its newline and one carriage return before that.
 pub(crate) const LINE_LIMIT: usize = 8192;
 
-/// A session has at most so many bytes.
+/// The greatest length of a session, in bytes.
 const SESSION_LIMIT: usize = 16_777_216;
 
-/// So many bytes of a line are kept: a line that has them is too long, even if the last is a carriage return.
+/// How many bytes of a line are kept: a line that has them all is too long, even if the last is a carriage return.
 const KEPT_LEN: usize = LINE_LIMIT + 2;
 
 /// The bytes of the buffer.

@@ -12,7 +12,7 @@ use slon_model::Command;
 use std::alloc::Global;
 use thiserror::Error;
 
-/// A table has at most so many columns.
+/// The greatest number of columns of a table.
 const COLUMN_LIMIT: u32 = 16;
 
 /// Why a line was not read.

@@ -20,57 +20,73 @@ IsInOrder es = is_sorted key_cmp (pairs es) ≡ true
 abbrev order_of : Vec ℕ → Vec ℕ → Ordering
 order_of a b = slice_cmp nat_cmp a.items b.items
 
-pub lookup-pairs : {V : Type 0} (q : List ℕ) (es : List (Vec ℕ × V)) → lookup (λ k. is_eq (slice_cmp nat_cmp q k.items)) es ≡ find key_cmp q (pairs es)
+pub lookup-pairs : {V : Type 0} (q : List ℕ) (es : List (Vec ℕ × V)) →
+    lookup (λ k. is_eq (slice_cmp nat_cmp q k.items)) es ≡ find key_cmp q (pairs es)
 lookup-pairs q [] = refl
 lookup-pairs q (e ∷ es) = ap (cond (is_eq (slice_cmp nat_cmp q e.0.items)) _) (lookup-pairs q es)
 
-pub put-pairs : {V : Type 0} (k : Vec ℕ) (v : V) (es : List (Vec ℕ × V)) → pairs (insert_entry order_of es k v) ≡ put key_cmp k.items v (pairs es)
+pub put-pairs : {V : Type 0} (k : Vec ℕ) (v : V) (es : List (Vec ℕ × V)) →
+    pairs (insert_entry order_of es k v) ≡ put key_cmp k.items v (pairs es)
 put-pairs k v [] = refl
 put-pairs {V} k v (e ∷ es) =
-    elim (slice_cmp nat_cmp k.items e.0.items) as (λ o. pairs (match_ordering o ((k, v) ∷ e ∷ es) ((e.0, v) ∷ es) (e ∷ insert_entry order_of es k v))
-    ≡ by_order o ((k.items, v) ∷ (e.0.items, e.1) ∷ pairs es) ((e.0.items, v) ∷ pairs es) ((e.0.items, e.1) ∷ put key_cmp k.items v (pairs es))) [
+    elim (slice_cmp nat_cmp k.items e.0.items) as (λ o. pairs (match_ordering o ((k, v) ∷ e ∷ es) ((e.0, v) ∷ es)
+    (e ∷ insert_entry order_of es k v))
+    ≡ by_order o ((k.items, v) ∷ (e.0.items, e.1) ∷ pairs es) ((e.0.items, v) ∷ pairs es)
+    ((e.0.items, e.1) ∷ put key_cmp k.items v (pairs es))) [
       | Less ↦ refl
       | Equal ↦ refl
       | Greater ↦ ap (λ (rest : List (List ℕ × V)). (e.0.items, e.1) ∷ rest) (put-pairs k v es)
     ]
 
-pub get_by-pairs : {V : Type 0} (q : List ℕ) (es : List (Vec ℕ × V)) → IsInOrder es → lookup (λ k. is_eq (slice_cmp nat_cmp q k.items)) es ≡ get (from_sorted {R = key_cmp} (pairs es)) q
+pub get_by-pairs : {V : Type 0} (q : List ℕ) (es : List (Vec ℕ × V)) → IsInOrder es →
+    lookup (λ k. is_eq (slice_cmp nat_cmp q k.items)) es ≡ get (from_sorted {R = key_cmp} (pairs es)) q
 get_by-pairs q es sorted = lookup-pairs q es ∙ sym (get-from_sorted key_cmp (pairs es) q (subst T (sym sorted) tt))
 
-pub in_order-insert : {V : Type 0} (k : Vec ℕ) (v : V) (es : List (Vec ℕ × V)) → IsInOrder es → IsInOrder (insert_entry order_of es k v)
-in_order-insert k v es sorted = ap (is_sorted key_cmp) (put-pairs k v es) ∙ true_from (is_sorted key_cmp (put key_cmp k.items v (pairs es))) (is_sorted-put key_cmp nat_list_cmp_total k.items v (pairs es) (subst T (sym sorted) tt))
+pub in_order-insert : {V : Type 0} (k : Vec ℕ) (v : V) (es : List (Vec ℕ × V)) → IsInOrder es →
+    IsInOrder (insert_entry order_of es k v)
+in_order-insert k v es sorted = ap (is_sorted key_cmp) (put-pairs k v es)
+    ∙ true_from (is_sorted key_cmp (put key_cmp k.items v (pairs es)))
+    (is_sorted-put key_cmp nat_list_cmp_total k.items v (pairs es) (subst T (sym sorted) tt))
   where
     true_from : (b : Bool) → T b → b ≡ true
     true_from true t = refl
     true_from false t = absurd t
 
-pub from_sorted-insert : {V : Type 0} (k : Vec ℕ) (v : V) (es : List (Vec ℕ × V)) → IsInOrder es → from_sorted {R = key_cmp} (pairs (insert_entry order_of es k v)) ≡ insert (from_sorted (pairs es)) k.items v
+pub from_sorted-insert : {V : Type 0} (k : Vec ℕ) (v : V) (es : List (Vec ℕ × V)) → IsInOrder es →
+    from_sorted {R = key_cmp} (pairs (insert_entry order_of es k v)) ≡ insert (from_sorted (pairs es)) k.items v
 from_sorted-insert k v es sorted =
     same_entries_map _ _ (entries-from_sorted key_cmp _ (subst T (sym (in_order-insert k v es sorted)) tt)
     ∙ put-pairs k v es
     ∙ ap (put key_cmp k.items v) (sym (entries-from_sorted key_cmp (pairs es) (subst T (sym sorted) tt)))
     ∙ sym (entries-insert nat_list_cmp_total (from_sorted (pairs es)) k.items v))
 
-pub entries-pairs : {V : Type 0} (es : List (Vec ℕ × V)) → IsInOrder es → pairs es ≡ entries (from_sorted {R = key_cmp} (pairs es))
+pub entries-pairs : {V : Type 0} (es : List (Vec ℕ × V)) → IsInOrder es →
+    pairs es ≡ entries (from_sorted {R = key_cmp} (pairs es))
 entries-pairs es sorted = sym (entries-from_sorted key_cmp (pairs es) (subst T (sym sorted) tt))
 
-pub len-pairs : {V : Type 0} (es : List (Vec ℕ × V)) → IsInOrder es → length es ≡ len (from_sorted {R = key_cmp} (pairs es))
-len-pairs {V} es sorted = length-pairs es ∙ ap length (entries-pairs es sorted) ∙ sym (len-entries (from_sorted {R = key_cmp} (pairs es)))
+pub len-pairs : {V : Type 0} (es : List (Vec ℕ × V)) → IsInOrder es →
+    length es ≡ len (from_sorted {R = key_cmp} (pairs es))
+len-pairs {V} es sorted = length-pairs es ∙ ap length (entries-pairs es sorted)
+    ∙ sym (len-entries (from_sorted {R = key_cmp} (pairs es)))
   where
     length-pairs : (es : List (Vec ℕ × V)) → length es ≡ length (pairs es)
     length-pairs [] = refl
     length-pairs (e ∷ es) = ap suc (length-pairs es)
 
 pub from_sorted-none : {V : Type 0} → from_sorted {X = V} {R = key_cmp} [] ≡ empty
-from_sorted-none {V} = empty_of_len _ (len-entries (from_sorted {X = V} {R = key_cmp} []) ∙ ap length (entries-from_sorted {X = V} key_cmp [] tt))
+from_sorted-none {V} = empty_of_len _ (len-entries (from_sorted {X = V} {R = key_cmp} [])
+    ∙ ap length (entries-from_sorted {X = V} key_cmp [] tt))
 
 -- ---- a key taken away
 
 -- all these keys are greater, and stay
-all_stay : {V : Type 0} (q first : List ℕ) (es : List (List ℕ × V)) → key_cmp q first ≡ Equal → T (below_all key_cmp first es) → where_key key_cmp (λ x. not (is_eq (key_cmp q x))) es ≡ es
+all_stay : {V : Type 0} (q first : List ℕ) (es : List (List ℕ × V)) → key_cmp q first ≡ Equal →
+    T (below_all key_cmp first es) → where_key key_cmp (λ x. not (is_eq (key_cmp q x))) es ≡ es
 all_stay q first [] same below = refl
 all_stay {V} q first (e ∷ es) same below =
-    ap (λ o. cond (not (is_eq o)) (e ∷ where_key key_cmp (λ x. not (is_eq (key_cmp q x))) es) (where_key key_cmp (λ x. not (is_eq (key_cmp q x))) es)) (nat_list_cmp_total.congr q first e.0 same ∙ less_of (key_cmp first e.0) (front_of _ _ below))
+    ap (λ o. cond (not (is_eq o)) (e ∷ where_key key_cmp (λ x. not (is_eq (key_cmp q x))) es)
+    (where_key key_cmp (λ x. not (is_eq (key_cmp q x))) es)) (nat_list_cmp_total.congr q first e.0 same
+    ∙ less_of (key_cmp first e.0) (front_of _ _ below))
     ∙ ap (λ (rest : List (List ℕ × V)). e ∷ rest) (all_stay q first es same (back_of _ _ below))
   where
     less_of : (o : Ordering) → T (is_lt o) → o ≡ Less
@@ -86,14 +102,20 @@ all_stay {V} q first (e ∷ es) same below =
     back_of true b t = t
     back_of false b t = absurd t
 
-removed-pairs : {V : Type 0} (q : List ℕ) (es : List (Vec ℕ × V)) → T (is_sorted key_cmp (pairs es)) → pairs (remove_entry (λ k. is_eq (slice_cmp nat_cmp q k.items)) es) ≡ where_key key_cmp (λ x. not (is_eq (key_cmp q x))) (pairs es)
+removed-pairs : {V : Type 0} (q : List ℕ) (es : List (Vec ℕ × V)) → T (is_sorted key_cmp (pairs es)) →
+    pairs (remove_entry (λ k. is_eq (slice_cmp nat_cmp q k.items)) es) ≡ where_key key_cmp
+    (λ x. not (is_eq (key_cmp q x))) (pairs es)
 removed-pairs q [] sorted = refl
 removed-pairs {V} q (e ∷ es) sorted =
-    elim (key_cmp q e.0.items) as (λ o. key_cmp q e.0.items ≡ o → pairs (cond (is_eq o) es (e ∷ remove_entry (λ k. is_eq (slice_cmp nat_cmp q k.items)) es))
-    ≡ cond (not (is_eq o)) ((e.0.items, e.1) ∷ where_key key_cmp (λ x. not (is_eq (key_cmp q x))) (pairs es)) (where_key key_cmp (λ x. not (is_eq (key_cmp q x))) (pairs es))) [
-      | Less ↦ λ is. ap (λ (rest : List (List ℕ × V)). (e.0.items, e.1) ∷ rest) (removed-pairs q es (back_of _ _ sorted))
+    elim (key_cmp q e.0.items) as (λ o. key_cmp q e.0.items ≡ o →
+    pairs (cond (is_eq o) es (e ∷ remove_entry (λ k. is_eq (slice_cmp nat_cmp q k.items)) es))
+    ≡ cond (not (is_eq o)) ((e.0.items, e.1) ∷ where_key key_cmp (λ x. not (is_eq (key_cmp q x))) (pairs es))
+    (where_key key_cmp (λ x. not (is_eq (key_cmp q x))) (pairs es))) [
+      | Less ↦ λ is. ap (λ (rest : List (List ℕ × V)). (e.0.items, e.1) ∷ rest)
+          (removed-pairs q es (back_of _ _ sorted))
       | Equal ↦ λ is. sym (all_stay q e.0.items (pairs es) is (front_of _ _ sorted))
-      | Greater ↦ λ is. ap (λ (rest : List (List ℕ × V)). (e.0.items, e.1) ∷ rest) (removed-pairs q es (back_of _ _ sorted))
+      | Greater ↦ λ is. ap (λ (rest : List (List ℕ × V)). (e.0.items, e.1) ∷ rest)
+          (removed-pairs q es (back_of _ _ sorted))
     ] refl
   where
     front_of : (a b : Bool) → T (a && b) → T a
@@ -104,19 +126,24 @@ removed-pairs {V} q (e ∷ es) sorted =
     back_of true b t = t
     back_of false b t = absurd t
 
-pub in_order-remove : {V : Type 0} (q : List ℕ) (es : List (Vec ℕ × V)) → IsInOrder es → IsInOrder (remove_entry (λ k. is_eq (slice_cmp nat_cmp q k.items)) es)
-in_order-remove q es sorted = ap (is_sorted key_cmp) (removed-pairs q es (subst T (sym sorted) tt)) ∙ true_from _ (is_sorted-where_key key_cmp (λ x. not (is_eq (key_cmp q x))) (pairs es) (subst T (sym sorted) tt))
+pub in_order-remove : {V : Type 0} (q : List ℕ) (es : List (Vec ℕ × V)) → IsInOrder es →
+    IsInOrder (remove_entry (λ k. is_eq (slice_cmp nat_cmp q k.items)) es)
+in_order-remove q es sorted = ap (is_sorted key_cmp) (removed-pairs q es (subst T (sym sorted) tt))
+    ∙ true_from _ (is_sorted-where_key key_cmp (λ x. not (is_eq (key_cmp q x))) (pairs es) (subst T (sym sorted) tt))
   where
     true_from : (b : Bool) → T b → b ≡ true
     true_from true t = refl
     true_from false t = absurd t
 
-pub from_sorted-remove : {V : Type 0} (q : List ℕ) (es : List (Vec ℕ × V)) → IsInOrder es → from_sorted {R = key_cmp} (pairs (remove_entry (λ k. is_eq (slice_cmp nat_cmp q k.items)) es)) ≡ remove (from_sorted (pairs es)) q
+pub from_sorted-remove : {V : Type 0} (q : List ℕ) (es : List (Vec ℕ × V)) → IsInOrder es →
+    from_sorted {R = key_cmp} (pairs (remove_entry (λ k. is_eq (slice_cmp nat_cmp q k.items)) es)) ≡ remove
+    (from_sorted (pairs es)) q
 from_sorted-remove {V} q es sorted =
     same_map nat_list_cmp_total same_keys _ _ (λ x.
     get-from_sorted key_cmp _ x (subst T (sym (in_order-remove q es sorted)) tt)
     ∙ ap (find key_cmp x) (removed-pairs q es (subst T (sym sorted) tt))
-    ∙ find-where_key key_cmp (λ k. not (is_eq (key_cmp q k))) x (λ k same. ap (λ o. not (is_eq o)) (sym (alike_right nat_list_cmp_total x k q same))) (pairs es)
+    ∙ find-where_key key_cmp (λ k. not (is_eq (key_cmp q k))) x (λ k same. ap (λ o. not (is_eq o))
+    (sym (alike_right nat_list_cmp_total x k q same))) (pairs es)
     ∙ turned (is_eq (key_cmp q x)) (is_eq (key_cmp x q)) (symmetric q x) (find key_cmp x (pairs es))
     ∙ ap (cond (is_eq (key_cmp x q)) None) (sym (get-from_sorted key_cmp (pairs es) x (subst T (sym sorted) tt)))
     ∙ sym (get-remove nat_list_cmp_total (from_sorted (pairs es)) q x))

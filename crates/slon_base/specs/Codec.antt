@@ -17,28 +17,40 @@ count_bytes n = to_be_bytes w32 n
 unfoldable pub text_bytes : List ℕ → List ℕ
 text_bytes text = count_bytes (length text) ++ text
 
--- texts, one behind the other
-abbrev pub all_bytes : List (List ℕ) → List ℕ
-all_bytes [] = []
-all_bytes (text ∷ texts) = text_bytes text ++ all_bytes texts
+-- values, one behind the other
+abbrev pub all_bytes : {X : Type 0} → (X → List ℕ) → List X → List ℕ
+all_bytes bytes [] = []
+all_bytes bytes (x ∷ xs) = bytes x ++ all_bytes bytes xs
 
--- a list of texts: their count, and the texts
-unfoldable pub list_bytes : List (List ℕ) → List ℕ
-list_bytes texts = count_bytes (length texts) ++ all_bytes texts
+-- a list: the count of its values, and the values
+unfoldable pub many_bytes : {X : Type 0} → (X → List ℕ) → List X → List ℕ
+many_bytes bytes xs = count_bytes (length xs) ++ all_bytes bytes xs
+
+-- a list of texts
+abbrev pub list_bytes : List (List ℕ) → List ℕ
+list_bytes = many_bytes text_bytes
+
+-- each value of a list can be spelled
+abbrev pub AllAre : {X : Type 0} → (X → Type 0) → List X → Type 0
+AllAre Can [] = Unit {0}
+AllAre Can (x ∷ xs) = Can x × AllAre Can xs
+
+-- a list that can be spelled
+pub record AreMany {X : Type 0} (Can : X → Type 0) (xs : List X) : Type 0 where
+  pub few : length xs < 2 ^ 32
+  pub each : AllAre Can xs
 
 -- a text that can be spelled
 pub record IsText (text : List ℕ) : Type 0 where
   pub short : length text < 2 ^ 32
   pub utf8 : IsUtf8 text
 
--- texts that can be spelled as a list
 abbrev pub AllTexts : List (List ℕ) → Type 0
-AllTexts [] = Unit {0}
-AllTexts (t ∷ ts) = IsText t × AllTexts ts
+AllTexts = AllAre IsText
 
-pub record AreTexts (texts : List (List ℕ)) : Type 0 where
-  pub few : length texts < 2 ^ 32
-  pub each : AllTexts texts
+-- a list of texts that can be spelled
+abbrev pub AreTexts : List (List ℕ) → Type 0
+AreTexts = AreMany IsText
 
 -- why a byte is not read
 abbrev pub IsNoByte : List ℕ → RowFault → Type 0
@@ -51,7 +63,8 @@ IsNoByte bytes NoMemory = ⊥
 abbrev pub IsNoNumber : List ℕ → RowFault → Type 0
 IsNoNumber bytes Short = length bytes < 8
 IsNoNumber bytes Trailing = ⊥
-IsNoNumber bytes NotCanonical = (n : ℕ) × (rest : List ℕ) × (2 ^ 63 ≤ n) × (n < 2 ^ 64) × (bytes ≡ number_bytes n ++ rest)
+IsNoNumber bytes NotCanonical = (n : ℕ) × (rest : List ℕ) × (2 ^ 63 ≤ n) × (n < 2 ^ 64)
+    × (bytes ≡ number_bytes n ++ rest)
 IsNoNumber bytes NoMemory = ⊥
 
 -- why a count is not read
@@ -63,13 +76,15 @@ IsNoCount bytes NoMemory = ⊥
 
 -- the length of a text or its bytes are not all there
 abbrev pub IsShortText : List ℕ → Type 0
-IsShortText bytes = (length bytes < 4) ⊎ ((n : ℕ) × (rest : List ℕ) × (n < 2 ^ 32) × (bytes ≡ count_bytes n ++ rest) × (length rest < n))
+IsShortText bytes = (length bytes < 4) ⊎ ((n : ℕ) × (rest : List ℕ) × (n < 2 ^ 32) × (bytes ≡ count_bytes n ++ rest)
+    × (length rest < n))
 
 -- why a text is not read: its length or its bytes are not all there, or it is not UTF-8
 abbrev pub IsNoText : List ℕ → RowFault → Type 0
 IsNoText bytes Short = IsShortText bytes
 IsNoText bytes Trailing = ⊥
-IsNoText bytes NotCanonical = (text rest : List ℕ) × (length text < 2 ^ 32) × (bytes ≡ text_bytes text ++ rest) × ¬ (IsUtf8 text)
+IsNoText bytes NotCanonical = (text rest : List ℕ) × (length text < 2 ^ 32) × (bytes ≡ text_bytes text ++ rest)
+    × ¬ (IsUtf8 text)
 IsNoText bytes NoMemory = Unit {0}
 
 -- the text was read and the rest is left, or there was no memory for it

@@ -35,7 +35,8 @@ IsTold (Some names) (Some bytes) = Unit {0}
 
 -- what entering does to the stack
 abbrev pub Entered : List ℕ → Filed → List (Option (List ℕ)) → Bool → Type 0
-Entered name old stack true = (left : Option (List ℕ)) × (stack ≡ left ∷ old.stack) × HoldsFile old.names name left × IsTold old.names left
+Entered name old stack true = (left : Option (List ℕ)) × (stack ≡ left ∷ old.stack) × HoldsFile old.names name left
+    × IsTold old.names left
 Entered name old stack false = (stack ≡ old.stack) × HasNoFile old.names name
 
 pub record Enters (name : List ℕ) (old new : Filed) (result : Result Bool OutFault) : Type 0 where
@@ -44,10 +45,11 @@ pub record Enters (name : List ℕ) (old new : Filed) (result : Result Bool OutF
   pub entered : IfOk result (Entered name old new.stack)
   pub failed : OnErr result (new.stack ≡ old.stack)
 
--- so many bytes of what was left stand in front of the buffer, and the rest is left; there are none only at the end
+-- the first bytes of what was left stand in front of the buffer, and the rest is left; there are none only at the end
 abbrev pub Reads : List ℕ → ℕ → Option (List ℕ) → Option (List ℕ) → Type 0
 Reads into n None after = Unit {0}
-Reads into n (Some left) after = (take n into ≡ take n left) × (n ≤ length left) × (after ≡ Some (drop n left)) × (n ≡ 0 → left ≡ [])
+Reads into n (Some left) after = (take n into ≡ take n left) × (n ≤ length left) × (after ≡ Some (drop n left))
+    × (n ≡ 0 → left ≡ [])
 
 -- the file entered last, if there is one
 abbrev pub top : List (Option (List ℕ)) → Option (List ℕ)

@@ -22,7 +22,8 @@ pub record IsAsPromised (p : Promise) (k : Kept) : Type 0 where
   pub empty : p.begins_empty ≡ true → p.tells_rows ≡ true → k.held ≡ Some nothing
   pub left : Within p.can_fail k.can_fail
 
-pub record Gives {S : Type 0} (place : ℕ) (kept : S → Kept) (old new : Shelved) (result : Result S OutFault) : Type 0 where
-  pub cause : Tells old.faults new.faults result
-  pub promise : new.promise ≡ old.promise
-  pub store : IfOk result (λ store. IsAsPromised (old.promise place) (kept store))
+pub record Gives {S : Type 0} (place : ℕ) (kept : S → Kept) (old new : Shelved) (result : Result S OutFault) : Type 0
+  where
+    pub cause : Tells old.faults new.faults result
+    pub promise : new.promise ≡ old.promise
+    pub store : IfOk result (λ store. IsAsPromised (old.promise place) (kept store))

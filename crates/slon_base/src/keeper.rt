@@ -64,7 +64,8 @@ pub trait Shelf: Drop {
     /// What is told of the stores to come, how many were given, and how often a call failed.
     ghost shelved: { Self → Shelved };
 
-    /// The store of a place, in the folder `store` where there is one. Places are 0, 1, 2, .. in the order of the calls.
+    /// The store of a place, in the folder `store` where there is one. Places are 0, 1, 2, .. in the order of the
+    /// calls.
     fn give(&mut self, store: Option<&[u8]>, place: u32) -> Result<Self::Store, OutFault>
         ensures { Gives place Self.Store.kept (shelved self.old) (shelved self.new) result };
 

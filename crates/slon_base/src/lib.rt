@@ -6,6 +6,7 @@ mod bytes;
 mod fault;
 mod files;
 mod keeper;
+mod many;
 mod row;
 mod sink;
 mod text;
@@ -15,9 +16,7 @@ pub use bytes::Bytes;
 pub use fault::{Halt, KeepFault, OutFault, RowFault};
 pub use files::Files;
 pub use keeper::{Keeper, Shelf};
+pub use many::Many;
 pub use row::{RowIn, RowOut, STORED_LIMIT};
 pub use sink::Sink;
 pub use text::{Text, TextList};
-
-#[cfg(test)]
-mod tests;

@@ -168,7 +168,8 @@ impl<'a> RowIn<'a> {
     /// Reads a number. A fault leaves all as it was.
     pub fn u64(&mut self) -> Result<u64, RowFault>
         ensures found { IfOk result (λ n. (n < 2 ^ 63) × (self.old ≡ number_bytes n ++ self.new)) }
-        ensures again { (n : ℕ) (rest : List ℕ) → n < 2 ^ 63 → self.old ≡ number_bytes n ++ rest → (result ≡ Ok n) × (self.new ≡ rest) }
+        ensures again { (n : ℕ) (rest : List ℕ) → n < 2 ^ 63 → self.old ≡ number_bytes n ++ rest → (result ≡ Ok n)
+            × (self.new ≡ rest) }
         ensures fault { IfErr result (IsNoNumber self.old) }
         ensures err { OnErr result (self.new ≡ self.old) }
     {
@@ -187,7 +188,8 @@ impl<'a> RowIn<'a> {
     /// Reads a text. A fault leaves all as it was.
     pub fn text(&mut self, alloc: Global) -> Result<Text, RowFault>
         ensures found { IfOk result (λ t. (length t < 2 ^ 32) × IsUtf8 t × (self.old ≡ text_bytes t ++ self.new)) }
-        ensures again { (t rest : List ℕ) → length t < 2 ^ 32 → IsUtf8 t → self.old ≡ text_bytes t ++ rest → MatchRead result t rest self.new }
+        ensures again { (t rest : List ℕ) → length t < 2 ^ 32 → IsUtf8 t → self.old ≡ text_bytes t ++ rest →
+            MatchRead result t rest self.new }
         ensures fault { IfErr result (IsNoText self.old) }
         ensures err { OnErr result (self.new ≡ self.old) }
     {
@@ -207,7 +209,8 @@ impl<'a> RowIn<'a> {
     /// Reads a count. A fault leaves all as it was.
     pub fn count(&mut self) -> Result<u32, RowFault>
         ensures found { IfOk result (λ n. self.old ≡ count_bytes n ++ self.new) }
-        ensures again { (n : ℕ) (rest : List ℕ) → n < 2 ^ 32 → self.old ≡ count_bytes n ++ rest → (result ≡ Ok n) × (self.new ≡ rest) }
+        ensures again { (n : ℕ) (rest : List ℕ) → n < 2 ^ 32 → self.old ≡ count_bytes n ++ rest → (result ≡ Ok n)
+            × (self.new ≡ rest) }
         ensures fault { IfErr result (IsNoCount self.old) }
         ensures err { OnErr result (self.new ≡ self.old) }
     {

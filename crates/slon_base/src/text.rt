@@ -1,8 +1,8 @@
 // Texts are UTF-8 and seen as their bytes; a list of texts is seen as the list of these.
-ghost use Rattle.std.specs.Prelude.{◌≡◌, ◌++◌, ◌<◌, ◌≤◌, ◌^◌, [], ◌∷◌, length, IfOk, IfSome, IfNone, OnOk, OnErr, MatchOption};
+ghost use Rattle.std.specs.Prelude.{◌≡◌, IfOk, MatchOption, string_bytes};
 ghost use Rattle.std.specs.Str.{IsUtf8};
-ghost use Rattle.std.specs.Prelude.{string_bytes};
 
+use crate::Many;
 use std::alloc::{AllocError, Global};
 use std::marker::Model;
 use std::str;
@@ -31,9 +31,17 @@ impl Text {
         })
     }
 
+    /// This text, with no copy.
+    pub fn from_string(text: String) -> Text
+        ensures { result ≡ string_bytes text }
+    {
+        Text { inner: text }
+    }
+
     /// The text of these bytes, or `None` exactly where they are not UTF-8.
     pub fn from_bytes(alloc: Global, bytes: &[u8]) -> Result<Option<Text>, AllocError>
-        ensures { IfOk result (λ found. MatchOption found (¬ (IsUtf8 bytes.now)) (λ t. (t ≡ bytes.now) × IsUtf8 bytes.now)) }
+        ensures { IfOk result (λ found. MatchOption found (¬ (IsUtf8 bytes.now)) (λ t. (t ≡ bytes.now)
+            × IsUtf8 bytes.now)) }
     {
         match str::from_utf8(bytes) {
             Ok(text) => Ok(Some(Text::from_str(alloc, text)?)),
@@ -66,49 +74,4 @@ impl Text {
 }
 
 /// A list of texts. Contracts see it as the list of their bytes.
-#[derive(Debug, Drop)]
-pub struct TextList {
-    inner: Vec<Text>,
-}
-
-impl Model for TextList {
-    ghost use Rattle.std.specs.Prelude.{List, ℕ};
-
-    ghost Value = { List (List ℕ) };
-
-    ghost view = { λ l. l.inner.items };
-}
-
-impl TextList {
-    /// An empty list.
-    pub fn new(alloc: Global) -> TextList
-        ensures { result ≡ [] }
-    {
-        TextList {
-            inner: Vec::new(alloc),
-        }
-    }
-
-    /// The texts in order.
-    pub fn as_slice(&self) -> &[Text]
-        ensures value { result.now ≡ self.now }
-    {
-        self.inner.as_slice()
-    }
-
-    /// How many texts there are.
-    pub fn len(&self) -> usize
-        ensures { result ≡ length self.now }
-    {
-        self.inner.len()
-    }
-
-    /// Adds a text at the end, or leaves the list as it was.
-    pub fn push(&mut self, text: Text) -> Result<(), AllocError>
-        ensures ok { OnOk result (self.new ≡ self.old ++ text ∷ []) }
-        ensures err { OnErr result (self.new ≡ self.old) }
-    {
-        self.inner.push(text)?;
-        Ok(())
-    }
-}
+pub type TextList = Many<Text>;

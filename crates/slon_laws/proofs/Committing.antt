@@ -11,7 +11,8 @@ use Rattle.slon_model.specs.Place.{Place, open_xids, standing_rows, seen_rows}
 use Rattle.slon_laws.specs.Sound.{Sound, Pairs, IsLocked, conflicts}
 use Rattle.slon_laws.specs.Keys.{change_at}
 use Rattle.slon_laws.specs.Laws.{OwnActionsApply}
-use Rattle.slon_laws.proofs.Opens.{all_map, found_member}
+use Rattle.slon_model.proofs.Names.{all_map}
+use Rattle.slon_laws.proofs.Opens.{found_member}
 use Rattle.slon_laws.proofs.Locks.{pairs_each, on_row, from_one_row}
 use Rattle.slon_laws.proofs.Keys.{same_keys, get-played, played_at}
 

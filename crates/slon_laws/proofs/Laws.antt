@@ -5,8 +5,9 @@ use Rattle.slon_model.specs.Rows.{Action}
 use Rattle.slon_model.specs.Place.{Place, open_xids}
 use Rattle.slon_laws.specs.Sound.{Sound, Pairs, IsOrdered}
 use Rattle.slon_laws.specs.Laws.{HoldsOfEach, IsAmong, AreNumbered, NumbersRise, LocksOrder, LocksOrderActions, OwnActionsApply, CommitApplies, IsBounded, CeilingsBound}
-use Rattle.slon_laws.proofs.Opens.{all_map, all_member}
-use Rattle.slon_laws.proofs.Worlds.{sound_world, all_found}
+use Rattle.slon_model.proofs.Names.{all_map, all_found}
+use Rattle.slon_laws.proofs.Opens.{all_member}
+use Rattle.slon_laws.proofs.Worlds.{sound_world}
 use Rattle.slon_laws.proofs.Committing.{own_actions_apply}
 
 -- what follows from soundness holds of each database
@@ -50,10 +51,10 @@ commit_applies = of_each OwnActionsApply own_actions_apply
 
 pub bounded : (p : Place) → Sound p → IsBounded p
 bounded p s = record {
-  numbers = all_map (λ a. a.number < p.next_number) (λ a. a.number < p.number_ceiling) (λ a below. omega (arith, below, s.numbers_below)) p.actions s.numbers;
-  xids = all_map (λ a. a.xid < p.next_xid) (λ a. a.xid < p.xid_ceiling) (λ a below. omega (arith, below, s.xids_below)) p.actions s.known;
-  commits = all_member (λ x. x < p.xid_ceiling) p.commits (λ x came. let below = s.ended x came in omega (arith, below, s.xids_below));
-  opens = all_member (λ x. x < p.xid_ceiling) (open_xids p) (λ x is_open. let below = s.opened x is_open in omega (arith, below, s.xids_below));
+  numbers = all_map (λ a. a.number < p.numbers.next) (λ a. a.number < p.numbers.ceiling) (λ a below. omega (arith, below, s.numbers_below)) p.actions s.numbered;
+  xids = all_map (λ a. a.xid < p.xids.next) (λ a. a.xid < p.xids.ceiling) (λ a below. omega (arith, below, s.xids_below)) p.actions s.known;
+  commits = all_member (λ x. x < p.xids.ceiling) p.commits (λ x came. let below = s.ended x came in omega (arith, below, s.xids_below));
+  opens = all_member (λ x. x < p.xids.ceiling) (open_xids p) (λ x is_open. let below = s.opened x is_open in omega (arith, below, s.xids_below));
   snapshot = s.xids_below;
 }
 

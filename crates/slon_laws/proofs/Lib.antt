@@ -1,11 +1,11 @@
 pub mod Committing
 pub mod Covering
+pub mod Decides
 pub mod Drawing
-pub mod Growth
+pub mod Keeps
 pub mod Keys
 pub mod Laws
 pub mod Locks
-pub mod Moves
 pub mod Opens
 pub mod Sounds
 pub mod Spells

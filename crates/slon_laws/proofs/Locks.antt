@@ -4,10 +4,10 @@ use Rattle.std.specs.Prelude.{◌==◌, ◌&&◌}
 use Rattle.std.specs.List.{AllByRecursion}
 use Rattle.std.specs.Str.{bytes_eq}
 use Rattle.std.proofs.lemmas.Bool.{false≢true, eqb-true, eq-eqb, or_cases, and_parts, and_from}
-use Rattle.slon_model.specs.Rows.{Action, Change, Put, Set, Remove, touches, is_on, member, holder_in}
+use Rattle.slon_model.specs.Rows.{Action, Change, change_key, touches, is_on, member, holder_in}
 use Rattle.slon_laws.specs.Sound.{meets, conflicts, Pairs, IsLocked, before, IsOrdered}
-use Rattle.slon_laws.specs.Moves.{change_key, IsFree}
-use Rattle.slon_laws.proofs.Opens.{bytes_same, bytes_itself, bytes_turned, all_map}
+use Rattle.slon_laws.specs.Allowed.{IsFree}
+use Rattle.slon_model.proofs.Names.{bytes_same, bytes_itself, bytes_turned, all_map}
 
 -- ---- pairs
 
@@ -32,25 +32,15 @@ pairs_each P R f actions pairs = pairs_both P P R (λ a b one other. f a b one) 
 
 -- ---- rows
 
-touches_key : (k : List ℕ) (c : Change) → touches k c ≡ bytes_eq k (change_key c)
-touches_key k (Put key row) = refl
-touches_key k (Set key columns) = refl
-touches_key k (Remove key) = refl
-
-meets_key : (c d : Change) → meets c d ≡ bytes_eq (change_key c) (change_key d)
-meets_key (Put key row) d = touches_key key d
-meets_key (Set key columns) d = touches_key key d
-meets_key (Remove key) d = touches_key key d
-
 -- two actions in conflict are on one row
 pub one_row : (a b : Action) → conflicts a b ≡ true → (a.table ≡ b.table) × (change_key a.change ≡ change_key b.change)
 one_row a b is =
     let parts = and_parts (bytes_eq a.table b.table) (meets a.change b.change) is in
-    (bytes_same a.table b.table parts.0, bytes_same (change_key a.change) (change_key b.change) (sym (meets_key a.change b.change) ∙ parts.1))
+    (bytes_same a.table b.table parts.0, bytes_same (change_key a.change) (change_key b.change) (parts.1))
 
 pub from_one_row : (a b : Action) → a.table ≡ b.table → change_key a.change ≡ change_key b.change → conflicts a b ≡ true
 from_one_row a b tables keys =
-    and_from (bytes_eq a.table b.table) (meets a.change b.change) (same a.table b.table tables) (meets_key a.change b.change ∙ same (change_key a.change) (change_key b.change) keys)
+    and_from (bytes_eq a.table b.table) (meets a.change b.change) (same a.table b.table tables) (same (change_key a.change) (change_key b.change) keys)
   where
     same : (x y : List ℕ) → x ≡ y → bytes_eq x y ≡ true
     same x y is = subst (λ z. bytes_eq x z ≡ true) is (bytes_itself x)
@@ -58,13 +48,13 @@ from_one_row a b tables keys =
 pub on_row : (table key : List ℕ) (a : Action) → is_on table key a ≡ true → (table ≡ a.table) × (key ≡ change_key a.change)
 on_row table key a is =
     let parts = and_parts (bytes_eq table a.table) (touches key a.change) is in
-    (bytes_same table a.table parts.0, bytes_same key (change_key a.change) (sym (touches_key key a.change) ∙ parts.1))
+    (bytes_same table a.table parts.0, bytes_same key (change_key a.change) (parts.1))
 
 pub conflict_on : (a b : Action) → conflicts a b ≡ true → is_on b.table (change_key b.change) a ≡ true
 conflict_on a b is =
     let parts = and_parts (bytes_eq a.table b.table) (meets a.change b.change) is in
     and_from (bytes_eq b.table a.table) (touches (change_key b.change) a.change) (bytes_turned a.table b.table parts.0)
-    (touches_key (change_key b.change) a.change ∙ bytes_turned (change_key a.change) (change_key b.change) (sym (meets_key a.change b.change) ∙ parts.1))
+    (bytes_turned (change_key a.change) (change_key b.change) (parts.1))
 
 -- ---- the holder of a row
 

@@ -1,26 +1,29 @@
 -- Each change of a database keeps it sound.
-use Rattle.std.proofs.Common.{◌≡◌, ℕ, ◌+◌, ◌<◌, ◌≤◌, Bool, true, false, cond, List, [], ◌∷◌, Some, None, Result, refl, sym, ap, subst, ◌∙◌, arith, inl, inr}
+use Rattle.std.proofs.Common.{◌≡◌, ℕ, ◌+◌, ◌<◌, ◌≤◌, Bool, true, false, cond, List, [], ◌∷◌, Some, None, refl, sym, ap, subst, ◌∙◌, arith, inl, inr}
 use Rattle.std.specs.Prelude.{◌==◌}
 use Rattle.std.proofs.lemmas.Bool.{false≢true, eqb-true, eqb-false, or_cases}
-use Rattle.slon_model.specs.declared.fault.DbFault.{DbFault}
-use Rattle.slon_model.specs.declared.command.Command.{Command}
-use Rattle.slon_model.specs.declared.command.Crash.TheVariants.{Now}
-use Rattle.slon_model.specs.declared.reply.Answered.{Answered}
-use Rattle.slon_model.specs.Rows.{Action, Change, member}
-use Rattle.slon_model.specs.Place.{Place, Standing, IsRunning, IsFallen, IsDoubtful, downed, surely, find_named, without, open_xids, holder, bare_place, new_place, founded, table_after, begin_after, written, committed, abort_after, up_after, crash_after, xid_raised, number_raised, fallen, doubted, prepared, place_after, PlaceStep, Answers, Fails, Doubts}
+use Rattle.slon_model.specs.declared.numbering.Numbering.{Numbering}
+use Rattle.slon_model.specs.declared.numbering.Numbering.TheVariants.{Xids, Actions}
+use Rattle.slon_model.specs.Names.{Named, find_named, without}
+use Rattle.slon_model.specs.Rows.{Action, Change, change_key, member}
 use Rattle.slon_model.specs.Snapshots.{Rising}
-use Rattle.slon_laws.specs.Sound.{Sound, IsLocked, IsOrdered, AreNamedOnce}
-use Rattle.slon_laws.specs.Moves.{change_key, IsFree, Prepares, Leaves, RaisesXid, RaisesNumber, Founds, Goes, Stays, Tables, Begins, Writes, Commits, Aborts, Crashes, Comes}
-use Rattle.slon_laws.proofs.Opens.{xids_of, all_map, all_member, member_behind, rising_behind, named_behind, found_member, rising_without, named_without, member_without, member_taken}
+use Rattle.slon_model.specs.Tasks.{Task}
+use Rattle.slon_model.specs.Place.{Place, Counter, bare_place, block, counter, with_counter, lifted, stamped, raised, founded, holder}
+use Rattle.slon_model.specs.Moves.{Move, Stays, Founds, Tables, Begins, Writes, Commits, Aborts, Falls, Rises, begun, written, committed, aborted, risen, first_rows, prepared, done}
+use Rattle.slon_model.proofs.Names.{all_map}
+use Rattle.slon_laws.specs.Sound.{SoundOf, Sound, IsLocked, IsOrdered, AreNamedOnce, ids_of}
+use Rattle.slon_laws.specs.Allowed.{IsFree, Allows, MayMove}
+use Rattle.slon_laws.specs.Keeps.{Keeps}
+use Rattle.slon_laws.proofs.Decides.{either_raised, raised_same}
+use Rattle.slon_laws.proofs.Opens.{all_member, member_behind, rising_behind, named_behind, found_member, rising_without, named_without, member_without, member_taken}
 use Rattle.slon_laws.proofs.Locks.{pairs_map, pairs_both, pairs_each, holder_frees, order_committed}
-use Rattle.slon_laws.proofs.Moves.{either, goes, prepares}
 
 pub sound_bare : Sound bare_place
 sound_bare = record {
   known = tt;
   opened = λ x is. absurd (false≢true is);
   ended = λ x is. absurd (false≢true is);
-  numbers = tt;
+  numbered = tt;
   xids_below = omega arith;
   numbers_below = omega arith;
   apart = λ x is_open came. false≢true is_open;
@@ -31,17 +34,28 @@ sound_bare = record {
   rising = tt;
 }
 
--- ---- changes of tables, ceilings, counts and the standing
+-- ---- ceilings that rise
 
-pub sound_dressed : (p : Place) (standing : Standing) (tables : List (List ℕ × ℕ)) (xid_ceiling number_ceiling stamp told : ℕ) → p.xid_ceiling ≤ xid_ceiling → p.number_ceiling ≤ number_ceiling → Sound p →
-    Sound (record p { standing = standing; tables = tables; xid_ceiling = xid_ceiling; number_ceiling = number_ceiling; stamp = stamp; told = told })
-sound_dressed p standing tables xid_ceiling number_ceiling stamp told xids numbers s = record {
-  known = s.known;
-  opened = s.opened;
-  ended = s.ended;
-  numbers = s.numbers;
-  xids_below = omega (arith, s.xids_below, xids);
-  numbers_below = omega (arith, s.numbers_below, numbers);
+-- what keeps the next numbers and lowers no ceiling
+record IsHigher (old new : Counter) : Type 0 where
+  next : new.next ≡ old.next
+  ceiling : old.ceiling ≤ new.ceiling
+
+lifted_higher : (c : Counter) → IsHigher c (lifted c)
+lifted_higher c = record { next = refl; ceiling = omega arith }
+
+same_higher : (c : Counter) → IsHigher c c
+same_higher c = record { next = refl; ceiling = omega arith }
+
+sound_higher : {actions : List Action} {commits : List ℕ} {opens : Named ℕ} {xids numbers high_xids high_numbers : Counter} →
+    IsHigher xids high_xids → IsHigher numbers high_numbers → SoundOf actions commits opens xids numbers → SoundOf actions commits opens high_xids high_numbers
+sound_higher {actions} x n s = record {
+  known = all_map _ _ (λ a below. omega (arith, below, x.next)) actions s.known;
+  opened = λ y is. let below = s.opened y is in omega (arith, below, x.next);
+  ended = λ y is. let below = s.ended y is in omega (arith, below, x.next);
+  numbered = all_map _ _ (λ a below. omega (arith, below, n.next)) actions s.numbered;
+  xids_below = omega (arith, s.xids_below, x.next, x.ceiling);
+  numbers_below = omega (arith, s.numbers_below, n.next, n.ceiling);
   apart = s.apart;
   running = s.running;
   named = s.named;
@@ -50,189 +64,199 @@ sound_dressed p standing tables xid_ceiling number_ceiling stamp told xids numbe
   rising = s.rising;
 }
 
-pub sound_tables : (table : List ℕ) (columns : ℕ) (p : Place) → Sound p → Sound (table_after table columns p)
-sound_tables table columns p s = sound_dressed p p.standing ((table, columns) ∷ p.tables) p.xid_ceiling p.number_ceiling (p.stamp + 1) p.told (omega arith) (omega arith) s
+sound_founded : (p : Place) → Sound p → Sound (founded p)
+sound_founded p s = sound_higher (lifted_higher p.xids) (lifted_higher p.numbers) s
 
-pub sound_founded : (p : Place) → Sound p → Sound (founded p)
-sound_founded p s = sound_dressed p (surely p.standing) p.tables (p.xid_ceiling + 64) (p.number_ceiling + 64) 1 p.told (omega arith) (omega arith) s
+sound_lifted : (kind : Numbering) (p : Place) → Sound p → Sound (stamped (with_counter kind (lifted (counter kind p)) p))
+sound_lifted Xids p s = sound_higher (lifted_higher p.xids) (same_higher p.numbers) s
+sound_lifted Actions p s = sound_higher (same_higher p.xids) (lifted_higher p.numbers) s
 
-xids_up : (p : Place) → Sound p → Sound (record p { xid_ceiling = p.xid_ceiling + 64; stamp = p.stamp + 1 })
-xids_up p s = sound_dressed p p.standing p.tables (p.xid_ceiling + 64) p.number_ceiling (p.stamp + 1) p.told (omega arith) (omega arith) s
+pub sound_raised : (kind : Numbering) (p : Place) → Sound p → Sound (raised kind p)
+sound_raised kind p s = either_raised Sound kind p s (sound_lifted kind p s)
 
-numbers_up : (p : Place) → Sound p → Sound (record p { number_ceiling = p.number_ceiling + 64; stamp = p.stamp + 1 })
-numbers_up p s = sound_dressed p p.standing p.tables p.xid_ceiling (p.number_ceiling + 64) (p.stamp + 1) p.told (omega arith) (omega arith) s
+most : (kind : Numbering) (p : Place) → Sound p → (counter kind p).next ≤ (counter kind p).ceiling
+most Xids p s = s.xids_below
+most Actions p s = s.numbers_below
 
-pub sound_xid_raised : (p : Place) → Sound p → Sound (xid_raised p)
-sound_xid_raised p s = elim (p.next_xid == p.xid_ceiling) as (λ b. Sound (cond b (record p { xid_ceiling = p.xid_ceiling + 64; stamp = p.stamp + 1 }) p)) [ true ↦ xids_up p s | false ↦ s ]
+lifted_room : (kind : Numbering) (p : Place) → (counter kind p).next ≡ (counter kind p).ceiling →
+    (counter kind (stamped (with_counter kind (lifted (counter kind p)) p))).next < (counter kind (stamped (with_counter kind (lifted (counter kind p)) p))).ceiling
+lifted_room Xids p at = omega (arith, at)
+lifted_room Actions p at = omega (arith, at)
 
-pub sound_number_raised : (p : Place) → Sound p → Sound (number_raised p)
-sound_number_raised p s = elim (p.next_number == p.number_ceiling) as (λ b. Sound (cond b (record p { number_ceiling = p.number_ceiling + 64; stamp = p.stamp + 1 }) p)) [ true ↦ numbers_up p s | false ↦ s ]
+-- after that a number can be drawn
+pub raised_room : (kind : Numbering) (p : Place) → (counter kind p).next ≤ (counter kind p).ceiling → (counter kind (raised kind p)).next < (counter kind (raised kind p)).ceiling
+raised_room kind p below =
+    elim ((counter kind p).next == (counter kind p).ceiling) as (λ b. ((counter kind p).next == (counter kind p).ceiling) ≡ b →
+    (counter kind (cond b (stamped (with_counter kind (lifted (counter kind p)) p)) p)).next < (counter kind (cond b (stamped (with_counter kind (lifted (counter kind p)) p)) p)).ceiling) [
+      | true ↦ λ at. lifted_room kind p (eqb-true (counter kind p).next (counter kind p).ceiling at)
+      | false ↦ λ not. let differ = eqb-false (counter kind p).next (counter kind p).ceiling not in omega (arith, below, differ)
+    ] refl
 
 -- ---- fewer open transactions, and none
 
--- transactions are open no more
-sound_left : (p : Place) (opens : List (List ℕ × ℕ)) (standing : Standing) (next_xid next_number told : ℕ) → p.next_xid ≤ next_xid → next_xid ≤ p.xid_ceiling → p.next_number ≤ next_number → next_number ≤ p.number_ceiling →
-    ((x : ℕ) → member x (xids_of opens) ≡ true → member x (open_xids p) ≡ true) → Rising (xids_of opens) → AreNamedOnce opens → Sound p →
-    Sound (record p { standing = standing; opens = opens; next_xid = next_xid; next_number = next_number; told = told })
-sound_left p opens standing next_xid next_number told xid_more xid_most number_more number_most fewer rising named s = record {
-  known = all_map (λ a. a.xid < p.next_xid) (λ a. a.xid < next_xid) (λ a below. omega (arith, below, xid_more)) p.actions s.known;
-  opened = λ x is. let below = s.opened x (fewer x is) in omega (arith, below, xid_more);
-  ended = λ x is. let below = s.ended x is in omega (arith, below, xid_more);
-  numbers = all_map (λ a. a.number < p.next_number) (λ a. a.number < next_number) (λ a below. omega (arith, below, number_more)) p.actions s.numbers;
-  xids_below = xid_most;
-  numbers_below = number_most;
-  apart = λ x is_open came. s.apart x (fewer x is_open) came;
-  running = rising;
-  named = named;
-  locked = pairs_each (IsLocked (open_xids p)) (IsLocked (xids_of opens)) (λ a b locked conflict is_open. locked conflict (fewer a.xid is_open)) p.actions s.locked;
+-- what numbers and open transactions are like that are left
+record IsLeft (opens fewer : Named ℕ) (old new : Counter) : Type 0 where
+  less : (x : ℕ) → member x (ids_of fewer) ≡ true → member x (ids_of opens) ≡ true
+  running : Rising (ids_of fewer)
+  named : AreNamedOnce fewer
+  later : old.next ≤ new.next
+  below : new.next ≤ new.ceiling
+
+sound_left : {actions : List Action} {commits : List ℕ} {opens fewer : Named ℕ} {xids numbers new_xids new_numbers : Counter} →
+    IsLeft opens fewer xids new_xids → numbers.next ≤ new_numbers.next → new_numbers.next ≤ new_numbers.ceiling →
+    SoundOf actions commits opens xids numbers → SoundOf actions commits fewer new_xids new_numbers
+sound_left {actions} {opens = opens} {fewer = fewer} l more below s = record {
+  known = all_map _ _ (λ a known. omega (arith, known, l.later)) actions s.known;
+  opened = λ x is. let known = s.opened x (l.less x is) in omega (arith, known, l.later);
+  ended = λ x is. let known = s.ended x is in omega (arith, known, l.later);
+  numbered = all_map _ _ (λ a known. omega (arith, known, more)) actions s.numbered;
+  xids_below = l.below;
+  numbers_below = below;
+  apart = λ x is_open came. s.apart x (l.less x is_open) came;
+  running = l.running;
+  named = l.named;
+  locked = pairs_each (IsLocked (ids_of opens)) (IsLocked (ids_of fewer)) (λ a b locked conflict is_open. locked conflict (l.less a.xid is_open)) actions s.locked;
   ordered = s.ordered;
   rising = s.rising;
 }
 
-pub sound_aborted : (name : List ℕ) (p : Place) → Sound p → Sound (abort_after name p)
+sound_aborted : (name : List ℕ) (p : Place) → Sound p → Sound (aborted name p)
 sound_aborted name p s =
-    sound_left p (without name p.opens) p.standing p.next_xid p.next_number p.told (omega arith) s.xids_below (omega arith) s.numbers_below
-    (λ x. member_without x name p.opens) (rising_without name p.opens s.running) (named_without name p.opens s.named) s
+    sound_left (record {
+      less = λ x. member_without x name p.opens;
+      running = rising_without name p.opens s.running;
+      named = named_without name p.opens s.named;
+      later = omega arith;
+      below = s.xids_below;
+    }) (omega arith) s.numbers_below s
 
-sound_closed : (p : Place) (standing : Standing) (next_xid next_number told : ℕ) → p.next_xid ≤ next_xid → next_xid ≤ p.xid_ceiling → p.next_number ≤ next_number → next_number ≤ p.number_ceiling → Sound p →
-    Sound (record p { standing = standing; opens = []; next_xid = next_xid; next_number = next_number; told = told })
-sound_closed p standing next_xid next_number told xid_more xid_most number_more number_most s =
-    sound_left p [] standing next_xid next_number told xid_more xid_most number_more number_most (λ x is. absurd (false≢true is)) tt tt s
+-- no transaction is open any more
+none_left : (opens : Named ℕ) (old new : Counter) → old.next ≤ new.next → new.next ≤ new.ceiling → IsLeft opens [] old new
+none_left opens old new later below = record { less = λ x is. absurd (false≢true is); running = tt; named = tt; later = later; below = below }
 
-pub sound_up : (p : Place) → Sound p → Sound (up_after p)
-sound_up p s = sound_closed p IsRunning p.xid_ceiling p.number_ceiling p.told s.xids_below (omega arith) s.numbers_below (omega arith) s
+pub sound_closed : {actions : List Action} {commits : List ℕ} {opens : Named ℕ} {xids numbers : Counter} →
+    SoundOf actions commits opens xids numbers → SoundOf actions commits [] xids numbers
+sound_closed {opens = opens} {xids = xids} s = sound_left (none_left opens xids xids (omega arith) s.xids_below) (omega arith) s.numbers_below s
 
-pub sound_crashed : (p : Place) → Sound p → Sound (crash_after Now p)
-sound_crashed p s = sound_closed p IsFallen p.next_xid p.next_number p.told (omega arith) s.xids_below (omega arith) s.numbers_below s
-
-pub sound_fallen : (count : ℕ) (p : Place) → Sound p → Sound (fallen count p)
-sound_fallen count p s = sound_closed p (downed p.standing) p.next_xid p.next_number count (omega arith) s.xids_below (omega arith) s.numbers_below s
-
-pub sound_doubted : (stands : Bool) (p : Place) → Sound p → Sound (doubted stands p)
-sound_doubted stands p s = sound_closed p (IsDoubtful stands) p.next_xid p.next_number p.told (omega arith) s.xids_below (omega arith) s.numbers_below s
-
-pub sound_new : Sound new_place
-sound_new = sound_dressed bare_place IsRunning [] 65 65 1 0 (omega arith) (omega arith) sound_bare
+sound_risen : (p : Place) → Sound p → Sound (risen p)
+sound_risen p s = sound_left (none_left p.opens p.xids (risen p).xids s.xids_below (omega arith)) s.numbers_below (omega arith) s
 
 -- ---- a transaction begins
 
-pub sound_begun : (name : List ℕ) (p : Place) → find_named name p.opens ≡ None → p.next_xid < p.xid_ceiling → Sound p → Sound (begin_after name p)
+sound_begun : (name : List ℕ) (p : Place) → find_named name p.opens ≡ None → p.xids.next < p.xids.ceiling → Sound p → Sound (begun name p)
 sound_begun name p none below s = record {
-  known = all_map (λ a. a.xid < p.next_xid) (λ a. a.xid < p.next_xid + 1) (λ a known. omega (arith, known)) p.actions s.known;
-  opened = λ x is. elim (member_behind x p.next_xid name p.opens is) [
+  known = all_map (λ a. a.xid < p.xids.next) (λ a. a.xid < p.xids.next + 1) (λ a known. omega (arith, known)) p.actions s.known;
+  opened = λ x is. elim (member_behind x p.xids.next name p.opens is) [
     | inl old ↦ let known = s.opened x old in omega (arith, known)
     | inr new ↦ omega (arith, new)
   ];
   ended = λ x is. let known = s.ended x is in omega (arith, known);
-  numbers = s.numbers;
+  numbered = s.numbered;
   xids_below = omega (arith, below);
   numbers_below = s.numbers_below;
-  apart = λ x is_open came. elim (member_behind x p.next_xid name p.opens is_open) [
+  apart = λ x is_open came. elim (member_behind x p.xids.next name p.opens is_open) [
     | inl old ↦ s.apart x old came
     | inr new ↦ let known = s.ended x came in omega (arith, known, new)
   ];
-  running = rising_behind p.next_xid name p.opens (all_member (λ x. x < p.next_xid) (open_xids p) s.opened) s.running;
-  named = named_behind name p.next_xid p.opens none s.named;
-  locked = pairs_map (λ a. a.xid < p.next_xid) (IsLocked (open_xids p)) (IsLocked (open_xids (begin_after name p))) (λ a b known locked conflict is_open. locked conflict (old a known is_open)) p.actions s.known s.locked;
+  running = rising_behind p.xids.next name p.opens (all_member (λ x. x < p.xids.next) (ids_of p.opens) s.opened) s.running;
+  named = named_behind name p.xids.next p.opens none s.named;
+  locked = pairs_map (λ a. a.xid < p.xids.next) (IsLocked (ids_of p.opens)) (IsLocked (ids_of (begun name p).opens))
+      (λ a b known locked conflict is_open. locked conflict (old a known is_open)) p.actions s.known s.locked;
   ordered = s.ordered;
   rising = s.rising;
 }
   where
-    old : (a : Action) → a.xid < p.next_xid → member a.xid (open_xids (begin_after name p)) ≡ true → member a.xid (open_xids p) ≡ true
-    old a known is_open = elim (member_behind a.xid p.next_xid name p.opens is_open) [
+    old : (a : Action) → a.xid < p.xids.next → member a.xid (ids_of (begun name p).opens) ≡ true → member a.xid (ids_of p.opens) ≡ true
+    old a known is_open = elim (member_behind a.xid p.xids.next name p.opens is_open) [
       | inl before ↦ before
       | inr new ↦ absurd (omega (arith, known, new))
     ]
 
-pub sound_raised_begun : (name : List ℕ) (p : Place) → find_named name p.opens ≡ None → Sound p → Sound (begin_after name (xid_raised p))
-sound_raised_begun name p none s =
-    elim (p.next_xid == p.xid_ceiling) as (λ b. (p.next_xid == p.xid_ceiling) ≡ b → Sound (begin_after name (cond b (record p { xid_ceiling = p.xid_ceiling + 64; stamp = p.stamp + 1 }) p))) [
-      | true ↦ λ is. sound_begun name (record p { xid_ceiling = p.xid_ceiling + 64; stamp = p.stamp + 1 }) none (omega (arith, s.xids_below)) (xids_up p s)
-      | false ↦ λ not. let differ : p.next_xid ≡ p.xid_ceiling → ⊥ = eqb-false p.next_xid p.xid_ceiling not in sound_begun name p none (omega (arith, s.xids_below, differ)) s
-    ] refl
-
 -- ---- a row is written
 
-pub sound_written : (xid : ℕ) (table : List ℕ) (change : Change) (p : Place) → member xid (open_xids p) ≡ true → IsFree xid (holder table (change_key change) p) → p.next_number < p.number_ceiling → Sound p → Sound (written xid table change p)
+sound_written : (xid : ℕ) (table : List ℕ) (change : Change) (p : Place) → member xid (ids_of p.opens) ≡ true →
+    IsFree xid (holder table (change_key change) p) → p.numbers.next < p.numbers.ceiling → Sound p → Sound (written xid table change p)
 sound_written xid table change p is_open free below s = record {
   known = (s.opened xid is_open, s.known);
   opened = s.opened;
   ended = s.ended;
-  numbers = (omega arith, all_map (λ a. a.number < p.next_number) (λ a. a.number < p.next_number + 1) (λ a before. omega (arith, before)) p.actions s.numbers);
+  numbered = (omega arith, all_map (λ a. a.number < p.numbers.next) (λ a. a.number < p.numbers.next + 1) (λ a before. omega (arith, before)) p.actions s.numbered);
   xids_below = s.xids_below;
   numbers_below = omega (arith, below);
   apart = s.apart;
   running = s.running;
   named = s.named;
-  locked = (holder_frees new (open_xids p) p.actions free s.locked, s.locked);
-  ordered = (all_map (λ a. a.xid < p.next_xid) (λ a. IsOrdered p.commits a new) (λ a known conflict differ came_a came. absurd (s.apart xid is_open came)) p.actions s.known, s.ordered);
-  rising = (s.numbers, s.rising);
+  locked = (holder_frees new (ids_of p.opens) p.actions free s.locked, s.locked);
+  ordered = (all_map (λ a. a.xid < p.xids.next) (λ a. IsOrdered p.commits a new) (λ a known conflict differ came_a came. absurd (s.apart xid is_open came)) p.actions s.known, s.ordered);
+  rising = (s.numbered, s.rising);
 }
   where
     new : Action
-    new = record { number = p.next_number; xid = xid; table = table; change = change }
-
-pub sound_raised_written : (xid : ℕ) (table : List ℕ) (change : Change) (p : Place) → member xid (open_xids p) ≡ true → IsFree xid (holder table (change_key change) p) → Sound p → Sound (written xid table change (number_raised p))
-sound_raised_written xid table change p is_open free s =
-    elim (p.next_number == p.number_ceiling) as (λ b. (p.next_number == p.number_ceiling) ≡ b → Sound (written xid table change (cond b (record p { number_ceiling = p.number_ceiling + 64; stamp = p.stamp + 1 }) p))) [
-      | true ↦ λ is. sound_written xid table change (record p { number_ceiling = p.number_ceiling + 64; stamp = p.stamp + 1 }) is_open free (omega (arith, s.numbers_below)) (numbers_up p s)
-      | false ↦ λ not. let differ : p.next_number ≡ p.number_ceiling → ⊥ = eqb-false p.next_number p.number_ceiling not in sound_written xid table change p is_open free (omega (arith, s.numbers_below, differ)) s
-    ] refl
+    new = record { number = p.numbers.next; xid = xid; table = table; change = change }
 
 -- ---- a transaction is committed
 
-pub sound_committed : (name : List ℕ) (xid : ℕ) (p : Place) → find_named name p.opens ≡ Some xid → Sound p → Sound (committed name xid p)
+sound_committed : (name : List ℕ) (xid : ℕ) (p : Place) → find_named name p.opens ≡ Some xid → Sound p → Sound (committed name xid p)
 sound_committed name xid p found s = record {
   known = left.known;
   opened = left.opened;
   ended = λ x is. elim (or_cases (x == xid) (member x p.commits) is) [
-    | inl same ↦ subst (λ y. y < p.next_xid) (sym (eqb-true x xid same)) (s.opened xid (found_member name xid p.opens found))
+    | inl same ↦ subst (λ y. y < p.xids.next) (sym (eqb-true x xid same)) (s.opened xid (found_member name xid p.opens found))
     | inr came ↦ s.ended x came
   ];
-  numbers = left.numbers;
+  numbered = left.numbered;
   xids_below = left.xids_below;
   numbers_below = left.numbers_below;
   apart = λ x is_open came. elim (or_cases (x == xid) (member x p.commits) came) [
-    | inl same ↦ member_taken xid name p.opens s.named s.running found (ap (λ y. member y (xids_of (without name p.opens))) (sym (eqb-true x xid same)) ∙ is_open)
+    | inl same ↦ member_taken xid name p.opens s.named s.running found (ap (λ y. member y (ids_of (without name p.opens))) (sym (eqb-true x xid same)) ∙ is_open)
     | inr before ↦ left.apart x is_open before
   ];
   running = left.running;
   named = left.named;
   locked = left.locked;
-  ordered = pairs_both (IsLocked (open_xids p)) (IsOrdered p.commits) (IsOrdered (xid ∷ p.commits)) (order_committed xid (open_xids p) p.commits (found_member name xid p.opens found)) p.actions s.locked s.ordered;
+  ordered = pairs_both (IsLocked (ids_of p.opens)) (IsOrdered p.commits) (IsOrdered (xid ∷ p.commits))
+      (order_committed xid (ids_of p.opens) p.commits (found_member name xid p.opens found)) p.actions s.locked s.ordered;
   rising = left.rising;
 }
   where
-    left : Sound (abort_after name p)
+    left : Sound (aborted name p)
     left = sound_aborted name p s
 
--- ---- each step
+sound_first : (p : Place) → Sound p → Sound (first_rows p)
+sound_first p s = elim (p.stamp == 0) as (λ b. Sound (cond b (founded p) p)) [ true ↦ sound_founded p s | false ↦ s ]
 
-pub sound_prepares : (p q : Place) → Prepares p q → Sound p → Sound q
-sound_prepares p q (Leaves is) s = subst Sound (sym is) s
-sound_prepares p q (RaisesXid is) s = subst Sound (sym is) (sound_xid_raised p s)
-sound_prepares p q (RaisesNumber is) s = subst Sound (sym is) (sound_number_raised p s)
-sound_prepares p q (Founds none is) s = subst Sound (sym is) (sound_founded p s)
+-- ---- each move
 
-pub sound_goes : (command : Command) (p q : Place) → Goes command p q → Sound p → Sound q
-sound_goes command p q (Stays is) s = subst Sound (sym is) s
-sound_goes command p q (Tables table columns narrow is) s = subst Sound (sym is) (sound_tables table columns p s)
-sound_goes command p q (Begins name none is) s = subst Sound (sym is) (sound_raised_begun name p none s)
-sound_goes command p q (Writes name table xid change found free spelled is) s = subst Sound (sym is) (sound_raised_written xid table change p (found_member name xid p.opens found) free s)
-sound_goes command p q (Commits name xid found is) s = subst Sound (sym is) (sound_committed name xid p found s)
-sound_goes command p q (Aborts name is) s = subst Sound (sym is) (sound_aborted name p s)
-sound_goes command p q (Crashes is) s = subst Sound (sym is) (sound_crashed p s)
-sound_goes command p q (Comes r prepared is) s = subst Sound (sym is) (sound_up r (sound_prepares p r prepared s))
+pub sound_prepared : (move : Move) (p : Place) → Sound p → Sound (prepared move p)
+sound_prepared (Begins name) p s = sound_raised Xids p s
+sound_prepared (Writes xid table change) p s = sound_raised Actions p s
+sound_prepared Rises p s = sound_first p s
+sound_prepared others p s = s
 
-pub sound_after : (command : Command) (p : Place) → Sound p → Sound (place_after command p)
-sound_after command p s = sound_goes command p (place_after command p) (goes command p) s
+sound_done : (task : Task) (move : Move) (p : Place) → Allows task p move → Sound p → Sound (done move p)
+sound_done task Stays p allowed s = s
+sound_done task Founds p allowed s = sound_first p s
+sound_done task (Tables table columns) p allowed s = s
+sound_done task (Begins name) p allowed s =
+    let same = (raised_same Xids p).opens in
+    sound_begun name (raised Xids p) (ap (find_named name) same ∙ allowed) (raised_room Xids p s.xids_below) (sound_raised Xids p s)
+sound_done task (Writes xid table change) p allowed s = write (raised Actions p) (raised_same Actions p).opens (raised_same Actions p).actions
+    (raised_room Actions p s.numbers_below) (sound_raised Actions p s)
+  where
+    write : (q : Place) → q.opens ≡ p.opens → q.actions ≡ p.actions → q.numbers.next < q.numbers.ceiling → Sound q → Sound (written xid table change q)
+    write q opens actions room sound =
+        sound_written xid table change q (ap (λ os. member xid (ids_of os)) opens ∙ found_member allowed.name xid p.opens allowed.opened)
+        (rw (opens, actions) allowed.free) room sound
+sound_done task (Commits name xid) p allowed s = sound_committed name xid p allowed s
+sound_done task (Aborts name) p allowed s = sound_aborted name p s
+sound_done task Falls p allowed s = sound_closed s
+sound_done task Rises p allowed s = sound_risen (prepared Rises p) (sound_prepared Rises p s)
 
-pub sound_prepared : (command : Command) (p : Place) → Sound p → Sound (prepared command p)
-sound_prepared command p s = sound_prepares p (prepared command p) (prepares command p) s
-
-pub sound_step : (command : Command) (p q : Place) (result : Result Answered DbFault) → PlaceStep command p result q → Sound p → Sound q
-sound_step command p q result (Answers told is) s = subst Sound (sym is) (sound_after command p s)
-sound_step command p q result (Fails count also up rose told is) s =
-    subst Sound (sym is) (sound_fallen count (cond also (prepared command p) p) (either Sound also (prepared command p) p (sound_prepared command p s) s))
-sound_step command p q result (Doubts answer stands due stores told is) s =
-    subst Sound (sym is) (sound_doubted stands (cond stands (place_after command p) p) (either Sound stands (place_after command p) p (sound_after command p s) s))
+pub keeps_sound : Keeps (λ task. Unit {0}) Sound Sound
+keeps_sound = record {
+  stays = λ p s. s;
+  prepares = λ task move p may s. sound_prepared move p s;
+  moves = λ task move p one may s. sound_done task move p may.allows s;
+  falls = λ count p s. sound_closed s;
+  wavers = λ stands p s. sound_closed s;
+}

@@ -1,104 +1,181 @@
 -- Each change of a database keeps what it holds spelled.
-use Rattle.std.proofs.Common.{◌≡◌, ℕ, ◌+◌, ◌≤◌, Bool, true, false, cond, List, Result, refl, sym, subst, arith}
-use Rattle.std.specs.Prelude.{◌==◌}
-use Rattle.slon_base.specs.Codec.{IsText}
-use Rattle.slon_model.specs.declared.fault.DbFault.{DbFault}
-use Rattle.slon_model.specs.declared.command.Command.{Command}
-use Rattle.slon_model.specs.declared.command.Crash.TheVariants.{Now}
-use Rattle.slon_model.specs.declared.reply.Answered.{Answered}
-use Rattle.slon_model.specs.Rows.{Change}
-use Rattle.slon_model.specs.Place.{Place, bare_place, new_place, founded, table_after, begin_after, written, committed, abort_after, up_after, crash_after, xid_raised, number_raised, own_count, fallen, doubted, prepared, place_after, PlaceStep, Answers, Fails, Doubts}
-use Rattle.slon_model.specs.Spoken.{IsSpoken}
+use Rattle.std.proofs.Common.{◌≡◌, ℕ, ◌+◌, ◌<◌, ◌≤◌, ◌^◌, Bool, true, false, cond, List, [], ◌∷◌, length, refl, sym, subst, arith}
+use Rattle.std.specs.Prelude.{◌==◌, ◌&&◌, ◌||◌, not, nat_le, map}
+use Rattle.std.specs.List.{AllByRecursion, list_all}
+use Rattle.std.proofs.lemmas.Bool.{eqb-true, and_parts, leb-false, true≢false}
+use Rattle.slon_base.specs.Codec.{AllTexts}
+use Rattle.slon_model.specs.declared.numbering.Numbering.{Numbering}
+use Rattle.slon_model.specs.declared.numbering.Numbering.TheVariants.{Xids, Actions}
+use Rattle.slon_model.specs.Forms.{is_value}
+use Rattle.slon_model.specs.Names.{Named}
+use Rattle.slon_model.specs.Rows.{Change, Put, Set, Remove}
+use Rattle.slon_model.specs.Spoken.{IsTask, IsTableName, IsChange, most_columns}
+use Rattle.slon_model.specs.Tasks.{Task}
+use Rattle.slon_model.specs.Place.{Place, bare_place, block, counter, with_counter, lifted, stamped, raised, founded, own_count}
+use Rattle.slon_model.specs.Moves.{Move, Stays, Founds, Tables, Begins, Writes, Commits, Aborts, Falls, Rises, first_rows, prepared, done, stored_limit, is_last_stamp, is_last, is_beyond}
+use Rattle.slon_model.specs.Deciding.{fits}
+use Rattle.slon_model.proofs.Names.{all_found}
+use Rattle.slon_model.proofs.Spoken.{value_text, value_texts, table_name_text}
 use Rattle.slon_laws.specs.Sound.{Sound}
-use Rattle.slon_laws.specs.Spelled.{IsSpelled, CanSpell, most_columns}
-use Rattle.slon_laws.specs.Moves.{Prepares, Leaves, RaisesXid, RaisesNumber, Founds, Goes, Stays, Tables, Begins, Writes, Commits, Aborts, Crashes, Comes}
-use Rattle.slon_laws.proofs.Moves.{either, goes, prepares}
-use Rattle.slon_laws.proofs.Sounds.{sound_prepares}
+use Rattle.slon_laws.specs.Spelled.{IsSmall, IsSpelled, CanSpell}
+use Rattle.slon_laws.specs.Allowed.{MayWrite, MayMove}
+use Rattle.slon_laws.specs.Keeps.{Keeps}
+use Rattle.slon_laws.proofs.Decides.{either_raised, raised_same}
+use Rattle.slon_laws.proofs.Sounds.{sound_prepared, keeps_sound}
+
+or_parts : (a b : Bool) → (a || b) ≡ false → (a ≡ false) × (b ≡ false)
+or_parts true b is = absurd (true≢false is)
+or_parts false b is = (refl, is)
 
 pub spelled_bare : IsSpelled bare_place
-spelled_bare = record { written = tt; narrow = tt; few = omega arith; bare = λ none. (refl, refl) }
+spelled_bare = record {
+  small = record { stamp = omega arith; xids = omega arith; numbers = omega arith };
+  written = tt;
+  narrow = tt;
+  few = omega arith;
+  bare = λ none. (refl, refl);
+}
 
-pub spelled_new : IsSpelled new_place
-spelled_new = record { written = tt; narrow = tt; few = omega arith; bare = λ none. absurd (omega (arith, none)) }
+-- a transaction of the store stands
+spelled_stamped : (p q : Place) → q.actions ≡ p.actions → q.tables ≡ p.tables → q.numbers.next ≡ p.numbers.next → 0 < q.stamp → IsSmall q → IsSpelled p → IsSpelled q
+spelled_stamped p q actions tables next some small s = record {
+  small = small;
+  written = rw actions s.written;
+  narrow = rw tables s.narrow;
+  few = rw (actions, next) s.few;
+  bare = λ none. absurd (omega (arith, none, some));
+}
 
-pub spelled_founded : (p : Place) → IsSpelled p → IsSpelled (founded p)
-spelled_founded p s = record { written = s.written; narrow = s.narrow; few = s.few; bare = λ none. absurd (omega (arith, none)) }
+below_limit : (n : ℕ) → nat_le stored_limit n ≡ false → n < stored_limit
+below_limit n not = omega (arith, leb-false stored_limit n not)
 
-pub spelled_tables : (table : List ℕ) (columns : ℕ) (p : Place) → columns ≤ most_columns → IsSpelled p → IsSpelled (table_after table columns p)
-spelled_tables table columns p narrow s = record { written = s.written; narrow = (narrow, s.narrow); few = s.few; bare = λ none. absurd (omega (arith, none)) }
+-- a ceiling that is lifted within the limit
+pub lifted_small : (kind : Numbering) (p : Place) → (is_last_stamp p || nat_le stored_limit ((counter kind p).ceiling + block)) ≡ false → IsSmall p →
+    IsSmall (stamped (with_counter kind (lifted (counter kind p)) p))
+lifted_small Xids p not s =
+    let parts = or_parts (is_last_stamp p) (nat_le stored_limit (p.xids.ceiling + block)) not in
+    record { stamp = below_limit (p.stamp + 1) parts.0; xids = below_limit (p.xids.ceiling + block) parts.1; numbers = s.numbers }
+lifted_small Actions p not s =
+    let parts = or_parts (is_last_stamp p) (nat_le stored_limit (p.numbers.ceiling + block)) not in
+    record { stamp = below_limit (p.stamp + 1) parts.0; xids = s.xids; numbers = below_limit (p.numbers.ceiling + block) parts.1 }
 
-pub spelled_xid_raised : (p : Place) → IsSpelled p → IsSpelled (xid_raised p)
-spelled_xid_raised p s =
-    elim (p.next_xid == p.xid_ceiling) as (λ b. IsSpelled (cond b (record p { xid_ceiling = p.xid_ceiling + 64; stamp = p.stamp + 1 }) p)) [
-      | true ↦ record { written = s.written; narrow = s.narrow; few = s.few; bare = λ none. absurd (omega (arith, none)) }
-      | false ↦ s
-    ]
+spelled_lifted : (kind : Numbering) (p : Place) → (is_last_stamp p || nat_le stored_limit ((counter kind p).ceiling + block)) ≡ false → IsSpelled p →
+    IsSpelled (stamped (with_counter kind (lifted (counter kind p)) p))
+spelled_lifted Xids p not s = spelled_stamped p _ refl refl refl (omega arith) (lifted_small Xids p not s.small) s
+spelled_lifted Actions p not s = spelled_stamped p _ refl refl refl (omega arith) (lifted_small Actions p not s.small) s
 
-pub spelled_number_raised : (p : Place) → IsSpelled p → IsSpelled (number_raised p)
-spelled_number_raised p s =
-    elim (p.next_number == p.number_ceiling) as (λ b. IsSpelled (cond b (record p { number_ceiling = p.number_ceiling + 64; stamp = p.stamp + 1 }) p)) [
-      | true ↦ record { written = s.written; narrow = s.narrow; few = s.few; bare = λ none. absurd (omega (arith, none)) }
-      | false ↦ s
-    ]
+spelled_raised : (kind : Numbering) (p : Place) → is_last kind p ≡ false → IsSpelled p → IsSpelled (raised kind p)
+spelled_raised kind p not s =
+    elim ((counter kind p).next == (counter kind p).ceiling) as (λ b. (b && (is_last_stamp p || nat_le stored_limit ((counter kind p).ceiling + block))) ≡ false →
+    IsSpelled (cond b (stamped (with_counter kind (lifted (counter kind p)) p)) p)) [
+      | true ↦ λ within. spelled_lifted kind p within s
+      | false ↦ λ within. s
+    ] not
 
-pub spelled_begun : (name : List ℕ) (p : Place) → IsSpelled p → IsSpelled (begin_after name p)
-spelled_begun name p s = record { written = s.written; narrow = s.narrow; few = s.few; bare = s.bare }
+spelled_founded : (p : Place) → p.stamp ≡ 0 → IsSpelled p → IsSpelled (founded p)
+spelled_founded p none s =
+    let bare = s.bare none in
+    let xids = bare.0 in
+    let numbers = bare.1 in
+    spelled_stamped p (founded p) refl refl refl (omega arith) (record { stamp = omega arith; xids = omega (arith, xids); numbers = omega (arith, numbers) }) s
 
-pub spelled_written : (xid : ℕ) (table : List ℕ) (change : Change) (p : Place) → IsText table → CanSpell change → IsSpelled p → IsSpelled (written xid table change p)
-spelled_written xid table change p text can s = record { written = (record { table = text; change = can }, s.written); narrow = s.narrow; few = omega (arith, s.few); bare = s.bare }
+spelled_first : (p : Place) → IsSpelled p → IsSpelled (first_rows p)
+spelled_first p s =
+    elim (p.stamp == 0) as (λ b. (p.stamp == 0) ≡ b → IsSpelled (cond b (founded p) p)) [
+      | true ↦ λ none. spelled_founded p (eqb-true p.stamp 0 none) s
+      | false ↦ λ some. s
+    ] refl
 
-pub spelled_committed : (name : List ℕ) (xid : ℕ) (p : Place) → IsSpelled p → IsSpelled (committed name xid p)
-spelled_committed name xid p s = record { written = s.written; narrow = s.narrow; few = s.few; bare = bare_still }
+-- what stays as it was, but for transactions and the standing
+spelled_same : (p q : Place) → q.actions ≡ p.actions → q.tables ≡ p.tables → p.numbers.next ≤ q.numbers.next → q.stamp ≡ p.stamp →
+    q.xids.ceiling ≡ p.xids.ceiling → q.numbers.ceiling ≡ p.numbers.ceiling → IsSpelled p → IsSpelled q
+spelled_same p q actions tables next stamps xids numbers s = record {
+  small = record { stamp = rw stamps s.small.stamp; xids = rw xids s.small.xids; numbers = rw numbers s.small.numbers };
+  written = rw actions s.written;
+  narrow = rw tables s.narrow;
+  few = let few = s.few in rw actions (omega (arith, few, next));
+  bare = rw (stamps, xids, numbers) s.bare;
+}
+
+-- ---- a row is written
+
+pub column_texts : (columns : List (ℕ × List ℕ)) → list_all (λ c. is_value c.1) columns ≡ true → AllTexts (map (λ c. c.1) columns)
+column_texts [] all = tt
+column_texts (c ∷ cs) all =
+    let parts = and_parts (is_value c.1) (list_all (λ c. is_value c.1) cs) all in
+    (value_text c.1 parts.0, column_texts cs parts.1)
+
+change_spelled : (change : Change) (width : ℕ) → fits change width ≡ true → width ≤ most_columns → IsChange change → CanSpell change
+change_spelled (Put key row) width fit narrow formed =
+    let same : length (key ∷ row) ≡ width = eqb-true (length (key ∷ row)) width fit in
+    (value_text key formed.0, record { few = omega (arith, same, narrow); each = value_texts row formed.1 })
+change_spelled (Set key columns) width fit narrow formed = (value_text key formed.0, column_texts columns formed.1)
+change_spelled (Remove key) width fit narrow formed = value_text key formed
+
+spelled_written : (task : Task) (xid : ℕ) (table : List ℕ) (change : Change) (p : Place) → IsTask task → MayWrite task p xid table change →
+    is_last Actions p ≡ false → IsSpelled p → IsSpelled (done (Writes xid table change) p)
+spelled_written task xid table change p formed may within s = record {
+  small = record { stamp = raised_spelled.small.stamp; xids = raised_spelled.small.xids; numbers = raised_spelled.small.numbers };
+  written = (
+    record {
+      table = table_name_text table parts.0;
+      change = change_spelled change may.width may.fit (all_found (λ width. width ≤ most_columns) table may.width p.tables s.narrow may.found) parts.1;
+      named = parts.0;
+      formed = parts.1;
+    },
+    raised_spelled.written,
+  );
+  narrow = raised_spelled.narrow;
+  few = omega (arith, raised_spelled.few);
+  bare = raised_spelled.bare;
+}
   where
-    bare_still : cond (own_count xid p == 0) p.stamp (p.stamp + 1) ≡ 0 → (p.xid_ceiling ≡ 1) × (p.number_ceiling ≡ 1)
-    bare_still = elim (own_count xid p == 0) as (λ b. cond b p.stamp (p.stamp + 1) ≡ 0 → (p.xid_ceiling ≡ 1) × (p.number_ceiling ≡ 1)) [
-      | true ↦ s.bare
-      | false ↦ λ none. absurd (omega (arith, none))
-    ]
+    parts : IsTableName table × IsChange change
+    parts = may.formed formed
 
-pub spelled_aborted : (name : List ℕ) (p : Place) → IsSpelled p → IsSpelled (abort_after name p)
-spelled_aborted name p s = record { written = s.written; narrow = s.narrow; few = s.few; bare = s.bare }
+    raised_spelled : IsSpelled (raised Actions p)
+    raised_spelled = spelled_raised Actions p within s
 
-pub spelled_up : (p : Place) → p.next_number ≤ p.number_ceiling → IsSpelled p → IsSpelled (up_after p)
-spelled_up p below s = record { written = s.written; narrow = s.narrow; few = omega (arith, s.few, below); bare = s.bare }
+-- ---- each move
 
-pub spelled_crashed : (p : Place) → IsSpelled p → IsSpelled (crash_after Now p)
-spelled_crashed p s = record { written = s.written; narrow = s.narrow; few = s.few; bare = s.bare }
+spelled_prepared : (move : Move) (p : Place) → is_beyond move p ≡ false → IsSpelled p → IsSpelled (prepared move p)
+spelled_prepared (Begins name) p within s = spelled_raised Xids p within s
+spelled_prepared (Writes xid table change) p within s = spelled_raised Actions p within s
+spelled_prepared Rises p within s = spelled_first p s
+spelled_prepared others p within s = s
 
-pub spelled_fallen : (count : ℕ) (p : Place) → IsSpelled p → IsSpelled (fallen count p)
-spelled_fallen count p s = record { written = s.written; narrow = s.narrow; few = s.few; bare = s.bare }
+spelled_committed : (name : List ℕ) (xid : ℕ) (p : Place) → is_beyond (Commits name xid) p ≡ false → IsSpelled p → IsSpelled (done (Commits name xid) p)
+spelled_committed name xid p within s =
+    elim (own_count xid p == 0) as (λ b. (not b && is_last_stamp p) ≡ false → IsSpelled (record (done (Commits name xid) p) { stamp = cond b p.stamp (p.stamp + 1) })) [
+      | true ↦ λ any. spelled_same p _ refl refl (omega arith) refl refl refl s
+      | false ↦ λ less. spelled_stamped p _ refl refl refl (omega arith) (record { stamp = below_limit (p.stamp + 1) less; xids = s.small.xids; numbers = s.small.numbers }) s
+    ] within
 
-pub spelled_doubted : (stands : Bool) (p : Place) → IsSpelled p → IsSpelled (doubted stands p)
-spelled_doubted stands p s = record { written = s.written; narrow = s.narrow; few = s.few; bare = s.bare }
+spelled_done : (task : Task) (move : Move) (p : Place) → IsTask task → MayMove task p move → Sound p → IsSpelled p → IsSpelled (done move p)
+spelled_done task Stays p formed may sound s = s
+spelled_done task Founds p formed may sound s = spelled_same (first_rows p) (done Founds p) refl refl (omega arith) refl refl refl (spelled_first p s)
+spelled_done task (Tables table columns) p formed may sound s = record {
+  small = record { stamp = below_limit (p.stamp + 1) may.within; xids = s.small.xids; numbers = s.small.numbers };
+  written = s.written;
+  narrow = ((may.allows formed).1, s.narrow);
+  few = s.few;
+  bare = λ none. absurd (omega (arith, none));
+}
+spelled_done task (Begins name) p formed may sound s =
+    spelled_same (raised Xids p) (done (Begins name) p) refl refl (omega arith) refl refl refl (spelled_raised Xids p may.within s)
+spelled_done task (Writes xid table change) p formed may sound s = spelled_written task xid table change p formed may.allows may.within s
+spelled_done task (Commits name xid) p formed may sound s = spelled_committed name xid p may.within s
+spelled_done task (Aborts name) p formed may sound s = spelled_same p (done (Aborts name) p) refl refl (omega arith) refl refl refl s
+spelled_done task Falls p formed may sound s = spelled_same p (done Falls p) refl refl (omega arith) refl refl refl s
+spelled_done task Rises p formed may sound s =
+    spelled_same (prepared Rises p) (done Rises p) refl refl (sound_prepared Rises p sound).numbers_below refl refl refl (spelled_prepared Rises p may.within s)
 
--- ---- each step
-
-pub spelled_prepares : (p q : Place) → Prepares p q → IsSpelled p → IsSpelled q
-spelled_prepares p q (Leaves is) s = subst IsSpelled (sym is) s
-spelled_prepares p q (RaisesXid is) s = subst IsSpelled (sym is) (spelled_xid_raised p s)
-spelled_prepares p q (RaisesNumber is) s = subst IsSpelled (sym is) (spelled_number_raised p s)
-spelled_prepares p q (Founds none is) s = subst IsSpelled (sym is) (spelled_founded p s)
-
-pub spelled_goes : (command : Command) (p q : Place) → IsSpoken command → Goes command p q → Sound p → IsSpelled p → IsSpelled q
-spelled_goes command p q spoken (Stays is) sound s = subst IsSpelled (sym is) s
-spelled_goes command p q spoken (Tables table columns narrow is) sound s = subst IsSpelled (sym is) (spelled_tables table columns p (narrow spoken).1 s)
-spelled_goes command p q spoken (Begins name none is) sound s = subst IsSpelled (sym is) (spelled_begun name (xid_raised p) (spelled_xid_raised p s))
-spelled_goes command p q spoken (Writes name table xid change found free can is) sound s =
-    subst IsSpelled (sym is) (spelled_written xid table change (number_raised p) (can spoken s.narrow).0 (can spoken s.narrow).1 (spelled_number_raised p s))
-spelled_goes command p q spoken (Commits name xid found is) sound s = subst IsSpelled (sym is) (spelled_committed name xid p s)
-spelled_goes command p q spoken (Aborts name is) sound s = subst IsSpelled (sym is) (spelled_aborted name p s)
-spelled_goes command p q spoken (Crashes is) sound s = subst IsSpelled (sym is) (spelled_crashed p s)
-spelled_goes command p q spoken (Comes r prepared is) sound s = subst IsSpelled (sym is) (spelled_up r (sound_prepares p r prepared sound).numbers_below (spelled_prepares p r prepared s))
-
-pub spelled_after : (command : Command) (p : Place) → IsSpoken command → Sound p → IsSpelled p → IsSpelled (place_after command p)
-spelled_after command p spoken sound s = spelled_goes command p (place_after command p) spoken (goes command p) sound s
-
-pub spelled_prepared : (command : Command) (p : Place) → IsSpelled p → IsSpelled (prepared command p)
-spelled_prepared command p s = spelled_prepares p (prepared command p) (prepares command p) s
-
-pub spelled_step : (command : Command) (p q : Place) (result : Result Answered DbFault) → IsSpoken command → PlaceStep command p result q → Sound p → IsSpelled p → IsSpelled q
-spelled_step command p q result spoken (Answers told is) sound s = subst IsSpelled (sym is) (spelled_after command p spoken sound s)
-spelled_step command p q result spoken (Fails count also up rose told is) sound s =
-    subst IsSpelled (sym is) (spelled_fallen count (cond also (prepared command p) p) (either IsSpelled also (prepared command p) p (spelled_prepared command p s) s))
-spelled_step command p q result spoken (Doubts answer stands due stores told is) sound s =
-    subst IsSpelled (sym is) (spelled_doubted stands (cond stands (place_after command p) p) (either IsSpelled stands (place_after command p) p (spelled_after command p spoken sound s) s))
+-- a sound database stays spelled
+pub keeps_spelled : Keeps IsTask (λ p. Sound p × IsSpelled p) (λ p. Sound p × IsSpelled p)
+keeps_spelled = record {
+  stays = λ p s. s;
+  prepares = λ task move p may s. (sound_prepared move p s.0, spelled_prepared move p may.within s.1);
+  moves = λ task move p formed may s. (keeps_sound.moves task move p tt may s.0, spelled_done task move p formed may s.0 s.1);
+  falls = λ count p s. (keeps_sound.falls count p s.0, spelled_same p _ refl refl (omega arith) refl refl refl s.1);
+  wavers = λ stands p s. (keeps_sound.wavers stands p s.0, spelled_same p _ refl refl (omega arith) refl refl refl s.1);
+}

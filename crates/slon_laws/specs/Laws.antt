@@ -4,10 +4,12 @@ use Rattle.std.specs.List.{AllByRecursion}
 use Rattle.slon_model.specs.declared.reply.Answer.{Answer}
 use Rattle.slon_model.specs.declared.reply.Answer.TheVariants.{Opened, Acted}
 use Rattle.slon_model.specs.declared.reply.Reply.{Reply}
-use Rattle.slon_model.specs.declared.reply.Reply.TheVariants.{Accepted, Refused, InDoubt}
-use Rattle.slon_model.specs.Words.{database_word}
+use Rattle.slon_model.specs.declared.reply.Reply.TheVariants.{Accepted}
+use Rattle.slon_model.specs.Names.{find_named}
+use Rattle.slon_model.specs.Tasks.{subject_of, database_named}
 use Rattle.slon_model.specs.Rows.{Action, member, play_rows}
-use Rattle.slon_model.specs.Place.{Place, find_named, open_xids, standing_rows, committed, taken}
+use Rattle.slon_model.specs.Place.{Place, open_xids, standing_rows, taken}
+use Rattle.slon_model.specs.Moves.{committed}
 use Rattle.slon_model.specs.Snapshots.{Covers}
 use Rattle.slon_model.specs.World.{World, start, Happening, Leads}
 use Rattle.slon_laws.specs.Sound.{conflicts, before, Pairs}
@@ -52,38 +54,37 @@ CommitApplies = HoldsOfEach OwnActionsApply
 
 -- The durable ceilings are above all numbers and ids that were drawn, and no snapshot ends above them.
 pub record IsBounded (p : Place) : Type 0 where
-  pub numbers : AllByRecursion (λ a. a.number < p.number_ceiling) p.actions
-  pub xids : AllByRecursion (λ a. a.xid < p.xid_ceiling) p.actions
-  pub commits : AllByRecursion (λ x. x < p.xid_ceiling) p.commits
-  pub opens : AllByRecursion (λ x. x < p.xid_ceiling) (open_xids p)
-  pub snapshot : (taken p).xmax ≤ p.xid_ceiling
+  pub numbers : AllByRecursion (λ a. a.number < p.numbers.ceiling) p.actions
+  pub xids : AllByRecursion (λ a. a.xid < p.xids.ceiling) p.actions
+  pub commits : AllByRecursion (λ x. x < p.xids.ceiling) p.commits
+  pub opens : AllByRecursion (λ x. x < p.xids.ceiling) (open_xids p)
+  pub snapshot : (taken p).xmax ≤ p.xids.ceiling
 
 abbrev pub CeilingsBound : Type 0
 CeilingsBound = HoldsOfEach IsBounded
 
 -- an id or a number that is given is below the ceilings
 abbrev pub IsAnswerBelow : Place → Answer → Type 0
-IsAnswerBelow p (Opened xid) = xid < p.xid_ceiling
-IsAnswerBelow p (Acted number) = number < p.number_ceiling
+IsAnswerBelow p (Opened xid) = xid < p.xids.ceiling
+IsAnswerBelow p (Acted number) = number < p.numbers.ceiling
 IsAnswerBelow p others = Unit {0}
 
 abbrev pub IsReplyBelow : Place → Reply → Type 0
 IsReplyBelow p (Accepted answer) = IsAnswerBelow p answer
-IsReplyBelow p (Refused refusal) = Unit {0}
-IsReplyBelow p (InDoubt database answer) = Unit {0}
+IsReplyBelow p others = Unit {0}
 
 -- Every id and every number that a database gave in a reply is below its ceilings ever after.
 abbrev pub RepliesStayBelow : Type 0
 RepliesStayBelow =
     (limit : ℕ) (history later : List Happening) (h : Happening) (w v : World) → Leads (start limit) (h ∷ history) w → Leads w later v →
-    (p : Place) → find_named (database_word h.command) v.places ≡ Some p → IsReplyBelow p h.reply
+    (p : Place) → find_named (database_named (subject_of h.command)) v.places ≡ Some p → IsReplyBelow p h.reply
 
 -- Every snapshot ends at most at the ceilings ever after.
 abbrev pub SnapshotsStayBelow : Type 0
 SnapshotsStayBelow =
     (limit : ℕ) (history later : List Happening) (w v : World) → Leads (start limit) history w → Leads w later v →
     (name : List ℕ) (p q : Place) → find_named name w.places ≡ Some p → find_named name v.places ≡ Some q →
-    (taken p).xmax ≤ q.xid_ceiling
+    (taken p).xmax ≤ q.xids.ceiling
 
 -- Of two snapshots that are taken in one database, one after the other, the later one sees all that the earlier one sees.
 abbrev pub SnapshotsCover : Type 0

@@ -1,7 +1,7 @@
-pub mod Growth
+pub mod Allowed
+pub mod Keeps
 pub mod Keys
 pub mod Laws
-pub mod Moves
 pub mod Sound
 pub mod Spelled
 pub mod Worlds

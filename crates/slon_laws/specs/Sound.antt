@@ -1,16 +1,15 @@
 -- What holds of every database that is reached by steps.
-use Rattle.std.specs.Prelude.{◌≡◌, ℕ, ◌<◌, ◌≤◌, ◌&&◌, ◌==◌, if◌then◌else◌, Bool, true, false, List, [], ◌∷◌, None}
+use Rattle.std.specs.Prelude.{◌≡◌, ℕ, ◌<◌, ◌≤◌, ◌&&◌, ◌==◌, if◌then◌else◌, Bool, true, false, List, [], ◌∷◌, map, None}
 use Rattle.std.specs.List.{AllByRecursion}
 use Rattle.std.specs.Str.{bytes_eq}
-use Rattle.slon_model.specs.Rows.{Action, Change, Put, Set, Remove, touches, member}
-use Rattle.slon_model.specs.Place.{Place, find_named, open_xids}
+use Rattle.slon_model.specs.Names.{Named, find_named}
+use Rattle.slon_model.specs.Rows.{Action, Change, change_key, touches, member}
+use Rattle.slon_model.specs.Place.{Place, Counter}
 use Rattle.slon_model.specs.Snapshots.{Rising}
 
 -- two changes have a row in common
 abbrev pub meets : Change → Change → Bool
-meets (Put key row) c = touches key c
-meets (Set key columns) c = touches key c
-meets (Remove key) c = touches key c
+meets one other = touches (change_key one) other
 
 -- two actions are on one row
 abbrev pub conflicts : Action → Action → Bool
@@ -34,24 +33,32 @@ before x y (c ∷ cs) = if c == y then member x cs else before x y cs
 abbrev pub IsOrdered : List ℕ → Action → Action → Type 0
 IsOrdered commits a b = conflicts a b ≡ true → (a.xid ≡ b.xid → ⊥) → member a.xid commits ≡ true → member b.xid commits ≡ true → before a.xid b.xid commits ≡ true
 
+-- the ids under these names
+abbrev pub ids_of : Named ℕ → List ℕ
+ids_of os = map (λ o. o.1) os
+
 -- no name stands twice
-abbrev pub AreNamedOnce : List (List ℕ × ℕ) → Type 0
+abbrev pub AreNamedOnce : Named ℕ → Type 0
 AreNamedOnce [] = Unit {0}
 AreNamedOnce (o ∷ os) = (find_named o.0 os ≡ None) × AreNamedOnce os
 
-pub record Sound (p : Place) : Type 0 where
+-- What holds of the actions, the commits, the open transactions and the counters.
+pub record SoundOf (actions : List Action) (commits : List ℕ) (opens : Named ℕ) (xids numbers : Counter) : Type 0 where
   -- ids and numbers are below the next ones, and these at most at the durable ceilings
-  pub known : AllByRecursion (λ a. a.xid < p.next_xid) p.actions
-  pub opened : (x : ℕ) → member x (open_xids p) ≡ true → x < p.next_xid
-  pub ended : (x : ℕ) → member x p.commits ≡ true → x < p.next_xid
-  pub numbers : AllByRecursion (λ a. a.number < p.next_number) p.actions
-  pub xids_below : p.next_xid ≤ p.xid_ceiling
-  pub numbers_below : p.next_number ≤ p.number_ceiling
+  pub known : AllByRecursion (λ a. a.xid < xids.next) actions
+  pub opened : (x : ℕ) → member x (ids_of opens) ≡ true → x < xids.next
+  pub ended : (x : ℕ) → member x commits ≡ true → x < xids.next
+  pub numbered : AllByRecursion (λ a. a.number < numbers.next) actions
+  pub xids_below : xids.next ≤ xids.ceiling
+  pub numbers_below : numbers.next ≤ numbers.ceiling
   -- no transaction is open and committed
-  pub apart : (x : ℕ) → member x (open_xids p) ≡ true → member x p.commits ≡ true → ⊥
-  pub running : Rising (open_xids p)
-  pub named : AreNamedOnce p.opens
+  pub apart : (x : ℕ) → member x (ids_of opens) ≡ true → member x commits ≡ true → ⊥
+  pub running : Rising (ids_of opens)
+  pub named : AreNamedOnce opens
   -- rows are locked, so that committed actions are in order
-  pub locked : Pairs (IsLocked (open_xids p)) p.actions
-  pub ordered : Pairs (IsOrdered p.commits) p.actions
-  pub rising : Pairs (λ a b. a.number < b.number) p.actions
+  pub locked : Pairs (IsLocked (ids_of opens)) actions
+  pub ordered : Pairs (IsOrdered commits) actions
+  pub rising : Pairs (λ a b. a.number < b.number) actions
+
+abbrev pub Sound : Place → Type 0
+Sound p = SoundOf p.actions p.commits p.opens p.xids p.numbers

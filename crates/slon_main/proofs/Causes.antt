@@ -1,9 +1,9 @@
 -- Why a run stops, carried over the calls that it makes.
-use Rattle.std.proofs.Common.{◌≡◌, ◌∙◌, ℕ, ◌≤◌, ◌^◌, ◌-◌, true, Option, Some, None, Result, Ok, Err, sym, ap, subst, inl, inr, arith}
+use Rattle.std.proofs.Common.{◌≡◌, ◌∙◌, ℕ, ◌≤◌, ◌^◌, ◌-◌, true, Option, Some, None, Result, Err, sym, ap, subst, inl, inr, arith}
 use Rattle.slon_base.specs.Counts.{Rose, Within}
 use Rattle.slon_base.specs.Keeper.{Kept, nothing}
 use Rattle.slon_main.specs.declared.run.Stop.{Stop}
-use Rattle.slon_main.specs.declared.run.Stop.TheVariants.{BadLine, Read, Write, NoMemory, NoStore, TooLong}
+use Rattle.slon_main.specs.declared.run.Stop.TheVariants.{Read, Write, NoStore}
 use Rattle.slon_base.specs.Shelf.{Shelved, IsAsPromised}
 use Rattle.slon_main.specs.Running.{Counts, HasCause, NeverFails, Tells}
 
@@ -17,26 +17,24 @@ rose_on old mid new (inl less) later small = inl (omega (arith, later, less))
 rose_on old mid new (inr last) later small = inr (omega (arith, last, later, small))
 
 -- a stop after a call that did not stop
-pub stops_since : {T : Type 0} (result : Result T Stop) (old mid new : Counts) → old.files ≤ mid.files → old.shelf ≤ mid.shelf → old.out ≤ mid.out → HasCause mid new result → HasCause old new result
-stops_since (Ok x) old mid new files shelf out cause = tt
-stops_since (Err (BadLine number)) old mid new files shelf out cause = tt
+pub stops_since : {T : Type 0} (result : Result T Stop) (old mid new : Counts) → old.files ≤ mid.files → old.shelf ≤ mid.shelf → old.out ≤ mid.out →
+    HasCause mid new result → HasCause old new result
 stops_since (Err Read) old mid new files shelf out cause = rose_since old.files mid.files new.files files cause
 stops_since (Err Write) old mid new files shelf out cause = rose_since old.out mid.out new.out out cause
-stops_since (Err NoMemory) old mid new files shelf out cause = tt
 stops_since (Err (NoStore name)) old mid new files shelf out cause = rose_since old.shelf mid.shelf new.shelf shelf cause
-stops_since (Err TooLong) old mid new files shelf out cause = tt
+stops_since others old mid new files shelf out cause = tt
 
 -- the same stop, of another call
-pub stops_as : (T U : Type 0) (old new : Counts) (stop : Stop) (result : Result U Stop) → (y : Stop) × (result ≡ Err y) × (y ≡ stop) → HasCause {T = T} old new (Err stop) → HasCause {T = U} old new result
-stops_as T U old new stop result (y, is, same) cause = subst (λ r. HasCause {T = U} old new r) (sym is) (subst (λ s. HasCause {T = U} old new (Err s)) (sym same) (other stop cause))
+pub stops_as : (T U : Type 0) (old new : Counts) (stop : Stop) (result : Result U Stop) → (y : Stop) × (result ≡ Err y) × (y ≡ stop) →
+    HasCause {T = T} old new (Err stop) → HasCause {T = U} old new result
+stops_as T U old new stop result (y, is, same) cause =
+    subst (λ r. HasCause {T = U} old new r) (sym is) (subst (λ s. HasCause {T = U} old new (Err s)) (sym same) (other stop cause))
   where
     other : (s : Stop) → HasCause {T = T} old new (Err s) → HasCause {T = U} old new (Err s)
-    other (BadLine number) c = tt
     other Read c = c
     other Write c = c
-    other NoMemory c = tt
     other (NoStore name) c = c
-    other TooLong c = tt
+    other others c = tt
 
 -- what holds of a stop holds of the call that hands it on
 pub handed_on : {T : Type 0} (P : Result T Stop → Type 0) {stop : Stop} (result : Result T Stop) → (y : Stop) × (result ≡ Err y) × (y ≡ stop) → P (Err stop) → P result

@@ -71,15 +71,10 @@ read_faults line cluster before behind shelf old new is has rose closes =
 
 -- it is lost, and neither refused for its words nor missing
 abbrev other_ending : Status → Bool
-other_ending Done = false
-other_ending Usage = false
-other_ending BadLine = false
 other_ending ReadFault = true
 other_ending WriteFault = true
 other_ending NoMemory = true
-other_ending NoStore = false
-other_ending Missing = false
-other_ending TooLong = false
+other_ending others = false
 
 read_other : {C : Type 0} (line : List ℕ) (cluster : Option C) (old new : Poured) (is : Status) (has : Option C) → Closes line ReadFault cluster old new is has → other_ending is ≡ true
 read_other line cluster old new is has closes = closed_by (λ s h. other_ending s ≡ true) line ReadFault cluster old new is has refl (λ failed. refl) refl closes
@@ -128,15 +123,10 @@ entered_top words bytes name word old stack holds is same (left, stack_is, holds
 
 -- a fault since an earlier count
 pub fault_since : (status : Status) (old mid new : Counts) → old.files ≤ mid.files → old.shelf ≤ mid.shelf → old.out ≤ mid.out → FaultOnly status mid new → FaultOnly status old new
-fault_since Done old mid new files shelf out only = tt
-fault_since Usage old mid new files shelf out only = tt
-fault_since BadLine old mid new files shelf out only = tt
 fault_since ReadFault old mid new files shelf out only = rose_since old.files mid.files new.files files only
 fault_since WriteFault old mid new files shelf out only = rose_since old.out mid.out new.out out only
-fault_since NoMemory old mid new files shelf out only = tt
 fault_since NoStore old mid new files shelf out only = rose_since old.shelf mid.shelf new.shelf shelf only
-fault_since Missing old mid new files shelf out only = tt
-fault_since TooLong old mid new files shelf out only = tt
+fault_since others old mid new files shelf out only = tt
 
 -- a whole session runs to its end, unless there is no memory
 pub ends_whole : (bytes : List ℕ) (status : Status) (old new : Counts) → is_run status ≡ true → FaultOnly status old new → EndsAt status bytes → IsWhole bytes → NoneRose old new → is_whole status ≡ true

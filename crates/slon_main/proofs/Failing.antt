@@ -1,34 +1,34 @@
 -- The replies that tell of faults are at most as many as the calls of the stores that can fail.
-use Rattle.std.proofs.Common.{◌≡◌, ◌∙◌, ℕ, ◌+◌, ◌≤◌, suc, Bool, true, false, cond, List, [], ◌∷◌, ◌++◌, length, nat_lt, is_some, Option, Some, None, Result, Ok, Err, IfOk, refl, sym, ap, subst, arith}
-use Rattle.std.specs.Prelude.{◌&&◌, not}
+use Rattle.std.proofs.Common.{◌≡◌, ◌∙◌, ℕ, ◌+◌, ◌≤◌, suc, Bool, true, false, cond, List, [], ◌∷◌, ◌++◌, length, is_some, Option, Some, None, Result, Ok, Err, refl, sym, ap, subst, arith}
+use Rattle.std.specs.Prelude.{◌&&◌}
 use Rattle.std.specs.Option.{option_map}
 use Rattle.std.specs.Str.{bytes_eq}
-use Rattle.std.proofs.lemmas.Bool.{true≢false, false≢true}
+use Rattle.std.proofs.lemmas.Bool.{false≢true}
 use Rattle.slon_base.specs.Keeper.{Kept}
 use Rattle.slon_base.specs.Shelf.{Promise, IsAsPromised}
 use Rattle.slon_base.specs.Counts.{Within}
-use Rattle.slon_base.specs.declared.fault.Halt.TheVariants.{Doubt, NoMemory, Fault as HaltFault, BadRow as HaltBadRow, TooBig as HaltTooBig}
+use Rattle.slon_base.specs.declared.fault.Halt.TheVariants.{Doubt, Fault as HaltFault}
 use Rattle.slon_model.specs.declared.fault.DbFault.{DbFault}
-use Rattle.slon_model.specs.declared.fault.DbFault.TheVariants.{Locked, NotEmpty, Down, IsUp, TableExists, NameUsed, NoTable, NoTransaction, Duplicate, BadWidth, Halt}
+use Rattle.slon_model.specs.declared.fault.DbFault.TheVariants.{Halt}
 use Rattle.slon_model.specs.declared.command.Command.{Command}
 use Rattle.slon_model.specs.declared.command.Command.TheVariants.{Database}
-use Rattle.slon_model.specs.declared.reply.Answer.TheVariants.{Done}
 use Rattle.slon_model.specs.declared.reply.Answered.{Answered}
-use Rattle.slon_model.specs.declared.reply.Answered.TheVariants.{Sure, InDoubt as AnsweredInDoubt}
+use Rattle.slon_model.specs.declared.reply.Answered.TheVariants.{InDoubt as AnsweredInDoubt}
 use Rattle.slon_model.specs.declared.reply.Refusal.TheVariants as refused
 use Rattle.slon_model.specs.declared.reply.Reply.{Reply}
-use Rattle.slon_model.specs.declared.reply.Reply.TheVariants.{Accepted, Refused, InDoubt}
-use Rattle.slon_model.specs.Words.{database_word}
-use Rattle.slon_model.specs.Place.{find_named}
-use Rattle.slon_model.specs.World.{Happening, reply_of, is_accepted}
-use Rattle.slon_laws.proofs.Opens.{bytes_same}
+use Rattle.slon_model.specs.declared.reply.Reply.TheVariants.{Refused, InDoubt}
+use Rattle.slon_model.specs.Names.{Named, find_named, put_named}
+use Rattle.slon_model.specs.Tasks.{OnNew, OnOne, Words, words_of}
+use Rattle.slon_model.specs.World.{Happening, reply_of}
+use Rattle.slon_model.proofs.Names.{bytes_same, find-behind, put_found, put_other, one_found}
 use Rattle.app_store.specs.Base.{Base}
-use Rattle.app_store.specs.Goes.{is_sure, is_made}
-use Rattle.app_store.specs.Spending.{IsAtMost, Stays, Spends}
+use Rattle.app_store.specs.Serves.{is_failure, trouble, settled}
+use Rattle.store_rows.specs.Spending.{IsAtMost, Stays, Spends}
 use Rattle.slon_main.specs.Agreed.{Clustered}
-use Rattle.slon_main.specs.Calls.{put_base, grant, Moves, Grants, Misses, Asks, is_sure_reply, Adopts, Rejects, Keeps, making_reply}
+use Rattle.slon_main.specs.Calls.{arms_on, happened, with_base, with_more, Moves, Grants, Misses, Asks, is_sure_reply, Adopts, Rejects, Keeps}
 use Rattle.slon_main.specs.Failing.{tells_of, failures, place_of, IsWithin, Pays}
-use Rattle.slon_main.proofs.Moving.{choice_sure}
+use Rattle.slon_main.proofs.Moving.{IsGranted}
+use Rattle.slon_main.proofs.Telling.{granted_sure}
 
 -- ---- bounds
 
@@ -41,92 +41,40 @@ promised_most : (n : ℕ) (promise : Promise) (kept : Kept) → IsAsPromised pro
 unfolding IsAtMost
 promised_most n promise kept promised is = subst (λ o. Within o kept.can_fail) is promised.left
 
+-- how many were told, and how many can still come
+abbrev Leaves : ℕ → ℕ → Option ℕ → Type 0
+Leaves told n can_fail = (left : ℕ) × (told + left ≤ n) × IsAtMost left can_fail
+
 -- the replies so far and one more
-more_left : (failed : Bool) (told n : ℕ) (old new : Option ℕ) → Stays old new → Spends failed old new → (left : ℕ) × (told + left ≤ n) × IsAtMost left old → (left : ℕ) × (cond failed (told + 1) told + left ≤ n) × IsAtMost left new
+more_left : (failed : Bool) (told n : ℕ) (old new : Option ℕ) → Stays old new → Spends failed old new → Leaves told n old →
+    Leaves (cond failed (told + 1) told) n new
 more_left false told n old new stays spends (left, few, most) = (left, few, stays left most)
-more_left true told n old new stays spends (left, few, most) = let one = one_taken left new (spends refl left most) in (one.0, omega (arith, few, one.1), one.2)
+more_left true told n old new stays spends (left, few, most) =
+    let one = one_taken left new (spends refl left most) in (one.0, omega (arith, few, one.1), one.2)
 
 -- ---- which database a reply tells of
 
-reply_tells : (name : List ℕ) (command : Command) (result : Result Answered DbFault) → tells_of name (reply_of command result) ≡ (not (is_sure result) && bytes_eq name (database_word command))
-reply_tells name command (Ok (Sure answer)) = refl
-reply_tells name command (Ok (AnsweredInDoubt answer)) = refl
-reply_tells name command (Err (Locked xid)) = refl
-reply_tells name command (Err NotEmpty) = refl
-reply_tells name command (Err Down) = refl
-reply_tells name command (Err IsUp) = refl
-reply_tells name command (Err TableExists) = refl
-reply_tells name command (Err NameUsed) = refl
-reply_tells name command (Err NoTable) = refl
-reply_tells name command (Err NoTransaction) = refl
-reply_tells name command (Err Duplicate) = refl
-reply_tells name command (Err (BadWidth columns)) = refl
-reply_tells name command (Err (Halt (HaltFault count))) = refl
-reply_tells name command (Err (Halt Doubt)) = refl
-reply_tells name command (Err (Halt (HaltBadRow space))) = refl
-reply_tells name command (Err (Halt (HaltTooBig space))) = refl
-reply_tells name command (Err (Halt NoMemory)) = refl
-
-making_tells : (name other : List ℕ) (result : Result (Unit {0}) DbFault) → tells_of name (making_reply other result) ≡ (not (is_made result) && bytes_eq name other)
-making_tells name other (Ok u) = refl
-making_tells name other (Err fault) = reply_tells name (Database other) (Err fault)
+reply_tells : (name : List ℕ) (words : Words) (result : Result Answered DbFault) →
+    tells_of name (reply_of words result) ≡ (is_failure (trouble result) && bytes_eq name words.database)
+reply_tells name words (Ok (AnsweredInDoubt answer)) = refl
+reply_tells name words (Err (Halt (HaltFault count))) = refl
+reply_tells name words (Err (Halt Doubt)) = refl
+reply_tells name words others = refl
 
 sure_tells : (name : List ℕ) (reply : Reply) → is_sure_reply reply ≡ true → tells_of name reply ≡ false
-sure_tells name (Accepted answer) is = refl
 sure_tells name (Refused (refused.Fault database count)) is = absurd (false≢true is)
-sure_tells name (Refused (refused.Locked xid)) is = refl
-sure_tells name (Refused (refused.Full limit)) is = refl
-sure_tells name (Refused (refused.BadRow space)) is = refl
-sure_tells name (Refused (refused.NotEmpty database)) is = refl
-sure_tells name (Refused (refused.Down database)) is = refl
-sure_tells name (Refused (refused.NoDatabase database)) is = refl
-sure_tells name (Refused (refused.IsUp database)) is = refl
-sure_tells name (Refused (refused.TooBig space)) is = refl
-sure_tells name (Refused (refused.TableExists table)) is = refl
-sure_tells name (Refused (refused.NameUsed used)) is = refl
-sure_tells name (Refused (refused.NoTable table)) is = refl
-sure_tells name (Refused (refused.NoTransaction transaction)) is = refl
-sure_tells name (Refused refused.Duplicate) is = refl
-sure_tells name (Refused (refused.BadWidth columns)) is = refl
 sure_tells name (InDoubt database answer) is = absurd (false≢true is)
+sure_tells name others is = refl
 
 -- a reply that tells of none changes no count
-untold : (promise : ℕ → Promise) (command : Command) (reply : Reply) (cluster : Clustered) (history : List Happening) → ((name : List ℕ) → tells_of name reply ≡ false) → IsWithin promise history cluster → IsWithin promise (record { command = command; reply = reply } ∷ history) cluster
-untold promise command reply cluster history none w = record {
-  absent = λ name is. ap (λ b. cond b (failures name history + 1) (failures name history)) (none name) ∙ w.absent name is;
-  present = λ name b n found told. subst (λ c. (left : ℕ) × (cond c (failures name history + 1) (failures name history) + left ≤ n) × IsAtMost left b.kept.can_fail) (sym (none name)) (w.present name b n found told);
+untold : (promise : ℕ → Promise) (h : Happening) (cluster : Clustered) (history : List Happening) → is_sure_reply h.reply ≡ true →
+    IsWithin promise history cluster → IsWithin promise (h ∷ history) cluster
+untold promise h cluster history is w = record {
+  absent = λ name none. ap (λ b. cond b (failures name history + 1) (failures name history)) (sure_tells name h.reply is) ∙ w.absent name none;
+  present = λ name b n found told.
+      subst (λ c. Leaves (cond c (failures name history + 1) (failures name history)) n b.kept.can_fail) (sym (sure_tells name h.reply is))
+      (w.present name b n found told);
 }
-
--- ---- a database that obeys
-
-place_put : (name other : List ℕ) (d : Base) (bases : List (List ℕ × Base)) → place_of name (put_base other d bases) ≡ place_of name bases
-place_put name other d [] = refl
-place_put name other d (b ∷ bs) =
-    elim (bytes_eq other b.0) as (λ c. place_of name (cond c ((b.0, d) ∷ bs) (b ∷ put_base other d bs)) ≡ place_of name (b ∷ bs)) [
-      | true ↦ refl
-      | false ↦ ap (λ k. cond (bytes_eq name b.0) 0 (k + 1)) (place_put name other d bs)
-    ]
-
--- another name finds what it found
-put_other : (name other : List ℕ) (d : Base) (bases : List (List ℕ × Base)) → bytes_eq name other ≡ false → find_named name (put_base other d bases) ≡ find_named name bases
-put_other name other d [] differ = refl
-put_other name other d (b ∷ bs) differ =
-    elim (bytes_eq other b.0) as (λ c. bytes_eq other b.0 ≡ c → find_named name (cond c ((b.0, d) ∷ bs) (b ∷ put_base other d bs)) ≡ find_named name (b ∷ bs)) [
-      | true ↦ λ same. let not_here : bytes_eq name b.0 ≡ false = ap (bytes_eq name) (sym (bytes_same other b.0 same)) ∙ differ in
-          ap (λ c. cond c (Some d) (find_named name bs)) not_here ∙ sym (ap (λ c. cond c (Some b.1) (find_named name bs)) not_here)
-      | false ↦ λ not. ap (λ o. cond (bytes_eq name b.0) (Some b.1) o) (put_other name other d bs differ)
-    ] refl
-
-put_here : (name : List ℕ) (b d : Base) (bases : List (List ℕ × Base)) → find_named name bases ≡ Some b → find_named name (put_base name d bases) ≡ Some d
-put_here name b d [] found = absurd cc
-put_here name b d (e ∷ es) found =
-    elim (bytes_eq name e.0) as (λ c. bytes_eq name e.0 ≡ c → cond c (Some e.1) (find_named name es) ≡ Some b → find_named name (cond c ((e.0, d) ∷ es) (e ∷ put_base name d es)) ≡ Some d) [
-      | true ↦ λ same here. ap (λ c. cond c (Some d) (find_named name es)) same
-      | false ↦ λ other later. ap (λ c. cond c (Some e.1) (find_named name (put_base name d es))) other ∙ put_here name b d es later
-    ] refl found
-
-one_base : (b d : Base) → Some b ≡ Some d → b ≡ d
-one_base b d is = cc
 
 and_false : (a : Bool) → (a && false) ≡ false
 and_false true = refl
@@ -136,59 +84,106 @@ and_true : (a : Bool) → (a && true) ≡ a
 and_true true = refl
 and_true false = refl
 
-asks_pays : (promise : ℕ → Promise) (command : Command) (old : Clustered) (b d : Base) (result : Result Answered DbFault) → find_named (database_word command) old.bases ≡ Some b → Stays b.kept.can_fail d.kept.can_fail → Spends (not (is_sure result)) b.kept.can_fail d.kept.can_fail →
-    (history : List Happening) → IsWithin promise history old → IsWithin promise (record { command = command; reply = reply_of command result } ∷ history) (record { limit = old.limit; bases = put_base (database_word command) d old.bases })
-asks_pays promise command old b d result found stays spends history w = record {
-  absent = λ name none. gone name (bytes_eq name (database_word command)) refl none;
-  present = λ name e n is told. here name e n (bytes_eq name (database_word command)) refl is (ap (λ k. (promise k).can_fail) (sym (place_put name (database_word command) d old.bases)) ∙ told);
+-- What a happening tells of the database of a name: of a failure, if it failed; of no other database.
+record TellsOf (name : List ℕ) (h : Happening) (failed : Bool) : Type 0 where
+  tells : (other : List ℕ) → tells_of other h.reply ≡ (failed && bytes_eq other name)
+
+failures_here : (name other : List ℕ) (h : Happening) (failed : Bool) (history : List Happening) → TellsOf name h failed → bytes_eq other name ≡ true →
+    failures other (h ∷ history) ≡ cond failed (failures other history + 1) (failures other history)
+failures_here name other h failed history t same =
+    ap (λ c. cond c (failures other history + 1) (failures other history)) (t.tells other ∙ ap (λ x. failed && x) same ∙ and_true failed)
+
+failures_there : (name other : List ℕ) (h : Happening) (failed : Bool) (history : List Happening) → TellsOf name h failed → bytes_eq other name ≡ false →
+    failures other (h ∷ history) ≡ failures other history
+failures_there name other h failed history t differ =
+    ap (λ c. cond c (failures other history + 1) (failures other history)) (t.tells other ∙ ap (λ x. failed && x) differ ∙ and_false failed)
+
+some_none : {X : Type 0} {Y : Type 0} (x : X) → Some x ≡ None → Y
+some_none x is = absurd cc
+
+-- ---- a database that serves
+
+place_put : (name other : List ℕ) (d : Base) (bases : Named Base) → place_of name (put_named other d bases) ≡ place_of name bases
+place_put name other d [] = refl
+place_put name other d (b ∷ bs) =
+    elim (bytes_eq other b.0) as (λ c. place_of name (cond c ((b.0, d) ∷ bs) (b ∷ put_named other d bs)) ≡ place_of name (b ∷ bs)) [
+      | true ↦ refl
+      | false ↦ ap (λ k. cond (bytes_eq name b.0) 0 (k + 1)) (place_put name other d bs)
+    ]
+
+-- a database that was asked, and what it spends
+record Spent (name : List ℕ) (h : Happening) (c : Clustered) (d : Base) : Type 0 where
+  failed : Bool
+  tells : TellsOf name h failed
+  b : Base
+  found : find_named name c.bases ≡ Some b
+  still : Stays b.kept.can_fail d.kept.can_fail
+  spends : Spends failed b.kept.can_fail d.kept.can_fail
+
+asks_pays : (promise : ℕ → Promise) (name : List ℕ) (h : Happening) (old : Clustered) (d : Base) (history : List Happening) → Spent name h old d →
+    IsWithin promise history old → IsWithin promise (h ∷ history) (with_base name d old)
+asks_pays promise name h old d history s w = record {
+  absent = λ other none. gone other (bytes_eq other name) refl none;
+  present = λ other e n is told. here other e n (bytes_eq other name) refl is (ap (λ k. (promise k).can_fail) (sym (place_put other name d old.bases)) ∙ told);
 }
   where
-    tells : (name : List ℕ) (c : Bool) → bytes_eq name (database_word command) ≡ c → tells_of name (reply_of command result) ≡ (not (is_sure result) && c)
-    tells name c is = reply_tells name command result ∙ ap (λ x. not (is_sure result) && x) is
+    at : (other : List ℕ) → bytes_eq other name ≡ true → find_named other (put_named name d old.bases) ≡ Some d
+    at other same = ap (λ k. find_named k (put_named name d old.bases)) (bytes_same other name same) ∙ put_found name d s.b old.bases s.found
 
-    gone : (name : List ℕ) (c : Bool) → bytes_eq name (database_word command) ≡ c → find_named name (put_base (database_word command) d old.bases) ≡ None → failures name (record { command = command; reply = reply_of command result } ∷ history) ≡ 0
-    gone name true same none = let bad : Some d ≡ None = sym (put_here (database_word command) b d old.bases found) ∙ ap (λ k. find_named k (put_base (database_word command) d old.bases)) (sym (bytes_same name (database_word command) same)) ∙ none in absurd cc
-    gone name false differ none =
-        ap (λ c. cond c (failures name history + 1) (failures name history)) (tells name false differ ∙ and_false (not (is_sure result))) ∙ w.absent name (sym (put_other name (database_word command) d old.bases differ) ∙ none)
+    gone : (other : List ℕ) (c : Bool) → bytes_eq other name ≡ c → find_named other (put_named name d old.bases) ≡ None → failures other (h ∷ history) ≡ 0
+    gone other true same none = some_none d (sym (at other same) ∙ none)
+    gone other false differ none =
+        failures_there name other h s.failed history s.tells differ ∙ w.absent other (sym (put_other other name d old.bases differ) ∙ none)
 
-    here : (name : List ℕ) (e : Base) (n : ℕ) (c : Bool) → bytes_eq name (database_word command) ≡ c → find_named name (put_base (database_word command) d old.bases) ≡ Some e → (promise (place_of name old.bases)).can_fail ≡ Some n →
-        (left : ℕ) × (failures name (record { command = command; reply = reply_of command result } ∷ history) + left ≤ n) × IsAtMost left e.kept.can_fail
-    here name e n true same is told =
-        let at : name ≡ database_word command = bytes_same name (database_word command) same in
-        let it : d ≡ e = one_base d e (sym (put_here (database_word command) b d old.bases found) ∙ ap (λ k. find_named k (put_base (database_word command) d old.bases)) (sym at) ∙ is) in
-        subst (λ k. (left : ℕ) × (failures name (record { command = command; reply = reply_of command result } ∷ history) + left ≤ n) × IsAtMost left k.kept.can_fail) it
-        (subst (λ c. (left : ℕ) × (cond c (failures name history + 1) (failures name history) + left ≤ n) × IsAtMost left d.kept.can_fail) (sym (tells name true same ∙ and_true (not (is_sure result))))
-        (more_left (not (is_sure result)) (failures name history) n b.kept.can_fail d.kept.can_fail stays spends (w.present name b n (ap (λ k. find_named k old.bases) at ∙ found) told)))
-    here name e n false differ is told =
-        subst (λ c. (left : ℕ) × (cond c (failures name history + 1) (failures name history) + left ≤ n) × IsAtMost left e.kept.can_fail) (sym (tells name false differ ∙ and_false (not (is_sure result))))
-        (w.present name e n (sym (put_other name (database_word command) d old.bases differ) ∙ is) told)
+    here : (other : List ℕ) (e : Base) (n : ℕ) (c : Bool) → bytes_eq other name ≡ c → find_named other (put_named name d old.bases) ≡ Some e →
+        (promise (place_of other old.bases)).can_fail ≡ Some n → Leaves (failures other (h ∷ history)) n e.kept.can_fail
+    here other e n true same is told =
+        let it : d ≡ e = one_found d e (sym (at other same) ∙ is) in
+        subst (λ (k : Base). Leaves (failures other (h ∷ history)) n k.kept.can_fail) it
+        (subst (λ told. Leaves told n d.kept.can_fail) (sym (failures_here name other h s.failed history s.tells same))
+        (more_left s.failed (failures other history) n s.b.kept.can_fail d.kept.can_fail s.still s.spends
+        (w.present other s.b n (ap (λ k. find_named k old.bases) (bytes_same other name same) ∙ s.found) told)))
+    here other e n false differ is told =
+        subst (λ told. Leaves told n e.kept.can_fail) (sym (failures_there name other h s.failed history s.tells differ))
+        (w.present other e n (sym (put_other other name d old.bases differ) ∙ is) told)
 
-pub moves_pays : (promise : ℕ → Promise) (command : Command) (old : Clustered) (reply : Reply) (new : Clustered) → Moves command old reply new → Pays promise command old reply new
-moves_pays promise command old reply new (Grants is told same) armless history w =
-    subst (IsWithin promise (record { command = command; reply = reply } ∷ history)) (sym same) (untold promise command reply old history
-    (λ name. sure_tells name reply (ap is_sure_reply told ∙ choice_sure (is_some (find_named (database_word command) old.bases)) (nat_lt (length old.bases) old.limit) (database_word command) old.limit)) w)
-moves_pays promise command old reply new (Misses is none told same) armless history w =
-    subst (IsWithin promise (record { command = command; reply = reply } ∷ history)) (sym same) (untold promise command reply old history (λ name. sure_tells name reply (ap is_sure_reply told)) w)
-moves_pays promise command old reply new (Asks b d result is found obeyed memory told same) armless history w =
-    subst (IsWithin promise (record { command = command; reply = reply } ∷ history)) (sym same) (subst (λ r. IsWithin promise (record { command = command; reply = r } ∷ history) (record { limit = old.limit; bases = put_base (database_word command) d old.bases })) (sym told)
-    (asks_pays promise command old b d result found (obeyed.certain.still armless) obeyed.certain.spends history w))
+pub moves_pays : (promise : ℕ → Promise) (command : Command) (old : Clustered) (reply : Reply) (new : Clustered) → Moves command old reply new →
+    Pays promise command old reply new
+moves_pays promise command old reply new (Grants name about told same) armless choice history w =
+    subst (IsWithin promise (happened command reply choice ∷ history)) (sym same)
+    (untold promise (happened command reply choice) old history (ap is_sure_reply told ∙ granted_sure name old) w)
+moves_pays promise command old reply new (Misses name task about none told same) armless choice history w =
+    subst (IsWithin promise (happened command reply choice ∷ history)) (sym same)
+    (untold promise (happened command reply choice) old history (ap is_sure_reply told) w)
+moves_pays promise command old reply new (Asks name task b d result about found serves memory told same) armless choice history w =
+    subst (IsWithin promise (happened command reply choice ∷ history)) (sym same) (asks_pays promise name (happened command reply choice) old d history (record {
+      failed = is_failure (trouble result);
+      tells = record { tells = λ other. ap (tells_of other) told ∙ reply_tells other (words_of (OnOne name task)) result };
+      b = b;
+      found = found;
+      still = serves.still (sym (ap arms_on about) ∙ armless);
+      spends = serves.spends;
+    }) w)
 
 -- ---- a database that is made
 
-behind_other : (name other : List ℕ) (b : Base) (bases : List (List ℕ × Base)) → bytes_eq name other ≡ false → find_named name (bases ++ (other, b) ∷ []) ≡ find_named name bases
-behind_other name other b [] differ = ap (λ c. cond c (Some b) None) differ
-behind_other name other b (e ∷ es) differ = ap (λ o. cond (bytes_eq name e.0) (Some e.1) o) (behind_other name other b es differ)
+or_none : (o : Option Base) → cond (is_some o) o None ≡ o
+or_none None = refl
+or_none (Some b) = refl
 
-behind_new : (name other : List ℕ) (b : Base) (bases : List (List ℕ × Base)) → bytes_eq name other ≡ true → find_named name bases ≡ None → find_named name (bases ++ (other, b) ∷ []) ≡ Some b
-behind_new name other b [] same none = ap (λ c. cond c (Some b) None) same
-behind_new name other b (e ∷ es) same none =
-    elim (bytes_eq name e.0) as (λ c. cond c (Some e.1) (find_named name es) ≡ None → cond c (Some e.1) (find_named name (es ++ (other, b) ∷ [])) ≡ Some b) [
-      | true ↦ λ found. absurd cc
-      | false ↦ λ absent. behind_new name other b es same absent
-    ] none
+behind_other : (name other : List ℕ) (b : Base) (bases : Named Base) → bytes_eq name other ≡ false →
+    find_named name (bases ++ (other, b) ∷ []) ≡ find_named name bases
+behind_other name other b bases differ =
+    find-behind name other b bases ∙ ap (λ c. cond (is_some (find_named name bases)) (find_named name bases) (cond c (Some b) None)) differ ∙ or_none (find_named name bases)
+
+behind_new : (name other : List ℕ) (b : Base) (bases : Named Base) → bytes_eq name other ≡ true → find_named name bases ≡ None →
+    find_named name (bases ++ (other, b) ∷ []) ≡ Some b
+behind_new name other b bases same none =
+    find-behind name other b bases ∙ ap (λ o. cond (is_some o) o (cond (bytes_eq name other) (Some b) None)) none ∙ ap (λ c. cond c (Some b) None) same
 
 -- its place is behind all others
-place_new : (name other : List ℕ) (b : Base) (bases : List (List ℕ × Base)) → bytes_eq name other ≡ true → find_named name bases ≡ None → place_of name (bases ++ (other, b) ∷ []) ≡ length bases
+place_new : (name other : List ℕ) (b : Base) (bases : Named Base) → bytes_eq name other ≡ true → find_named name bases ≡ None →
+    place_of name (bases ++ (other, b) ∷ []) ≡ length bases
 place_new name other b [] same none = ap (λ c. cond c 0 1) same
 place_new name other b (e ∷ es) same none =
     elim (bytes_eq name e.0) as (λ c. cond c (Some e.1) (find_named name es) ≡ None → cond c 0 (place_of name (es ++ (other, b) ∷ []) + 1) ≡ suc (length es)) [
@@ -196,7 +191,8 @@ place_new name other b (e ∷ es) same none =
       | false ↦ λ absent. let rest = place_new name other b es same absent in omega (arith, rest)
     ] none
 
-place_old : (name other : List ℕ) (b e : Base) (bases : List (List ℕ × Base)) → find_named name bases ≡ Some e → place_of name (bases ++ (other, b) ∷ []) ≡ place_of name bases
+place_old : (name other : List ℕ) (b e : Base) (bases : Named Base) → find_named name bases ≡ Some e →
+    place_of name (bases ++ (other, b) ∷ []) ≡ place_of name bases
 place_old name other b e [] found = absurd cc
 place_old name other b e (x ∷ xs) found =
     elim (bytes_eq name x.0) as (λ c. cond c (Some x.1) (find_named name xs) ≡ Some e → cond c 0 (place_of name (xs ++ (other, b) ∷ []) + 1) ≡ cond c 0 (place_of name xs + 1)) [
@@ -204,64 +200,72 @@ place_old name other b e (x ∷ xs) found =
       | false ↦ λ later. ap (λ k. k + 1) (place_old name other b e xs later)
     ] found
 
-keeps_pays : (promise : ℕ → Promise) (other : List ℕ) (kept : Kept) (old : Clustered) (b : Base) (result : Result (Unit {0}) DbFault) → IsAsPromised (promise (length old.bases)) kept → find_named other old.bases ≡ None → Stays kept.can_fail b.kept.can_fail → Spends (not (is_made result)) kept.can_fail b.kept.can_fail →
-    (history : List Happening) → IsWithin promise history old → IsWithin promise (record { command = Database other; reply = making_reply other result } ∷ history) (record { limit = old.limit; bases = old.bases ++ (other, b) ∷ [] })
-keeps_pays promise other kept old b result promised free stays spends history w = record {
-  absent = λ name none. gone name (bytes_eq name other) refl none;
-  present = λ name e n is told. here name e n (bytes_eq name other) refl is told;
+-- a database that was made over a store as it was promised, under a name that was free, and what its making spends
+record Opened (promise : ℕ → Promise) (name : List ℕ) (h : Happening) (c : Clustered) (b : Base) : Type 0 where
+  failed : Bool
+  tells : TellsOf name h failed
+  free : find_named name c.bases ≡ None
+  kept : Kept
+  promised : IsAsPromised (promise (length c.bases)) kept
+  still : Stays kept.can_fail b.kept.can_fail
+  spends : Spends failed kept.can_fail b.kept.can_fail
+
+keeps_pays : (promise : ℕ → Promise) (name : List ℕ) (h : Happening) (old : Clustered) (b : Base) (history : List Happening) → Opened promise name h old b →
+    IsWithin promise history old → IsWithin promise (h ∷ history) (with_more name b old)
+keeps_pays promise name h old b history s w = record {
+  absent = λ other none. gone other (bytes_eq other name) refl none;
+  present = λ other e n is told. here other e n (bytes_eq other name) refl is told;
 }
   where
-    tells : (name : List ℕ) (c : Bool) → bytes_eq name other ≡ c → tells_of name (making_reply other result) ≡ (not (is_made result) && c)
-    tells name c is = making_tells name other result ∙ ap (λ x. not (is_made result) && x) is
+    unused : (other : List ℕ) → bytes_eq other name ≡ true → find_named other old.bases ≡ None
+    unused other same = ap (λ k. find_named k old.bases) (bytes_same other name same) ∙ s.free
 
-    unused : (name : List ℕ) → bytes_eq name other ≡ true → find_named name old.bases ≡ None
-    unused name same = ap (λ k. find_named k old.bases) (bytes_same name other same) ∙ free
+    gone : (other : List ℕ) (c : Bool) → bytes_eq other name ≡ c → find_named other (old.bases ++ (name, b) ∷ []) ≡ None → failures other (h ∷ history) ≡ 0
+    gone other true same none = some_none b (sym (behind_new other name b old.bases same (unused other same)) ∙ none)
+    gone other false differ none =
+        failures_there name other h s.failed history s.tells differ ∙ w.absent other (sym (behind_other other name b old.bases differ) ∙ none)
 
-    gone : (name : List ℕ) (c : Bool) → bytes_eq name other ≡ c → find_named name (old.bases ++ (other, b) ∷ []) ≡ None → failures name (record { command = Database other; reply = making_reply other result } ∷ history) ≡ 0
-    gone name true same none = let bad : Some b ≡ None = sym (behind_new name other b old.bases same (unused name same)) ∙ none in absurd cc
-    gone name false differ none =
-        ap (λ c. cond c (failures name history + 1) (failures name history)) (tells name false differ ∙ and_false (not (is_made result))) ∙ w.absent name (sym (behind_other name other b old.bases differ) ∙ none)
+    here : (other : List ℕ) (e : Base) (n : ℕ) (c : Bool) → bytes_eq other name ≡ c → find_named other (old.bases ++ (name, b) ∷ []) ≡ Some e →
+        (promise (place_of other (old.bases ++ (name, b) ∷ []))).can_fail ≡ Some n → Leaves (failures other (h ∷ history)) n e.kept.can_fail
+    here other e n true same is told =
+        let it : b ≡ e = one_found b e (sym (behind_new other name b old.bases same (unused other same)) ∙ is) in
+        let bound : (promise (length old.bases)).can_fail ≡ Some n =
+        ap (λ k. (promise k).can_fail) (sym (place_new other name b old.bases same (unused other same))) ∙ told in
+        let none : failures other history ≡ 0 = w.absent other (unused other same) in
+        subst (λ (k : Base). Leaves (failures other (h ∷ history)) n k.kept.can_fail) it
+        (subst (λ told. Leaves told n b.kept.can_fail) (sym (failures_here name other h s.failed history s.tells same))
+        (more_left s.failed (failures other history) n s.kept.can_fail b.kept.can_fail s.still s.spends
+        (n, omega (arith, none), promised_most n (promise (length old.bases)) s.kept s.promised bound)))
+    here other e n false differ is told =
+        let found : find_named other old.bases ≡ Some e = sym (behind_other other name b old.bases differ) ∙ is in
+        subst (λ told. Leaves told n e.kept.can_fail) (sym (failures_there name other h s.failed history s.tells differ))
+        (w.present other e n found (ap (λ k. (promise k).can_fail) (sym (place_old other name b e old.bases found)) ∙ told))
 
-    here : (name : List ℕ) (e : Base) (n : ℕ) (c : Bool) → bytes_eq name other ≡ c → find_named name (old.bases ++ (other, b) ∷ []) ≡ Some e → (promise (place_of name (old.bases ++ (other, b) ∷ []))).can_fail ≡ Some n →
-        (left : ℕ) × (failures name (record { command = Database other; reply = making_reply other result } ∷ history) + left ≤ n) × IsAtMost left e.kept.can_fail
-    here name e n true same is told =
-        let it : b ≡ e = one_base b e (sym (behind_new name other b old.bases same (unused name same)) ∙ is) in
-        let bound : (promise (length old.bases)).can_fail ≡ Some n = ap (λ k. (promise k).can_fail) (sym (place_new name other b old.bases same (unused name same))) ∙ told in
-        let none : failures name history ≡ 0 = w.absent name (unused name same) in
-        subst (λ k. (left : ℕ) × (failures name (record { command = Database other; reply = making_reply other result } ∷ history) + left ≤ n) × IsAtMost left k.kept.can_fail) it
-        (subst (λ c. (left : ℕ) × (cond c (failures name history + 1) (failures name history) + left ≤ n) × IsAtMost left b.kept.can_fail) (sym (tells name true same ∙ and_true (not (is_made result))))
-        (more_left (not (is_made result)) (failures name history) n kept.can_fail b.kept.can_fail stays spends (n, omega (arith, none), promised_most n (promise (length old.bases)) kept promised bound)))
-    here name e n false differ is told =
-        let found : find_named name old.bases ≡ Some e = sym (behind_other name other b old.bases differ) ∙ is in
-        subst (λ c. (left : ℕ) × (cond c (failures name history + 1) (failures name history) + left ≤ n) × IsAtMost left e.kept.can_fail) (sym (tells name false differ ∙ and_false (not (is_made result))))
-        (w.present name e n found (ap (λ k. (promise k).can_fail) (sym (place_old name other b e old.bases found)) ∙ told))
+-- the store is as it was promised, and the name is free
+pub record MayMake (promise : ℕ → Promise) (name : List ℕ) (kept : Kept) (old : Clustered) : Type 0 where
+  pub promised : IsAsPromised (promise (length old.bases)) kept
+  pub free : find_named name old.bases ≡ None
 
-pub adopts_pays : (promise : ℕ → Promise) (name : List ℕ) (kept : Kept) (old : Clustered) (reply : Reply) (new : Clustered) → IsAsPromised (promise (length old.bases)) kept → find_named name old.bases ≡ None → Adopts name kept old reply new → Pays promise (Database name) old reply new
-adopts_pays promise name kept old reply new promised free (Rejects b made told same) armless history w =
-    subst (IsWithin promise (record { command = Database name; reply = reply } ∷ history)) (sym same) (untold promise (Database name) reply old history (λ other. sure_tells other reply (ap is_sure_reply told)) w)
-adopts_pays promise name kept old reply new promised free (Keeps b result made memory kept_it told same) armless history w =
-    subst (IsWithin promise (record { command = Database name; reply = reply } ∷ history)) (sym same) (subst (λ r. IsWithin promise (record { command = Database name; reply = r } ∷ history) (record { limit = old.limit; bases = old.bases ++ (name, b) ∷ [] })) (sym told)
-    (keeps_pays promise name kept old b result promised free made.still made.spends history w))
+pub adopts_pays : (promise : ℕ → Promise) (name : List ℕ) (kept : Kept) (old : Clustered) (reply : Reply) (new : Clustered) →
+    MayMake promise name kept old → Adopts name kept old reply new → Pays promise (Database name) old reply new
+adopts_pays promise name kept old reply new may (Rejects b made told same) armless choice history w =
+    subst (IsWithin promise (happened (Database name) reply choice ∷ history)) (sym same)
+    (untold promise (happened (Database name) reply choice) old history (ap is_sure_reply told) w)
+adopts_pays promise name kept old reply new may (Keeps b result made memory kept_it told same) armless choice history w =
+    subst (IsWithin promise (happened (Database name) reply choice ∷ history)) (sym same) (keeps_pays promise name (happened (Database name) reply choice) old b history (record {
+      failed = is_failure (trouble (settled result));
+      tells = record { tells = λ other. ap (tells_of other) told ∙ reply_tells other (words_of (OnNew name)) (settled result) };
+      free = may.free;
+      kept = kept;
+      promised = may.promised;
+      still = made.founds.still;
+      spends = made.founds.spends;
+    }) w)
 
--- ---- a database that is granted
+-- a database that was granted and is made
+pub granted_free : (name : List ℕ) (old mid : Clustered) → IsGranted name old mid → find_named name mid.bases ≡ None
+granted_free name old mid was = ap (λ (c : Clustered). find_named name c.bases) was.same ∙ was.free
 
-granted_free : (name : List ℕ) (old : Clustered) → is_accepted (grant name old) ≡ true → find_named name old.bases ≡ None
-granted_free name old = by (find_named name old.bases) refl
-  where
-    by : (o : Option Base) → find_named name old.bases ≡ o → is_accepted (grant name old) ≡ true → find_named name old.bases ≡ None
-    by None is accepted = is
-    by (Some b) is accepted = absurd (false≢true (sym (ap (λ o. is_accepted (cond (is_some o) (Refused (refused.NameUsed name)) (cond (nat_lt (length old.bases) old.limit) (Accepted Done) (Refused (refused.Full old.limit))))) is) ∙ accepted))
-
--- what is granted leaves all as it was, and the name is free
-pub granted : (name : List ℕ) (old : Clustered) (reply : Reply) (new : Clustered) → Moves (Database name) old reply new → is_accepted reply ≡ true → (new ≡ old) × (find_named name old.bases ≡ None)
-granted name old reply new (Grants is told same) accepted = (same, granted_free name old (ap is_accepted (sym told) ∙ accepted))
-granted name old reply new (Misses is none told same) accepted = absurd (true≢false is)
-granted name old reply new (Asks b d result is found obeyed memory told same) accepted = absurd (true≢false is)
-
-pub made_pays : {E : Type 0} (promise : ℕ → Promise) (command : Command) (name copied : List ℕ) (old mid new : Clustered) (first : Reply) (result : Result Reply E) → command ≡ Database name → copied ≡ name → Moves command old first mid → is_accepted first ≡ true →
-    (find_named copied mid.bases ≡ None → IfOk result (λ reply. Pays promise (Database copied) mid reply new)) → IfOk result (λ reply. Pays promise command old reply new)
-made_pays promise command name copied old mid new first (Err e) is same moves accepted pays = tt
-made_pays promise command name copied old mid new first (Ok reply) is same moves accepted pays = λ armless history w.
-    let was = granted name old first mid (subst (λ c. Moves c old first mid) is moves) accepted in
-    subst (λ c. IsWithin promise (record { command = c; reply = reply } ∷ history) new) (ap Database same ∙ sym is)
-    (pays (ap (λ (c : Clustered). find_named copied c.bases) was.0 ∙ ap (λ k. find_named k old.bases) same ∙ was.1) refl history (subst (IsWithin promise history) (sym was.0) w))
+pub made_pays : (promise : ℕ → Promise) (name : List ℕ) (old mid : Clustered) (reply : Reply) (new : Clustered) → IsGranted name old mid →
+    Pays promise (Database name) mid reply new → Pays promise (Database name) old reply new
+made_pays promise name old mid reply new was pays = subst (λ c. Pays promise (Database name) c reply new) was.same pays

@@ -1,9 +1,10 @@
-pub mod Bounds
 pub mod Causes
+pub mod Certain
 pub mod Ends
 pub mod Failing
 pub mod Lifting
 pub mod Moving
-pub mod Quiet
 pub mod Places
 pub mod Runs
+pub mod Stepping
+pub mod Telling

@@ -1,16 +1,15 @@
 -- A call on one database, lifted to the databases of a session.
 use Rattle.std.proofs.Common.{◌≡◌, ◌∙◌, ℕ, zero, suc, ◌<◌, ◌≤◌, Bool, true, false, cond, List, [], ◌∷◌, ◌++◌, length, map, get_or, set, is_some, Option, Some, None, refl, sym, ap, subst, true≢false, arith}
-use Rattle.std.specs.List.{position, position_or_len, AllByRecursion}
+use Rattle.std.specs.List.{position, position_or_len}
 use Rattle.std.specs.Str.{bytes_eq}
 use Rattle.std.proofs.lemmas.List.Quantifiers.{position-Some}
 use Rattle.std.proofs.lemmas.List.Sums.{fails_before_first}
 use Rattle.std.proofs.lemmas.Grind.{common_steps}
-use Rattle.slon_model.specs.Place.{Place, find_named}
-use Rattle.slon_model.specs.World.{put_place}
+use Rattle.slon_model.specs.Names.{Named, find_named, put_named}
+use Rattle.slon_model.specs.Place.{Place}
 use Rattle.app_store.specs.Base.{Base}
 use Rattle.app_store.specs.Fits.{Fits}
 use Rattle.slon_main.specs.Agreed.{FitsAll}
-use Rattle.slon_main.specs.Calls.{put_base}
 
 -- ---- an index and a name
 
@@ -22,103 +21,126 @@ found_later : (b : Bool) (x : Base) (others : Option Base) (y : Base) → b ≡ 
 found_later false x others y is at = at
 found_later true x others y is at = absurd (true≢false is)
 
-put_here : (b : Bool) (name : List ℕ) (y : List ℕ × Base) (bs others : List (List ℕ × Base)) → b ≡ true → y.0 ≡ name → y ∷ bs ≡ cond b ((name, y.1) ∷ bs) others
+put_here : (b : Bool) (name : List ℕ) (y : List ℕ × Base) (bs others : Named Base) → b ≡ true → y.0 ≡ name → y ∷ bs ≡ cond b ((name, y.1) ∷ bs) others
 put_here true name y bs others is same = ap (λ n. (n, y.1) ∷ bs) same
 put_here false name y bs others is same = absurd (true≢false (sym is))
 
-put_later : (b : Bool) (first others expected : List (List ℕ × Base)) → b ≡ false → others ≡ expected → others ≡ cond b first expected
+put_later : (b : Bool) (first others expected : Named Base) → b ≡ false → others ≡ expected → others ≡ cond b first expected
 put_later false first others expected is same = same
 put_later true first others expected is same = absurd (true≢false is)
 
--- the element of the first index is what the name finds
-find_at : {X : Type 0} (f : X → List ℕ × Base) (name : List ℕ) (d : X) (items : List X) (i : ℕ) → i < length items → bytes_eq name (f (get_or items i d)).0 ≡ true → ((k : ℕ) → k < i → bytes_eq name (f (get_or items k d)).0 ≡ false)
-    → find_named name (map f items) ≡ Some (f (get_or items i d)).1
-find_at f name d [] i inside is before = absurd (omega (arith, inside))
-find_at f name d (x ∷ xs) zero inside is before = found_here (bytes_eq name (f x).0) (f x).1 (find_named name (map f xs)) is
-find_at f name d (x ∷ xs) (suc i) inside is before =
-    found_later (bytes_eq name (f x).0) (f x).1 (find_named name (map f xs)) (f (get_or xs i d)).1 (before 0 (omega arith))
-    (find_at f name d xs i (omega (arith, inside)) is (λ k less. before (suc k) (omega (arith, less))))
+-- the element of this index is the first one of the name
+record IsFirst {X : Type 0} (f : X → List ℕ × Base) (name : List ℕ) (d : X) (items : List X) (i : ℕ) : Type 0 where
+  inside : i < length items
+  named : bytes_eq name (f (get_or items i d)).0 ≡ true
+  before : (k : ℕ) → k < i → bytes_eq name (f (get_or items k d)).0 ≡ false
+
+first_later : {X : Type 0} (f : X → List ℕ × Base) (name : List ℕ) (d x : X) (xs : List X) (i : ℕ) →
+    IsFirst f name d (x ∷ xs) (suc i) → IsFirst f name d xs i
+first_later f name d x xs i first =
+    record { inside = omega (arith, first.inside); named = first.named; before = λ k less. first.before (suc k) (omega (arith, less)) }
+
+-- it is what the name finds
+find_at : {X : Type 0} (f : X → List ℕ × Base) (name : List ℕ) (d : X) (items : List X) (i : ℕ) → IsFirst f name d items i →
+    find_named name (map f items) ≡ Some (f (get_or items i d)).1
+find_at f name d [] i first = absurd (omega (arith, first.inside))
+find_at f name d (x ∷ xs) zero first = found_here (bytes_eq name (f x).0) (f x).1 (find_named name (map f xs)) first.named
+find_at f name d (x ∷ xs) (suc i) first =
+    found_later (bytes_eq name (f x).0) (f x).1 (find_named name (map f xs)) (f (get_or xs i d)).1 (first.before 0 (omega arith))
+    (find_at f name d xs i (first_later f name d x xs i first))
 
 -- and setting it is putting another under the name
-put_at : {X : Type 0} (f : X → List ℕ × Base) (name : List ℕ) (d y : X) (items : List X) (i : ℕ) → i < length items → bytes_eq name (f (get_or items i d)).0 ≡ true → ((k : ℕ) → k < i → bytes_eq name (f (get_or items k d)).0 ≡ false) → (f y).0 ≡ (f (get_or items i d)).0
-    → map f (set items i y) ≡ put_base name (f y).1 (map f items)
-put_at f name d y [] i inside is before same = absurd (omega (arith, inside))
-put_at f name d y (x ∷ xs) zero inside is before same = put_here (bytes_eq name (f x).0) (f x).0 (f y) (map f xs) (f x ∷ put_base name (f y).1 (map f xs)) is same
-put_at f name d y (x ∷ xs) (suc i) inside is before same =
-    put_later (bytes_eq name (f x).0) (((f x).0, (f y).1) ∷ map f xs) (f x ∷ map f (set xs i y)) (f x ∷ put_base name (f y).1 (map f xs)) (before 0 (omega arith))
-    (ap (λ bs. f x ∷ bs) (put_at f name d y xs i (omega (arith, inside)) is (λ k less. before (suc k) (omega (arith, less))) same))
+put_at : {X : Type 0} (f : X → List ℕ × Base) (name : List ℕ) (d y : X) (items : List X) (i : ℕ) → IsFirst f name d items i →
+    (f y).0 ≡ (f (get_or items i d)).0 → map f (set items i y) ≡ put_named name (f y).1 (map f items)
+put_at f name d y [] i first same = absurd (omega (arith, first.inside))
+put_at f name d y (x ∷ xs) zero first same =
+    put_here (bytes_eq name (f x).0) (f x).0 (f y) (map f xs) (f x ∷ put_named name (f y).1 (map f xs)) first.named same
+put_at f name d y (x ∷ xs) (suc i) first same =
+    put_later (bytes_eq name (f x).0) (((f x).0, (f y).1) ∷ map f xs) (f x ∷ map f (set xs i y)) (f x ∷ put_named name (f y).1 (map f xs))
+    (first.before 0 (omega arith)) (ap (λ bs. f x ∷ bs) (put_at f name d y xs i (first_later f name d x xs i first) same))
 
-pub find_position : {X : Type 0} (f : X → List ℕ × Base) (name : List ℕ) (items : List X) (i : ℕ) (x : X) → position (λ x. bytes_eq name (f x).0) items ≡ Some i → x ≡ get_or items i x → find_named name (map f items) ≡ Some (f x).1
-find_position f name items i x at held =
-    let first = position-Some (λ x. bytes_eq name (f x).0) items i x at in
-    find_at f name x items i first.0 first.1 first.2 ∙ ap (λ z. Some (f z).1) (sym held)
+-- an element at the first index of a name
+pub record IsAt {X : Type 0} (f : X → List ℕ × Base) (name : List ℕ) (items : List X) (i : ℕ) (x : X) : Type 0 where
+  pub at : position (λ x. bytes_eq name (f x).0) items ≡ Some i
+  pub held : x ≡ get_or items i x
 
-pub put_position : {X : Type 0} (f : X → List ℕ × Base) (name : List ℕ) (items : List X) (i : ℕ) (x y : X) → position (λ x. bytes_eq name (f x).0) items ≡ Some i → x ≡ get_or items i x → (f y).0 ≡ (f x).0
-    → map f (set items i y) ≡ put_base name (f y).1 (map f items)
-put_position f name items i x y at held same =
-    let first = position-Some (λ x. bytes_eq name (f x).0) items i x at in
-    put_at f name x y items i first.0 first.1 first.2 (same ∙ ap (λ z. (f z).0) held)
+is_first : {X : Type 0} (f : X → List ℕ × Base) (name : List ℕ) (d : X) (items : List X) (i : ℕ) →
+    position (λ x. bytes_eq name (f x).0) items ≡ Some i → IsFirst f name d items i
+is_first f name d items i at =
+    let first = position-Some (λ x. bytes_eq name (f x).0) items i d at in record { inside = first.0; named = first.1; before = first.2 }
+
+pub find_position : {X : Type 0} (f : X → List ℕ × Base) (name : List ℕ) (items : List X) (i : ℕ) (x : X) → IsAt f name items i x →
+    find_named name (map f items) ≡ Some (f x).1
+find_position f name items i x is =
+    find_at f name x items i (is_first f name x items i is.at) ∙ ap (λ z. Some (f z).1) (sym is.held)
+
+pub put_position : {X : Type 0} (f : X → List ℕ × Base) (name : List ℕ) (items : List X) (i : ℕ) (x y : X) → IsAt f name items i x →
+    (f y).0 ≡ (f x).0 → map f (set items i y) ≡ put_named name (f y).1 (map f items)
+put_position f name items i x y is same =
+    put_at f name x y items i (is_first f name x items i is.at) (same ∙ ap (λ z. (f z).0) is.held)
 
 none_passes : {X : Type 0} (p : X → Bool) (xs : List X) (d : X) → position p xs ≡ None → (k : ℕ) → k < length xs → p (get_or xs k d) ≡ false
 none_passes p xs d none k less =
     let outside : length xs ≤ position_or_len p xs = grind (arith, common_steps) in
     fails_before_first p xs k d (omega (arith, outside, less))
 
-find_none : {X : Type 0} (f : X → List ℕ × Base) (name : List ℕ) (d : X) (items : List X) → ((k : ℕ) → k < length items → bytes_eq name (f (get_or items k d)).0 ≡ false) → find_named name (map f items) ≡ None
+find_none : {X : Type 0} (f : X → List ℕ × Base) (name : List ℕ) (d : X) (items : List X) →
+    ((k : ℕ) → k < length items → bytes_eq name (f (get_or items k d)).0 ≡ false) → find_named name (map f items) ≡ None
 find_none f name d [] all = refl
 find_none f name d (x ∷ xs) all = rw (all 0 (omega arith)) (find_none f name d xs (λ k less. all (suc k) (omega (arith, less))))
 
-pub find_missing : {X : Type 0} (f : X → List ℕ × Base) (name : List ℕ) (items : List X) → position (λ x. bytes_eq name (f x).0) items ≡ None → find_named name (map f items) ≡ None
+pub find_missing : {X : Type 0} (f : X → List ℕ × Base) (name : List ℕ) (items : List X) → position (λ x. bytes_eq name (f x).0) items ≡ None →
+    find_named name (map f items) ≡ None
 find_missing f name [] none = refl
-find_missing f name (x ∷ xs) none = find_none f name x (x ∷ xs) (none_passes (λ y. bytes_eq name (f y).0) (x ∷ xs) x none)
+find_missing f name (x ∷ xs) none =
+    find_none f name x (x ∷ xs) (none_passes (λ y. bytes_eq name (f y).0) (x ∷ xs) x none)
 
 -- whether there is one
-pub find_some : {X : Type 0} (f : X → List ℕ × Base) (name : List ℕ) (items : List X) → is_some (find_named name (map f items)) ≡ is_some (position (λ x. bytes_eq name (f x).0) items)
+pub find_some : {X : Type 0} (f : X → List ℕ × Base) (name : List ℕ) (items : List X) →
+    is_some (find_named name (map f items)) ≡ is_some (position (λ x. bytes_eq name (f x).0) items)
 find_some f name [] = refl
 find_some f name (y ∷ ys) = by_case (position (λ x. bytes_eq name (f x).0) (y ∷ ys)) refl
   where
     by_case : (found : Option ℕ) → position (λ x. bytes_eq name (f x).0) (y ∷ ys) ≡ found → is_some (find_named name (map f (y ∷ ys))) ≡ is_some found
     by_case None is = ap is_some (find_missing f name (y ∷ ys) is)
-    by_case (Some i) is =
-        let first = position-Some (λ x. bytes_eq name (f x).0) (y ∷ ys) i y is in
-        ap is_some (find_at f name y (y ∷ ys) i first.0 first.1 first.2)
+    by_case (Some i) is = ap is_some (find_at f name y (y ∷ ys) i (is_first f name y (y ∷ ys) i is))
 
 -- ---- names and databases that agree
 
 -- the place under a name that has a database
-pub record Fitting (name : List ℕ) (places : List (List ℕ × Place)) (bases : List (List ℕ × Base)) (b : Base) : Type 0 where
+pub record Fitting (name : List ℕ) (places : Named Place) (bases : Named Base) (b : Base) : Type 0 where
   pub place : Place
   pub found : find_named name places ≡ Some place
   pub fits : Fits place b
-  pub puts : (q : Place) (d : Base) → Fits q d → FitsAll (put_place name q places) (put_base name d bases)
+  pub puts : (q : Place) (d : Base) → Fits q d → FitsAll (put_named name q places) (put_named name d bases)
 
-pub fitting : (name : List ℕ) (b : Base) (places : List (List ℕ × Place)) (bases : List (List ℕ × Base)) → FitsAll places bases → find_named name bases ≡ Some b → Fitting name places bases b
+pub fitting : (name : List ℕ) (b : Base) (places : Named Place) (bases : Named Base) → FitsAll places bases → find_named name bases ≡ Some b → Fitting name places bases b
 fitting name b [] [] all found = absurd cc
 fitting name b [] (e ∷ es) all found = absurd all
 fitting name b (p ∷ ps) [] all found = absurd all
-fitting name b (p ∷ ps) (e ∷ es) all found = go (bytes_eq name e.0) (bytes_eq name p.0) (ap (bytes_eq name) all.0) refl refl (fitting name b ps es all.2) found
+fitting name b (p ∷ ps) (e ∷ es) all found = go (bytes_eq name e.0) (bytes_eq name p.0) (ap (bytes_eq name) all.0) refl (fitting name b ps es all.2) found
   where
-    go : (c d : Bool) → d ≡ c → bytes_eq name e.0 ≡ c → bytes_eq name p.0 ≡ d → (find_named name es ≡ Some b → Fitting name ps es b) → cond c (Some e.1) (find_named name es) ≡ Some b → Fitting name (p ∷ ps) (e ∷ es) b
-    go true true same here there others at =
+    go : (c d : Bool) → d ≡ c → bytes_eq name p.0 ≡ d → (find_named name es ≡ Some b → Fitting name ps es b) → cond c (Some e.1) (find_named name es) ≡ Some b → Fitting name (p ∷ ps) (e ∷ es) b
+    go true true same there others at =
         let is : e.1 ≡ b = cc in
         record {
           place = p.1;
           found = rw there refl;
           fits = subst (Fits p.1) is all.1;
-          puts = λ q d fit. rw (here, there) (all.0, fit, all.2);
+          puts = λ q d fit. rw (sym (ap (bytes_eq name) all.0) ∙ there, there) (all.0, fit, all.2);
         }
-    go false false same here there others at =
+    go false false same there others at =
         let rest = others at in
         record {
           place = rest.place;
           found = rw there rest.found;
           fits = rest.fits;
-          puts = λ q d fit. rw (here, there) (all.0, all.1, rest.puts q d fit);
+          puts = λ q d fit. rw (sym (ap (bytes_eq name) all.0) ∙ there, there) (all.0, all.1, rest.puts q d fit);
         }
-    go true false same here there others at = absurd (true≢false (sym same))
-    go false true same here there others at = absurd (true≢false same)
+    go true false same there others at = absurd (true≢false (sym same))
+    go false true same there others at = absurd (true≢false same)
 
-pub missing_fits : (name : List ℕ) (places : List (List ℕ × Place)) (bases : List (List ℕ × Base)) → FitsAll places bases → find_named name bases ≡ None → find_named name places ≡ None
+pub missing_fits : (name : List ℕ) (places : Named Place) (bases : Named Base) → FitsAll places bases → find_named name bases ≡ None → find_named name places ≡ None
 missing_fits name [] [] all none = refl
 missing_fits name [] (e ∷ es) all none = absurd all
 missing_fits name (p ∷ ps) [] all none = absurd all
@@ -130,52 +152,22 @@ missing_fits name (p ∷ ps) (e ∷ es) all none = go (bytes_eq name e.0) (bytes
     go true false same there others at = absurd (true≢false (sym same))
     go false true same there others at = absurd (true≢false same)
 
-pub same_some : (name : List ℕ) (places : List (List ℕ × Place)) (bases : List (List ℕ × Base)) → FitsAll places bases → is_some (find_named name places) ≡ is_some (find_named name bases)
+pub same_some : (name : List ℕ) (places : Named Place) (bases : Named Base) → FitsAll places bases → is_some (find_named name places) ≡ is_some (find_named name bases)
 same_some name places bases all = by_case (find_named name bases) refl
   where
     by_case : (found : Option Base) → find_named name bases ≡ found → is_some (find_named name places) ≡ is_some found
     by_case None is = ap is_some (missing_fits name places bases all is)
     by_case (Some b) is = ap is_some (fitting name b places bases all is).found
 
-pub same_length : (places : List (List ℕ × Place)) (bases : List (List ℕ × Base)) → FitsAll places bases → length places ≡ length bases
+pub same_length : (places : Named Place) (bases : Named Base) → FitsAll places bases → length places ≡ length bases
 same_length [] [] all = refl
 same_length [] (e ∷ es) all = absurd all
 same_length (p ∷ ps) [] all = absurd all
 same_length (p ∷ ps) (e ∷ es) all = ap suc (same_length ps es all.2)
 
 -- a new database behind the others
-pub fits_more : (name : List ℕ) (p : Place) (b : Base) (places : List (List ℕ × Place)) (bases : List (List ℕ × Base)) → FitsAll places bases → Fits p b → FitsAll (places ++ (name, p) ∷ []) (bases ++ (name, b) ∷ [])
+pub fits_more : (name : List ℕ) (p : Place) (b : Base) (places : Named Place) (bases : Named Base) → FitsAll places bases → Fits p b → FitsAll (places ++ (name, p) ∷ []) (bases ++ (name, b) ∷ [])
 fits_more name p b [] [] all here = (refl, here, tt)
 fits_more name p b [] (e ∷ es) all here = absurd all
 fits_more name p b (q ∷ qs) [] all here = absurd all
 fits_more name p b (q ∷ qs) (e ∷ es) all here = (all.0, all.1, fits_more name p b qs es all.2 here)
-
--- what is put under a name is found there
-pub find_put : (name : List ℕ) (b d : Base) (bases : List (List ℕ × Base)) → find_named name bases ≡ Some b → find_named name (put_base name d bases) ≡ Some d
-find_put name b d [] found = absurd cc
-find_put name b d (e ∷ es) found = go (bytes_eq name e.0) refl (find_put name b d es) found
-  where
-    go : (c : Bool) → bytes_eq name e.0 ≡ c → (find_named name es ≡ Some b → find_named name (put_base name d es) ≡ Some d) → cond c (Some e.1) (find_named name es) ≡ Some b → find_named name (put_base name d (e ∷ es)) ≡ Some d
-    go true here others at = rw (here, here) refl
-    go false here others at = rw (here, here) (others at)
-
--- what holds of all holds of the one that is found, and stays where it holds of what is put
-pub all_bases_found : (P : List ℕ × Base → Type 0) (Q : Base → Type 0) → ((e : List ℕ × Base) → P e → Q e.1) → (name : List ℕ) (b : Base) (bases : List (List ℕ × Base)) → AllByRecursion P bases → find_named name bases ≡ Some b → Q b
-all_bases_found P Q from name b [] all found = absurd cc
-all_bases_found P Q from name b (e ∷ es) all found =
-    elim (bytes_eq name e.0) as (λ c. cond c (Some e.1) (find_named name es) ≡ Some b → Q b) [
-      | true ↦ λ here. let same : e.1 ≡ b = cc in subst Q same (from e all.0)
-      | false ↦ λ later. all_bases_found P Q from name b es all.1 later
-    ] found
-
-pub all_bases_put : (Q : Base → Type 0) (name : List ℕ) (d : Base) (bases : List (List ℕ × Base)) → Q d → AllByRecursion (λ e. Q e.1) bases → AllByRecursion (λ e. Q e.1) (put_base name d bases)
-all_bases_put Q name d [] is all = tt
-all_bases_put Q name d (e ∷ es) is all =
-    elim (bytes_eq name e.0) as (λ c. AllByRecursion (λ e. Q e.1) (cond c ((e.0, d) ∷ es) (e ∷ put_base name d es))) [
-      | true ↦ (is, all.1)
-      | false ↦ (all.0, all_bases_put Q name d es is all.1)
-    ]
-
-pub all_bases_more : (Q : Base → Type 0) (name : List ℕ) (d : Base) (bases : List (List ℕ × Base)) → Q d → AllByRecursion (λ e. Q e.1) bases → AllByRecursion (λ e. Q e.1) (bases ++ (name, d) ∷ [])
-all_bases_more Q name d [] is all = (is, tt)
-all_bases_more Q name d (e ∷ es) is all = (all.0, all_bases_more Q name d es is all.1)

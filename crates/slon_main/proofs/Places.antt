@@ -9,7 +9,7 @@ use Rattle.session_text.specs.Reading.{Reading, line_limit, line_size, session_l
 use Rattle.session_text.specs.Handing.{Comes, Hands}
 use Rattle.session_text.specs.declared.line_reader.NextLine.TheVariants.{Line}
 use Rattle.slon_main.specs.declared.run.Stop.{Stop}
-use Rattle.slon_main.specs.declared.run.Stop.TheVariants.{BadLine, Read, Write, NoMemory, NoStore, TooLong}
+use Rattle.slon_main.specs.declared.run.Stop.TheVariants.{BadLine, Read, TooLong}
 use Rattle.slon_main.specs.Running.{ReadsLine, BadOnly, end_of, counted, IsTooLong, StopsAt, LongOnly}
 
 -- ---- the ends of lines
@@ -132,22 +132,17 @@ pub stops_reading : (bytes : List ℕ) (number : ℕ) (line : List ℕ) (old new
 stops_reading bytes number line old new before files came (BadLine bad) (is, short, whole, more, long, first) =
     let stop = bad_here bytes whole more number old before came first (too_long_is_bad whole long) in
     (stop ∙ ap Some (sym is), counts_to bytes (Some number) stop (omega (arith, number_end bytes number old before came, short)))
-stops_reading bytes number line old new before files came Read reads = tt
-stops_reading bytes number line old new before files came Write reads = tt
-stops_reading bytes number line old new before files came NoMemory reads = tt
-stops_reading bytes number line old new before files came (NoStore name) reads = tt
 stops_reading bytes number line old new before files came TooLong reads =
     long_here bytes number old before came (omega (arith, number_end bytes number old before came, reads)) (session_of bytes).stop refl
+stops_reading bytes number line old new before files came others reads = tt
 
 pub stops_running : (bytes : List ℕ) (number : ℕ) (line : List ℕ) (old new : Reading) (before files : Filed) → (came : Came bytes number old before) → Hands line came.rest old new files Line → new.taken ≤ session_limit → (stop : Stop) → BadOnly number (meaning line) (Err stop) → StopsAt bytes (Err stop)
 stops_running bytes number line old new before files came hands short (BadLine bad) (is, means) =
     let stop = bad_here bytes line (lines hands.rest) number old before came hands.takes means in
     (stop ∙ ap Some (sym is), counts_to bytes (Some number) stop (omega (arith, number_end bytes number old before came, hands.size, short)))
 stops_running bytes number line old new before files came hands short Read only = absurd only
-stops_running bytes number line old new before files came hands short Write only = tt
-stops_running bytes number line old new before files came hands short NoMemory only = tt
-stops_running bytes number line old new before files came hands short (NoStore name) only = tt
 stops_running bytes number line old new before files came hands short TooLong only = absurd only
+stops_running bytes number line old new before files came hands short others only = tt
 
 -- what is too long has more bytes than the limit
 pub too_long : (bytes : List ℕ) → IsTooLong bytes → session_limit < length bytes
@@ -158,10 +153,5 @@ too_long bytes long = go (session_of bytes).stop long
     go (Some number) is = omega (arith, is, end_within number bytes)
 
 pub long_only : (bytes : List ℕ) (result : Result (Unit {0}) Stop) → StopsAt bytes result → LongOnly {T = Unit {0}} (length bytes) result
-long_only bytes (Ok u) at = tt
-long_only bytes (Err (BadLine bad)) at = tt
-long_only bytes (Err Read) at = tt
-long_only bytes (Err Write) at = tt
-long_only bytes (Err NoMemory) at = tt
-long_only bytes (Err (NoStore name)) at = tt
 long_only bytes (Err TooLong) at = too_long bytes at
+long_only bytes others at = tt

@@ -14,7 +14,7 @@ use Rattle.slon_main.specs.declared.run.Stop.TheVariants.{BadLine as StopsBad, R
 use Rattle.slon_main.specs.Agreed.{Clustered}
 use Rattle.slon_main.specs.Running.{Counts, Ran, RanOn, IsMaking, IsBeyond, IsTooLong}
 
--- a session allows so many databases
+-- how many databases a session allows
 abbrev pub database_limit : ℕ
 database_limit = 16
 
@@ -25,9 +25,8 @@ is_option (c ∷ cs) = c == 45
 
 -- the name of the session, where the words are this name and nothing else
 abbrev pub session_word : List (List ℕ) → Option (List ℕ)
-session_word [] = None
 session_word (word ∷ []) = if is_option word then None else Some word
-session_word (word ∷ next ∷ more) = None
+session_word words = None
 
 -- the last lines
 abbrev pub usage_line : List ℕ
@@ -66,110 +65,77 @@ ClosesAt StopsLong cluster old new is has = Closes long_line TooLong (Some clust
 
 -- the databases are handed back exactly at these
 abbrev pub hands_back : Status → Bool
-hands_back Done = true
 hands_back Usage = false
-hands_back BadLine = true
-hands_back ReadFault = true
 hands_back WriteFault = false
 hands_back NoMemory = false
-hands_back NoStore = true
 hands_back Missing = false
-hands_back TooLong = true
+hands_back others = true
 
 -- an ending for a fault comes only where the count of that object rose
 abbrev pub FaultOnly : Status → Counts → Counts → Type 0
-FaultOnly Done old new = Unit {0}
-FaultOnly Usage old new = Unit {0}
-FaultOnly BadLine old new = Unit {0}
 FaultOnly ReadFault old new = Rose old.files new.files
 FaultOnly WriteFault old new = Rose old.out new.out
-FaultOnly NoMemory old new = Unit {0}
 FaultOnly NoStore old new = Rose old.shelf new.shelf
-FaultOnly Missing old new = Unit {0}
-FaultOnly TooLong old new = Unit {0}
+FaultOnly others old new = Unit {0}
 
 -- the endings of a session that was entered
 abbrev pub is_run : Status → Bool
-is_run Done = true
 is_run Usage = false
-is_run BadLine = true
-is_run ReadFault = true
-is_run WriteFault = true
-is_run NoMemory = true
-is_run NoStore = true
 is_run Missing = false
-is_run TooLong = true
+is_run others = true
 
 -- the endings of words that are no session's name
 abbrev pub is_refused : Status → Bool
-is_refused Done = false
 is_refused Usage = true
-is_refused BadLine = false
-is_refused ReadFault = false
 is_refused WriteFault = true
 is_refused NoMemory = true
-is_refused NoStore = false
-is_refused Missing = false
-is_refused TooLong = false
+is_refused others = false
 
 -- the endings of a session that is not there
 abbrev pub is_lost : Status → Bool
-is_lost Done = false
-is_lost Usage = false
-is_lost BadLine = false
 is_lost ReadFault = true
 is_lost WriteFault = true
 is_lost NoMemory = true
-is_lost NoStore = false
 is_lost Missing = true
-is_lost TooLong = false
+is_lost others = false
 
 -- What is written and handed back at the end of a session of these bytes, and after the lines before its first bad one:
 -- the replies to exactly their commands, as the rules allow, and databases that agree with the rules. Without a store these are
 -- the replies to all commands before the one that was to make the database, where there are too many bytes exactly those of the
 -- lines that end within as many as there may be, and where a file fails those to the first commands.
 abbrev pub EndsRun : Shelved → Status → List ℕ → Option (List ℕ) → Option Clustered → Type 0
-EndsRun shelf Done bytes written None = ⊥
-EndsRun shelf Done bytes written (Some cluster) = Ran shelf database_limit (session_of bytes).commands written cluster × ((session_of bytes).stop ≡ None)
-EndsRun shelf BadLine bytes written None = ⊥
+EndsRun shelf Done bytes written (Some cluster) =
+    Ran shelf database_limit (session_of bytes).commands written cluster × ((session_of bytes).stop ≡ None)
 EndsRun shelf BadLine bytes written (Some cluster) =
-    (output : List ℕ) × (number : ℕ) × Ran shelf database_limit (session_of bytes).commands (Some output) cluster × ((session_of bytes).stop ≡ Some number) × (written ≡ Some (output ++ bad_line number))
+    (output : List ℕ) × (number : ℕ) × Ran shelf database_limit (session_of bytes).commands (Some output) cluster
+    × ((session_of bytes).stop ≡ Some number) × (written ≡ Some (output ++ bad_line number))
+EndsRun shelf ReadFault bytes written (Some cluster) =
+    (output : List ℕ) × RanOn shelf database_limit (session_of bytes).commands (Some output) cluster
+    × (written ≡ Some (output ++ read_line))
+EndsRun shelf NoStore bytes written (Some cluster) =
+    (output : List ℕ) × (name : List ℕ) × (on : RanOn shelf database_limit (session_of bytes).commands (Some output) cluster)
+    × IsMaking name on.others × (written ≡ Some (output ++ store_line name))
+EndsRun shelf TooLong bytes written (Some cluster) =
+    (output : List ℕ) × (on : RanOn shelf database_limit (session_of bytes).commands (Some output) cluster)
+    × IsBeyond bytes on.others × (written ≡ Some (output ++ long_line))
 EndsRun shelf Usage bytes written cluster = Unit {0}
-EndsRun shelf ReadFault bytes written None = ⊥
-EndsRun shelf ReadFault bytes written (Some cluster) = (output : List ℕ) × RanOn shelf database_limit (session_of bytes).commands (Some output) cluster × (written ≡ Some (output ++ read_line))
 EndsRun shelf WriteFault bytes written cluster = Unit {0}
 EndsRun shelf NoMemory bytes written cluster = Unit {0}
-EndsRun shelf NoStore bytes written None = ⊥
-EndsRun shelf NoStore bytes written (Some cluster) =
-    (output : List ℕ) × (name : List ℕ) × (on : RanOn shelf database_limit (session_of bytes).commands (Some output) cluster) × IsMaking name on.others × (written ≡ Some (output ++ store_line name))
 EndsRun shelf Missing bytes written cluster = Unit {0}
-EndsRun shelf TooLong bytes written None = ⊥
-EndsRun shelf TooLong bytes written (Some cluster) =
-    (output : List ℕ) × (on : RanOn shelf database_limit (session_of bytes).commands (Some output) cluster) × IsBeyond bytes on.others × (written ≡ Some (output ++ long_line))
+EndsRun shelf others bytes written cluster = ⊥
 
 -- Where the run of a session of these bytes ends: at its end, at its first bad line, or where it is too long.
 abbrev pub EndsAt : Status → List ℕ → Type 0
 EndsAt Done bytes = ((session_of bytes).stop ≡ None) × (IsTooLong bytes → ⊥)
-EndsAt Usage bytes = Unit {0}
 EndsAt BadLine bytes = (number : ℕ) × ((session_of bytes).stop ≡ Some number) × (IsTooLong bytes → ⊥)
-EndsAt ReadFault bytes = Unit {0}
-EndsAt WriteFault bytes = Unit {0}
-EndsAt NoMemory bytes = Unit {0}
-EndsAt NoStore bytes = Unit {0}
-EndsAt Missing bytes = Unit {0}
 EndsAt TooLong bytes = IsTooLong bytes
+EndsAt others bytes = Unit {0}
 
 -- the endings where nothing failed and nothing is wrong with the session
 abbrev pub is_whole : Status → Bool
 is_whole Done = true
-is_whole Usage = false
-is_whole BadLine = false
-is_whole ReadFault = false
-is_whole WriteFault = false
 is_whole NoMemory = true
-is_whole NoStore = false
-is_whole Missing = false
-is_whole TooLong = false
+is_whole others = false
 
 -- no object failed
 pub record NoneRose (old new : Counts) : Type 0 where

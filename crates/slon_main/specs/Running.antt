@@ -11,13 +11,12 @@ use Rattle.slon_model.specs.declared.command.Command.TheVariants.{Database}
 use Rattle.slon_model.specs.declared.reply.Reply.{Reply}
 use Rattle.slon_model.specs.Lines.{Meaning, Silent, Says, Bad, session_from, session_of}
 use Rattle.slon_model.specs.Printed.{reply_line}
-use Rattle.slon_model.specs.World.{World, start, Step, Happening, Leads, IsDue, commands_of, output_of}
+use Rattle.slon_model.specs.World.{World, start, Happening, Leads, IsDue, commands_of, output_of}
 use Rattle.session_text.specs.Reading.{Reading, line_limit, line_size, session_limit}
 use Rattle.session_text.specs.Handing.{Hands}
 use Rattle.session_text.specs.declared.line_reader.NextLine.TheVariants.{Line}
-use Rattle.app_store.specs.Goes.{arms}
-use Rattle.slon_main.specs.Agreed.{Clustered, Agrees, IsReady}
-use Rattle.slon_main.specs.Calls.{AllQuiet, StaysQuiet, StaysCertain}
+use Rattle.slon_main.specs.Agreed.{Clustered, Agrees, Follows}
+use Rattle.slon_main.specs.Calls.{arms_later, GoesOn, AllQuiet, StaysQuiet, StaysCertain}
 use Rattle.slon_main.specs.Failing.{IsWithin, Pays}
 use Rattle.slon_main.specs.declared.run.Stop.{Stop}
 use Rattle.slon_main.specs.declared.run.Stop.TheVariants.{BadLine, Read, Write, NoMemory, NoStore, TooLong}
@@ -43,81 +42,60 @@ pub record Counts : Type 0 where
 
 -- A run stops for a fault of an object only where the count of that object rose.
 abbrev pub HasCause : {T : Type 0} → Counts → Counts → Result T Stop → Type 0
-HasCause old new (Ok x) = Unit {0}
-HasCause old new (Err (BadLine number)) = Unit {0}
 HasCause old new (Err Read) = Rose old.files new.files
 HasCause old new (Err Write) = Rose old.out new.out
-HasCause old new (Err NoMemory) = Unit {0}
 HasCause old new (Err (NoStore name)) = Rose old.shelf new.shelf
-HasCause old new (Err TooLong) = Unit {0}
+HasCause old new others = Unit {0}
 
 -- a stop that a command at its database can have
 abbrev pub is_of_store : Stop → Bool
-is_of_store (BadLine number) = false
-is_of_store Read = false
-is_of_store Write = false
 is_of_store NoMemory = true
 is_of_store (NoStore name) = true
-is_of_store TooLong = false
+is_of_store others = false
 
 -- a stop that the writing of a reply can have
 abbrev pub is_of_output : Stop → Bool
-is_of_output (BadLine number) = false
-is_of_output Read = false
 is_of_output Write = true
 is_of_output NoMemory = true
-is_of_output (NoStore name) = false
-is_of_output TooLong = false
+is_of_output others = false
 
 -- a stop that a command can have
 abbrev pub is_of_command : Stop → Bool
-is_of_command (BadLine number) = false
-is_of_command Read = false
 is_of_command Write = true
 is_of_command NoMemory = true
 is_of_command (NoStore name) = true
-is_of_command TooLong = false
+is_of_command others = false
 
 -- a stop that a line can have
 abbrev pub is_of_line : Stop → Bool
-is_of_line (BadLine number) = true
 is_of_line Read = false
-is_of_line Write = true
-is_of_line NoMemory = true
-is_of_line (NoStore name) = true
 is_of_line TooLong = false
+is_of_line others = true
 
 -- the shelf gave no store
 abbrev pub is_no_store : Stop → Bool
-is_no_store (BadLine number) = false
-is_no_store Read = false
-is_no_store Write = false
-is_no_store NoMemory = false
 is_no_store (NoStore name) = true
-is_no_store TooLong = false
+is_no_store others = false
 
 -- the reading of the next line of these bytes to come
 abbrev pub ReadsLine : ℕ → List ℕ → List ℕ → Reading → Reading → Filed → Result Bool Stop → Type 0
 ReadsLine number line bytes old new files (Ok true) = Hands line bytes old new files Line
 ReadsLine number line bytes old new files (Ok false) = bytes ≡ []
-ReadsLine number line bytes old new files (Err (BadLine bad)) =
-    (bad ≡ number) × (old.taken + line_size bytes ≤ session_limit) × (whole : List ℕ) × (more : List (List ℕ)) × (line_limit < length whole) × (lines bytes ≡ whole ∷ more)
+ReadsLine number line bytes old new files (Err (BadLine bad)) = (bad ≡ number) × (old.taken + line_size bytes ≤ session_limit)
+    × (whole : List ℕ) × (more : List (List ℕ)) × (line_limit < length whole) × (lines bytes ≡ whole ∷ more)
 ReadsLine number line bytes old new files (Err Read) = Unit {0}
-ReadsLine number line bytes old new files (Err Write) = ⊥
 ReadsLine number line bytes old new files (Err NoMemory) = Unit {0}
-ReadsLine number line bytes old new files (Err (NoStore name)) = ⊥
 ReadsLine number line bytes old new files (Err TooLong) = session_limit < old.taken + line_size bytes
+ReadsLine number line bytes old new files (Err others) = ⊥
 
 -- From each world that agrees a command leads by a step that the rules allow to a world that agrees.
 abbrev pub Obeys : Command → Clustered → Reply → Clustered → Type 0
-Obeys command old reply new = (w : World) → Agrees w old → IsReady w → (v : World) × Step w command reply v × Agrees v new
+Obeys command old reply new = (w : World) → Follows w old → GoesOn command w reply new
 
 -- A command that a line says goes on by a step that the rules allow, and its reply is written.
 pub record Replies (shelf : Shelved) (command : Command) (w : World) (before written : Option (List ℕ)) (old new : Clustered) : Type 0 where
   pub reply : Reply
-  pub world : World
-  pub steps : Step w command reply world
-  pub agrees : Agrees world new
+  pub goes : GoesOn command w reply new
   pub written_is : written ≡ option_map (λ bytes. bytes ++ reply_line reply) before
   pub certain : NeverFails shelf → StaysCertain command old reply new
   pub quiet : StaysQuiet reply old new
@@ -125,12 +103,8 @@ pub record Replies (shelf : Shelved) (command : Command) (w : World) (before wri
 
 -- no store was given to the database that a command was to make
 abbrev pub NamesMade : Command → Stop → Type 0
-NamesMade command (BadLine number) = Unit {0}
-NamesMade command Read = Unit {0}
-NamesMade command Write = Unit {0}
-NamesMade command NoMemory = Unit {0}
 NamesMade command (NoStore name) = command ≡ Database name
-NamesMade command TooLong = Unit {0}
+NamesMade command others = Unit {0}
 
 -- what a line that means this does, and what is written then
 abbrev pub Means : Meaning → Shelved → World → Option (List ℕ) → Option (List ℕ) → Clustered → Clustered → Type 0
@@ -139,27 +113,24 @@ Means (Says command) shelf w before written old new = Replies shelf command w be
 Means Bad shelf w before written old new = ⊥
 
 abbrev pub RunsLine : ℕ → Meaning → Shelved → Clustered → Clustered → Option (List ℕ) → Option (List ℕ) → Result (Unit {0}) Stop → Type 0
-RunsLine number meaning shelf old new before written (Ok u) = (w : World) → Agrees w old → IsReady w → Means meaning shelf w before written old new
+RunsLine number meaning shelf old new before written (Ok u) = (w : World) → Follows w old → Means meaning shelf w before written old new
 RunsLine number meaning shelf old new before written (Err (BadLine bad)) = (bad ≡ number) × (meaning ≡ Bad) × (written ≡ before) × (new ≡ old)
-RunsLine number meaning shelf old new before written (Err Read) = ⊥
+RunsLine number meaning shelf old new before written (Err (NoStore name)) = (written ≡ before) × (new ≡ old) × (meaning ≡ Says (Database name))
 RunsLine number meaning shelf old new before written (Err Write) = Unit {0}
 RunsLine number meaning shelf old new before written (Err NoMemory) = Unit {0}
-RunsLine number meaning shelf old new before written (Err (NoStore name)) = (written ≡ before) × (new ≡ old) × (meaning ≡ Says (Database name))
-RunsLine number meaning shelf old new before written (Err TooLong) = ⊥
+RunsLine number meaning shelf old new before written (Err others) = ⊥
 
 -- the run of a line ends as at a bad line exactly where it is one
 abbrev pub BadOnly : ℕ → Meaning → Result (Unit {0}) Stop → Type 0
 BadOnly number meaning (Ok u) = meaning ≡ Bad → ⊥
 BadOnly number meaning (Err (BadLine bad)) = (bad ≡ number) × (meaning ≡ Bad)
 BadOnly number meaning (Err Read) = ⊥
-BadOnly number meaning (Err Write) = Unit {0}
-BadOnly number meaning (Err NoMemory) = Unit {0}
-BadOnly number meaning (Err (NoStore name)) = Unit {0}
 BadOnly number meaning (Err TooLong) = ⊥
+BadOnly number meaning (Err others) = Unit {0}
 
 -- no command has a store fail later
 abbrev pub NoneArms : List Command → Type 0
-NoneArms commands = AllByRecursion (λ command. arms command ≡ false) commands
+NoneArms commands = AllByRecursion (λ command. arms_later command ≡ false) commands
 
 -- A history of exactly these commands that the rules allow was run, its lines were written, and the databases agree with
 -- the rules after it. Where no store can fail, or none has counted a fault at the end, each reply is the one that is due. Where no
@@ -182,7 +153,7 @@ pub record RanOn (shelf : Shelved) (limit : ℕ) (said : List Command) (output :
   pub parts : said ≡ first ++ others
   pub ran : Ran shelf limit first output cluster
 
--- how many bytes the first lines have, so many of them, with their newlines
+-- how many bytes the first n lines have, with their newlines
 abbrev pub end_of : ℕ → List ℕ → ℕ
 end_of zero bytes = 0
 end_of (suc n) bytes = line_size bytes + end_of n (drop (line_size bytes) bytes)
@@ -192,7 +163,7 @@ abbrev pub IsMaking : List ℕ → List Command → Type 0
 IsMaking name [] = ⊥
 IsMaking name (command ∷ more) = command ≡ Database name
 
--- the commands of all lines behind the first ones, so many of them
+-- the commands of all lines behind the first `count` ones
 abbrev pub commands_behind : ℕ → List ℕ → List Command
 commands_behind count bytes = (session_from (count + 1) (lines (drop (end_of count bytes) bytes))).commands
 
@@ -207,13 +178,16 @@ pub record IsBeyond (bytes : List ℕ) (others : List Command) : Type 0 where
 -- to make the database, and at the greatest number of bytes exactly those of the lines that end within it. At a fault of a
 -- file it has run the first ones.
 abbrev pub RunsSession : Shelved → ℕ → List ℕ → Option (List ℕ) → Clustered → Result (Unit {0}) Stop → Type 0
-RunsSession shelf limit bytes written cluster (Ok u) = Ran shelf limit (session_of bytes).commands written cluster × ((session_of bytes).stop ≡ None)
-RunsSession shelf limit bytes written cluster (Err (BadLine number)) = Ran shelf limit (session_of bytes).commands written cluster × ((session_of bytes).stop ≡ Some number)
+RunsSession shelf limit bytes written cluster (Ok u) =
+    Ran shelf limit (session_of bytes).commands written cluster × ((session_of bytes).stop ≡ None)
+RunsSession shelf limit bytes written cluster (Err (BadLine number)) =
+    Ran shelf limit (session_of bytes).commands written cluster × ((session_of bytes).stop ≡ Some number)
 RunsSession shelf limit bytes written cluster (Err Read) = RanOn shelf limit (session_of bytes).commands written cluster
-RunsSession shelf limit bytes written cluster (Err Write) = Unit {0}
-RunsSession shelf limit bytes written cluster (Err NoMemory) = Unit {0}
-RunsSession shelf limit bytes written cluster (Err (NoStore name)) = (on : RanOn shelf limit (session_of bytes).commands written cluster) × IsMaking name on.others
-RunsSession shelf limit bytes written cluster (Err TooLong) = (on : RanOn shelf limit (session_of bytes).commands written cluster) × IsBeyond bytes on.others
+RunsSession shelf limit bytes written cluster (Err (NoStore name)) =
+    (on : RanOn shelf limit (session_of bytes).commands written cluster) × IsMaking name on.others
+RunsSession shelf limit bytes written cluster (Err TooLong) =
+    (on : RanOn shelf limit (session_of bytes).commands written cluster) × IsBeyond bytes on.others
+RunsSession shelf limit bytes written cluster (Err others) = Unit {0}
 
 -- a session counts to the end of its first bad line, or to its own end
 abbrev pub counted : List ℕ → Option ℕ → ℕ
@@ -228,18 +202,10 @@ IsTooLong bytes = session_limit < counted bytes (session_of bytes).stop
 abbrev pub StopsAt : List ℕ → Result (Unit {0}) Stop → Type 0
 StopsAt bytes (Ok u) = ((session_of bytes).stop ≡ None) × (IsTooLong bytes → ⊥)
 StopsAt bytes (Err (BadLine number)) = ((session_of bytes).stop ≡ Some number) × (IsTooLong bytes → ⊥)
-StopsAt bytes (Err Read) = Unit {0}
-StopsAt bytes (Err Write) = Unit {0}
-StopsAt bytes (Err NoMemory) = Unit {0}
-StopsAt bytes (Err (NoStore name)) = Unit {0}
 StopsAt bytes (Err TooLong) = IsTooLong bytes
+StopsAt bytes (Err others) = Unit {0}
 
 -- a session is too long only where it has more bytes than the limit
 abbrev pub LongOnly : {T : Type 0} → ℕ → Result T Stop → Type 0
-LongOnly size (Ok x) = Unit {0}
-LongOnly size (Err (BadLine number)) = Unit {0}
-LongOnly size (Err Read) = Unit {0}
-LongOnly size (Err Write) = Unit {0}
-LongOnly size (Err NoMemory) = Unit {0}
-LongOnly size (Err (NoStore name)) = Unit {0}
 LongOnly size (Err TooLong) = session_limit < size
+LongOnly size others = Unit {0}

@@ -1,5 +1,5 @@
 // The databases of a session.
-ghost use Rattle.std.specs.Prelude.{◌≡◌, ℕ, List, ◌∷◌, [], ◌++◌, length, map, true, false, None, Some, is_err, is_some, IfOk, unwrap_or};
+ghost use Rattle.std.specs.Prelude.{Ok, None, ◌≡◌, ℕ, List, length, true, false, Some, is_err, IfOk, unwrap_or, []};
 ghost use Rattle.std.specs.List.{position};
 ghost use Rattle.std.specs.Option.{option_map};
 ghost use Rattle.std.specs.Str.{bytes_eq};
@@ -8,13 +8,15 @@ ghost use Rattle.slon_base.specs.declared.fault.Halt.TheVariants.{NoMemory as Ha
 ghost use Rattle.slon_model.specs.declared.reply.Answer.TheVariants.{Done as IsDone};
 ghost use Rattle.slon_model.specs.declared.reply.Answered.TheVariants.{Sure as IsSure, InDoubt as IsInDoubt};
 ghost use Rattle.slon_model.specs.declared.reply.Reply.TheVariants.{Accepted as IsAccepted, InDoubt as DoubtsIt};
-ghost use Rattle.slon_model.specs.World.{start, is_database};
 ghost use Rattle.slon_model.specs.Spoken.{IsSpoken};
+ghost use Rattle.slon_model.specs.Tasks.{subject_of};
+ghost use Rattle.slon_model.specs.World as world;
+ghost use Rattle.slon_model.specs.World.{start, halt_in};
 ghost use Rattle.app_store.specs.Base.{base_of};
-ghost use Rattle.app_store.specs.Goes.{is_memory};
+ghost use Rattle.app_store.specs.Serves.{is_memory};
 ghost use Rattle.slon_main.specs.Agreed.{Agrees};
 ghost use Rattle.slon_main.specs.Calls as calls;
-ghost use Rattle.slon_main.specs.Calls.{Moves, Steps, ReplyCaused, StaysCertain, StaysQuiet, Adopts, Makes, MakingReplyCaused, MakesCertain};
+ghost use Rattle.slon_main.specs.Calls.{Moves, Steps, ReplyCaused, StaysCertain, StaysQuiet, Adopts, Makes, MakingReplyCaused, MakesCertain, is_making};
 ghost use Rattle.slon_main.specs.Clustered.{cluster_of};
 
 use crate::status::NoMemory;
@@ -51,7 +53,7 @@ fn copied(alloc: Global, word: Option<&Text>) -> Result<Text, NoMemory>
 
 /// The reply where the store of a database stopped.
 fn halted(alloc: Global, database: &Text, halt: Halt) -> Result<Reply, NoMemory>
-    ensures reply { IfOk result (λ reply. reply ≡ calls.halted_with database.now halt) }
+    ensures reply { IfOk result (λ reply. reply ≡ world.halted database.now halt) }
     ensures memory { halt ≡ HaltsShort → is_err result ≡ true }
 {
     match halt {
@@ -77,8 +79,8 @@ fn refused(
     table: Option<&Text>,
     fault: DbFault,
 ) -> Result<Reply, NoMemory>
-    ensures reply { IfOk result (λ reply. reply ≡ calls.refusal_with database.now (option_map (λ w. w.now) transaction.entry) (option_map (λ w. w.now) table.entry) fault) }
-    ensures memory { is_memory fault ≡ true → is_err result ≡ true }
+    ensures reply { IfOk result (λ reply. reply ≡ world.refusal_of (record { database = database.now; transaction = option_map (λ w. w.now) transaction.entry; table = option_map (λ w. w.now) table.entry }) fault) }
+    ensures memory { is_memory (halt_in fault) ≡ true → is_err result ≡ true }
 {
     let refusal = match fault {
         DbFault::Locked { xid } => Refusal::Locked { xid },
@@ -112,8 +114,7 @@ fn refused(
 
 /// The reply to a command that a database accepted.
 fn answered(alloc: Global, database: &Text, answered: Answered) -> Result<Reply, NoMemory>
-    ensures sure { (answer : Answer) → answered ≡ IsSure answer → IfOk result (λ reply. reply ≡ IsAccepted answer) }
-    ensures doubt { (answer : Answer) → answered ≡ IsInDoubt answer → IfOk result (λ reply. reply ≡ DoubtsIt database.now answer) }
+    ensures { IfOk result (λ reply. reply ≡ world.reply_of (record { database = database.now; transaction = None; table = None }) (Ok answered)) }
 {
     match answered {
         Answered::Sure(answer) => Ok(Reply::Accepted(answer)),
@@ -132,7 +133,7 @@ fn is_not_empty(fault: DbFault) -> bool
 }
 
 impl<K: Keeper> Cluster<K> {
-    /// No databases yet, of which there may be so many.
+    /// No databases yet, of which there may be `limit`.
     pub fn new(alloc: Global, limit: u32) -> Cluster<K>
         ensures agrees { Agrees (start limit) (cluster_of K.kept result) }
         ensures certain { calls.AllCertain (cluster_of K.kept result) }
@@ -176,7 +177,7 @@ impl<K: Keeper> Cluster<K> {
     /// Has the database that the command names obey it.
     fn ask(&mut self, command: &Command) -> Result<Reply, NoMemory>
         requires spoken { IsSpoken command.now }
-        requires other { is_database command.now ≡ false }
+        requires other { is_making (subject_of command.now) ≡ false }
         ensures { IfOk result (λ reply. Moves command.now (cluster_of K.kept self.old) reply (cluster_of K.kept self.new)) }
     {
         let database = command.database();

@@ -9,6 +9,3 @@ mod status;
 pub use cluster::Cluster;
 pub use session::{Ended, slon_main};
 pub use status::{NoMemory, Status};
-
-#[cfg(test)]
-mod tests;

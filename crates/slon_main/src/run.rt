@@ -9,11 +9,11 @@ ghost use Rattle.slon_model.specs.World as world;
 ghost use Rattle.slon_model.specs.World.{World, start};
 ghost use Rattle.session_text.specs.Reading.{session_limit};
 ghost use Rattle.session_text.specs.Handing.{Stays, Comes};
-ghost use Rattle.slon_main.specs.Agreed.{Agrees, IsReady};
+ghost use Rattle.slon_main.specs.Agreed.{Agrees, Follows};
 ghost use Rattle.slon_main.specs.Calls.{Makes, StaysCertain, StaysQuiet, AllCertain, is_sure_reply};
 ghost use Rattle.slon_main.specs.Clustered.{cluster_of};
 ghost use Rattle.slon_main.specs.Failing.{Pays};
-ghost use Rattle.slon_model.specs.Place.{find_named};
+ghost use Rattle.slon_model.specs.Names.{find_named};
 ghost use Rattle.slon_model.specs.declared.command.Command.TheVariants.{Database as DatabaseCommand};
 ghost use Rattle.slon_main.specs.Running.{Tells, NeverFails, Shelves, HasCause, ReadsLine, Obeys, Replies, RunsLine, RunsSession, NamesMade, BadOnly, StopsAt, is_of_store, is_of_output, is_of_command, is_of_line, is_no_store};
 
@@ -174,7 +174,7 @@ fn run_command<S: Shelf, O: Sink>(
     ensures later { (O.poured out.old).faults ≤ (O.poured out.new).faults }
     ensures cause { (files : ℕ) → HasCause (record { files = files; shelf = (S.shelved shelf.old).faults; out = (O.poured out.old).faults }) (record { files = files; shelf = (S.shelved shelf.new).faults; out = (O.poured out.new).faults }) result }
     ensures stop { IfErr result (λ stop. is_of_command stop ≡ true) }
-    ensures runs { Tells (S.shelved shelf.old) → OnOk result ((w : World) → Agrees w (cluster_of S.Store.kept cluster.old) → IsReady w → Replies (S.shelved shelf.old) command.now w (O.poured out.old).written (O.poured out.new).written (cluster_of S.Store.kept cluster.old) (cluster_of S.Store.kept cluster.new)) }
+    ensures runs { Tells (S.shelved shelf.old) → OnOk result ((w : World) → Follows w (cluster_of S.Store.kept cluster.old) → Replies (S.shelved shelf.old) command.now w (O.poured out.old).written (O.poured out.new).written (cluster_of S.Store.kept cluster.old) (cluster_of S.Store.kept cluster.new)) }
     ensures named { IfErr result (NamesMade command.now) }
     ensures unmade { IfErr result (λ stop. is_no_store stop ≡ true → ((O.poured out.new).written ≡ (O.poured out.old).written) × (cluster_of S.Store.kept cluster.new ≡ cluster_of S.Store.kept cluster.old)) }
 {

@@ -16,7 +16,7 @@ use node_keeper::Keeper;
 use slon_base::{Files, OutFault, Shelf, Sink, Text};
 use std::alloc::{AllocError, Global};
 
-/// A session allows so many databases.
+/// How many databases a session allows.
 const DATABASE_LIMIT: u32 = 16;
 
 /// The last line where the words are not one name.

@@ -1,9 +1,12 @@
+pub mod Deciding
 pub mod Forms
 pub mod Lines
+pub mod Moves
+pub mod Names
 pub mod Place
 pub mod Printed
 pub mod Rows
 pub mod Snapshots
 pub mod Spoken
-pub mod Words
+pub mod Tasks
 pub mod World

@@ -1,20 +1,45 @@
 -- What the parts of a command are like that a line says.
-use Rattle.std.specs.Prelude.{◌<◌, ◌≤◌, length, map}
-use Rattle.slon_base.specs.Codec.{IsText, AllTexts}
+use Rattle.std.specs.Prelude.{◌≡◌, ◌≤◌, ℕ, true, List}
+use Rattle.std.specs.List.{list_all}
 use Rattle.slon_model.specs.declared.command.Command.{Command}
-use Rattle.slon_model.specs.declared.command.Command.TheVariants.{Database, Table, Begin, Insert, Update, Delete, Commit, Abort, Rows, Status, Crash, Up}
+use Rattle.slon_model.specs.Forms.{is_name, is_table_name, is_value}
+use Rattle.slon_model.specs.Rows.{Change, Put, Set, Remove}
+use Rattle.slon_model.specs.Tasks.{Write, Task, ToMake, ToOpen, ToWrite, ToCommit, ToAbort, ToList, Subject, OnNew, OnOne, subject_of}
 
--- Its tables and values can be spelled in a store, a table has at most 16 columns, and a row has a key.
+abbrev pub IsName : List ℕ → Type 0
+IsName word = is_name word ≡ true
+
+abbrev pub IsTableName : List ℕ → Type 0
+IsTableName word = is_table_name word ≡ true
+
+abbrev pub IsValue : List ℕ → Type 0
+IsValue word = is_value word ≡ true
+
+abbrev pub AreValues : List (List ℕ) → Type 0
+AreValues words = list_all is_value words ≡ true
+
+abbrev pub most_columns : ℕ
+most_columns = 16
+
+-- the key and the values of a change
+abbrev pub IsChange : Change → Type 0
+IsChange (Put key row) = IsValue key × AreValues row
+IsChange (Set key columns) = IsValue key × (list_all (λ c. is_value c.1) columns ≡ true)
+IsChange (Remove key) = IsValue key
+
+abbrev pub IsTask : Task → Type 0
+IsTask (ToMake table columns) = IsTableName table × (columns ≤ most_columns)
+IsTask (ToOpen name) = IsName name
+IsTask (ToWrite w) = IsName w.name × IsTableName w.table × IsChange w.change
+IsTask (ToCommit name) = IsName name
+IsTask (ToAbort name) = IsName name
+IsTask (ToList table) = IsTableName table
+IsTask others = Unit {0}
+
+abbrev pub IsSubject : Subject → Type 0
+IsSubject (OnNew name) = IsName name
+IsSubject (OnOne database task) = IsName database × IsTask task
+
+-- Its names, tables, keys and values have their forms, and a table has at most 16 columns.
 abbrev pub IsSpoken : Command → Type 0
-IsSpoken (Database name) = Unit {0}
-IsSpoken (Table database table columns) = IsText table × (columns ≤ 16)
-IsSpoken (Begin database name) = Unit {0}
-IsSpoken (Insert database name table values) = IsText table × AllTexts values × (0 < length values)
-IsSpoken (Update database name table key columns) = IsText table × IsText key × AllTexts (map (λ c. c.1) columns)
-IsSpoken (Delete database name table key) = IsText table × IsText key
-IsSpoken (Commit database name) = Unit {0}
-IsSpoken (Abort database name) = Unit {0}
-IsSpoken (Rows database table) = IsText table
-IsSpoken (Status database) = Unit {0}
-IsSpoken (Crash database crash) = Unit {0}
-IsSpoken (Up database) = Unit {0}
+IsSpoken command = IsSubject (subject_of command)

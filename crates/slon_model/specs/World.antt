@@ -1,59 +1,66 @@
 -- What the rules know after a history, the one reply that they give to a command, and the histories that they allow.
-use Rattle.std.specs.Prelude.{◌≡◌, ℕ, ◌==◌, if◌then◌else◌, nat_lt, is_some, Bool, true, false, List, [], ◌∷◌, ◌++◌, length, Option, Some, None, Result, Ok, Err, unwrap_or}
-use Rattle.std.specs.Str.{bytes_eq}
-use Rattle.slon_base.specs.Counts.{Rose}
+use Rattle.std.specs.Prelude.{◌≡◌, ℕ, if◌then◌else◌, nat_lt, is_some, Bool, true, false, List, [], ◌∷◌, ◌++◌, length, Option, Some, None, Result, Ok, Err, unwrap_or}
+use Rattle.slon_base.specs.declared.fault.Halt.{Halt as HaltOf}
 use Rattle.slon_base.specs.declared.fault.Halt.TheVariants.{Doubt, NoMemory, Fault as HaltFault, BadRow as HaltBadRow, TooBig as HaltTooBig}
 use Rattle.slon_model.specs.declared.fault.DbFault.{DbFault}
 use Rattle.slon_model.specs.declared.fault.DbFault.TheVariants.{Locked, NotEmpty, Down, IsUp, TableExists, NameUsed, NoTable, NoTransaction, Duplicate, BadWidth, Halt}
 use Rattle.slon_model.specs.declared.command.Command.{Command}
-use Rattle.slon_model.specs.declared.command.Command.TheVariants.{Database}
 use Rattle.slon_model.specs.declared.reply.Answer.{Answer}
 use Rattle.slon_model.specs.declared.reply.Answer.TheVariants.{Done}
 use Rattle.slon_model.specs.declared.reply.Answered.{Answered}
 use Rattle.slon_model.specs.declared.reply.Answered.TheVariants.{Sure, InDoubt as AnsweredInDoubt}
-use Rattle.slon_model.specs.declared.reply.Refusal.{Refusal}
 use Rattle.slon_model.specs.declared.reply.Refusal.TheVariants as refused
 use Rattle.slon_model.specs.declared.reply.Reply.{Reply}
 use Rattle.slon_model.specs.declared.reply.Reply.TheVariants.{Accepted, Refused, InDoubt}
-use Rattle.slon_model.specs.Words.{database_word, transaction_word, table_word}
-use Rattle.slon_model.specs.Place.{Place, find_named, bare_place, new_place, founded, place_due, place_after, PlaceStep, sure, fallen, doubted}
+use Rattle.slon_model.specs.Names.{Named, find_named, put_named}
+use Rattle.slon_model.specs.Tasks.{Task, ToFound, Subject, OnNew, OnOne, subject_of, Words, words_of}
+use Rattle.slon_model.specs.Place.{Place, bare_place}
+use Rattle.slon_model.specs.Deciding.{Choice, AsDue, decide, result_of, sure, place_by, Takes}
 use Rattle.slon_model.specs.Printed.{reply_line}
 
 -- What the rules know of a session: how many databases it allows, and its databases in the order of their making.
 pub record World : Type 0 where
   pub limit : ℕ
-  pub places : List (List ℕ × Place)
+  pub places : Named Place
 
 abbrev pub start : ℕ → World
 start limit = record { limit = limit; places = [] }
 
--- the refusal of a command that a database gives
-abbrev pub refusal_of : Command → DbFault → Reply
-refusal_of command (Locked xid) = Refused (refused.Locked xid)
-refusal_of command NotEmpty = Refused (refused.NotEmpty (database_word command))
-refusal_of command Down = Refused (refused.Down (database_word command))
-refusal_of command IsUp = Refused (refused.IsUp (database_word command))
-refusal_of command TableExists = Refused (refused.TableExists (unwrap_or (table_word command) []))
-refusal_of command NameUsed = Refused (refused.NameUsed (unwrap_or (transaction_word command) []))
-refusal_of command NoTable = Refused (refused.NoTable (unwrap_or (table_word command) []))
-refusal_of command NoTransaction = Refused (refused.NoTransaction (unwrap_or (transaction_word command) []))
-refusal_of command Duplicate = Refused refused.Duplicate
-refusal_of command (BadWidth columns) = Refused (refused.BadWidth columns)
-refusal_of command (Halt (HaltFault count)) = Refused (refused.Fault (database_word command) count)
-refusal_of command (Halt Doubt) = InDoubt (database_word command) Done
-refusal_of command (Halt (HaltBadRow space)) = Refused (refused.BadRow space)
-refusal_of command (Halt (HaltTooBig space)) = Refused (refused.TooBig space)
-refusal_of command (Halt NoMemory) = Refused (refused.Down (database_word command))
+-- ---- replies
+
+-- why a step stopped, where it did
+abbrev pub halt_in : DbFault → Option HaltOf
+halt_in (Halt halt) = Some halt
+halt_in others = None
+
+abbrev pub halted : List ℕ → HaltOf → Reply
+halted database (HaltFault count) = Refused (refused.Fault database count)
+halted database Doubt = InDoubt database Done
+halted database (HaltBadRow space) = Refused (refused.BadRow space)
+halted database (HaltTooBig space) = Refused (refused.TooBig space)
+halted database NoMemory = Refused (refused.Down database)
+
+-- the refusal of a command that names these words
+abbrev pub refusal_of : Words → DbFault → Reply
+refusal_of w (Locked xid) = Refused (refused.Locked xid)
+refusal_of w NotEmpty = Refused (refused.NotEmpty w.database)
+refusal_of w Down = Refused (refused.Down w.database)
+refusal_of w IsUp = Refused (refused.IsUp w.database)
+refusal_of w TableExists = Refused (refused.TableExists (unwrap_or w.table []))
+refusal_of w NameUsed = Refused (refused.NameUsed (unwrap_or w.transaction []))
+refusal_of w NoTable = Refused (refused.NoTable (unwrap_or w.table []))
+refusal_of w NoTransaction = Refused (refused.NoTransaction (unwrap_or w.transaction []))
+refusal_of w Duplicate = Refused refused.Duplicate
+refusal_of w (BadWidth columns) = Refused (refused.BadWidth columns)
+refusal_of w (Halt halt) = halted w.database halt
 
 -- the reply of a database to a command
-abbrev pub reply_of : Command → Result Answered DbFault → Reply
-reply_of command (Ok (Sure answer)) = Accepted answer
-reply_of command (Ok (AnsweredInDoubt answer)) = InDoubt (database_word command) answer
-reply_of command (Err fault) = refusal_of command fault
+abbrev pub reply_of : Words → Result Answered DbFault → Reply
+reply_of w (Ok (Sure answer)) = Accepted answer
+reply_of w (Ok (AnsweredInDoubt answer)) = InDoubt w.database answer
+reply_of w (Err fault) = refusal_of w fault
 
-abbrev pub is_database : Command → Bool
-is_database (Database name) = true
-is_database others = false
+-- ---- what is due, and what comes after it
 
 -- a new database: refused where the name is taken, and where the session has as many as it allows
 abbrev pub database_due : List ℕ → World → Reply
@@ -61,64 +68,73 @@ database_due name w =
     if is_some (find_named name w.places) then Refused (refused.NameUsed name) else (if nat_lt (length w.places) w.limit then Accepted Done else Refused (refused.Full w.limit))
 
 -- what a database replies, where the session has one of the name
-abbrev pub ask : Command → Option Place → Reply
-ask command None = Refused (refused.NoDatabase (database_word command))
-ask command (Some p) = reply_of command (sure (place_due command p))
+abbrev pub ask : Words → Task → Option Place → Reply
+ask words task None = Refused (refused.NoDatabase words.database)
+ask words task (Some p) = reply_of words (sure (result_of (decide task p)))
+
+abbrev pub due_on : Subject → World → Reply
+due_on (OnNew name) w = database_due name w
+due_on (OnOne name task) w = ask (words_of (OnOne name task)) task (find_named name w.places)
 
 -- The one reply that the rules give to a command.
 abbrev pub due : World → Command → Reply
-due w command = if is_database command then database_due (database_word command) w else ask command (find_named (database_word command) w.places)
+due w command = due_on (subject_of command) w
 
 -- the command was accepted
 abbrev pub is_accepted : Reply → Bool
 is_accepted (Accepted answer) = true
-is_accepted (Refused refusal) = false
-is_accepted (InDoubt database answer) = false
-
--- the first place of the name is another
-abbrev pub put_place : List ℕ → Place → List (List ℕ × Place) → List (List ℕ × Place)
-put_place name q [] = []
-put_place name q (e ∷ es) = if bytes_eq name e.0 then (e.0, q) ∷ es else e ∷ put_place name q es
+is_accepted others = false
 
 -- a new database behind the others
 abbrev pub adopted : List ℕ → Place → World → World
 adopted name p w = record { limit = w.limit; places = w.places ++ (name, p) ∷ [] }
 
 abbrev pub changed : List ℕ → Place → World → World
-changed name q w = record { limit = w.limit; places = put_place name q w.places }
+changed name q w = record { limit = w.limit; places = put_named name q w.places }
 
-abbrev pub asked : Command → Option Place → World → World
-asked command None w = w
-asked command (Some p) w = changed (database_word command) (place_after command p) w
+-- what a step makes of databases, one after the other
+abbrev pub stand : Named Place → World → World
+stand [] w = w
+stand (e ∷ es) w = stand es (changed e.0 e.1 w)
+
+abbrev pub asked : List ℕ → Task → Option Place → World → World
+asked name task None w = w
+asked name task (Some p) w = stand ((name, place_by task p AsDue) ∷ []) w
+
+abbrev pub after_on : Subject → World → World
+after_on (OnNew name) w = if is_accepted (database_due name w) then adopted name (place_by ToFound bare_place AsDue) w else w
+after_on (OnOne name task) w = asked name task (find_named name w.places) w
 
 -- What the rules know after a command that is answered with what is due.
 abbrev pub after : World → Command → World
-after w command =
-    if is_database command then (if is_accepted (due w command) then adopted (database_word command) new_place w else w) else asked command (find_named (database_word command) w.places) w
+after w command = after_on (subject_of command) w
 
--- How a granted database begins: its first rows stand; or its store fails before that; or their commit is in doubt.
-pub data Begins (name : List ℕ) (reply : Reply) (p : Place) : Type 0 where
-  Founds : reply ≡ Accepted Done → p ≡ new_place → Begins name reply p
-  Fails : (count : ℕ) → Rose 0 count → reply ≡ Refused (refused.Fault name count) → p ≡ fallen count bare_place → Begins name reply p
-  Doubts : (stands : Bool) → reply ≡ InDoubt name Done → p ≡ doubted stands (if stands then founded bare_place else bare_place) → Begins name reply p
+-- ---- histories
 
--- How a history goes on at a command: a new database is granted and begins, or is refused; a command finds no database of
--- the name; or that database goes on.
-pub data Step (w : World) (command : Command) (reply : Reply) (v : World) : Type 0 where
-  Grants : (p : Place) → is_database command ≡ true → due w command ≡ Accepted Done → Begins (database_word command) reply p → v ≡ adopted (database_word command) p w → Step w command reply v
-  Denies : is_database command ≡ true → is_accepted (due w command) ≡ false → reply ≡ due w command → v ≡ w → Step w command reply v
-  Misses : is_database command ≡ false → find_named (database_word command) w.places ≡ None → reply ≡ due w command → v ≡ w → Step w command reply v
-  Asks : (p q : Place) (result : Result Answered DbFault) → is_database command ≡ false → find_named (database_word command) w.places ≡ Some p → PlaceStep command p result q → reply ≡ reply_of command result → v ≡ changed (database_word command) q w → Step w command reply v
-
--- A command and its reply.
+-- A command, its reply, and what came of it.
 pub record Happening : Type 0 where
   pub command : Command
   pub reply : Reply
+  pub choice : Choice
+
+-- How a history goes on: a new database is granted and begins, or is refused; a command finds no database of the name; or
+-- that database goes on.
+pub data Step (w : World) (h : Happening) (v : World) : Type 0 where
+  Grants : (name : List ℕ) (result : Result Answered DbFault) → subject_of h.command ≡ OnNew name → database_due name w ≡ Accepted Done →
+      Takes ToFound bare_place h.choice result → h.reply ≡ reply_of (words_of (OnNew name)) result →
+      v ≡ adopted name (place_by ToFound bare_place h.choice) w → Step w h v
+  Denies : (name : List ℕ) → subject_of h.command ≡ OnNew name → is_accepted (database_due name w) ≡ false →
+      h.choice ≡ AsDue → h.reply ≡ database_due name w → v ≡ w → Step w h v
+  Misses : (name : List ℕ) (task : Task) → subject_of h.command ≡ OnOne name task → find_named name w.places ≡ None →
+      h.choice ≡ AsDue → h.reply ≡ Refused (refused.NoDatabase name) → v ≡ w → Step w h v
+  Asks : (name : List ℕ) (task : Task) (p : Place) (result : Result Answered DbFault) → subject_of h.command ≡ OnOne name task →
+      find_named name w.places ≡ Some p → Takes task p h.choice result → h.reply ≡ reply_of (words_of (OnOne name task)) result →
+      v ≡ stand ((name, place_by task p h.choice) ∷ []) w → Step w h v
 
 -- A history, the newest happening first, may have happened since the start and leads to this world.
 abbrev pub Leads : World → List Happening → World → Type 0
 Leads from [] w = w ≡ from
-Leads from (h ∷ hs) w = (v : World) × Leads from hs v × Step v h.command h.reply w
+Leads from (h ∷ hs) w = (v : World) × Leads from hs v × Step v h w
 
 -- A history in which each reply is the one that is due leads to this world.
 abbrev pub IsDue : World → List Happening → World → Type 0

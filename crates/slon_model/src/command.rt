@@ -1,6 +1,6 @@
 ghost use Rattle.std.specs.Prelude.{◌≡◌};
 ghost use Rattle.std.specs.Option.{option_map};
-ghost use Rattle.slon_model.specs.Words as words;
+ghost use Rattle.slon_model.specs.Tasks.{subject_of, database_named, transaction_named, table_named};
 
 use crate::ColumnList;
 use slon_base::{Text, TextList};
@@ -10,7 +10,7 @@ use slon_base::{Text, TextList};
 pub enum Crash {
     /// At once.
     Now,
-    /// At the call of its store after so many more. A commit that fails there stands if `keep` is set.
+    /// At the call of its store after this number of further calls. A commit that fails there stands if `keep` is set.
     After { calls: u32, keep: bool },
     /// At the next commit of its store, which stands if `keep` is set.
     AtCommit { keep: bool },
@@ -23,7 +23,7 @@ pub enum Command {
     Database {
         name: Text,
     },
-    /// Makes a table with so many columns in a database. The first column is the key.
+    /// Makes a table with this number of columns in a database. The first column is the key.
     Table {
         database: Text,
         table: Text,
@@ -89,7 +89,7 @@ pub enum Command {
 impl Command {
     /// The database that it names.
     pub fn database(&self) -> &Text
-        ensures { result.now ≡ words.database_word self.now }
+        ensures { result.now ≡ database_named (subject_of self.now) }
     {
         match self {
             Command::Database { name } => name,
@@ -109,7 +109,7 @@ impl Command {
 
     /// The transaction that it names, if it names one.
     pub fn transaction(&self) -> Option<&Text>
-        ensures { option_map (λ word. word.now) result ≡ words.transaction_word self.now }
+        ensures { option_map (λ word. word.now) result ≡ transaction_named (subject_of self.now) }
     {
         match self {
             Command::Begin { transaction, .. }
@@ -124,7 +124,7 @@ impl Command {
 
     /// The table that it names, if it names one.
     pub fn table(&self) -> Option<&Text>
-        ensures { option_map (λ word. word.now) result ≡ words.table_word self.now }
+        ensures { option_map (λ word. word.now) result ≡ table_named (subject_of self.now) }
     {
         match self {
             Command::Table { table, .. }

@@ -32,7 +32,7 @@ pub enum DbFault {
     /// 54: the table has a row with the key.
     #[error("there is a row with the key")]
     Duplicate,
-    /// 57: the values or columns do not fit a table with so many columns.
+    /// 57: the values or columns do not fit a table with this number of columns.
     #[error("the table has {columns} columns")]
     BadWidth { columns: u64 },
     /// The step stopped at the store.

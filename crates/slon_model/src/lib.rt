@@ -4,9 +4,11 @@
 mod columns;
 mod command;
 mod fault;
+mod numbering;
 mod reply;
 
 pub use columns::ColumnList;
 pub use command::{Command, Crash};
 pub use fault::DbFault;
+pub use numbering::Numbering;
 pub use reply::{Answer, Answered, Refusal, Reply, TableRows};

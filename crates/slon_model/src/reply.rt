@@ -92,7 +92,7 @@ pub enum Refusal {
     Fault { database: Text, count: u64 },
     /// 12: the open transaction of this id wrote the row.
     Locked { xid: u64 },
-    /// 13: the session has so many databases and may have no more.
+    /// 13: the session has as many databases as it may have.
     Full { limit: u32 },
     /// 14: a row of this space is not in its form.
     BadRow { space: u8 },
@@ -116,7 +116,7 @@ pub enum Refusal {
     NoTransaction { transaction: Text },
     /// 54: the table has a row with the key.
     Duplicate,
-    /// 57: the values or columns do not fit a table with so many columns.
+    /// 57: the values or columns do not fit a table with this number of columns.
     BadWidth { columns: u64 },
 }
 

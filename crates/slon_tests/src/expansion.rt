@@ -69,7 +69,7 @@ fn script_of(alloc: Global, script: &str) -> Result<Vec<Token>, AllocError> {
     Ok(tokens)
 }
 
-/// What comes out of a script over these files with so many bytes left, or why none does.
+/// What comes out of a script over these files with this number of bytes left, or why none does.
 fn expanded(
     rt: &HostRuntime,
     script: &str,

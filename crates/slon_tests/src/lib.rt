@@ -2,11 +2,27 @@
 #![tactic(auto)]
 
 #[cfg(test)]
+mod codec;
+#[cfg(test)]
+mod commands;
+#[cfg(test)]
 mod expansion;
+#[cfg(test)]
+mod lines;
+#[cfg(test)]
+mod printed;
 #[cfg(test)]
 mod scripts;
 #[cfg(test)]
 mod served;
+#[cfg(test)]
+mod sessions;
+#[cfg(test)]
+mod snapshots;
+#[cfg(test)]
+mod stored_rows;
+#[cfg(test)]
+mod stores;
 #[cfg(test)]
 mod telling;
 #[cfg(test)]

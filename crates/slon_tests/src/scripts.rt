@@ -183,7 +183,7 @@ const SCRIPTS: &[(&str, &str)] = &[
     ("cluster name = c", "81 5"),
 ];
 
-/// The script that a text is over the files, of which so many reads succeed, with so many bytes left.
+/// The script that a text is over the files, of which only the first reads succeed, with this number of bytes left.
 fn read(rt: &HostRuntime, text: &str, reads: u64, left: &mut u64) -> Result<Script, ParseFault> {
     let mut files = Served::new(FILES, 4096, reads);
     let found = tokens(rt.alloc(), text.as_bytes())?;

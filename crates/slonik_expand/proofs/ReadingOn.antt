@@ -15,7 +15,7 @@ keeps_on into old mid new r a b =
       others = b.others ∙ a.others;
     }
 
--- so many bytes were read of what is left
+-- a number of bytes was read of what is left
 pub read_more : (into : List ℕ) (n : ℕ) (before after : Option (List ℕ)) (got left all : List ℕ)
     → Reads into n before after → before ≡ Some left → got ++ left ≡ all
     → (rest : List ℕ) × (after ≡ Some rest) × ((got ++ take n into) ++ rest ≡ all)

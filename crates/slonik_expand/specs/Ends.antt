@@ -6,7 +6,7 @@ use Rattle.slonik_tokens.specs.declared.fault.ParseFault.TheVariants.{Refused, R
 use Rattle.slonik_tokens.specs.declared.token.Token.{Token}
 use Rattle.slonik_expand.specs.Expansion.{Ending, Made, Wrong, Long}
 
--- the ending is that these tokens came out, and so many bytes are left
+-- the ending is that these tokens came out, and this number of bytes is left
 abbrev pub IsMade : Ending → List Token → ℕ → Type 0
 IsMade (Made making) tokens left = (making.out ≡ tokens) × (making.left ≡ left)
 IsMade (Wrong refusal rest) tokens left = ⊥

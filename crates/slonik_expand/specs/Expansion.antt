@@ -12,11 +12,11 @@ use Rattle.slonik_tokens.specs.declared.token.Token.{Token}
 use Rattle.slonik_expand.specs.declared.place.Place.{Place}
 use Rattle.slonik_tokens.specs.declared.token.Token.TheVariants.{Word, Number, Quoted, Mark, NameUse, Path}
 
--- a script has at most so many tokens
+-- the greatest number of tokens of a script
 abbrev pub token_limit : ℕ
 token_limit = 65536
 
--- so many levels of files may be included
+-- how many levels of files may be included
 abbrev pub level_limit : ℕ
 level_limit = 8
 
@@ -175,7 +175,7 @@ abbrev pub of_file : (List Token → Making → Ending) → Result (List Token) 
 of_file expand (Ok tokens) m = expand tokens m
 of_file expand (Err line) m = Wrong (BadToken line) m.left
 
--- a file with these bytes is included, if so many are left
+-- a file with these bytes is included, if that many are left
 abbrev pub include_bytes : (List Token → Making → Ending) → List ℕ → Making → Ending
 include_bytes expand bytes m =
     if nat_lt m.left (length bytes) then Long else of_file expand (cut_of bytes)
@@ -186,13 +186,13 @@ abbrev pub include_file : (List Token → Making → Ending) → List ℕ → Op
 include_file expand path None m = Wrong (NoFile path) m.left
 include_file expand path (Some bytes) m = include_bytes expand bytes m
 
--- What an INCLUDE of a path gives over the files that these names have, where so many levels of files may still be
+-- What an INCLUDE of a path gives over the files that these names have, where this number of levels of files may still be
 -- included.
 unfoldable pub include_at : (List ℕ → Option (List ℕ)) → ℕ → List ℕ → Making → Ending
 include_at files zero path m = Wrong (Depth path) m.left
 include_at files (suc levels) path m = include_file (expand_from (include_at files levels) 0) path (files path) m
 
--- The expansion of tokens over the files that these names have, where so many levels of files may still be included.
+-- The expansion of tokens over the files that these names have, where this number of levels of files may still be included.
 abbrev pub expand_at : (List ℕ → Option (List ℕ)) → ℕ → List Token → Making → Ending
 expand_at files levels tokens m = expand_from (include_at files levels) 0 tokens m
 
@@ -200,6 +200,6 @@ expand_at files levels tokens m = expand_from (include_at files levels) 0 tokens
 abbrev pub nothing_made : ℕ → Making
 nothing_made left = record { out = []; place = first_place; names = λ name. None; left = left }
 
--- The expansion of a script's tokens over files, where the included files may hold so many bytes.
+-- The expansion of a script's tokens over files, where the included files may hold this number of bytes.
 abbrev pub expansion_of : (List ℕ → Option (List ℕ)) → ℕ → List Token → Ending
 expansion_of files left tokens = expand_at files level_limit tokens (nothing_made left)

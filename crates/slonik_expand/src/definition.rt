@@ -34,7 +34,7 @@ impl Definition {
         }
     }
 
-    /// Adds a part that stands for so many tokens.
+    /// Adds a part that stands for this number of tokens.
     pub(crate) fn push(&mut self, part: Part, len: usize) -> Result<(), AllocError>
         ensures parts { OnOk result (self.new.parts.items ≡ self.old.parts.items ++ part ∷ []) }
         ensures len { OnOk result (self.new.len ≡ capped (self.old.len + len)) }

@@ -12,7 +12,7 @@ use slon_base::{Files, OutFault, Text};
 use slonik_tokens::{ParseFault, ScriptRefusal, Token, tokens as tokens_of};
 use std::alloc::Global;
 
-/// So many levels of files may be included.
+/// How many levels of files may be included.
 const LEVEL_LIMIT: u32 = 8;
 
 /// The tokens of the file of this path, whose bytes are taken off those that are left.
@@ -41,7 +41,7 @@ fn included_tokens<F: Files>(
     }
 }
 
-/// Expands the tokens of one text, where so many levels of files may still be included.
+/// Expands the tokens of one text, where this number of levels of files may still be included.
 fn expand_text<F: Files>(
     alloc: Global,
     tokens: &[Token],

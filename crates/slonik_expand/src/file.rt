@@ -12,7 +12,7 @@ use std::alloc::Global;
 /// The bytes of the buffer.
 const BUFFER_LEN: usize = 4096;
 
-/// The bytes that are left of the file entered last, if there are at most so many.
+/// The bytes that are left of the file entered last, if they are at most this number.
 fn read_entered<F: Files>(alloc: Global, files: &mut F, limit: u64) -> Result<Vec<u8>, ParseFault>
     requires { 0 < length (F.filed files.old).stack }
     ensures files { KeepsOthers (F.filed files.old) (F.filed files.new) }
@@ -37,7 +37,7 @@ fn read_entered<F: Files>(alloc: Global, files: &mut F, limit: u64) -> Result<Ve
     }
 }
 
-/// The bytes of the file of this path, if there is one and it has at most so many.
+/// The bytes of the file of this path, if there is one and it is no longer than that.
 pub(crate) fn read_file<F: Files>(
     alloc: Global,
     path: &Text,

@@ -10,7 +10,7 @@ use crate::place::Place;
 use slonik_tokens::{ParseFault, ScriptRefusal, Token};
 use std::alloc::{AllocError, Global};
 
-/// A script has at most so many tokens.
+/// The greatest number of tokens of a script.
 const TOKEN_LIMIT: usize = 65_536;
 
 /// The tokens that came out, and the place of the next one.

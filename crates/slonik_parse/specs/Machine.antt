@@ -223,7 +223,7 @@ unfoldable pub step : State → Token → List Token → Result State Misparse
 step (Awaits phrase at sign goal) token tokens = awaited phrase at sign goal token
 step (At goal) token tokens = goal_step goal token tokens
 
--- Where a script goes wrong: with so many tokens left, the wrong one among them.
+-- Where a script goes wrong: with this number of tokens left, the wrong one among them.
 pub record Wrong : Type 0 where
   pub misparse : Misparse
   pub left : ℕ

@@ -24,7 +24,7 @@ refused_at place (NotInProfile word) = refusal.NotInProfile word
 refused_at place (NotInTry word) = refusal.NotInTry word
 refused_at place NoMemory = refusal.BadSyntax place
 
--- what so many tokens give
+-- what a script with this number of tokens gives
 abbrev pub placed : ℕ → Result Script Wrong → Result Script ScriptRefusal
 placed total (Ok script) = Ok script
 placed total (Err wrong) = Err (refused_at (total + 1 - wrong.left) wrong.misparse)

@@ -58,7 +58,7 @@ abbrev pub above_zero : Option ℕ → Option ℕ
 above_zero None = None
 above_zero (Some n) = if n == 0 then None else Some n
 
--- an id is 1 to so many
+-- the greatest id
 abbrev pub id_limit : ℕ
 id_limit = 2147483647
 
@@ -70,7 +70,7 @@ id_in (Mark sign) = None
 id_in (NameUse name) = None
 id_in (Path path) = None
 
--- a time has at most so many seconds
+-- the greatest time, in seconds
 abbrev pub seconds_limit : ℕ
 seconds_limit = 1000000000
 

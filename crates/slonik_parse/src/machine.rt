@@ -91,7 +91,7 @@ fn fault_at(alloc: Global, place: u64, misparse: Misparse) -> ParseFault
     ParseFault::Refused(refusal)
 }
 
-/// The fault that a script of so many tokens may not end there. What was made of them is let go.
+/// The fault that a script of this number of tokens may not end there. What was made of them is let go.
 fn end_fault<T: Drop>(_made: T, total: u64) -> ParseFault
     requires { total < 2 ^ 63 }
     ensures { result ≡ ParseFault.Refused (ScriptRefusal.BadSyntax (total + 1)) }
@@ -99,7 +99,7 @@ fn end_fault<T: Drop>(_made: T, total: u64) -> ParseFault
     ParseFault::Refused(ScriptRefusal::BadSyntax { place: total + 1 })
 }
 
-/// The script, if it may end behind this block. It has so many tokens.
+/// The script, if it may end behind this block. It has this number of tokens.
 fn block_end(block: Block, total: u64) -> Result<Script, ParseFault>
     requires { total < 2 ^ 63 }
     ensures { Reads (placed total (machine.goal_end (Goal.Command block))) result }
@@ -124,7 +124,7 @@ fn script_with_try(mut script: Script, tried: TryBlock) -> Result<Script, ParseF
     Ok(script)
 }
 
-/// The script, if it may end at this goal. It has so many tokens.
+/// The script, if it may end at this goal. It has this number of tokens.
 fn goal_end(goal: Goal, total: u64) -> Result<Script, ParseFault>
     requires { total < 2 ^ 63 }
     ensures { Reads (placed total (machine.goal_end goal)) result }
@@ -144,7 +144,7 @@ fn goal_end(goal: Goal, total: u64) -> Result<Script, ParseFault>
     }
 }
 
-/// The script, if it may end in this state. It has so many tokens.
+/// The script, if it may end in this state. It has this number of tokens.
 fn state_end(state: State, total: u64) -> Result<Script, ParseFault>
     requires { total < 2 ^ 63 }
     ensures { Reads (placed total (machine.end_of state)) result }

@@ -12,10 +12,10 @@ use slon_base::Text;
 use slonik_tokens::Token;
 use std::alloc::{AllocError, Global};
 
-/// An id is 1 to so many.
+/// The greatest id.
 const ID_LIMIT: u64 = 2_147_483_647;
 
-/// A time has at most so many seconds.
+/// The greatest time, in seconds.
 const SECONDS_LIMIT: u64 = 1_000_000_000;
 
 /// Whether these are bytes of a word.

@@ -291,7 +291,7 @@ token_sound path (c ∷ cs) token e =
     (λ _ k. mapped Mark (sign_of c) token k (λ sign f same.
     at (Mark sign) same (found_sign path c cs sign (sign_sound c sign f))))))))
 
--- a piece with no token stands at the front, with a byte more than these, and ends so many lines
+-- a piece with no token stands at the front, with a byte more than these, and ends this number of lines
 pub record Blank (path : Bool) (bytes : List ℕ) (n count : ℕ) : Type 0 where
   pub piece : Piece
   pub begun : Begins path bytes piece

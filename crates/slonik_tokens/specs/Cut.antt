@@ -105,7 +105,7 @@ behind_lines count (Ok tokens) = Ok tokens
 behind_lines count (Err lines) = Err (count + lines)
 
 -- one step: over the blank at the front, if it has bytes, or else over the token; `go` has the rest, without the
--- first byte, of which it passes so many
+-- first byte, of which it passes this number
 abbrev pub step : ℕ → Option Token → ℕ → Bool → (Bool → ℕ → Result (List Token) ℕ) → Result (List Token) ℕ
 step (suc blank) found lines path go = behind_lines lines (go path blank)
 step zero None lines path go = Err 0

@@ -1,5 +1,5 @@
 -- When one snapshot sees all that another sees.
-use Rattle.std.proofs.Common.{◌≡◌, ℕ, ◌+◌, ◌<◌, ◌≤◌, Bool, true, false, cond, not, ◌==◌, ◌||◌, nat_lt, IsTrue, ◌↔◌, List, [], ◌∷◌, drop, get_or, length, refl, sym, ap, ◌∙◌, subst, arith, drop-cons, zero, suc, Result, Ok, Err}
+use Rattle.std.proofs.Common.{◌≡◌, ℕ, ◌+◌, ◌<◌, ◌≤◌, Bool, true, false, cond, not, ◌==◌, ◌||◌, ◌&&◌, ◌⊎◌, inl, inr, max, nat_lt, IsTrue, ◌↔◌, List, [], ◌∷◌, drop, get_or, length, refl, sym, ap, ◌∙◌, subst, arith, drop-cons, zero, suc, Result, Ok, Err}
 use Rattle.std.specs.Ordering.{nat_cmp}
 use Rattle.std.specs.Result.{is_ok}
 use Rattle.std.specs.List.Sorted.{IsBinarySearchResult}
@@ -9,8 +9,7 @@ use Rattle.std.proofs.lemmas.List.{drop_all}
 use Rattle.std.specs.List.{AllByRecursion}
 use borrow.Author.Tests.{eqb-true, ltb-true, ltb-false}
 use Rattle.slon_model.specs.Rows.{member}
-use Rattle.slon_model.specs.Snapshots.{Snapshot, IsSnapshot, Rising, first_or, sees, Covers}
-use Rattle.txn_core.proofs.SnapshotTexts.{xmin_le}
+use Rattle.slon_model.specs.Snapshots.{Snapshot, Rising, sees, Covers}
 
 not_below : (x y : ℕ) → y ≤ x → nat_lt x y ≡ false
 not_below x y h = by (nat_lt x y) refl
@@ -19,38 +18,11 @@ not_below x y h = by (nat_lt x y) refl
     by true e = let at = ltb-true x y e in absurd (omega (arith, at, h))
     by false e = refl
 
--- no id from xmax on is seen
-pub past : (s : Snapshot) (x : ℕ) → IsSnapshot s → s.xmax ≤ x → sees s x ≡ false
-past s x h le =
-    let low = xmin_le s h in
-    ap (λ b. cond b true (cond (nat_lt x s.xmax) (not (member x s.running)) false)) (not_below x s.xmin (omega (arith, low, le))) ∙ ap (λ b. cond b (not (member x s.running)) false) (not_below x s.xmax le)
-
-above_all : (x y : ℕ) (ys : List ℕ) → AllByRecursion (λ z. y < z) ys → member x ys ≡ true → y < x
-above_all x y [] a m = absurd (false≢true m)
-above_all x y (z ∷ zs) a m = by (x == z) refl m (above_all x y zs a.1)
-  where
-    by : (b : Bool) → (x == z) ≡ b → (b || member x zs) ≡ true → (member x zs ≡ true → y < x) → y < x
-    by true e m rest = let same = eqb-true x z e in let at = a.0 in omega (arith, same, at)
-    by false e m rest = rest m
-
-first_least : (x limit : ℕ) (xs : List ℕ) → Rising xs → member x xs ≡ true → first_or limit xs ≤ x
-first_least x limit [] r m = absurd (false≢true m)
-first_least x limit (y ∷ ys) r m = by (x == y) refl m
-  where
-    by : (b : Bool) → (x == y) ≡ b → (b || member x ys) ≡ true → y ≤ x
-    by true e m = let same = eqb-true x y e in omega (arith, same)
-    by false e m = let at = above_all x y ys r.0 m in omega (arith, at)
-
--- no running id is seen
-pub running_unseen : (s : Snapshot) (x : ℕ) → IsSnapshot s → member x s.running ≡ true → sees s x ≡ false
-running_unseen s x h m =
-    let first = h.first in
-    let least = first_least x s.xmax s.running h.rising m in
-    ap (λ b. cond b true (cond (nat_lt x s.xmax) (not (member x s.running)) false)) (not_below x s.xmin (omega (arith, first, least))) ∙ ap (λ b. cond (nat_lt x s.xmax) (not b) false) m ∙ either (nat_lt x s.xmax)
-  where
-    either : (b : Bool) → cond b false false ≡ false
-    either true = refl
-    either false = refl
+-- no id from xmin and xmax on is seen
+pub past : (s : Snapshot) (x : ℕ) → s.xmin ≤ x → s.xmax ≤ x → sees s x ≡ false
+past s x low high =
+    ap (λ b. cond b true (cond (nat_lt x s.xmax) (not (member x s.running)) false)) (not_below x s.xmin low)
+    ∙ ap (λ b. cond b (not (member x s.running)) false) (not_below x s.xmax high)
 
 -- ---- a search in a list that rises
 
@@ -80,21 +52,26 @@ place_of : (x : ℕ) (xs : List ℕ) → member x xs ≡ true → (i : ℕ) × (
 place_of x [] m = absurd (false≢true m)
 place_of x (y ∷ ys) m = by (x == y) refl m (place_of x ys)
   where
-    by : (b : Bool) → (x == y) ≡ b → (b || member x ys) ≡ true → (member x ys ≡ true → (i : ℕ) × (i < length ys) × (get_or ys i 0 ≡ x)) → (i : ℕ) × (i < length (y ∷ ys)) × (get_or (y ∷ ys) i 0 ≡ x)
+    by : (b : Bool) → (x == y) ≡ b → (b || member x ys) ≡ true → (member x ys ≡ true → (i : ℕ) × (i < length ys)
+        × (get_or ys i 0 ≡ x)) → (i : ℕ) × (i < length (y ∷ ys)) × (get_or (y ∷ ys) i 0 ≡ x)
     by true e m rest = (0, omega arith, sym (eqb-true x y e))
     by false e m rest = let p = rest m in let at = p.1 in (suc p.0, omega (arith, at), p.2)
 
-pub found_by_search : (xs : List ℕ) (x : ℕ) (r : Result ℕ ℕ) → Rising xs → IsBinarySearchResult (λ y. nat_cmp y x) xs r → is_ok r ≡ member x xs
-found_by_search xs x (Ok i) rising h = let p = searched xs x (Ok i) h (λ i j le w. rising_at xs i j rising le w) in sym (member_at x xs i p.0 p.1)
+pub found_by_search : (xs : List ℕ) (x : ℕ) (r : Result ℕ ℕ) → Rising xs →
+    IsBinarySearchResult (λ y. nat_cmp y x) xs r → is_ok r ≡ member x xs
+found_by_search xs x (Ok i) rising h = let p = searched xs x (Ok i) h (λ i j le w. rising_at xs i j rising le w) in
+    sym (member_at x xs i p.0 p.1)
 found_by_search xs x (Err i) rising h =
     let p = searched xs x (Err i) h (λ i j le w. rising_at xs i j rising le w) in
     by (member x xs) refl p.1 p.2
   where
-    no_place : (k : ℕ) → k < length xs → get_or xs k 0 ≡ x → ((k : ℕ) → k < i → get_or xs k 0 < x) → ((k : ℕ) → i ≤ k → k < length xs → x < get_or xs k 0) → (b : Bool) → nat_lt k i ≡ b → ⊥
+    no_place : (k : ℕ) → k < length xs → get_or xs k 0 ≡ x → ((k : ℕ) → k < i → get_or xs k 0 < x) →
+        ((k : ℕ) → i ≤ k → k < length xs → x < get_or xs k 0) → (b : Bool) → nat_lt k i ≡ b → ⊥
     no_place k w e low high true t = let at = low k (ltb-true k i t) in omega (arith, at, e)
     no_place k w e low high false t = let at = high k (ltb-false k i t) w in omega (arith, at, e)
 
-    by : (b : Bool) → member x xs ≡ b → ((k : ℕ) → k < i → get_or xs k 0 < x) → ((k : ℕ) → i ≤ k → k < length xs → x < get_or xs k 0) → false ≡ b
+    by : (b : Bool) → member x xs ≡ b → ((k : ℕ) → k < i → get_or xs k 0 < x) → ((k : ℕ) → i ≤ k → k < length xs →
+        x < get_or xs k 0) → false ≡ b
     by false e low high = refl
     by true e low high = let q = place_of x xs e in absurd (no_place q.0 q.1 q.2 low high (nat_lt q.0 i) refl)
 
@@ -103,24 +80,39 @@ found_by_search xs x (Err i) rising h =
 pub not_covered : (a b : Snapshot) (x : ℕ) → sees b x ≡ true → sees a x ≡ false → IsTrue false ↔ Covers a b
 not_covered a b x seen unseen = (λ e. absurd (false≢true e), λ covers. absurd (false≢true (sym unseen ∙ covers x seen)))
 
--- the running ids that the other sees are still to come
-abbrev pub Ahead : Snapshot → List ℕ → List ℕ → Type 0
-Ahead b running rest = (x : ℕ) → member x running ≡ true → sees b x ≡ true → member x rest ≡ true
+-- the other sees an id that this one does not see
+abbrev pub tells : Snapshot → Snapshot → ℕ → Bool
+tells a b x = not (sees a x) && sees b x
 
-pub one_ahead : (b : Snapshot) (running xs : List ℕ) (i : ℕ) → i < length xs → sees b (get_or xs i 0) ≡ false → Ahead b running (drop i xs) → Ahead b running (drop (i + 1) xs)
-one_ahead b running xs i within unseen ahead x m s =
-    let here : drop i xs ≡ get_or xs i 0 ∷ drop (i + 1) xs = drop-cons xs i 0 within ∙ ap (λ k. get_or xs i 0 ∷ drop k xs) (one_on i) in
+pub told : (a b : Snapshot) (x : ℕ) → tells a b x ≡ true → IsTrue false ↔ Covers a b
+told a b x is = by (sees a x) refl is
+  where
+    by : (t : Bool) → sees a x ≡ t → (not t && sees b x) ≡ true → IsTrue false ↔ Covers a b
+    by true seen is = absurd (false≢true is)
+    by false unseen is = not_covered a b x is unseen
+
+-- the running ids that tell the two apart are still to come
+abbrev pub Ahead : Snapshot → Snapshot → List ℕ → Type 0
+Ahead a b rest = (x : ℕ) → member x a.running ≡ true → tells a b x ≡ true → member x rest ≡ true
+
+pub one_ahead : (a b : Snapshot) (xs : List ℕ) (i : ℕ) → i < length xs → tells a b (get_or xs i 0) ≡ false →
+    Ahead a b (drop i xs) → Ahead a b (drop (i + 1) xs)
+one_ahead a b xs i within alike ahead x m s =
+    let here : drop i xs ≡ get_or xs i 0 ∷ drop (i + 1) xs =
+    drop-cons xs i 0 within ∙ ap (λ k. get_or xs i 0 ∷ drop k xs) (one_on i) in
     by (x == get_or xs i 0) refl (sym (ap (member x) here) ∙ ahead x m s)
   where
     one_on : (i : ℕ) → suc i ≡ i + 1
     one_on i = omega arith
 
-    by : (t : Bool) → (x == get_or xs i 0) ≡ t → (t || member x (drop (i + 1) xs)) ≡ true → member x (drop (i + 1) xs) ≡ true
-    by true e m = absurd (false≢true (sym unseen ∙ ap (sees b) (sym (eqb-true x (get_or xs i 0) e)) ∙ s))
+    by : (t : Bool) → (x == get_or xs i 0) ≡ t → (t || member x (drop (i + 1) xs)) ≡ true →
+        member x (drop (i + 1) xs) ≡ true
+    by true e m = absurd (false≢true (sym alike ∙ ap (tells a b) (sym (eqb-true x (get_or xs i 0) e)) ∙ s))
     by false e m = m
 
-pub none_ahead : (b : Snapshot) (running xs : List ℕ) (i : ℕ) → length xs ≤ i → Ahead b running (drop i xs) → (x : ℕ) → member x running ≡ true → sees b x ≡ true → ⊥
-none_ahead b running xs i end ahead x m s = false≢true (sym (ap (member x) (drop_all i xs end)) ∙ ahead x m s)
+pub none_ahead : (a b : Snapshot) (xs : List ℕ) (i : ℕ) → length xs ≤ i → Ahead a b (drop i xs) →
+    (x : ℕ) → member x a.running ≡ true → tells a b x ≡ true → ⊥
+none_ahead a b xs i end ahead x m s = false≢true (sym (ap (member x) (drop_all i xs end)) ∙ ahead x m s)
 
 -- from the first on, up to the last, the other sees none
 abbrev pub Unseen : Snapshot → ℕ → ℕ → Type 0
@@ -131,17 +123,38 @@ one_unseen b first last e unseen x low high = by (nat_lt x last) refl
   where
     by : (t : Bool) → nat_lt x last ≡ t → sees b x ≡ false
     by true h = unseen x low (ltb-true x last h)
-    by false h = let at = ltb-false x last h in let same : last ≡ x = omega (arith, at, high) in subst (λ y. sees b y ≡ false) same e
+    by false h =
+        let at = ltb-false x last h in
+        let same : last ≡ x = omega (arith, at, high) in
+        subst (λ y. sees b y ≡ false) same e
 
-pub covered : (a b : Snapshot) → IsSnapshot b → ((x : ℕ) → member x a.running ≡ true → sees b x ≡ true → ⊥) → Unseen b a.xmax b.xmax → Covers a b
-covered a b h running later x s = by (nat_lt x a.xmin) (nat_lt x a.xmax) (member x a.running) refl refl
+pub covered : (a b : Snapshot) (first last : ℕ) → first ≡ max a.xmin a.xmax → last ≡ max b.xmin b.xmax →
+    ((x : ℕ) → member x a.running ≡ true → tells a b x ≡ true → ⊥) → Unseen b first last → Covers a b
+covered a b first last first_is last_is running later x s = by (sees a x) refl
   where
-    seen_below : (t : Bool) → nat_lt x b.xmax ≡ t → a.xmax ≤ x → ⊥
-    seen_below true e le = false≢true (sym (later x le (ltb-true x b.xmax e)) ∙ s)
-    seen_below false e le = false≢true (sym (past b x h (ltb-false x b.xmax e)) ∙ s)
+    outside : (u v : Bool) → nat_lt x a.xmin ≡ u → nat_lt x a.xmax ≡ v → sees a x ≡ false → member x a.running ≡ true
+        ⊎ (first ≤ x)
+    outside true v low high unseen =
+        absurd (false≢true (sym unseen ∙ ap (λ t. cond t true (cond (nat_lt x a.xmax) (not (member x a.running)) false))
+        low))
+    outside false true low high unseen = inl (listed (member x a.running) refl
+        (sym (ap (λ t. cond t true (cond (nat_lt x a.xmax) (not (member x a.running)) false)) low
+        ∙ ap (λ t. cond t (not (member x a.running)) false) high) ∙ unseen))
+      where
+        listed : (t : Bool) → member x a.running ≡ t → not t ≡ false → member x a.running ≡ true
+        listed true is e = is
+        listed false is e = absurd (false≢true (sym e))
+    outside false false low high unseen = inr (omega (arith, first_is, ltb-false x a.xmin low, ltb-false x a.xmax high))
 
-    by : (t u v : Bool) → nat_lt x a.xmax ≡ u → member x a.running ≡ v → cond t true (cond u (not v) false) ≡ true
-    by true u v e m = refl
-    by false true true e m = absurd (running x m s)
-    by false true false e m = refl
-    by false false v e m = absurd (seen_below (nat_lt x b.xmax) refl (ltb-false x a.xmax e))
+    seen_later : (t : Bool) → nat_lt x last ≡ t → first ≤ x → ⊥
+    seen_later true e le = false≢true (sym (later x le (ltb-true x last e)) ∙ s)
+    seen_later false e le =
+        let at = ltb-false x last e in
+        false≢true (sym (past b x (omega (arith, at, last_is)) (omega (arith, at, last_is))) ∙ s)
+
+    by : (t : Bool) → sees a x ≡ t → t ≡ true
+    by true is = refl
+    by false unseen = absurd (elim (outside (nat_lt x a.xmin) (nat_lt x a.xmax) refl refl unseen) [
+      | inl m ↦ running x m (ap (λ t. not t && sees b x) unseen ∙ s)
+      | inr le ↦ seen_later (nat_lt x last) refl le
+    ])

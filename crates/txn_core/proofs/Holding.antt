@@ -8,7 +8,8 @@ use Rattle.txn_core.specs.Locks.{without}
 use Rattle.txn_core.specs.LockMaps.{HolderMap, holder_in}
 
 -- what holds of the row holds where the row is named
-pub here : (P : List ℕ → List ℕ → Type 0) (table key t k : List ℕ) → P table key → (bytes_eq table t && bytes_eq key k) ≡ true → P t k
+pub here : (P : List ℕ → List ℕ → Type 0) (table key t k : List ℕ) → P table key →
+    (bytes_eq table t && bytes_eq key k) ≡ true → P t k
 here P table key t k p e =
     let h = and_parts (bytes_eq table t) (bytes_eq key k) e in
     subst (λ x. P x k) ((bytes_decides table t).0 h.0) (subst (P table) ((bytes_decides key k).0 h.1) p)
@@ -25,17 +26,21 @@ pub without_own : (xid : ℕ) (o : Option ℕ) → o ≡ Some xid → without xi
 without_own xid o e = ap (without xid) e ∙ ap (λ b. cond {A = Option ℕ} b None (Some xid)) (eq-eqb xid xid refl)
 
 -- the lock of the row is taken from the transaction that holds it
-pub taken_back : (xid : ℕ) (table key t k : List ℕ) (m n : HolderMap) → holder_in table key m ≡ Some xid → holder_in t k n ≡ cond (bytes_eq table t && bytes_eq key k) None (holder_in t k m)
+pub taken_back : (xid : ℕ) (table key t k : List ℕ) (m n : HolderMap) → holder_in table key m ≡ Some xid →
+    holder_in t k n ≡ cond (bytes_eq table t && bytes_eq key k) None (holder_in t k m)
     → holder_in t k n ≡ cond (bytes_eq table t && bytes_eq key k) (without xid (holder_in t k m)) (holder_in t k m)
-taken_back xid table key t k m n held e = e ∙ elim (bytes_eq table t && bytes_eq key k) as (λ b. (bytes_eq table t && bytes_eq key k) ≡ b → cond b None (holder_in t k m) ≡ cond b (without xid (holder_in t k m)) (holder_in t k m)) [
-  | true ↦ λ h. sym (without_own xid (holder_in t k m) (here (λ x y. holder_in x y m ≡ Some xid) table key t k held h))
-  | false ↦ λ h. refl
-] refl
+taken_back xid table key t k m n held e = e ∙ elim (bytes_eq table t && bytes_eq key k) as (λ b. (bytes_eq table t
+    && bytes_eq key k) ≡ b → cond b None (holder_in t k m) ≡ cond b (without xid (holder_in t k m)) (holder_in t k m)) [
+      | true ↦ λ h. sym (without_own xid (holder_in t k m) (here (λ x y. holder_in x y m ≡ Some xid) table key t k held h))
+      | false ↦ λ h. refl
+    ] refl
 
 -- the transaction holds no lock of the row, and nothing is changed
-pub left_so : (xid : ℕ) (table key t k : List ℕ) (m n : HolderMap) → without xid (holder_in table key m) ≡ holder_in table key m → holder_in t k n ≡ holder_in t k m
+pub left_so : (xid : ℕ) (table key t k : List ℕ) (m n : HolderMap) →
+    without xid (holder_in table key m) ≡ holder_in table key m → holder_in t k n ≡ holder_in t k m
     → holder_in t k n ≡ cond (bytes_eq table t && bytes_eq key k) (without xid (holder_in t k m)) (holder_in t k m)
-left_so xid table key t k m n other e = e ∙ elim (bytes_eq table t && bytes_eq key k) as (λ b. (bytes_eq table t && bytes_eq key k) ≡ b → holder_in t k m ≡ cond b (without xid (holder_in t k m)) (holder_in t k m)) [
-  | true ↦ λ h. sym (here (λ x y. without xid (holder_in x y m) ≡ holder_in x y m) table key t k other h)
-  | false ↦ λ h. refl
-] refl
+left_so xid table key t k m n other e = e ∙ elim (bytes_eq table t && bytes_eq key k) as (λ b. (bytes_eq table t
+    && bytes_eq key k) ≡ b → holder_in t k m ≡ cond b (without xid (holder_in t k m)) (holder_in t k m)) [
+      | true ↦ λ h. sym (here (λ x y. without xid (holder_in x y m) ≡ holder_in x y m) table key t k other h)
+      | false ↦ λ h. refl
+    ] refl

@@ -25,18 +25,22 @@ Turns key w m n = (q : List ℕ) → at_key q n ≡ cond (bytes_eq key q) w (at_
 
 apart : (key q k : List ℕ) → bytes_eq key q ≡ false → is_eq (key_cmp key k) ≡ true → is_eq (key_cmp q k) ≡ false
 apart key q k other same =
-    is_eq-slice_cmp q k ∙ nat_list_eq_equiv.symm q k ∙ sym (nat_list_eq_equiv.congr key k q (sym (is_eq-slice_cmp key k) ∙ same)) ∙ other
+    is_eq-slice_cmp q k ∙ nat_list_eq_equiv.symm q k ∙ sym (nat_list_eq_equiv.congr key k q (sym (is_eq-slice_cmp key k)
+    ∙ same)) ∙ other
 
-pub turns_by : {V : Type 0} (key : List ℕ) (w : Option V) (m n : Keyed V) → UpdatesBy vec_cmp (λ k. key_cmp key k.items) m n w → Turns key w m n
+pub turns_by : {V : Type 0} (key : List ℕ) (w : Option V) (m n : Keyed V) →
+    UpdatesBy vec_cmp (λ k. key_cmp key k.items) m n w → Turns key w m n
 unfolding KeepsOthers
 turns_by key w m n u q =
     elim (bytes_eq key q) as (λ b. bytes_eq key q ≡ b → at_key q n ≡ cond b w (at_key q m)) [
       | true ↦ λ e. subst (λ x. at_key x n ≡ w) ((bytes_decides key q).0 e) u.1
-      | false ↦ λ e. u.3 (λ k. is_eq (key_cmp q k.items)) (λ x y. (eq_by_cmp_equiv nat_list_cmp_total).congr q x.items y.items) (λ k t. apart key q k.items e t)
+      | false ↦ λ e. u.3 (λ k. is_eq (key_cmp q k.items))
+          (λ x y. (eq_by_cmp_equiv nat_list_cmp_total).congr q x.items y.items) (λ k t. apart key q k.items e t)
     ] refl
 
 -- the same, written through what `get_mut` lends
-pub written : {V : Type 0} (key : List ℕ) (old w : V) (m n : Keyed V) → Some old ≡ at_key key m → WritesThrough vec_cmp (λ k. key_cmp key k.items) m w n → Turns key (Some w) m n
+pub written : {V : Type 0} (key : List ℕ) (old w : V) (m n : Keyed V) → Some old ≡ at_key key m →
+    WritesThrough vec_cmp (λ k. key_cmp key k.items) m w n → Turns key (Some w) m n
 written key old w m n e h = turns_by key (Some w) m n (h.3 (subst IsSome e refl))
 
 pub same_entries : {V : Type 0} (q : List ℕ) (m n : Keyed V) → n.entries ≡ m.entries → at_key q n ≡ at_key q m
@@ -46,17 +50,22 @@ pub at_empty : {V : Type 0} (q : List ℕ) (m : Keyed V) → m.entries ≡ [] �
 at_empty q m e = ap (lookup (λ k. is_eq (key_cmp q k.items))) e
 
 -- what is read of the value at each key, after a change within the value at one key
-pub within : {V W : Type 0} (f : Option V → W) (b : Bool) (w : W) (key q : List ℕ) (v : V) (m n : Keyed V) → Turns key (Some v) m n → f (Some v) ≡ cond b w (f (at_key key m)) → f (at_key q n) ≡ cond (bytes_eq key q && b) w (f (at_key q m))
+pub within : {V W : Type 0} (f : Option V → W) (b : Bool) (w : W) (key q : List ℕ) (v : V) (m n : Keyed V) →
+    Turns key (Some v) m n → f (Some v) ≡ cond b w (f (at_key key m)) → f (at_key q n) ≡ cond (bytes_eq key q && b) w
+    (f (at_key q m))
 within f b w key q v m n u h =
-    ap f (u q) ∙ elim (bytes_eq key q) as (λ t. bytes_eq key q ≡ t → f (cond t (Some v) (at_key q m)) ≡ cond (t && b) w (f (at_key q m))) [
+    ap f (u q) ∙ elim (bytes_eq key q) as (λ t. bytes_eq key q ≡ t → f (cond t (Some v) (at_key q m)) ≡ cond (t && b) w
+    (f (at_key q m))) [
       | true ↦ λ e. h ∙ ap (λ x. cond b w (f (at_key x m))) ((bytes_decides key q).0 e)
       | false ↦ λ e. refl
     ] refl
 
 -- the same where the value at the key reads as before
-pub within_same : {V W : Type 0} (f : Option V → W) (key q : List ℕ) (v : V) (m n : Keyed V) → Turns key (Some v) m n → f (Some v) ≡ f (at_key key m) → f (at_key q n) ≡ f (at_key q m)
+pub within_same : {V W : Type 0} (f : Option V → W) (key q : List ℕ) (v : V) (m n : Keyed V) → Turns key (Some v) m n →
+    f (Some v) ≡ f (at_key key m) → f (at_key q n) ≡ f (at_key q m)
 within_same f key q v m n u h =
-    ap f (u q) ∙ elim (bytes_eq key q) as (λ t. bytes_eq key q ≡ t → f (cond t (Some v) (at_key q m)) ≡ f (at_key q m)) [
+    ap f (u q) ∙ elim (bytes_eq key q) as (λ t. bytes_eq key q ≡ t → f (cond t (Some v) (at_key q m)) ≡ f
+    (at_key q m)) [
       | true ↦ λ e. h ∙ ap (λ x. f (at_key x m)) ((bytes_decides key q).0 e)
       | false ↦ λ e. refl
     ] refl

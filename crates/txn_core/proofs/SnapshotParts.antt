@@ -3,11 +3,11 @@ use Rattle.std.proofs.Common.{◌≡◌, ℕ, ◌+◌, ◌<◌, ◌≤◌, ◌^�
 use Rattle.std.proofs.lemmas.List.{append-nil, drop_all}
 use Rattle.std.specs.Fmt.{decimal}
 use Rattle.std.specs.List.{slice_split}
-use Rattle.slon_model.specs.Snapshots.{Snapshot, IsSnapshot, ids_text, snapshot_text}
+use Rattle.slon_model.specs.Snapshots.{Snapshot, ids_text, snapshot_text}
 use Rattle.txn_core.specs.declared.snapshot.Snapshot as declared
 use Rattle.txn_core.specs.declared.fault.BadSnapshot.{BadSnapshot}
 use Rattle.txn_core.specs.declared.fault.BadSnapshot.TheVariants.{NotCanonical, NoMemory}
-use Rattle.txn_core.specs.Snapshots.{seen_as, Parses, GetsIds, GetsSnapshot}
+use Rattle.txn_core.specs.Snapshots.{IsPrinted, seen_as, Parses, GetsIds, GetsSnapshot}
 use Rattle.txn_core.proofs.SnapshotTexts.{AllSmall, text_split}
 
 abbrev pub texts : List (Bor (List ℕ)) → List (List ℕ)
@@ -20,12 +20,21 @@ record IsNext (w : List ℕ) (ws : List (Bor (List ℕ))) (rest : List ℕ) : Ty
   is : rest ≡ x ∷ more
   word : w ≡ decimal x
   words : texts ws ≡ map decimal more
-  small : x < 2 ^ 63
+  small : x < 2 ^ 64
   others : AllSmall more
 
-next_of : (w : Bor (List ℕ)) (ws : List (Bor (List ℕ))) (rest : List ℕ) → texts (w ∷ ws) ≡ map decimal rest → AllSmall rest → IsNext w.now ws rest
+next_of : (w : Bor (List ℕ)) (ws : List (Bor (List ℕ))) (rest : List ℕ) → texts (w ∷ ws) ≡ map decimal rest →
+    AllSmall rest → IsNext w.now ws rest
 next_of w ws [] e h = cc
-next_of w ws (x ∷ more) e h = record { x = x; more = more; is = refl; word = head_is e; words = tail_is e; small = h.0; others = h.1 }
+next_of w ws (x ∷ more) e h = record {
+  x = x;
+  more = more;
+  is = refl;
+  word = head_is e;
+  words = tail_is e;
+  small = h.0;
+  others = h.1;
+}
   where
     head_is : w.now ∷ texts ws ≡ decimal x ∷ map decimal more → w.now ≡ decimal x
     head_is e = cc
@@ -36,8 +45,10 @@ next_of w ws (x ∷ more) e h = record { x = x; more = more; is = refl; word = h
 one_on : (i : ℕ) → suc i ≡ i + 1
 one_on i = omega arith
 
-next_word : (ws : List (Bor (List ℕ))) (i : ℕ) (d : Bor (List ℕ)) (rest : List ℕ) → i < length ws → texts (drop i ws) ≡ map decimal rest → AllSmall rest → IsNext (get_or ws i d).now (drop (i + 1) ws) rest
-next_word ws i d rest within e h = next_of (get_or ws i d) (drop (i + 1) ws) rest (ap texts (sym (drop-cons ws i d within ∙ ap (λ k. get_or ws i d ∷ drop k ws) (one_on i))) ∙ e) h
+next_word : (ws : List (Bor (List ℕ))) (i : ℕ) (d : Bor (List ℕ)) (rest : List ℕ) → i < length ws →
+    texts (drop i ws) ≡ map decimal rest → AllSmall rest → IsNext (get_or ws i d).now (drop (i + 1) ws) rest
+next_word ws i d rest within e h = next_of (get_or ws i d) (drop (i + 1) ws) rest
+    (ap texts (sym (drop-cons ws i d within ∙ ap (λ k. get_or ws i d ∷ drop k ws) (one_on i))) ∙ e) h
 
 -- what is left to read
 abbrev pub Left : List (Bor (List ℕ)) → ℕ → List ℕ → List ℕ → Type 0
@@ -45,18 +56,26 @@ Left ws i ids xs = (rest : List ℕ) × (ids ++ rest ≡ xs) × (texts (drop i w
 
 -- what reading one word tells
 abbrev pub Reads : List ℕ → Option ℕ → Type 0
-Reads word found = (n : ℕ) → n < 2 ^ 63 → word ≡ decimal n → found ≡ Some n
+Reads word found = (n : ℕ) → n < 2 ^ 64 → word ≡ decimal n → found ≡ Some n
 
 some_one : (x y : ℕ) (found : Option ℕ) → found ≡ Some x → found ≡ Some y → x ≡ y
 some_one x y found e f = cc
 
-pub one_read : (ws : List (Bor (List ℕ))) (i : ℕ) (d : Bor (List ℕ)) (ids new xs : List ℕ) (found : Option ℕ) (xid : ℕ) → i < length ws → Left ws i ids xs → Reads (get_or ws i d).now found → found ≡ Some xid → new ≡ ids ++ xid ∷ [] → Left ws (i + 1) new xs
+pub one_read : (ws : List (Bor (List ℕ))) (i : ℕ) (d : Bor (List ℕ)) (ids new xs : List ℕ) (found : Option ℕ)
+    (xid : ℕ) → i < length ws → Left ws i ids xs → Reads (get_or ws i d).now found → found ≡ Some xid →
+    new ≡ ids ++ xid ∷ [] → Left ws (i + 1) new xs
 one_read ws i d ids new xs found xid within left reads is e =
     let n = next_word ws i d left.0 within left.2 left.3 in
-    let same = some_one n.x xid found (reads n.x n.small n.word) is in
-    (n.more, ap (λ l. l ++ n.more) e ∙ append_assoc ids (xid ∷ []) n.more ∙ ap (λ y. ids ++ y ∷ n.more) (sym same) ∙ ap (λ l. ids ++ l) (sym n.is) ∙ left.1, n.words, n.others)
+    let same = some_one n.x xid found (reads n.x n.small n.word) is in (
+      n.more,
+      ap (λ l. l ++ n.more) e ∙ append_assoc ids (xid ∷ []) n.more ∙ ap (λ y. ids ++ y ∷ n.more) (sym same)
+          ∙ ap (λ l. ids ++ l) (sym n.is) ∙ left.1,
+      n.words,
+      n.others,
+    )
 
-pub none_read : (ws : List (Bor (List ℕ))) (i : ℕ) (d : Bor (List ℕ)) (ids xs : List ℕ) (found : Option ℕ) → i < length ws → Left ws i ids xs → Reads (get_or ws i d).now found → found ≡ None → ⊥
+pub none_read : (ws : List (Bor (List ℕ))) (i : ℕ) (d : Bor (List ℕ)) (ids xs : List ℕ) (found : Option ℕ) →
+    i < length ws → Left ws i ids xs → Reads (get_or ws i d).now found → found ≡ None → ⊥
 none_read ws i d ids xs found within left reads is =
     let n = next_word ws i d left.0 within left.2 left.3 in
     clash n.x (reads n.x n.small n.word)
@@ -75,32 +94,42 @@ all_read ws i ids xs past left =
 
 -- ---- the three parts
 
-pub part_at : (ps : List (Bor (List ℕ))) (d : Bor (List ℕ)) (a b c : List ℕ) → texts ps ≡ a ∷ b ∷ c ∷ [] → ((get_or ps 0 d).now ≡ a) × ((get_or ps 1 d).now ≡ b) × ((get_or ps 2 d).now ≡ c)
+pub part_at : (ps : List (Bor (List ℕ))) (d : Bor (List ℕ)) (a b c : List ℕ) → texts ps ≡ a ∷ b ∷ c ∷ [] →
+    ((get_or ps 0 d).now ≡ a) × ((get_or ps 1 d).now ≡ b) × ((get_or ps 2 d).now ≡ c)
 part_at [] d a b c e = cc
 part_at (p ∷ []) d a b c e = cc
 part_at (p ∷ q ∷ []) d a b c e = cc
 part_at (p ∷ q ∷ r ∷ more) d a b c e = (cc, cc, cc)
 
-pub same_snapshot : (s : Snapshot) (xmin xmax : ℕ) (running : List ℕ) → xmin ≡ s.xmin → xmax ≡ s.xmax → running ≡ s.running → seen_as (record { xmin = xmin; xmax = xmax; running = running }) ≡ s
+pub same_snapshot : (s : Snapshot) (xmin xmax : ℕ) (running : List ℕ) → xmin ≡ s.xmin → xmax ≡ s.xmax →
+    running ≡ s.running → seen_as (record { xmin = xmin; xmax = xmax; running = running }) ≡ s
 same_snapshot s xmin xmax running a b c = λ i. record { xmin = a i; xmax = b i; running = c i }
 
 pub number_is : (n x : ℕ) (found : Option ℕ) → found ≡ Some x → found ≡ Some n → x ≡ n
 number_is n x found e f = cc
 
-pub err_gets : (xs : List ℕ) (s : Snapshot) (e : BadSnapshot) (r : Result declared.Snapshot BadSnapshot) → (y : BadSnapshot) × (r ≡ Err y) × (y ≡ e) → GetsIds xs (Err e) → GetsSnapshot s r
+pub err_gets : (xs : List ℕ) (s : Snapshot) (e : BadSnapshot) (r : Result declared.Snapshot BadSnapshot) →
+    (y : BadSnapshot) × (r ≡ Err y) × (y ≡ e) → GetsIds xs (Err e) → GetsSnapshot s r
 err_gets xs s NotCanonical r p g = absurd g
 err_gets xs s NoMemory r p g = subst (GetsSnapshot s) (sym (p.1 ∙ ap Err p.2)) tt
 
 abbrev pub ReadsParts : List (Bor (List ℕ)) → Result declared.Snapshot BadSnapshot → Type 0
-ReadsParts ps r = (s : Snapshot) → IsSnapshot s → texts ps ≡ decimal s.xmin ∷ decimal s.xmax ∷ ids_text s.running ∷ [] → GetsSnapshot s r
+ReadsParts ps r = (s : Snapshot) → IsPrinted s → texts ps ≡ decimal s.xmin ∷ decimal s.xmax ∷ ids_text s.running ∷ [] →
+    GetsSnapshot s r
 
-parts_of : (text : List ℕ) (ps : List (Bor (List ℕ))) (s : Snapshot) → texts ps ≡ slice_split (λ b. eqb b 58) text → IsSnapshot s → snapshot_text s ≡ text → texts ps ≡ decimal s.xmin ∷ decimal s.xmax ∷ ids_text s.running ∷ []
+parts_of : (text : List ℕ) (ps : List (Bor (List ℕ))) (s : Snapshot) → texts ps ≡ slice_split (λ b. eqb b 58) text →
+    IsPrinted s → snapshot_text s ≡ text → texts ps ≡ decimal s.xmin ∷ decimal s.xmax ∷ ids_text s.running ∷ []
 parts_of text ps s e h is = e ∙ ap (slice_split (λ b. eqb b 58)) (sym is) ∙ text_split s h
 
-pub err_parses : (text : List ℕ) (ps : List (Bor (List ℕ))) (e : BadSnapshot) (r : Result declared.Snapshot BadSnapshot) → texts ps ≡ slice_split (λ b. eqb b 58) text → ReadsParts ps (Err e) → (y : BadSnapshot) × (r ≡ Err y) × (y ≡ e) → Parses text r
-err_parses text ps NotCanonical r split reads p = subst (Parses text) (sym (p.1 ∙ ap Err p.2)) (λ s h is. reads s h (parts_of text ps s split h is))
+pub err_parses : (text : List ℕ) (ps : List (Bor (List ℕ))) (e : BadSnapshot)
+    (r : Result declared.Snapshot BadSnapshot) → texts ps ≡ slice_split (λ b. eqb b 58) text → ReadsParts ps (Err e) →
+    (y : BadSnapshot) × (r ≡ Err y) × (y ≡ e) → Parses text r
+err_parses text ps NotCanonical r split reads p = subst (Parses text) (sym (p.1 ∙ ap Err p.2))
+    (λ s h is. reads s h (parts_of text ps s split h is))
 err_parses text ps NoMemory r split reads p = subst (Parses text) (sym (p.1 ∙ ap Err p.2)) tt
 
 -- what was read is the only snapshot with this text
-pub only_one : (text : List ℕ) (ps : List (Bor (List ℕ))) (found : declared.Snapshot) (s : Snapshot) → texts ps ≡ slice_split (λ b. eqb b 58) text → ReadsParts ps (Ok found) → IsSnapshot s → snapshot_text s ≡ text → seen_as found ≡ s
+pub only_one : (text : List ℕ) (ps : List (Bor (List ℕ))) (found : declared.Snapshot) (s : Snapshot) →
+    texts ps ≡ slice_split (λ b. eqb b 58) text → ReadsParts ps (Ok found) → IsPrinted s → snapshot_text s ≡ text →
+    seen_as found ≡ s
 only_one text ps found s split reads h is = reads s h (parts_of text ps s split h is)

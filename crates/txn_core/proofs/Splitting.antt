@@ -14,7 +14,8 @@ use Rattle.std.specs.Str.Parse.{AllDigits}
 abbrev pub lacks : ℕ → List ℕ → Bool
 lacks byte text = list_all (λ c. not (eqb c byte)) text
 
-pub lacks-append : (byte : ℕ) (xs ys : List ℕ) → lacks byte xs ≡ true → lacks byte ys ≡ true → lacks byte (xs ++ ys) ≡ true
+pub lacks-append : (byte : ℕ) (xs ys : List ℕ) → lacks byte xs ≡ true → lacks byte ys ≡ true →
+    lacks byte (xs ++ ys) ≡ true
 lacks-append byte xs ys e f = list_all-append (λ c. not (eqb c byte)) xs ys ∙ and_from _ _ e f
 
 other_byte : (p : ℕ → Bool) (byte c : ℕ) (b : Bool) → eqb c byte ≡ b → p byte ≡ false → p c ≡ true → not b ≡ true
@@ -22,7 +23,8 @@ other_byte p byte c true e fails holds = let same = ap p (eqb-true c byte e) in 
 other_byte p byte c false e fails holds = refl
 
 -- where each byte passes a test that this one does not
-pub lacks_by : (p : ℕ → Bool) (byte : ℕ) (text : List ℕ) → p byte ≡ false → list_all p text ≡ true → lacks byte text ≡ true
+pub lacks_by : (p : ℕ → Bool) (byte : ℕ) (text : List ℕ) → p byte ≡ false → list_all p text ≡ true →
+    lacks byte text ≡ true
 lacks_by p byte [] fails e = refl
 lacks_by p byte (c ∷ cs) fails e =
     let h = and_parts (p c) (list_all p cs) e in
@@ -36,10 +38,12 @@ all_digits [] h = refl
 all_digits (d ∷ ds) h = and_from (is_ascii_digit d) (list_all is_ascii_digit ds) (digit_is d h.0) (all_digits ds h.1)
 
 pub lacks-decimal : (byte n : ℕ) → is_ascii_digit byte ≡ false → n < 2 ^ 64 → lacks byte (decimal n) ≡ true
-lacks-decimal byte n fails small = lacks_by is_ascii_digit byte (decimal n) fails (all_digits (decimal n) (decimal_is_IsNumeral n small).0.1)
+lacks-decimal byte n fails small = lacks_by is_ascii_digit byte (decimal n) fails
+    (all_digits (decimal n) (decimal_is_IsNumeral n small).0.1)
 
 -- the first part ends where the byte stands first, or it is all
-pub split_first : (byte : ℕ) (xs ys : List ℕ) → lacks byte xs ≡ true → slice_split (λ c. eqb c byte) (xs ++ byte ∷ ys) ≡ xs ∷ slice_split (λ c. eqb c byte) ys
+pub split_first : (byte : ℕ) (xs ys : List ℕ) → lacks byte xs ≡ true →
+    slice_split (λ c. eqb c byte) (xs ++ byte ∷ ys) ≡ xs ∷ slice_split (λ c. eqb c byte) ys
 split_first byte [] ys e = grind (arith, nat_tests)
 split_first byte (x ∷ xs) ys e =
     let h = and_parts (not (eqb x byte)) (lacks byte xs) e in

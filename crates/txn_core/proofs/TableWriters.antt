@@ -11,7 +11,8 @@ use Rattle.std.specs.BTreeSet.{BTreeSet, UpdatesBy, contains, btree_set_len, IsL
 use Rattle.txn_core.specs.LockMaps.{WriterMap, writes_in, at_key, xid_in, IsFirst}
 use Rattle.txn_core.proofs.KeyedMaps.{Turns, within, within_same}
 
-pub updated : (xid x : ℕ) (b : Bool) (s n : BTreeSet ℕ) → UpdatesBy nat_cmp (nat_cmp xid) s n b → contains nat_cmp n x ≡ cond (xid == x) b (contains nat_cmp s x)
+pub updated : (xid x : ℕ) (b : Bool) (s n : BTreeSet ℕ) → UpdatesBy nat_cmp (nat_cmp xid) s n b →
+    contains nat_cmp n x ≡ cond (xid == x) b (contains nat_cmp s x)
 updated xid x b s n u = u.0 x ∙ ap (λ t. cond t b (contains nat_cmp s x)) (unsigned_tied xid x)
 
 pub same_keys : (x : ℕ) (s n : BTreeSet ℕ) → n.keys ≡ s.keys → contains nat_cmp n x ≡ contains nat_cmp s x
@@ -21,22 +22,28 @@ pub no_keys : (x : ℕ) (s : BTreeSet ℕ) → s.keys ≡ [] → contains nat_cm
 no_keys x s e = ap (list_any (λ k. is_eq (nat_cmp x k))) e
 
 -- the transaction is put into the table's set, or taken out
-pub writers_changed : (xid x : ℕ) (table t : List ℕ) (b : Bool) (set : BTreeSet ℕ) (m n : WriterMap) → Turns table (Some set) m n → contains nat_cmp set x ≡ cond (xid == x) b (xid_in x (at_key table m))
+pub writers_changed : (xid x : ℕ) (table t : List ℕ) (b : Bool) (set : BTreeSet ℕ) (m n : WriterMap) →
+    Turns table (Some set) m n → contains nat_cmp set x ≡ cond (xid == x) b (xid_in x (at_key table m))
     → writes_in t x n ≡ (if bytes_eq table t && xid == x then b else writes_in t x m)
 unfolding writes_in
 writers_changed xid x table t b set m n u e = within (xid_in x) (xid == x) b table t set m n u e
 
-pub writers_same : (x : ℕ) (table t : List ℕ) (set : BTreeSet ℕ) (m n : WriterMap) → Turns table (Some set) m n → contains nat_cmp set x ≡ xid_in x (at_key table m) → writes_in t x n ≡ writes_in t x m
+pub writers_same : (x : ℕ) (table t : List ℕ) (set : BTreeSet ℕ) (m n : WriterMap) → Turns table (Some set) m n →
+    contains nat_cmp set x ≡ xid_in x (at_key table m) → writes_in t x n ≡ writes_in t x m
 unfolding writes_in
 writers_same x table t set m n u e = within_same (xid_in x) table t set m n u e
 
 -- the table has no set
-pub none_removed : (xid x : ℕ) (table t : List ℕ) (m n : WriterMap) → at_key table m ≡ None → n ≡ m → writes_in t x n ≡ (if bytes_eq table t && xid == x then false else writes_in t x m)
+pub none_removed : (xid x : ℕ) (table t : List ℕ) (m n : WriterMap) → at_key table m ≡ None → n ≡ m →
+    writes_in t x n ≡ (if bytes_eq table t && xid == x then false else writes_in t x m)
 unfolding writes_in
-none_removed xid x table t m n none e = ap (writes_in t x) e ∙ elim (bytes_eq table t && xid == x) as (λ b. (bytes_eq table t && xid == x) ≡ b → writes_in t x m ≡ cond b false (writes_in t x m)) [
-  | true ↦ λ h. ap (xid_in x) (sym (ap (λ y. at_key y m) ((bytes_decides table t).0 (and_parts (bytes_eq table t) (xid == x) h).0)) ∙ none)
-  | false ↦ λ h. refl
-] refl
+none_removed xid x table t m n none e = ap (writes_in t x) e
+    ∙ elim (bytes_eq table t && xid == x) as (λ b. (bytes_eq table t && xid == x) ≡ b →
+    writes_in t x m ≡ cond b false (writes_in t x m)) [
+      | true ↦ λ h. ap (xid_in x)
+          (sym (ap (λ y. at_key y m) ((bytes_decides table t).0 (and_parts (bytes_eq table t) (xid == x) h).0)) ∙ none)
+      | false ↦ λ h. refl
+    ] refl
 
 not_above : (k x : ℕ) → is_gt (nat_cmp k x) ≡ false → k ≤ x
 not_above k x e = by (nat_cmp k x) (ranks k x) e
@@ -52,10 +59,12 @@ no_first x (k ∷ ks) h = absurd (h (omega arith))
 
 -- the least of the table's set is its least transaction
 pub first_is_least : (table : List ℕ) (set : BTreeSet ℕ) (m : WriterMap) (found : Option ℕ) → Some set ≡ at_key table m
-    → (IsSome found ↔ (0 < btree_set_len set)) → IfSome found (λ k. IsTrue (contains nat_cmp set k)) → IfSome found (λ k. IsLowerBound nat_cmp set k)
+    → (IsSome found ↔ (0 < btree_set_len set)) → IfSome found (λ k. IsTrue (contains nat_cmp set k)) →
+    IfSome found (λ k. IsLowerBound nat_cmp set k)
     → MatchOption found ((x : ℕ) → writes_in table x m ≡ false) (λ x. IsFirst table x m)
 unfolding writes_in
-first_is_least table set m None is variant has least = λ x. sym (ap (xid_in x) is) ∙ no_first x set.keys (λ h. true_is (variant.1 h))
+first_is_least table set m None is variant has least = λ x. sym (ap (xid_in x) is)
+    ∙ no_first x set.keys (λ h. true_is (variant.1 h))
   where
     true_is : false ≡ true → ⊥
     true_is e = cc

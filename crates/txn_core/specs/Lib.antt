@@ -1,4 +1,3 @@
-pub mod Counters
 pub mod LockMaps
 pub mod Locks
 pub mod Snapshots

@@ -79,6 +79,9 @@ released xid table key rows held = if has_row table key rows then without xid he
 
 -- each lock is among the rows of its transaction, and a transaction is one of a table's where it holds a lock on it
 pub record Tied (holders : HolderMap) (writers : WriterMap) (owned : OwnedMap) : Type 0 where
-  pub owns : (table key : List ℕ) (xid : ℕ) → holder_in table key holders ≡ Some xid → has_row table key (owned_by xid owned) ≡ true
-  pub writes : (table key : List ℕ) (xid : ℕ) → holder_in table key holders ≡ Some xid → writes_in table xid writers ≡ true
-  pub wrote : (table : List ℕ) (xid : ℕ) → writes_in table xid writers ≡ true → (key : List ℕ) × (holder_in table key holders ≡ Some xid)
+  pub owns : (table key : List ℕ) (xid : ℕ) → holder_in table key holders ≡ Some xid →
+      has_row table key (owned_by xid owned) ≡ true
+  pub writes : (table key : List ℕ) (xid : ℕ) → holder_in table key holders ≡ Some xid →
+      writes_in table xid writers ≡ true
+  pub wrote : (table : List ℕ) (xid : ℕ) → writes_in table xid writers ≡ true → (key : List ℕ)
+      × (holder_in table key holders ≡ Some xid)

@@ -1,7 +1,8 @@
 -- Snapshots of the program, seen as those of the model, and how their text is read.
-use Rattle.std.specs.Prelude.{◌≡◌, ℕ, Bool, true, nat_lt, ◌&&◌, List, [], ◌∷◌, ◌++◌, codes, Result, Ok, Err}
+use Rattle.std.specs.Prelude.{◌≡◌, ℕ, ◌<◌, ◌^◌, Bool, true, nat_lt, ◌&&◌, List, [], ◌∷◌, ◌++◌, codes, Result, Ok, Err}
+use Rattle.std.specs.List.{AllByRecursion}
 use Rattle.std.specs.Fmt.{decimal}
-use Rattle.slon_model.specs.Snapshots.{Snapshot, IsSnapshot, first_or, snapshot_text}
+use Rattle.slon_model.specs.Snapshots.{Snapshot, Rising, first_or, snapshot_text}
 use Rattle.txn_core.specs.declared.snapshot.Snapshot as declared
 use Rattle.txn_core.specs.declared.fault.BadSnapshot.{BadSnapshot}
 use Rattle.txn_core.specs.declared.fault.BadSnapshot.TheVariants.{NotCanonical, NoMemory}
@@ -10,10 +11,17 @@ use Rattle.txn_core.specs.declared.fault.BadSnapshot.TheVariants.{NotCanonical, 
 abbrev pub seen_as : declared.Snapshot → Snapshot
 seen_as s = record { xmin = s.xmin; xmax = s.xmax; running = s.running }
 
+-- the form that a snapshot has that is printed: that of every snapshot, with numbers up to the last one
+pub record IsPrinted (s : Snapshot) : Type 0 where
+  pub first : s.xmin ≡ first_or s.xmax s.running
+  pub rising : Rising s.running
+  pub below : AllByRecursion (λ x. x < s.xmax) s.running
+  pub small : s.xmax < 2 ^ 64
+
 -- the text is that of this snapshot, or of none, or memory ran out
 abbrev pub Parses : List ℕ → Result declared.Snapshot BadSnapshot → Type 0
-Parses text (Ok s) = IsSnapshot (seen_as s) × (snapshot_text (seen_as s) ≡ text)
-Parses text (Err NotCanonical) = (s : Snapshot) → IsSnapshot s → ¬ (snapshot_text s ≡ text)
+Parses text (Ok s) = IsPrinted (seen_as s) × (snapshot_text (seen_as s) ≡ text)
+Parses text (Err NotCanonical) = (s : Snapshot) → IsPrinted s → ¬ (snapshot_text s ≡ text)
 Parses text (Err NoMemory) = Unit {0}
 
 -- each id behind a comma

@@ -16,9 +16,9 @@ pub struct Counters {
 
 impl Model for Counters {
     ghost use Rattle.std.specs.Prelude.{◌≤◌, ◌<◌, ◌^◌};
-    ghost use Rattle.txn_core.specs.Counters.{Counted};
+    ghost use Rattle.slon_model.specs.Place.{Counter};
 
-    ghost Value = { Counted };
+    ghost Value = { Counter };
 
     ghost view = { λ c. record { next = c.next; ceiling = c.ceiling } };
 

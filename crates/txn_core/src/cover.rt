@@ -1,22 +1,25 @@
 // Whether one snapshot sees all that another sees.
-ghost use Rattle.std.specs.Prelude.{◌≡◌, IsTrue, ◌↔◌};
+ghost use Rattle.std.specs.Prelude.{◌≡◌, IsTrue, ◌↔◌, ◌&&◌, not, true};
 ghost use Rattle.slon_model.specs.Rows.{member};
-ghost use Rattle.slon_model.specs.Snapshots.{IsSnapshot, Rising, sees, Covers};
+ghost use Rattle.slon_model.specs.Snapshots.{Rising, sees, Covers};
 ghost use Rattle.txn_core.specs.Snapshots.{seen_as};
 
-use crate::snapshot::Snapshot;
+use crate::snapshot::{Snapshot, lists};
 
-/// Whether the ascending list has the id.
-fn has(running: &[u64], xid: u64) -> bool
-    requires { Rising running.now }
+/// Whether the list has the id, by a search where the list is known to ascend.
+fn has(running: &[u64], rises: bool, xid: u64) -> bool
+    requires { rises ≡ true → Rising running.now }
     ensures { result ≡ member xid running.now }
 {
-    running.binary_search(&xid).is_ok()
+    if rises {
+        return running.binary_search(&xid).is_ok();
+    }
+    lists(running, xid)
 }
 
-/// Whether the transaction had ended, by a search in the ascending list.
-fn sees_by_search(snapshot: &Snapshot, xid: u64) -> bool
-    requires { IsSnapshot (seen_as snapshot.now) }
+/// Whether the transaction had ended, by a search where the running ones are known to ascend.
+fn sees_by_search(snapshot: &Snapshot, rises: bool, xid: u64) -> bool
+    requires { rises ≡ true → Rising (seen_as snapshot.now).running }
     ensures { result ≡ sees (seen_as snapshot.now) xid }
 {
     if xid < snapshot.xmin {
@@ -25,26 +28,34 @@ fn sees_by_search(snapshot: &Snapshot, xid: u64) -> bool
     if xid >= snapshot.xmax {
         return false;
     }
-    !has(snapshot.running.as_slice(), xid)
+    !has(snapshot.running.as_slice(), rises, xid)
 }
 
 impl Snapshot {
+    /// Whether its running transactions are known to ascend.
+    fn rises(&self) -> bool
+        ensures { result ≡ true → Rising (seen_as self.now).running }
+    {
+        self.is_canonical()
+    }
+
     /// Whether it sees every transaction that the other sees.
     ///
-    /// It looks at its own running transactions, and at those from its `xmax` on up to the first that the other sees,
-    /// so at no more than the running ones of both and one more.
+    /// It looks at its own running transactions, and at the ids from its `xmax` on up to the first that the other sees.
+    /// For snapshots that were taken these are no more than the running ones of both and one more, and each look is
+    /// a search.
     pub fn covers(&self, other: &Snapshot) -> bool
-        requires own { IsSnapshot (seen_as self.now) }
-        requires others { IsSnapshot (seen_as other.now) }
         ensures { IsTrue result ↔ Covers (seen_as self.now) (seen_as other.now) }
     {
+        let own_rises = self.rises();
+        let other_rises = other.rises();
         for xid in self.running.as_slice() {
-            if sees_by_search(other, *xid) {
+            if !sees_by_search(self, own_rises, *xid) && sees_by_search(other, other_rises, *xid) {
                 return false;
             }
         }
-        for later in self.xmax..other.xmax {
-            if sees_by_search(other, later) {
+        for later in self.xmin.max(self.xmax)..other.xmin.max(other.xmax) {
+            if sees_by_search(other, other_rises, later) {
                 return false;
             }
         }

@@ -40,7 +40,8 @@ impl Holders {
         key: &[u8],
         xid: u64,
     ) -> Result<(), AllocError>
-        ensures ok { OnOk result ((t k : List ℕ) → holder_in t k self.new.tables ≡ (if bytes_eq table.now t && bytes_eq key.now k then Some xid else holder_in t k self.old.tables)) }
+        ensures ok { OnOk result ((t k : List ℕ) → holder_in t k self.new.tables ≡ (if bytes_eq table.now t
+            && bytes_eq key.now k then Some xid else holder_in t k self.old.tables)) }
         ensures err { OnErr result ((t k : List ℕ) → holder_in t k self.new.tables ≡ holder_in t k self.old.tables) }
     {
         let key = Vec::from_slice(alloc, key)?;
@@ -60,7 +61,8 @@ impl Holders {
 
     /// Takes the lock of the row from the transaction, if it holds it.
     pub(crate) fn release(&mut self, table: &[u8], key: &[u8], xid: u64)
-        ensures { (t k : List ℕ) → holder_in t k self.new.tables ≡ (if bytes_eq table.now t && bytes_eq key.now k then without xid (holder_in t k self.old.tables) else holder_in t k self.old.tables) }
+        ensures { (t k : List ℕ) → holder_in t k self.new.tables ≡ (if bytes_eq table.now t
+            && bytes_eq key.now k then without xid (holder_in t k self.old.tables) else holder_in t k self.old.tables) }
     {
         if let Some(keys) = self.tables.get_mut(table) {
             if keys.get(key).copied() == Some(xid) {

@@ -10,8 +10,6 @@ mod owned;
 mod print;
 mod read;
 mod snapshot;
-#[cfg(test)]
-mod tests;
 mod writers;
 mod xid_list;
 

@@ -35,8 +35,10 @@ impl Model for LockTable {
 
 /// Gives back the locks of the transaction on these rows.
 fn release(holders: &mut Holders, writers: &mut Writers, xid: u64, rows: &[(Bytes, Bytes)])
-    ensures holders { (t k : List ℕ) → holder_in t k holders.new.tables ≡ released xid t k rows.now (holder_in t k holders.old.tables) }
-    ensures writers { (t : List ℕ) (x : ℕ) → writes_in t x writers.new.tables ≡ (if has_table t rows.now && xid == x then false else writes_in t x writers.old.tables) }
+    ensures holders { (t k : List ℕ) → holder_in t k holders.new.tables ≡ released xid t k rows.now
+        (holder_in t k holders.old.tables) }
+    ensures writers { (t : List ℕ) (x : ℕ) → writes_in t x writers.new.tables ≡ (if has_table t rows.now
+        && xid == x then false else writes_in t x writers.old.tables) }
 {
     for (table, key) in rows {
         holders.release(table.as_slice(), key.as_slice(), xid);
@@ -71,7 +73,8 @@ impl LockTable {
     /// `Locked` where another transaction holds the lock, and `NoMemory`; all locks are then as they were.
     pub fn take(&mut self, xid: u64, table: &[u8], key: &[u8]) -> Result<(), LockFault>
         ensures free { OnOk result (IsFree xid (holder_of table.now key.now self.old)) }
-        ensures ok { OnOk result ((t k : List ℕ) → holder_of t k self.new ≡ (if bytes_eq table.now t && bytes_eq key.now k then Some xid else holder_of t k self.old)) }
+        ensures ok { OnOk result ((t k : List ℕ) → holder_of t k self.new ≡ (if bytes_eq table.now t
+            && bytes_eq key.now k then Some xid else holder_of t k self.old)) }
         ensures refused { IfErr result (λ fault. Refuses xid (holder_of table.now key.now self.old) fault) }
         ensures err { OnErr result ((t k : List ℕ) → holder_of t k self.new ≡ holder_of t k self.old) }
     {
@@ -89,7 +92,8 @@ impl LockTable {
     /// Gives the lock of a row that nobody holds, or leaves all locks as they were.
     fn take_free(&mut self, xid: u64, table: &[u8], key: &[u8]) -> Result<(), LockFault>
         requires { holder_of table.now key.now self.old ≡ None }
-        ensures ok { OnOk result ((t k : List ℕ) → holder_of t k self.new ≡ (if bytes_eq table.now t && bytes_eq key.now k then Some xid else holder_of t k self.old)) }
+        ensures ok { OnOk result ((t k : List ℕ) → holder_of t k self.new ≡ (if bytes_eq table.now t
+            && bytes_eq key.now k then Some xid else holder_of t k self.old)) }
         ensures refused { IfErr result (λ fault. fault ≡ LockFault.NoMemory) }
         ensures err { OnErr result ((t k : List ℕ) → holder_of t k self.new ≡ holder_of t k self.old) }
     {
@@ -113,7 +117,8 @@ impl LockTable {
 
     /// The least transaction that holds a lock on a row of the table.
     pub fn wrote(&self, table: &[u8]) -> Option<u64>
-        ensures { MatchOption result ((k : List ℕ) → holder_of table.now k self.now ≡ None) (λ x. IsFirstWriter x table.now self.now) }
+        ensures { MatchOption result ((k : List ℕ) → holder_of table.now k self.now ≡ None)
+            (λ x. IsFirstWriter x table.now self.now) }
     {
         self.writers.first(table)
     }

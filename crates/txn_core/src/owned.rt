@@ -30,7 +30,11 @@ impl Owned {
         table: &[u8],
         key: &[u8],
     ) -> Result<(), AllocError>
-        ensures ok { OnOk result ((x : ℕ) → owned_by x self.new.xids ≡ (if xid == x then owned_by x self.old.xids ++ (table.now, key.now) ∷ [] else owned_by x self.old.xids)) }
+        ensures ok { OnOk result ((x : ℕ) →
+            owned_by x self.new.xids ≡ (if xid == x then owned_by x self.old.xids ++ (
+              table.now,
+              key.now,
+            ) ∷ [] else owned_by x self.old.xids)) }
         ensures err { OnErr result ((x : ℕ) → owned_by x self.new.xids ≡ owned_by x self.old.xids) }
     {
         let row = (

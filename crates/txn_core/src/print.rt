@@ -4,6 +4,7 @@ ghost use Rattle.slon_model.specs.Snapshots.{ids_text, snapshot_text};
 ghost use Rattle.txn_core.specs.Snapshots.{seen_as, behind_commas};
 
 use crate::snapshot::Snapshot;
+use slon_base::Text;
 use std::alloc::{AllocError, Global};
 
 /// Adds each id behind a comma.
@@ -35,14 +36,14 @@ impl Snapshot {
     /// # Errors
     ///
     /// `AllocError` where there is no memory.
-    pub fn print(&self, alloc: Global) -> Result<String, AllocError>
-        ensures { IfOk result (λ text. string_bytes text ≡ snapshot_text (seen_as self.now)) }
+    pub fn print(&self, alloc: Global) -> Result<Text, AllocError>
+        ensures { IfOk result (λ text. text ≡ snapshot_text (seen_as self.now)) }
     {
         let mut text = String::new(alloc);
         let xmin = self.xmin;
         let xmax = self.xmax;
         write!(text, "{xmin}:{xmax}:")?;
         push_ids(&mut text, self.running.as_slice())?;
-        Ok(text)
+        Ok(Text::from_string(text))
     }
 }

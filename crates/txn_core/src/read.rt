@@ -2,13 +2,12 @@
 ghost use Rattle.std.specs.Prelude.{◌≡◌, [], ◌∷◌, eqb, IsTrue, ◌↔◌, ◌<◌, ◌^◌, ℕ, List, map, Some, IfOk};
 ghost use Rattle.std.specs.List.{AllByRecursion, slice_split};
 ghost use Rattle.std.specs.Fmt.{decimal};
-ghost use Rattle.slon_model.specs.Snapshots.{Snapshot as Model, IsSnapshot, ids_text, snapshot_text};
-ghost use Rattle.txn_core.specs.Snapshots.{seen_as, rises_below, Parses, GetsIds, GetsSnapshot};
+ghost use Rattle.slon_model.specs.Snapshots.{Snapshot as Model, ids_text, snapshot_text};
+ghost use Rattle.txn_core.specs.Snapshots.{seen_as, rises_below, IsPrinted, Parses, GetsIds, GetsSnapshot};
 
 use crate::fault::BadSnapshot;
 use crate::snapshot::Snapshot;
 use crate::xid_list::XidList;
-use slon_base::STORED_LIMIT;
 use std::alloc::{AllocError, Global};
 use std::str;
 
@@ -21,7 +20,7 @@ fn split_at(alloc: Global, text: &[u8], byte: u8) -> Result<Vec<&[u8]>, AllocErr
 
 /// The number that the word spells.
 fn number_of(word: &[u8]) -> Option<u64>
-    ensures { (n : ℕ) → n < 2 ^ 63 → word.now ≡ decimal n → result ≡ Some n }
+    ensures { (n : ℕ) → n < 2 ^ 64 → word.now ≡ decimal n → result ≡ Some n }
 {
     match str::from_utf8(word) {
         Ok(digits) => digits.parse::<u64>().ok(),
@@ -31,7 +30,7 @@ fn number_of(word: &[u8]) -> Option<u64>
 
 /// The ids that the text spells with commas between them.
 fn ids_of(alloc: Global, text: &[u8]) -> Result<XidList, BadSnapshot>
-    ensures { (xs : List ℕ) → AllByRecursion (λ x. x < 2 ^ 63) xs → text.now ≡ ids_text xs → GetsIds xs result }
+    ensures { (xs : List ℕ) → AllByRecursion (λ x. x < 2 ^ 64) xs → text.now ≡ ids_text xs → GetsIds xs result }
 {
     let mut ids = XidList::new(alloc);
     if text.is_empty() {
@@ -49,7 +48,8 @@ fn ids_of(alloc: Global, text: &[u8]) -> Result<XidList, BadSnapshot>
 
 /// The snapshot of these three parts of a text.
 fn snapshot_of(alloc: Global, parts: &[&[u8]]) -> Result<Snapshot, BadSnapshot>
-    ensures { (s : Model) → IsSnapshot s → map (λ part. part.now) parts.now ≡ decimal s.xmin ∷ decimal s.xmax ∷ ids_text s.running ∷ [] → GetsSnapshot s result }
+    ensures { (s : Model) → IsPrinted s → map (λ part. part.now) parts.now ≡ decimal s.xmin ∷ decimal s.xmax ∷ ids_text
+        s.running ∷ [] → GetsSnapshot s result }
 {
     let [xmin, xmax, running] = parts else {
         return Err(BadSnapshot::NotCanonical);
@@ -78,16 +78,13 @@ fn rises_below(xids: &[u64], limit: u64) -> bool
 }
 
 impl Snapshot {
-    /// Whether it has the form of every snapshot: the running transactions ascend below `xmax`, `xmin` is the first of
-    /// them, or `xmax` where none is running, and `xmax` is below 2 to the 63.
+    /// Whether it has the form of every snapshot: the running transactions ascend below `xmax`, and `xmin` is the first
+    /// of them, or `xmax` where none is running.
     pub fn is_canonical(&self) -> bool
-        ensures { IsTrue result ↔ IsSnapshot (seen_as self.now) }
+        ensures { IsTrue result ↔ IsPrinted (seen_as self.now) }
     {
         let running = self.running.as_slice();
         let first = running.first().copied().unwrap_or(self.xmax);
-        if self.xmax > STORED_LIMIT {
-            return false;
-        }
         if self.xmin != first {
             return false;
         }
@@ -101,7 +98,8 @@ impl Snapshot {
     /// `NotCanonical` exactly where no snapshot is printed so, and `NoMemory`.
     pub fn parse(alloc: Global, text: &[u8]) -> Result<Snapshot, BadSnapshot>
         ensures parses { Parses text.now result }
-        ensures again { (s : Model) → IsSnapshot s → snapshot_text s ≡ text.now → IfOk result (λ found. seen_as found ≡ s) }
+        ensures again { (s : Model) → IsPrinted s → snapshot_text s ≡ text.now →
+            IfOk result (λ found. seen_as found ≡ s) }
     {
         let parts = split_at(alloc, text, b':')?;
         let snapshot = snapshot_of(alloc, parts.as_slice())?;
@@ -109,7 +107,7 @@ impl Snapshot {
             return Err(BadSnapshot::NotCanonical);
         }
         let printed = snapshot.print(alloc)?;
-        if printed.as_bytes() != text {
+        if printed.as_slice() != text {
             return Err(BadSnapshot::NotCanonical);
         }
         Ok(snapshot)

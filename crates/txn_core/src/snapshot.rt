@@ -34,7 +34,7 @@ impl Snapshot {
 }
 
 /// Whether the list has the id.
-fn lists(running: &[u64], xid: u64) -> bool
+pub(crate) fn lists(running: &[u64], xid: u64) -> bool
     ensures { result ≡ member xid running.now }
 {
     running.contains(&xid)

@@ -34,7 +34,8 @@ impl Writers {
 
     /// The least of the table's transactions.
     pub(crate) fn first(&self, table: &[u8]) -> Option<u64>
-        ensures { MatchOption result ((x : ℕ) → writes_in table.now x self.now.tables ≡ false) (λ x. IsFirst table.now x self.now.tables) }
+        ensures { MatchOption result ((x : ℕ) → writes_in table.now x self.now.tables ≡ false)
+            (λ x. IsFirst table.now x self.now.tables) }
     {
         match self.tables.get(table) {
             Some(xids) => least(xids),
@@ -44,8 +45,10 @@ impl Writers {
 
     /// Adds a transaction to those of the table, or leaves all as it was.
     pub(crate) fn add(&mut self, alloc: Global, table: &[u8], xid: u64) -> Result<(), AllocError>
-        ensures ok { OnOk result ((t : List ℕ) (x : ℕ) → writes_in t x self.new.tables ≡ (if bytes_eq table.now t && xid == x then true else writes_in t x self.old.tables)) }
-        ensures err { OnErr result ((t : List ℕ) (x : ℕ) → writes_in t x self.new.tables ≡ writes_in t x self.old.tables) }
+        ensures ok { OnOk result ((t : List ℕ) (x : ℕ) → writes_in t x self.new.tables ≡ (if bytes_eq table.now t
+            && xid == x then true else writes_in t x self.old.tables)) }
+        ensures err { OnErr result ((t : List ℕ) (x : ℕ) →
+            writes_in t x self.new.tables ≡ writes_in t x self.old.tables) }
     {
         match self.tables.get_mut(table) {
             Some(xids) => {
@@ -63,7 +66,8 @@ impl Writers {
 
     /// Takes a transaction from those of the table.
     pub(crate) fn remove(&mut self, table: &[u8], xid: u64)
-        ensures { (t : List ℕ) (x : ℕ) → writes_in t x self.new.tables ≡ (if bytes_eq table.now t && xid == x then false else writes_in t x self.old.tables) }
+        ensures { (t : List ℕ) (x : ℕ) → writes_in t x self.new.tables ≡ (if bytes_eq table.now t
+            && xid == x then false else writes_in t x self.old.tables) }
     {
         if let Some(xids) = self.tables.get_mut(table) {
             xids.remove(&xid);

@@ -1,30 +1,59 @@
+use Rattle.std.proofs.Common.{◌∙◌}
 use Rattle.std.proofs.lemmas.Result.{err_from_is_err_and}
-use Rattle.app_store.specs.Steps.{Looks}
-use Rattle.app_store.specs.Works.{FindsNumbers}
+use Rattle.store_rows.proofs.Spaces.{sight_safe}
+use Rattle.app_store.specs.Works.{NumbersAre}
 use Rattle.app_store.proofs.Pending.{exit_as}
-use Rattle.app_store.proofs.MetaNumbers.{numbers_stop, numbers_none, xids_stop, actions_stop, numbers_found}
+use Rattle.app_store.proofs.MetaNumbers.{stamp_if, small_if, stamp_at, xids_at, actions_at, found_stamp, no_stamp}
 use Rattle.app_store.proofs.look.find_numbers.Goals as goal
 
-pub returns-in_err-find_number-clause-looks : goal.returns-in_err-find_number-clause-looks
-returns-in_err-find_number-clause-looks g c =
-    exit_as (Looks FindsNumbers (g.K.Keeper.kept c.args.keeper.now) (g.K.Keeper.kept c.find_number.new.keeper)) c.from_residual.result
-    (err_from_is_err_and c.from_residual.result c.from_residual.ensures.1) (numbers_stop c.in_err-find_number.field-0.0 c.in_err-find_number.ensures.looks)
+pub returns-in_err-find_number-clause-finds : goal.returns-in_err-find_number-clause-finds
+returns-in_err-find_number-clause-finds g c m seen stamp xids numbers a b d is =
+    exit_as (NumbersAre stamp xids numbers) c.from_residual.result
+    (err_from_is_err_and c.from_residual.result c.from_residual.ensures.1)
+    (c.in_err-find_number.ensures.says m (stamp_if stamp) seen (small_if stamp a) (stamp_at stamp xids numbers
+    (m 1) is))
 
-pub returns-in_err-xid_ceiling-in-Some-clause-looks : goal.returns-in_err-xid_ceiling-in-Some-clause-looks
-returns-in_err-xid_ceiling-in-Some-clause-looks g c =
-    exit_as (Looks FindsNumbers (g.K.Keeper.kept c.args.keeper.now) (g.K.Keeper.kept c.find_ceiling.new.keeper)) c.from_residual-in_err-xid_ceiling-in-Some.result
-    (err_from_is_err_and c.from_residual-in_err-xid_ceiling-in-Some.result c.from_residual-in_err-xid_ceiling-in-Some.ensures.1)
-    (xids_stop c.in-Some.stamp c.in_err-xid_ceiling-in-Some.field-0.0 c.requires (rw c.in-Some.is at c.in_ok-find_number.ensures.looks) c.in_err-xid_ceiling-in-Some.ensures.looks)
+pub returns-in-None-clause-finds : goal.returns-in-None-clause-finds
+returns-in-None-clause-finds g c m seen stamp xids numbers a b d is =
+    no_stamp stamp (rw c.in-None.is at (c.in_ok-find_number.ensures.says m (stamp_if stamp) seen (small_if stamp a)
+    (stamp_at stamp xids numbers (m 1) is)))
 
-pub returns-in_err-number_ceiling-in-Some-clause-looks : goal.returns-in_err-number_ceiling-in-Some-clause-looks
-returns-in_err-number_ceiling-in-Some-clause-looks g c =
-    exit_as (Looks FindsNumbers (g.K.Keeper.kept c.args.keeper.now) (g.K.Keeper.kept c.find_ceiling-in-Some.new.keeper)) c.from_residual-in_err-number_ceiling-in-Some.result
-    (err_from_is_err_and c.from_residual-in_err-number_ceiling-in-Some.result c.from_residual-in_err-number_ceiling-in-Some.ensures.1)
-    (actions_stop c.in-Some.stamp c.in_ok-xid_ceiling-in-Some.xid_ceiling c.in_err-number_ceiling-in-Some.field-0.0 c.requires (rw c.in-Some.is at c.in_ok-find_number.ensures.looks) c.in_ok-xid_ceiling-in-Some.ensures.looks c.in_err-number_ceiling-in-Some.ensures.looks)
+pub returns-in_err-xid_ceiling-in-Some-clause-finds : goal.returns-in_err-xid_ceiling-in-Some-clause-finds
+returns-in_err-xid_ceiling-in-Some-clause-finds g c m seen stamp xids numbers a b d is =
+    let read = c.in_ok-find_number.ensures in
+    let some = found_stamp c.in-Some.stamp stamp
+    (rw c.in-Some.is at (read.says m (stamp_if stamp) seen (small_if stamp a) (stamp_at stamp xids numbers
+    (m 1) is))) in
+    let later = sight_safe read.safe read.same ∙ seen in
+    exit_as (NumbersAre stamp xids numbers) c.from_residual-in_err-xid_ceiling-in-Some.result
+    (err_from_is_err_and c.from_residual-in_err-xid_ceiling-in-Some.result
+    c.from_residual-in_err-xid_ceiling-in-Some.ensures.1)
+    (c.in_err-xid_ceiling-in-Some.ensures.says m xids later b (xids_at stamp xids numbers (m 1) some.1 is))
 
-pub returns-in-None-clause-looks : goal.returns-in-None-clause-looks
-returns-in-None-clause-looks g c = numbers_none (rw c.in-None.is at c.in_ok-find_number.ensures.looks)
+pub returns-in_err-number_ceiling-in-Some-clause-finds : goal.returns-in_err-number_ceiling-in-Some-clause-finds
+returns-in_err-number_ceiling-in-Some-clause-finds g c m seen stamp xids numbers a b d is =
+    let read = c.in_ok-find_number.ensures in
+    let next = c.in_ok-xid_ceiling-in-Some.ensures in
+    let some = found_stamp c.in-Some.stamp stamp
+    (rw c.in-Some.is at (read.says m (stamp_if stamp) seen (small_if stamp a) (stamp_at stamp xids numbers
+    (m 1) is))) in
+    let later = sight_safe next.safe next.same ∙ sight_safe read.safe read.same ∙ seen in
+    exit_as (NumbersAre stamp xids numbers) c.from_residual-in_err-number_ceiling-in-Some.result
+    (err_from_is_err_and c.from_residual-in_err-number_ceiling-in-Some.result
+    c.from_residual-in_err-number_ceiling-in-Some.ensures.1)
+    (c.in_err-number_ceiling-in-Some.ensures.says m numbers later d (actions_at stamp xids numbers (m 1) some.1 is))
 
-pub returns-in_ok-number_ceiling-in-Some-clause-looks : goal.returns-in_ok-number_ceiling-in-Some-clause-looks
-returns-in_ok-number_ceiling-in-Some-clause-looks g c =
-    numbers_found c.in-Some.stamp c.in_ok-xid_ceiling-in-Some.xid_ceiling c.in_ok-number_ceiling-in-Some.number_ceiling c.requires (rw c.in-Some.is at c.in_ok-find_number.ensures.looks) c.in_ok-xid_ceiling-in-Some.ensures.looks c.in_ok-number_ceiling-in-Some.ensures.looks
+pub returns-in_ok-number_ceiling-in-Some-clause-finds : goal.returns-in_ok-number_ceiling-in-Some-clause-finds
+returns-in_ok-number_ceiling-in-Some-clause-finds g c m seen stamp xids numbers a b d is =
+    let read = c.in_ok-find_number.ensures in
+    let next = c.in_ok-xid_ceiling-in-Some.ensures in
+    let some = found_stamp c.in-Some.stamp stamp
+    (rw c.in-Some.is at (read.says m (stamp_if stamp) seen (small_if stamp a) (stamp_at stamp xids numbers
+    (m 1) is))) in
+    let then = sight_safe read.safe read.same ∙ seen in
+    let later = sight_safe next.safe next.same ∙ then in (
+      some.0,
+      next.says m xids then b (xids_at stamp xids numbers (m 1) some.1 is),
+      c.in_ok-number_ceiling-in-Some.ensures.says m numbers later d (actions_at stamp xids numbers (m 1) some.1 is),
+      some.1,
+    )

@@ -3,5 +3,9 @@ use Rattle.slon_base.proofs.Spelled.{number_at-is}
 use Rattle.slon_base.proofs.row.number_at.Goals as goal
 
 pub returns-clause-found : goal.returns-clause-found
-returns-clause-found c =
-    (omega arith, rw c.split_at.ensures.back (number_at-is c.args.bytes.now c.from_be_bytes-number.result (λ i. omega (arith, c.type_inv.bytes i)) c.if-bytes-lt8.false (rw (← c.split_at.ensures.front) c.from_be_bytes-number.ensures)))
+returns-clause-found c = (
+  omega arith,
+  rw c.split_at.ensures.back (number_at-is c.args.bytes.now c.from_be_bytes-number.result
+      (λ i. omega (arith, c.type_inv.bytes i)) c.if-bytes-lt8.false
+      (rw (← c.split_at.ensures.front) c.from_be_bytes-number.ensures)),
+)

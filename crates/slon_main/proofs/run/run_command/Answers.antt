@@ -2,7 +2,7 @@ use Rattle.std.proofs.Common.{arith}
 use Rattle.std.proofs.lemmas.Result.{err_from_is_err_and}
 use Rattle.slon_model.specs.declared.reply.Reply.{Reply}
 use Rattle.slon_main.proofs.Causes.{stops_as, stops_since}
-use Rattle.slon_main.proofs.Runs.{replied}
+use Rattle.slon_main.proofs.Runs.{on_ok}
 use Rattle.slon_main.proofs.run.run_command.Goals as goal
 
 pub returns-in_err-reply-clause-cause : goal.returns-in_err-reply-clause-cause
@@ -15,4 +15,11 @@ returns-clause-cause g c files =
 
 pub returns-clause-runs : goal.returns-clause-runs
 returns-clause-runs g c tells =
-    replied (g.S.Shelf.shelved c.args.shelf.now) c.args.command.now _ _ _ _ c.in_ok-reply.reply c.answer.result (c.in_ok-reply.ensures.obeys tells) c.in_ok-reply.ensures.certain c.in_ok-reply.ensures.quiet c.in_ok-reply.ensures.pays c.answer.ensures.written
+    on_ok c.answer.result (λ told w follows. record {
+      reply = c.in_ok-reply.reply;
+      goes = c.in_ok-reply.ensures.obeys tells w follows;
+      written_is = told;
+      certain = c.in_ok-reply.ensures.certain;
+      quiet = c.in_ok-reply.ensures.quiet;
+      pays = c.in_ok-reply.ensures.pays;
+    }) c.answer.ensures.written

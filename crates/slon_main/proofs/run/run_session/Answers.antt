@@ -1,4 +1,4 @@
-use Rattle.std.proofs.Common.{◌∙◌, sym, subst, arith, rules, Bool, Err}
+use Rattle.std.proofs.Common.{◌∙◌, ◌+◌, refl, sym, subst, arith, rules, Bool, Err}
 use Rattle.std.proofs.lemmas.Result.{err_from_is_err_and}
 use Rattle.session_text.specs.Handing.{Hands}
 use Rattle.session_text.specs.declared.line_reader.NextLine.TheVariants.{Line}
@@ -18,7 +18,14 @@ loop-line-init g c = record {
   count = omega arith;
   limit = omega (arith, c.in-Ok.ensures.1);
   came = λ bytes is. came_first bytes c.in-Ok.reader (g.F.Files.filed c.args.files.now) is c.in-Ok.ensures.0 c.in-Ok.ensures.1;
-  runs = λ bytes limit is tells empty agrees. begun (g.S.Shelf.shelved c.args.shelf.now) limit bytes c.in-Ok.reader (g.F.Files.filed c.args.files.now) (g.O.Sink.poured c.args.out.now).written (cluster_of g.S.Store.Keeper.kept c.args.cluster.now) is c.in-Ok.ensures.0 empty agrees;
+  runs = λ bytes limit is tells empty agrees.
+      begun (record { shelf = g.S.Shelf.shelved c.args.shelf.now; limit = limit; bytes = bytes }) _ (record {
+        number = refl;
+        bytes = is;
+        unread = c.in-Ok.ensures.0;
+        empty = empty;
+        agrees = agrees;
+      });
 }
 
 pub returns-in_err-read_line-clause-cause : goal.returns-in_err-read_line-clause-cause
@@ -37,7 +44,13 @@ pub returns-in_err-read_line-clause-runs : goal.returns-in_err-read_line-clause-
 returns-in_err-read_line-clause-runs g c bytes limit is tells empty agrees =
     let running = c.loop-line.invariant.runs bytes limit is tells empty agrees in
     handed_on (RunsSession (g.S.Shelf.shelved c.args.shelf.now) limit bytes (g.O.Sink.poured c.loop-line.out).written (cluster_of g.S.Store.Keeper.kept c.loop-line.cluster)) c.from_residual.result (err_from_is_err_and c.from_residual.result c.from_residual.ensures.1)
-    (read_stops (g.S.Shelf.shelved c.args.shelf.now) limit bytes c.loop-line.number c.read_line.new.line.items c.loop-line.reader c.read_line.new.reader (g.F.Files.filed c.loop-line.files) (g.F.Files.filed c.read_line.new.files) _ _ running (c.loop-line.invariant.came bytes is) c.loop-line.invariant.limit c.in_err-read_line.field-0.0 (c.in_err-read_line.ensures.reads running.rest running.comes))
+    (read_stops (record { shelf = g.S.Shelf.shelved c.args.shelf.now; limit = limit; bytes = bytes }) _ c.in_err-read_line.field-0.0 running
+    (record { came = c.loop-line.invariant.came bytes is; small = c.loop-line.invariant.limit }) (record {
+      line = c.read_line.new.line.items;
+      reader = c.read_line.new.reader;
+      files = g.F.Files.filed c.read_line.new.files;
+      reads = c.in_err-read_line.ensures.reads running.rest running.comes;
+    }))
 
 pub returns-in_err-run_line-clause-cause : goal.returns-in_err-run_line-clause-cause
 returns-in_err-run_line-clause-cause g c =
@@ -57,8 +70,16 @@ returns-in_err-run_line-clause-runs g c bytes limit is tells empty agrees =
     let running = c.loop-line.invariant.runs bytes limit is tells empty agrees in
     let hands = subst (λ l. Hands l running.rest c.loop-line.reader c.read_line.new.reader (g.F.Files.filed c.read_line.new.files) Line) (sym c.deref.ensures.value) (rw c.if-branch.true at c.in_ok-read_line.ensures.reads running.rest running.comes) in
     handed_on (RunsSession (g.S.Shelf.shelved c.args.shelf.now) limit bytes (g.O.Sink.poured c.run_line.new.out).written (cluster_of g.S.Store.Keeper.kept c.run_line.new.cluster)) c.from_residual-in_err-run_line.result (err_from_is_err_and c.from_residual-in_err-run_line.result c.from_residual-in_err-run_line.ensures.1)
-    (line_stops (g.S.Shelf.shelved c.args.shelf.now) (g.S.Shelf.shelved c.loop-line.shelf) limit bytes _ _ _ _ _ _ _ _ _ _ running hands c.in_err-run_line.field-0.0
-    (c.in_err-run_line.ensures.runs (tells_still (g.S.Shelf.shelved c.args.shelf.now) (g.S.Shelf.shelved c.loop-line.shelf) c.loop-line.invariant.shelf.promise tells)))
+    (line_stops (record { shelf = g.S.Shelf.shelved c.args.shelf.now; limit = limit; bytes = bytes }) (g.S.Shelf.shelved c.loop-line.shelf) c.deref.result.now _ (record {
+      number = c.loop-line.number + 1;
+      reader = c.read_line.new.reader;
+      files = g.F.Files.filed c.read_line.new.files;
+      output = (g.O.Sink.poured c.run_line.new.out).written;
+      cluster = cluster_of g.S.Store.Keeper.kept c.run_line.new.cluster;
+    }) c.in_err-run_line.field-0.0 running (record {
+      hands = hands;
+      runs = c.in_err-run_line.ensures.runs (tells_still (g.S.Shelf.shelved c.args.shelf.now) (g.S.Shelf.shelved c.loop-line.shelf) c.loop-line.invariant.shelf.promise tells);
+    }))
 
 pub loop-line-preserved : goal.loop-line-preserved
 loop-line-preserved g c = record {
@@ -74,8 +95,12 @@ loop-line-preserved g c = record {
   runs = λ bytes limit is tells empty agrees.
       let running = c.loop-line.invariant.runs bytes limit is tells empty agrees in
       let hands = subst (λ l. Hands l running.rest c.loop-line.reader c.read_line.new.reader (g.F.Files.filed c.read_line.new.files) Line) (sym c.deref.ensures.value) (rw c.if-branch.true at c.in_ok-read_line.ensures.reads running.rest running.comes) in
-      went_on (g.S.Shelf.shelved c.args.shelf.now) (g.S.Shelf.shelved c.loop-line.shelf) limit bytes _ _ _ _ _ _ _ _ _ _ c.loop-line.invariant.shelf.promise
-      (omega (arith, c.loop-line.invariant.count, c.loop-line.invariant.limit)) running hands (c.in_ok-run_line.ensures.runs (tells_still (g.S.Shelf.shelved c.args.shelf.now) (g.S.Shelf.shelved c.loop-line.shelf) c.loop-line.invariant.shelf.promise tells));
+      went_on (record { shelf = g.S.Shelf.shelved c.args.shelf.now; limit = limit; bytes = bytes }) (g.S.Shelf.shelved c.loop-line.shelf) c.deref.result.now _ _ running (record {
+        number = refl;
+        promised = c.loop-line.invariant.shelf.promise;
+        hands = hands;
+        means = c.in_ok-run_line.ensures.runs (tells_still (g.S.Shelf.shelved c.args.shelf.now) (g.S.Shelf.shelved c.loop-line.shelf) c.loop-line.invariant.shelf.promise tells);
+      });
 }
 
 pub returns-clause-place : goal.returns-clause-place
@@ -86,4 +111,5 @@ returns-clause-place g c bytes is =
 pub returns-clause-runs : goal.returns-clause-runs
 returns-clause-runs g c bytes limit is tells empty agrees =
     let running = c.loop-line.invariant.runs bytes limit is tells empty agrees in
-    ran_all (g.S.Shelf.shelved c.args.shelf.now) limit bytes _ _ _ _ _ running (rw c.if-branch.false at c.in_ok-read_line.ensures.reads running.rest running.comes)
+    ran_all (record { shelf = g.S.Shelf.shelved c.args.shelf.now; limit = limit; bytes = bytes }) _ running
+    (rw c.if-branch.false at c.in_ok-read_line.ensures.reads running.rest running.comes)

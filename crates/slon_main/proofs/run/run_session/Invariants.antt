@@ -18,7 +18,15 @@ invariant-loop-line g l = record {
   count : l.number ≤ l.reader.taken + 1;
   limit : l.reader.taken ≤ session_limit;
   came : (bytes : List ℕ) → top (g.F.Files.filed l.fn.files).stack ≡ Some bytes → Came bytes l.number l.reader (g.F.Files.filed l.files);
-  runs : (bytes : List ℕ) (limit : ℕ) → top (g.F.Files.filed l.fn.files).stack ≡ Some bytes → Tells (g.S.Shelf.shelved l.fn.shelf) → (g.O.Sink.poured l.fn.out).written ≡ Some [] → Agrees (start limit) (cluster_of g.S.Store.Keeper.kept l.fn.cluster) → Running (g.S.Shelf.shelved l.fn.shelf) limit bytes l.number l.reader (g.F.Files.filed l.files) (g.O.Sink.poured l.out).written (cluster_of g.S.Store.Keeper.kept l.cluster);
+  runs : (bytes : List ℕ) (limit : ℕ) → top (g.F.Files.filed l.fn.files).stack ≡ Some bytes → Tells (g.S.Shelf.shelved l.fn.shelf) →
+      (g.O.Sink.poured l.fn.out).written ≡ Some [] → Agrees (start limit) (cluster_of g.S.Store.Keeper.kept l.fn.cluster) →
+      Running (record { shelf = g.S.Shelf.shelved l.fn.shelf; limit = limit; bytes = bytes }) (record {
+        number = l.number;
+        reader = l.reader;
+        files = g.F.Files.filed l.files;
+        output = (g.O.Sink.poured l.out).written;
+        cluster = cluster_of g.S.Store.Keeper.kept l.cluster;
+      });
 }
 
 abbrev pub decreases-loop-line : goal.decreases-loop-line

@@ -7,4 +7,9 @@ use Rattle.txn_core.proofs.print.push_ids.Goals as goal
 
 pub returns-in_ok-write-in-Some : goal.returns-in_ok-write-in-Some
 returns-in_ok-write-in-Some c =
-    IfOk-equal c.push_behind_commas.result _ _ _ c.push_behind_commas.ensures (rw (c.in_ok-write-in-Some.ensures.bytes, c.in-Some.ensures.cases.0, ids_first) (append_assoc (string_bytes c.args.text.now) (decimal c.in-Some.first.now) (behind_commas c.in-Some.rest.now)))
+    IfOk-equal c.push_behind_commas.result _ _ _ c.push_behind_commas.ensures (rw (
+      c.in_ok-write-in-Some.ensures.bytes,
+      c.in-Some.ensures.cases.0,
+      ids_first,
+    ) (append_assoc (string_bytes c.args.text.now) (decimal c.in-Some.first.now)
+    (behind_commas c.in-Some.rest.now)))

@@ -8,8 +8,11 @@ use Rattle.txn_core.proofs.read.number_of.Goals as goal
 
 pub returns-in-Ok : goal.returns-in-Ok
 returns-in-Ok c n small is =
-    let read = parse-decimal 64 n c.in-Ok.digits.now c.parse.result (omega (arith, small)) (omega (arith, small)) (c.in-Ok.ensures.cases.0 ∙ is) c.parse.ensures.value.0 in
+    let read = parse-decimal 64 n c.in-Ok.digits.now c.parse.result (omega (arith, small)) (omega (arith, small))
+    (c.in-Ok.ensures.cases.0 ∙ is) c.parse.ensures.value.0 in
     c.ok.ensures.value ∙ ap result_ok read
 
 pub returns-in-Err : goal.returns-in-Err
-returns-in-Err c n small is = absurd (c.in-Err.ensures.cases.0 (subst IsUtf8 (sym is) (IsUtf8-from_ascii (decimal n) (IsAscii-decimal n (omega (arith, small))))))
+returns-in-Err c n small is =
+    absurd (c.in-Err.ensures.cases.0
+    (subst IsUtf8 (sym is) (IsUtf8-from_ascii (decimal n) (IsAscii-decimal n (omega (arith, small))))))

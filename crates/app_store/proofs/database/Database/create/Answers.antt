@@ -1,59 +1,34 @@
-use Rattle.std.proofs.Common.{◌∙◌, ap, refl}
-use Rattle.std.proofs.lemmas.Bool.{true≢false}
-use Rattle.app_store.specs.Base.{base_of}
-use Rattle.app_store.proofs.Pending.{stays, stays_on, spends_on}
-use Rattle.app_store.proofs.Rising.{begins_done, begins_doubt, begins_fault, stop_fails}
+use Rattle.std.proofs.Common.{◌∙◌, refl, inl}
+use Rattle.std.proofs.lemmas.Bool.{false≢true, true≢false}
+use Rattle.app_store.specs.Base.{memory_of}
+use Rattle.app_store.proofs.Rising.{begins_done, begins_doubt, begins_fault}
+use Rattle.app_store.proofs.Serving.{ran_on, ran_rollback, ran_or, ran_or_doubt, founds_well, founds_doubt, founds_stop}
 use Rattle.app_store.proofs.database.Database.create.Goals as goal
 
-pub returns-in-Done-clause-begins : goal.returns-in-Done-clause-begins
-returns-in-Done-clause-begins g c held memory =
-    let works = rw c.in-Done.is at (rw c.in-Some.is at (c.in-Ok.ensures.works (c.rollback.ensures.rolls_back.held ∙ held))) in
-    let closed = rw c.in-Done.is at (rw c.in-Some.is at c.in-Ok.ensures.tries.closed) in
-    begins_done _ _ c.fresh.ensures closed works.1
+pub returns-in-None-clause-founds : goal.returns-in-None-clause-founds
+returns-in-None-clause-founds g c =
+    founds_well _ _ _ refl (ran_on (ran_rollback c.rollback.ensures.rolls_back) (ran_or refl (rw c.in-None.is at c.in-Ok.ensures.tries)))
+    (λ held memory. absurd (false≢true (rw c.in-None.is at (c.in-Ok.ensures.works (c.rollback.ensures.rolls_back.held ∙ held))).0))
+    (λ m pair held. (inl refl, (rw c.in-None.is at (c.in-Ok.ensures.full m pair (c.rollback.ensures.rolls_back.held ∙ held))).1))
 
-pub returns-in-InDoubt-clause-begins : goal.returns-in-InDoubt-clause-begins
-returns-in-InDoubt-clause-begins g c held memory =
-    let works = rw c.in-InDoubt.is at (rw c.in-Some.is at (c.in-Ok.ensures.works (c.rollback.ensures.rolls_back.held ∙ held))) in
-    begins_doubt _ _ c.fresh-database-in-InDoubt.ensures works.1
+pub returns-in-Done-clause-founds : goal.returns-in-Done-clause-founds
+returns-in-Done-clause-founds g c =
+    founds_well _ _ _ refl (ran_on (ran_rollback c.rollback.ensures.rolls_back) (ran_or refl (rw (c.in-Some.is, c.in-Done.is) at c.in-Ok.ensures.tries)))
+    (λ held memory. begins_done _ c.fresh-state-in-Done.ensures (rw (c.in-Some.is, c.in-Done.is) at (c.in-Ok.ensures.works (c.rollback.ensures.rolls_back.held ∙ held))).1)
+    (λ m pair held. absurd (true≢false (rw (c.in-Some.is, c.in-Done.is) at (c.in-Ok.ensures.full m pair (c.rollback.ensures.rolls_back.held ∙ held))).0))
 
-pub returns-in-Err-clause-begins : goal.returns-in-Err-clause-begins
-returns-in-Err-clause-begins g c held memory =
-    let works = c.in-Err.ensures.works (c.rollback.ensures.rolls_back.held ∙ held) in
-    begins_fault _ _ _ _ c.in-Err.stop c.fall-fault.result c.fresh-database-in-Err.ensures c.fall-fault.ensures.down c.fall-fault.ensures.fault memory works.0 works.1 c.in-Err.ensures.tries.counted.failed
+pub returns-in-InDoubt-clause-founds : goal.returns-in-InDoubt-clause-founds
+returns-in-InDoubt-clause-founds g c =
+    let tries = rw (c.in-Some.is, c.in-InDoubt.is) at c.in-Ok.ensures.tries in
+    founds_doubt _ _ _ (ran_on (ran_rollback c.rollback.ensures.rolls_back) (ran_or_doubt tries)) (rw c.rollback.ensures.rolls_back.doubts at tries.doubts.1)
+    (λ held memory. begins_doubt _ c.fresh-state-in-InDoubt.ensures (rw (c.in-Some.is, c.in-InDoubt.is) at (c.in-Ok.ensures.works (c.rollback.ensures.rolls_back.held ∙ held))).1)
+    (λ m pair held. absurd (true≢false (rw (c.in-Some.is, c.in-InDoubt.is) at (c.in-Ok.ensures.full m pair (c.rollback.ensures.rolls_back.held ∙ held))).0))
 
-pub returns-in-None-clause-full : goal.returns-in-None-clause-full
-returns-in-None-clause-full g c m pair held =
-    let leaves = rw c.in-None.is at (c.in-Ok.ensures.full m pair (c.rollback.ensures.rolls_back.held ∙ held)) in
-    (refl, ap (λ k. k.held) c.fresh-database.ensures.kept_is ∙ leaves.1)
-
-pub returns-in-Done-clause-full : goal.returns-in-Done-clause-full
-returns-in-Done-clause-full g c m pair held =
-    let leaves = rw c.in-Some.is at (c.in-Ok.ensures.full m pair (c.rollback.ensures.rolls_back.held ∙ held)) in
-    absurd (true≢false leaves.0)
-
-pub returns-in-InDoubt-clause-full : goal.returns-in-InDoubt-clause-full
-returns-in-InDoubt-clause-full g c m pair held =
-    let leaves = rw c.in-Some.is at (c.in-Ok.ensures.full m pair (c.rollback.ensures.rolls_back.held ∙ held)) in
-    absurd (true≢false leaves.0)
-
-pub returns-in-None-clause-still : goal.returns-in-None-clause-still
-returns-in-None-clause-still g c = stays_on _ _ (base_of g.K.Keeper.kept c.fresh-database.result).kept (ap (λ k. k.can_fail) c.fresh-database.ensures.kept_is) (stays c.rollback.ensures.rolls_back.cause) c.in-Ok.ensures.tries.still
-
-pub returns-in-Done-clause-still : goal.returns-in-Done-clause-still
-returns-in-Done-clause-still g c = stays_on _ _ (base_of g.K.Keeper.kept c.fresh.result).kept (ap (λ k. k.can_fail) c.fresh.ensures.kept_is) (stays c.rollback.ensures.rolls_back.cause) c.in-Ok.ensures.tries.still
-
-pub returns-in-InDoubt-clause-still : goal.returns-in-InDoubt-clause-still
-returns-in-InDoubt-clause-still g c = stays_on _ _ (base_of g.K.Keeper.kept c.fresh-database-in-InDoubt.result).kept (ap (λ k. k.can_fail) c.fresh-database-in-InDoubt.ensures.kept_is) (stays c.rollback.ensures.rolls_back.cause) c.in-Ok.ensures.tries.still
-
-pub returns-in-InDoubt-clause-spends : goal.returns-in-InDoubt-clause-spends
-returns-in-InDoubt-clause-spends g c =
-    spends_on _ _ _ (base_of g.K.Keeper.kept c.fresh-database-in-InDoubt.result).kept (ap (λ k. k.can_fail) c.fresh-database-in-InDoubt.ensures.kept_is) (stays c.rollback.ensures.rolls_back.cause) (rw c.in-InDoubt.is at (rw c.in-Some.is at c.in-Ok.ensures.tries.spends))
-
-pub returns-in-Err-clause-still : goal.returns-in-Err-clause-still
-returns-in-Err-clause-still g c =
-    stays_on _ _ (base_of g.K.Keeper.kept c.fall-fault.new.self).kept (ap (λ k. k.can_fail) (c.fall-fault.ensures.down.kept ∙ c.fresh-database-in-Err.ensures.kept_is)) (stays c.rollback.ensures.rolls_back.cause) c.in-Err.ensures.tries.still
-
-pub returns-in-Err-clause-spends : goal.returns-in-Err-clause-spends
-returns-in-Err-clause-spends g c = λ failed.
-    spends_on _ _ _ (base_of g.K.Keeper.kept c.fall-fault.new.self).kept (ap (λ k. k.can_fail) (c.fall-fault.ensures.down.kept ∙ c.fresh-database-in-Err.ensures.kept_is)) (stays c.rollback.ensures.rolls_back.cause) c.in-Err.ensures.tries.spends
-    (stop_fails c.in-Err.stop c.fall-fault.result _ c.fall-fault.ensures.fault failed)
+pub returns-in-Err-clause-founds : goal.returns-in-Err-clause-founds
+returns-in-Err-clause-founds g c =
+    let ran = ran_on (ran_rollback c.rollback.ensures.rolls_back) (ran_or refl c.in-Err.ensures.tries) in
+    founds_stop _ c.in-Err.stop c.fall-fault.result _ c.fall-fault.ensures.fault c.in-Err.ensures.tries.counted.within ran (c.in-Err.ensures.tries.doubts ∙ c.rollback.ensures.rolls_back.doubts)
+    (λ held memory. let works = c.in-Err.ensures.works (c.rollback.ensures.rolls_back.held ∙ held) in
+    begins_fault (record { kept = Rattle.node_keeper.specs.Fused.fuse_kept g.K.Keeper.kept c.args.keeper; memory = memory_of c.fresh-state-in-Err.result }) _ c.in-Err.stop c.fall-fault.result c.fresh-state-in-Err.ensures.doubt_is works.0
+    (record { up = c.fall-fault.ensures.down.up; doubt = c.fall-fault.ensures.down.doubt; rose = ran.rose; fault_is = c.fall-fault.ensures.fault; no_memory = memory; only = works.1 }))
+    (λ m pair held. let leaves = c.in-Err.ensures.full m pair (c.rollback.ensures.rolls_back.held ∙ held) in (leaves.1, leaves.0))

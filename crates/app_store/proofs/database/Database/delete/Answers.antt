@@ -1,30 +1,21 @@
-use Rattle.std.proofs.Common.{refl, true}
+use Rattle.std.proofs.Common.{ℕ, Err, refl}
 use Rattle.app_store.specs.Base.{base_of}
-use Rattle.app_store.proofs.Running.{up_running, due_running, both_causes, both_certain}
-use Rattle.slon_model.specs.declared.command.Command.TheVariants.{Delete as DeleteCommand}
-use Rattle.slon_model.specs.Place.{if_there}
-use Rattle.app_store.specs.Targets.{DeleteOf}
-use Rattle.app_store.proofs.Writing.{width_stopped, width_parts, written_goes}
+use Rattle.slon_model.specs.Rows.{Remove}
+use Rattle.slon_model.specs.Tasks.{ToWrite, write_by}
+use Rattle.slon_model.specs.declared.numbering.Numbering.TheVariants.{Actions as NumbersActions}
+use Rattle.app_store.specs.Serves.{NeedsNext}
+use Rattle.app_store.proofs.Serving.{serves_part, part_needs, part_then}
+use Rattle.app_store.proofs.Writing.{width_stopped, width_parts, write_comes, acted_or_not_halts}
 use Rattle.app_store.proofs.database.Database.delete.Goals as goal
 
-pub returns-in-Ok-clause-goes : goal.returns-in-Ok-clause-goes
-returns-in-Ok-clause-goes g c database p fits sound spelled room memory =
-    let standing = (up_running p (base_of g.K.Keeper.kept c.args.self.now) fits c.if-not-self.false).0 in
-    let due = due_running (DeleteCommand database c.args.name.now c.args.table.now c.args.key.now) p refl standing in
-    let found = c.in-Ok.ensures.finds p fits sound spelled room refl in
-    let parts = width_parts c.args.name.now c.args.table.now p c.in-Ok.xid c.in-Ok.field-0-1 (base_of g.K.Keeper.kept c.find_width.new.self) found in
-    written_goes (DeleteCommand database c.args.name.now c.args.table.now c.args.key.now) (DeleteOf c.args.key.now) p c.args.name.now c.args.table.now (λ width. true) c.in-Ok.xid c.in-Ok.field-0-1 c.delete_row.result (base_of g.K.Keeper.kept c.find_width.new.self) (base_of g.K.Keeper.kept c.delete_row.new.self) standing due refl (λ q. refl) found (refl) (c.delete_row.ensures.writes p parts.2 sound spelled room memory parts.0)
+pub returns-in-Ok : goal.returns-in-Ok
+returns-in-Ok g c =
+    serves_part (ToWrite (write_by c.args.name.now c.args.table.now (Remove c.args.key.now))) (base_of g.K.Keeper.kept c.args.self.now) _ c.delete_row.result _ c.if-not-self.false refl (acted_or_not_halts c.delete_row.result) (part_then (NeedsNext NumbersActions) (base_of g.K.Keeper.kept c.args.self.now) (base_of g.K.Keeper.kept c.find_width.new.self) _ _ c.delete_row.result c.in-Ok.ensures.part c.delete_row.ensures.part) (λ p ready memory.
+    let found = c.in-Ok.ensures.finds p ready refl in
+    let wide = width_parts c.args.name.now c.args.table.now p c.in-Ok.xid c.in-Ok.field-0-1 _ found in
+    write_comes (write_by c.args.name.now c.args.table.now (Remove c.args.key.now)) p (base_of g.K.Keeper.kept c.args.self.now) (base_of g.K.Keeper.kept c.find_width.new.self) _ c.in-Ok.xid c.in-Ok.field-0-1 _ ready.fits c.if-not-self.false found refl (c.delete_row.ensures.writes p (record { fits = wide.fits; sound = ready.sound; spelled = ready.spelled }) memory wide.named))
 
-pub returns-in-Ok-clause-caused : goal.returns-in-Ok-clause-caused
-returns-in-Ok-clause-caused g c database =
-    both_causes (DeleteCommand database c.args.name.now c.args.table.now c.args.key.now) (base_of g.K.Keeper.kept c.args.self.now).kept (base_of g.K.Keeper.kept c.find_width.new.self).kept (base_of g.K.Keeper.kept c.delete_row.new.self).kept c.delete_row.result refl c.in-Ok.ensures.part.later c.delete_row.ensures.part.caused c.delete_row.ensures.definite
-
-pub returns-in-Ok-clause-certain : goal.returns-in-Ok-clause-certain
-returns-in-Ok-clause-certain g c database =
-    both_certain (DeleteCommand database c.args.name.now c.args.table.now c.args.key.now) (base_of g.K.Keeper.kept c.args.self.now) (base_of g.K.Keeper.kept c.find_width.new.self) (base_of g.K.Keeper.kept c.delete_row.new.self) c.find_width.result c.delete_row.result c.find_width.ensures.part c.delete_row.ensures.part c.delete_row.ensures.definite
-
-pub returns-in-Err-clause-goes : goal.returns-in-Err-clause-goes
-returns-in-Err-clause-goes g c database p fits sound spelled room memory =
-    let standing = (up_running p (base_of g.K.Keeper.kept c.args.self.now) fits c.if-not-self.false).0 in
-    let due = due_running (DeleteCommand database c.args.name.now c.args.table.now c.args.key.now) p refl standing in
-    width_stopped (DeleteCommand database c.args.name.now c.args.table.now c.args.key.now) p c.args.name.now c.args.table.now c.args.key.now (λ width. true) (if_there p.next_number) c.in-Err.fault (base_of g.K.Keeper.kept c.find_width.new.self) standing due (c.in-Err.ensures.finds p fits sound spelled room memory)
+pub returns-in-Err : goal.returns-in-Err
+returns-in-Err g c =
+    serves_part {T = ℕ × ℕ} (ToWrite (write_by c.args.name.now c.args.table.now (Remove c.args.key.now))) (base_of g.K.Keeper.kept c.args.self.now) _ (Err c.in-Err.fault) (Err c.in-Err.fault) c.if-not-self.false refl refl (part_needs (NeedsNext NumbersActions) (base_of g.K.Keeper.kept c.args.self.now) _ _ c.in-Err.ensures.part) (λ p ready memory.
+    width_stopped (write_by c.args.name.now c.args.table.now (Remove c.args.key.now)) p (base_of g.K.Keeper.kept c.args.self.now) _ c.in-Err.fault ready.fits c.if-not-self.false (c.in-Err.ensures.finds p ready memory))

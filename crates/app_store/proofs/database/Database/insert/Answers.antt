@@ -1,35 +1,40 @@
-use Rattle.std.proofs.Common.{◌∙◌, sym, ap, subst, refl, ◌==◌, ℕ, List, length, take, drop}
+use Rattle.std.proofs.Common.{◌≡◌, ◌∙◌, ℕ, List, true, false, Ok, Err, refl, sym, ap, subst}
 use Rattle.app_store.specs.Base.{base_of}
-use Rattle.slon_model.specs.declared.command.Command.TheVariants.{Insert as InsertCommand}
-use Rattle.slon_model.specs.Place.{if_new, key_of}
-use Rattle.app_store.specs.Targets.{InsertOf, Written}
-use Rattle.app_store.proofs.Running.{up_running, due_running}
-use Rattle.app_store.proofs.Writing.{width_stopped, width_parts, bad_width, written_goes, table_narrow, values_fit, values_not_fit, values_parted, first_is}
+use Rattle.slon_model.specs.Rows.{Put}
+use Rattle.slon_model.specs.Tasks.{ToWrite, write_by, key_of, row_of}
+use Rattle.slon_model.specs.declared.numbering.Numbering.TheVariants.{Actions as NumbersActions}
+use Rattle.app_store.specs.Serves.{answered, NeedsNext}
+use Rattle.app_store.specs.Answers.{acted}
+use Rattle.std.specs.Prelude.{◌==◌, length, take, drop}
+use Rattle.app_store.specs.Targets.{WritesRow}
+use Rattle.app_store.proofs.Serving.{serves_part, part_needs, part_then}
+use Rattle.app_store.proofs.Writing.{width_stopped, bad_width, width_parts, write_comes, acted_halts, table_narrow, values_fit, values_not_fit, values_parted, parted_key, parted_row}
 use Rattle.app_store.proofs.database.Database.insert.Goals as goal
 
-pub returns-then-not-are_values-clause-goes : goal.returns-then-not-are_values-clause-goes
-returns-then-not-are_values-clause-goes g c database p fits sound spelled room memory =
-    let standing = (up_running p (base_of g.K.Keeper.kept c.args.self.now) fits c.if-not-self.false).0 in
-    let due = due_running (InsertCommand database c.args.name.now c.args.table.now c.args.values.now) p refl standing in
-    let found = c.in-Ok.ensures.finds p fits sound spelled room refl in
-    let parts = width_parts c.args.name.now c.args.table.now p c.in-Ok.xid c.in-Ok.width (base_of g.K.Keeper.kept c.find_width.new.self) found in
-    let narrow = table_narrow c.args.table.now c.in-Ok.width p.tables spelled.narrow parts.1 in
-    bad_width (InsertCommand database c.args.name.now c.args.table.now c.args.values.now) p c.args.name.now c.args.table.now (key_of c.args.values.now) (λ width. length c.args.values.now == width) (if_new p.next_number) c.in-Ok.xid c.in-Ok.width (base_of g.K.Keeper.kept c.find_width.new.self) due found
-    (values_not_fit (length c.args.values.now) c.in-Ok.width narrow (sym c.are_values.ensures ∙ c.if-not-are_values.true))
+pub returns-then-not-are_values : goal.returns-then-not-are_values
+returns-then-not-are_values g c =
+    serves_part {T = ℕ × ℕ} (ToWrite (write_by c.args.name.now c.args.table.now (Put (key_of c.args.values.now) (row_of c.args.values.now)))) (base_of g.K.Keeper.kept c.args.self.now) _ (Ok (c.in-Ok.xid, c.in-Ok.width)) _ c.if-not-self.false refl refl (part_needs (NeedsNext NumbersActions) (base_of g.K.Keeper.kept c.args.self.now) _ _ c.in-Ok.ensures.part) (λ p ready memory.
+    let found = c.in-Ok.ensures.finds p ready refl in
+    let wide = width_parts c.args.name.now c.args.table.now p c.in-Ok.xid c.in-Ok.width _ found in
+    bad_width (write_by c.args.name.now c.args.table.now (Put (key_of c.args.values.now) (row_of c.args.values.now))) p (base_of g.K.Keeper.kept c.args.self.now) _ c.in-Ok.xid c.in-Ok.width ready.fits c.if-not-self.false found
+    (subst (λ values. (length values == c.in-Ok.width) ≡ false) (sym (values_parted c.args.values.now c.requires.some))
+    (values_not_fit (length c.args.values.now) c.in-Ok.width (table_narrow p (base_of g.K.Keeper.kept c.args.self.now) c.args.table.now c.in-Ok.width ready wide.found) (sym c.are_values.ensures ∙ c.if-not-are_values.true))))
 
-pub returns-else-not-are_values-clause-goes : goal.returns-else-not-are_values-clause-goes
-returns-else-not-are_values-clause-goes g c database p fits sound spelled room memory =
-    let standing = (up_running p (base_of g.K.Keeper.kept c.args.self.now) fits c.if-not-self.false).0 in
-    let due = due_running (InsertCommand database c.args.name.now c.args.table.now c.args.values.now) p refl standing in
-    let found = c.in-Ok.ensures.finds p fits sound spelled room refl in
-    let parts = width_parts c.args.name.now c.args.table.now p c.in-Ok.xid c.in-Ok.width (base_of g.K.Keeper.kept c.find_width.new.self) found in
-    let whole = values_parted c.args.values.now c.split_at.result.0.now c.split_at.result.1.now c.index-first-0.result c.requires.some (c.split_at.ensures.front ∙ ap (λ (values : List (List ℕ)). take 1 values) c.as_slice.ensures.value) (c.split_at.ensures.back ∙ ap (λ (values : List (List ℕ)). drop 1 values) c.as_slice.ensures.value) (first_is c.split_at.result.0.now c.args.values.now c.index-first-0.result c.requires.some (c.split_at.ensures.front ∙ ap (λ (values : List (List ℕ)). take 1 values) c.as_slice.ensures.value) c.index-first-0.is) in
-    written_goes (InsertCommand database c.args.name.now c.args.table.now c.args.values.now) (InsertOf c.args.values.now) p c.args.name.now c.args.table.now (λ width. length c.args.values.now == width) c.in-Ok.xid c.in-Ok.width c.insert_row.result (base_of g.K.Keeper.kept c.find_width.new.self) (base_of g.K.Keeper.kept c.insert_row.new.self) standing due refl (λ q. refl) found
-    (values_fit (length c.args.values.now) c.in-Ok.width (sym c.are_values.ensures ∙ c.if-not-are_values.false))
-    (subst (λ values. Written (InsertOf values) c.in-Ok.xid c.args.table.now p c.insert_row.result (base_of g.K.Keeper.kept c.insert_row.new.self)) whole (c.insert_row.ensures.writes p parts.2 sound spelled room memory parts.0))
+pub returns-else-not-are_values : goal.returns-else-not-are_values
+returns-else-not-are_values g c =
+    let front_is = c.split_at.ensures.front ∙ ap (λ (values : List (List ℕ)). take 1 values) c.as_slice.ensures.value in
+    let back_is = c.split_at.ensures.back ∙ ap (λ (values : List (List ℕ)). drop 1 values) c.as_slice.ensures.value in
+    let key = parted_key c.split_at.result.0.now c.args.values.now c.index-first-0.result c.requires.some front_is c.index-first-0.is in
+    let row = parted_row c.args.values.now c.split_at.result.1.now c.requires.some back_is in
+    serves_part (ToWrite (write_by c.args.name.now c.args.table.now (Put (key_of c.args.values.now) (row_of c.args.values.now)))) (base_of g.K.Keeper.kept c.args.self.now) _ c.insert_row.result _ c.if-not-self.false refl (acted_halts c.insert_row.result) (part_then (NeedsNext NumbersActions) (base_of g.K.Keeper.kept c.args.self.now) (base_of g.K.Keeper.kept c.find_width.new.self) _ _ c.insert_row.result c.in-Ok.ensures.part c.insert_row.ensures.part) (λ p ready memory.
+    let found = c.in-Ok.ensures.finds p ready refl in
+    let wide = width_parts c.args.name.now c.args.table.now p c.in-Ok.xid c.in-Ok.width _ found in
+    write_comes (write_by c.args.name.now c.args.table.now (Put (key_of c.args.values.now) (row_of c.args.values.now))) p (base_of g.K.Keeper.kept c.args.self.now) (base_of g.K.Keeper.kept c.find_width.new.self) _ c.in-Ok.xid c.in-Ok.width _ ready.fits c.if-not-self.false found
+    (subst (λ values. (length values == c.in-Ok.width) ≡ true) (sym (values_parted c.args.values.now c.requires.some)) (values_fit (length c.args.values.now) c.in-Ok.width (sym c.are_values.ensures ∙ c.if-not-are_values.false)))
+    (subst (λ k. WritesRow (write_by c.args.name.now c.args.table.now (Put k (row_of c.args.values.now))) c.in-Ok.xid (base_of g.K.Keeper.kept c.find_width.new.self) (answered acted c.insert_row.result) (base_of g.K.Keeper.kept c.insert_row.new.self)) key
+    (subst (λ r. WritesRow (write_by c.args.name.now c.args.table.now (Put c.index-first-0.result r)) c.in-Ok.xid (base_of g.K.Keeper.kept c.find_width.new.self) (answered acted c.insert_row.result) (base_of g.K.Keeper.kept c.insert_row.new.self)) row c.insert_row.ensures.writes) p (record { fits = wide.fits; sound = ready.sound; spelled = ready.spelled }) memory wide.named))
 
-pub returns-in-Err-clause-goes : goal.returns-in-Err-clause-goes
-returns-in-Err-clause-goes g c database p fits sound spelled room memory =
-    let standing = (up_running p (base_of g.K.Keeper.kept c.args.self.now) fits c.if-not-self.false).0 in
-    let due = due_running (InsertCommand database c.args.name.now c.args.table.now c.args.values.now) p refl standing in
-    width_stopped (InsertCommand database c.args.name.now c.args.table.now c.args.values.now) p c.args.name.now c.args.table.now (key_of c.args.values.now) (λ width. length c.args.values.now == width) (if_new p.next_number) c.in-Err.fault (base_of g.K.Keeper.kept c.find_width.new.self) standing due (c.in-Err.ensures.finds p fits sound spelled room memory)
+pub returns-in-Err : goal.returns-in-Err
+returns-in-Err g c =
+    serves_part {T = ℕ × ℕ} (ToWrite (write_by c.args.name.now c.args.table.now (Put (key_of c.args.values.now) (row_of c.args.values.now)))) (base_of g.K.Keeper.kept c.args.self.now) _ (Err c.in-Err.fault) (Err c.in-Err.fault) c.if-not-self.false refl refl (part_needs (NeedsNext NumbersActions) (base_of g.K.Keeper.kept c.args.self.now) _ _ c.in-Err.ensures.part) (λ p ready memory.
+    width_stopped (write_by c.args.name.now c.args.table.now (Put (key_of c.args.values.now) (row_of c.args.values.now))) p (base_of g.K.Keeper.kept c.args.self.now) _ c.in-Err.fault ready.fits c.if-not-self.false (c.in-Err.ensures.finds p ready memory))

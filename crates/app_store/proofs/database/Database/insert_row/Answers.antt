@@ -1,28 +1,25 @@
-use Rattle.std.proofs.Common.{◌∙◌, sym, ap, refl, is_some, Some, ◌∷◌}
-use Rattle.app_store.specs.Base.{base_of}
+use Rattle.std.proofs.Common.{Some, None, is_some, refl, ap}
+use Rattle.std.specs.FinMap.{get}
+use Rattle.slon_model.specs.Place.{seen_rows}
 use Rattle.slon_model.specs.Rows.{Put}
-use Rattle.app_store.specs.Targets.{InsertOf}
-use Rattle.app_store.proofs.Reading.{short_at}
-use Rattle.app_store.proofs.Writing.{row_stopped, row_parts, row_duplicate, insert_due_is, row_added, memory_as}
+use Rattle.slon_model.specs.Tasks.{write_by}
+use Rattle.app_store.proofs.Writing.{row_stopped, row_left, row_added, row_parts, seen_none, seen_there, acted_calm}
 use Rattle.app_store.proofs.database.Database.insert_row.Goals as goal
 
 pub returns-in-Some-clause-writes : goal.returns-in-Some-clause-writes
-returns-in-Some-clause-writes g c p fits sound spelled room memory named =
-    let found = c.in-Ok.ensures.finds p fits sound spelled room refl named in
-    row_duplicate (c.args.key.now ∷ c.args.row.now) c.args.xid c.args.table.now p c.in-Ok.target _ found (ap is_some c.in-Some.is)
-
-pub spell_values-requires-clause-short : goal.spell_values-requires-clause-short
-spell_values-requires-clause-short g c i = short_at c.args.row.now c.requires.texts i
+returns-in-Some-clause-writes g c p ready memory named =
+    let found = c.in-Ok.ensures.finds p ready refl named in
+    let parts = row_parts c.args.xid c.args.table.now c.args.key.now p c.in-Ok.target _ found in
+    let row = seen_there (get (seen_rows c.args.xid p c.args.table.now) c.args.key.now) c.in-Ok.target.seen parts.target.seen_is (ap is_some c.in-Some.is) in
+    row_left (write_by c.args.name.now c.args.table.now (Put c.args.key.now c.args.row.now)) c.args.xid p c.in-Ok.target _ (Some row.0) _ found row.1 refl refl
 
 pub returns-in-Ok-clause-writes : goal.returns-in-Ok-clause-writes
-returns-in-Ok-clause-writes g c p fits sound spelled room memory named =
-    let found = c.in-Ok.ensures.finds p fits sound spelled room refl named in
-    let parts = row_parts c.args.xid c.args.table.now c.args.key.now p c.in-Ok.target (base_of g.K.Keeper.kept c.find_row.new.self) found in
-    let due = insert_due_is (c.args.key.now ∷ c.args.row.now) c.args.xid c.args.table.now p c.in-Ok.target (base_of g.K.Keeper.kept c.find_row.new.self) found (ap is_some c.in-None.is) in
-    let fine = memory_as c.add_write.result (ap Rattle.app_store.specs.Goes.is_out_of_memory (sym c.acted.ensures.value) ∙ memory) in
-    rw c.acted.ensures.value (row_added (InsertOf (c.args.key.now ∷ c.args.row.now)) c.args.xid c.args.table.now p c.add_write.result _ due
-    (c.add_write.ensures.adds p parts.3 sound spelled room fine (Put c.args.key.now c.args.row.now) named parts.0 refl c.requires.text c.requires.key parts.1 (ap (λ v. Some v) c.in_ok-value-in-None.ensures)))
+returns-in-Ok-clause-writes g c p ready memory named =
+    let found = c.in-Ok.ensures.finds p ready refl named in
+    let parts = row_parts c.args.xid c.args.table.now c.args.key.now p c.in-Ok.target _ found in
+    row_added (write_by c.args.name.now c.args.table.now (Put c.args.key.now c.args.row.now)) c.args.xid p None c.add_write.result _ parts.free (seen_none (get (seen_rows c.args.xid p c.args.table.now) c.args.key.now) c.in-Ok.target.seen parts.target.seen_is (ap is_some c.in-None.is)) refl
+    (c.add_write.ensures.adds p (record { fits = parts.fits; sound = ready.sound; spelled = ready.spelled }) (acted_calm c.add_write.result _ refl memory) (Put c.args.key.now c.args.row.now) (record { opened = named; free = parts.free; key_is = refl; spelled_is = parts.target.key_is; value_is = ap (λ v. Some v) c.in_ok-value-in-None.ensures }))
 
 pub returns-clause-writes : goal.returns-clause-writes
-returns-clause-writes g c p fits sound spelled room memory named =
-    row_stopped (InsertOf (c.args.key.now ∷ c.args.row.now)) c.args.xid c.args.table.now p c.in-Err.fault _ (c.in-Err.ensures.finds p fits sound spelled room memory named)
+returns-clause-writes g c p ready memory named =
+    row_stopped (write_by c.args.name.now c.args.table.now (Put c.args.key.now c.args.row.now)) c.args.xid p c.in-Err.fault _ (c.in-Err.ensures.finds p ready memory named)

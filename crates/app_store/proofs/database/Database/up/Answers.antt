@@ -1,41 +1,33 @@
-use Rattle.std.proofs.Common.{◌∙◌, refl, ap, arith}
-use Rattle.std.proofs.lemmas.Bool.{false≢true}
+use Rattle.std.proofs.Common.{◌∙◌, refl, sym, ap, subst, arith}
+use Rattle.std.proofs.lemmas.Bool.{true≢false}
 use Rattle.app_store.specs.Base.{base_of}
-use Rattle.node_keeper.specs.Fused.{fuse_kept}
-use Rattle.app_store.proofs.Pending.{rose_later, stays_on, spends_on}
-use Rattle.app_store.proofs.Rising.{cleared, cleared_stays, fuse_stays, stop_fails, rises_ok, rises_err}
+use Rattle.store_rows.specs.Spending.{Stays}
+use Rattle.slon_model.specs.Tasks.{ToRise}
+use Rattle.app_store.proofs.Rising.{cleared, cleared_stays, fuse_stays, rises_ok, rises_err}
+use Rattle.app_store.proofs.Serving.{serves_by, serves_stop, ran_on, ran_sure, ran_rollback, ran_told}
 use Rattle.app_store.proofs.database.Database.up.Goals as goal
 
-pub returns-in-Ok-clause-goes : goal.returns-in-Ok-clause-goes
-returns-in-Ok-clause-goes g c database p fits sound spelled room memory =
-    let first = cleared (fuse_kept g.K.Keeper.kept c.args.self.now.keeper) c.disarm.ensures.kept c.rollback.ensures.rolls_back in
-    let recovered = c.in-Ok.ensures.recovers fits.held.0 p.stamp p.xid_ceiling p.number_ceiling (first.0 ∙ fits.held.1) (omega (arith, room.stamp)) (omega (arith, room.xids)) (omega (arith, room.numbers)) fits.held.2.meta_numbers in
-    rises_ok database p _ _ _ c.settle-answer.result c.in-Ok.stamp c.in-Ok.numbers fits spelled c.if-self.false recovered (omega (arith, first.1, c.in-Ok.ensures.counted.later)) c.in-Ok.ensures.idle refl c.settle-answer.ensures.answer (rw c.settle-answer.ensures.same at c.start.ensures.starts)
-
-pub returns-in-Err-clause-goes : goal.returns-in-Err-clause-goes
-returns-in-Err-clause-goes g c database p fits sound spelled room memory =
-    let first = cleared (fuse_kept g.K.Keeper.kept c.args.self.now.keeper) c.disarm.ensures.kept c.rollback.ensures.rolls_back in
-    let recovers = c.in-Err.ensures.recovers fits.held.0 p.stamp p.xid_ceiling p.number_ceiling (first.0 ∙ fits.held.1) (omega (arith, room.stamp)) (omega (arith, room.xids)) (omega (arith, room.numbers)) fits.held.2.meta_numbers in
-    rises_err database p _ _ _ c.in-Err.stop c.fall.result fits spelled c.if-self.false recovers.0 recovers.1 (λ failed. rose_later first.1 (c.in-Err.ensures.counted.failed failed)) refl c.fall.ensures.down c.fall.ensures.fault memory
-
 pub returns-in-Ok-clause-arms : goal.returns-in-Ok-clause-arms
-returns-in-Ok-clause-arms g c database down =
-    stays_on _ _ (base_of g.K.Keeper.kept c.start.new.self).kept (ap (λ k. k.can_fail) (rw c.settle-answer.ensures.same at c.start.ensures.starts).kept) (cleared_stays (fuse_kept g.K.Keeper.kept c.args.self.now.keeper) c.disarm.ensures.kept c.rollback.ensures.rolls_back) c.in-Ok.ensures.sure.still
-
-pub returns-in-Ok-clause-certain : goal.returns-in-Ok-clause-certain
-returns-in-Ok-clause-certain g c database = record {
-  still = λ quiet n most. returns-in-Ok-clause-arms g c database c.if-self.false n (fuse_stays g.K.Keeper.kept c.args.self.now.keeper n most);
-  spends = λ failed. absurd (false≢true failed);
-}
+returns-in-Ok-clause-arms g c down =
+    λ n most. c.in-Ok.ensures.sure.still n (cleared_stays (Rattle.node_keeper.specs.Fused.fuse_kept g.K.Keeper.kept c.args.self.now.keeper) c.disarm.ensures.kept c.rollback.ensures.rolls_back n most)
 
 pub returns-in-Err-clause-arms : goal.returns-in-Err-clause-arms
-returns-in-Err-clause-arms g c database down =
-    stays_on _ _ (base_of g.K.Keeper.kept c.fall.new.self).kept (ap (λ k. k.can_fail) c.fall.ensures.down.kept) (cleared_stays (fuse_kept g.K.Keeper.kept c.args.self.now.keeper) c.disarm.ensures.kept c.rollback.ensures.rolls_back) c.in-Err.ensures.sure.still
+returns-in-Err-clause-arms g c down =
+    λ n most. c.in-Err.ensures.sure.still n (cleared_stays (Rattle.node_keeper.specs.Fused.fuse_kept g.K.Keeper.kept c.args.self.now.keeper) c.disarm.ensures.kept c.rollback.ensures.rolls_back n most)
 
-pub returns-in-Err-clause-certain : goal.returns-in-Err-clause-certain
-returns-in-Err-clause-certain g c database = record {
-  still = λ quiet n most. returns-in-Err-clause-arms g c database c.if-self.false n (fuse_stays g.K.Keeper.kept c.args.self.now.keeper n most);
-  spends = λ failed n most.
-      spends_on _ _ _ (base_of g.K.Keeper.kept c.fall.new.self).kept (ap (λ k. k.can_fail) c.fall.ensures.down.kept) (cleared_stays (fuse_kept g.K.Keeper.kept c.args.self.now.keeper) c.disarm.ensures.kept c.rollback.ensures.rolls_back) c.in-Err.ensures.sure.spends
-      (stop_fails c.in-Err.stop c.fall.result _ c.fall.ensures.fault failed) n (fuse_stays g.K.Keeper.kept c.args.self.now.keeper n most);
-}
+pub returns-in-Ok-clause-serves : goal.returns-in-Ok-clause-serves
+returns-in-Ok-clause-serves g c =
+    serves_by ToRise (base_of g.K.Keeper.kept c.args.self.now) _ _ (λ down other. true≢false other) refl
+    (ran_told (ap (λ k. k.faults) c.disarm.ensures.kept) (subst (λ k. Stays (Rattle.node_keeper.specs.Fused.fuse_kept g.K.Keeper.kept c.args.self.now.keeper).can_fail k.can_fail) (sym c.disarm.ensures.kept) (fuse_stays g.K.Keeper.kept c.args.self.now.keeper)) (ran_on (ran_rollback c.rollback.ensures.rolls_back) (ran_sure c.in-Ok.ensures.sure c.in-Ok.ensures.counted)))
+    (λ p ready memory.
+    let first = cleared (Rattle.node_keeper.specs.Fused.fuse_kept g.K.Keeper.kept c.args.self.now.keeper) c.disarm.ensures.kept c.rollback.ensures.rolls_back in
+    rises_ok p (base_of g.K.Keeper.kept c.args.self.now) _ c.settled-answer.result c.in-Ok.stamp c.in-Ok.numbers ready c.if-self.false (c.in-Ok.ensures.recovers ready.fits.held.0 p.stamp p.xids.ceiling p.numbers.ceiling (first.0 ∙ ready.fits.held.1) ready.spelled.small.stamp ready.spelled.small.xids ready.spelled.small.numbers ready.fits.held.2.meta_numbers) (omega (arith, first.1, c.in-Ok.ensures.counted.later)) c.settled-answer.ensures c.starting.ensures)
+
+pub returns-in-Err-clause-serves : goal.returns-in-Err-clause-serves
+returns-in-Err-clause-serves g c =
+    let ran = ran_told (ap (λ k. k.faults) c.disarm.ensures.kept) (subst (λ k. Stays (Rattle.node_keeper.specs.Fused.fuse_kept g.K.Keeper.kept c.args.self.now.keeper).can_fail k.can_fail) (sym c.disarm.ensures.kept) (fuse_stays g.K.Keeper.kept c.args.self.now.keeper)) (ran_on (ran_rollback c.rollback.ensures.rolls_back) (ran_sure c.in-Err.ensures.sure c.in-Err.ensures.counted)) in
+    serves_stop ToRise (base_of g.K.Keeper.kept c.args.self.now) _ c.in-Err.stop c.fall.result (λ down other. true≢false other) c.fall.ensures.fault c.in-Err.ensures.counted.within ran (λ bad. absurd (true≢false bad)) (λ p ready memory.
+    let first = cleared (Rattle.node_keeper.specs.Fused.fuse_kept g.K.Keeper.kept c.args.self.now.keeper) c.disarm.ensures.kept c.rollback.ensures.rolls_back in
+    let recovers = c.in-Err.ensures.recovers ready.fits.held.0 p.stamp p.xids.ceiling p.numbers.ceiling (first.0 ∙ ready.fits.held.1) ready.spelled.small.stamp ready.spelled.small.xids ready.spelled.small.numbers ready.fits.held.2.meta_numbers in
+    rises_err p (base_of g.K.Keeper.kept c.args.self.now) _ c.in-Err.stop c.fall.result ready c.if-self.false recovers.0
+    (record { up = c.fall.ensures.down.up; doubt = c.fall.ensures.down.doubt; rose = ran.rose; fault_is = c.fall.ensures.fault; no_memory = memory; only = recovers.1 }))

@@ -4,12 +4,18 @@ use Rattle.node_keeper.proofs.Undoing.{pushed, absent}
 use Rattle.node_keeper.proofs.journaled.Journaled.del.Goals as goal
 
 pub returns-then-is_none-clause-ok : goal.returns-then-is_none-clause-ok
-returns-then-is_none-clause-ok c = rw (← c.self.view_is) (absent (λ v. v.now) _ (pairs c.self.inside.slots.map) c.args.key.now c.get.result c.get.ensures.value c.if-is_none.ensures)
+returns-then-is_none-clause-ok c =
+    rw (← c.self.view_is) (absent (λ v. v.now) _ (pairs c.self.inside.slots.map) c.args.key.now c.get.result
+    c.get.ensures.value c.if-is_none.ensures)
 
 pub returns-clause-ok : goal.returns-clause-ok
 returns-clause-ok c =
     let items = rw c.unwrap.ensures at c.push.ensures.items in
     rw (← c.self.view_is)
-    (pushed c.self.inside.changes.items c.push.new.self.items (record { key = c.in_ok-copy.copy; old = c.set-old.result }) c.args.key.now None (pairs c.self.inside.slots.map) (pairs c.set-old.new.self.map)
-    (items ∙ ap (λ xs. xs ++ record { key = c.in_ok-copy.copy; old = c.set-old.result } ∷ []) c.in_ok-reserve.ensures.items)
+    (pushed c.self.inside.changes.items c.push.new.self.items (record {
+      key = c.in_ok-copy.copy;
+      old = c.set-old.result;
+    }) c.args.key.now None (pairs c.self.inside.slots.map) (pairs c.set-old.new.self.map)
+    (items ∙ ap (λ xs. xs ++ record { key = c.in_ok-copy.copy; old = c.set-old.result } ∷ [])
+    c.in_ok-reserve.ensures.items)
     c.in_ok-copy.ensures.items c.set-old.ensures.old c.set-old.ensures.pairs)

@@ -9,5 +9,6 @@ returns-clause-begins c = record {
   failed = search rules;
   held = search rules;
   doubts = search rules;
-  ok = ap (λ s. Some (Some s)) (ap pending_store c.if-strikes.ensures.spaces ∙ settled_store c.args.self.now.spaces.items (λ _. c.args.self.now.settled (idle _ _ c.requires)));
+  ok = ap (λ s. Some (Some s)) (ap pending_store c.if-strikes.ensures.spaces
+      ∙ settled_store c.args.self.now.spaces.items (λ _. c.args.self.now.settled (idle _ _ c.requires)));
 }

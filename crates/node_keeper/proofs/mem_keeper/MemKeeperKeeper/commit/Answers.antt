@@ -11,5 +11,8 @@ returns-then-strikes-clause-commits c = record {
   doubts = search rules;
   doubted = search rules;
   sure = search rules;
-  in_doubt = λ _. rw c.end.ensures.spaces (in_doubt c.commits-commits.result _ c.args.self.now.phase c.args.self.now.spaces.items c.commits-commits.ensures);
+  in_doubt =
+      λ _. rw c.end.ensures.spaces
+      (in_doubt c.commits-commits.result _ c.args.self.now.phase c.args.self.now.spaces.items
+      c.commits-commits.ensures);
 }

@@ -11,5 +11,9 @@ returns-clause-counts c = record {
   opened = search rules;
   held = search rules;
   doubts = search rules;
-  gives = λ m e. c.count.ensures ∙ ap len (ap (λ p. p.1) (c.space.ensures ∙ ap (λ (xs : List (Space × Space)). get_or xs c.args.space (empty, empty)) c.if-strikes.ensures.spaces) ∙ seen c.args.self.now.spaces.items c.args.self.now.phase c.args.self.now.plan c.args.self.now.doubts m c.args.self.now.settled e c.args.space);
+  gives = λ m e. c.count.ensures
+      ∙ ap len (ap (λ p. p.1) (c.space.ensures
+      ∙ ap (λ (xs : List (Space × Space)). get_or xs c.args.space (empty, empty)) c.if-strikes.ensures.spaces)
+      ∙ seen c.args.self.now.spaces.items c.args.self.now.phase c.args.self.now.plan c.args.self.now.doubts m
+      c.args.self.now.settled e c.args.space);
 }

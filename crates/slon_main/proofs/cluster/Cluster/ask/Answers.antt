@@ -1,20 +1,43 @@
-use Rattle.std.proofs.Common.{◌∙◌, sym, refl, Ok, Err}
-use Rattle.slon_main.specs.Clustered.{named_base}
-use Rattle.slon_main.proofs.Moving.{moves_none, moves_at, answered_goes, refused_goes}
+use Rattle.std.proofs.Common.{◌≡◌, ◌∙◌, sym, subst, refl, Ok, Err, IfOk}
+use Rattle.slon_model.specs.declared.reply.Reply.{Reply}
+use Rattle.slon_model.specs.Tasks.{subject_of, words_of}
+use Rattle.slon_model.specs.World.{refusal_of, reply_of}
+use Rattle.slon_main.specs.Clustered.{named_base, cluster_of}
+use Rattle.slon_main.proofs.Lifting.{find_missing}
+use Rattle.slon_main.proofs.Moving.{moves_none, moves_at, same_answer, answer_memory, same_words, if_told, if_memory}
 use Rattle.slon_main.proofs.cluster.Cluster.ask.Goals as goal
 
 pub returns-in_default : goal.returns-in_default
 returns-in_default g c =
-    moves_none (named_base g.K.Keeper.kept) c.args.command.now _ _ c.database-database.result.now c.in_ok-database.database c.database-database.ensures c.in_ok-database.ensures c.requires.other (sym c.index_of.ensures ∙ c.in_default.is)
+    moves_none c.args.command.now (cluster_of g.K.Keeper.kept c.args.self.now) _ _ (record { is = c.database-database.ensures; other = c.requires.other }) c.in_ok-database.ensures
+    (find_missing (named_base {g = g.K.Keeper} g.K.Keeper.kept) c.database-database.result.now c.args.self.now.databases.items (sym c.index_of.ensures ∙ c.in_default.is))
 
 pub returns-in-Ok : goal.returns-in-Ok
 returns-in-Ok g c =
-    answered_goes _ c.answered.result c.args.command.now c.database-database.result.now c.in-Ok.done c.database-database.ensures c.answered.ensures.sure c.answered.ensures.doubt
-    (moves_at (named_base g.K.Keeper.kept) c.args.command.now _ _ c.database-database.result.now _ _ _ (Ok c.in-Ok.done) c.database-database.ensures c.requires.other (sym c.index_of.ensures ∙ c.in-Some.is) c.index_mut.ensures.value refl
-    (record { goes = c.in-Ok.ensures.goes; later = c.in-Ok.ensures.later; caused = c.in-Ok.ensures.caused; certain = c.in-Ok.ensures.certain; down = c.in-Ok.ensures.down; big = c.in-Ok.ensures.big }) refl)
+    let words = words_of (subject_of c.args.command.now) in
+    if_told _ c.answered.result (reply_of words (Ok c.in-Ok.done))
+    (subst (λ (r : Reply). IfOk c.answered.result (λ told. told ≡ r)) (same_answer words c.database-database.result.now c.in-Ok.done c.database-database.ensures) c.answered.ensures)
+    (moves_at (named_base g.K.Keeper.kept) c.args.command.now _ _ _ _ (Ok c.in-Ok.done) (record {
+      word = c.database-database.result.now;
+      names = record { is = c.database-database.ensures; other = c.requires.other };
+      x = _;
+      at = record { at = sym c.index_of.ensures ∙ c.in-Some.is; held = c.index_mut.ensures.value };
+      same = refl;
+      serves = c.in-Ok.ensures.serves;
+      memory = answer_memory c.in-Ok.done;
+    }))
 
 pub returns-in-Err : goal.returns-in-Err
 returns-in-Err g c =
-    refused_goes _ c.refused.result c.args.command.now c.database-database.result.now _ _ c.in-Err.fault c.database-database.ensures c.transaction.ensures c.table.ensures c.refused.ensures.reply c.refused.ensures.memory
-    (λ memory. moves_at (named_base g.K.Keeper.kept) c.args.command.now _ _ c.database-database.result.now _ _ _ (Err c.in-Err.fault) c.database-database.ensures c.requires.other (sym c.index_of.ensures ∙ c.in-Some.is) c.index_mut.ensures.value refl
-    (record { goes = c.in-Err.ensures.goes; later = c.in-Err.ensures.later; caused = c.in-Err.ensures.caused; certain = c.in-Err.ensures.certain; down = c.in-Err.ensures.down; big = c.in-Err.ensures.big }) memory)
+    if_memory _ c.refused.result c.in-Err.fault (reply_of (words_of (subject_of c.args.command.now)) (Err c.in-Err.fault))
+    (subst (λ words. IfOk c.refused.result (λ told. told ≡ refusal_of words c.in-Err.fault))
+    (same_words (subject_of c.args.command.now) _ _ _ c.database-database.ensures c.transaction.ensures c.table.ensures) c.refused.ensures.reply) c.refused.ensures.memory
+    (λ memory. moves_at (named_base g.K.Keeper.kept) c.args.command.now _ _ _ _ (Err c.in-Err.fault) (record {
+      word = c.database-database.result.now;
+      names = record { is = c.database-database.ensures; other = c.requires.other };
+      x = _;
+      at = record { at = sym c.index_of.ensures ∙ c.in-Some.is; held = c.index_mut.ensures.value };
+      same = refl;
+      serves = c.in-Err.ensures.serves;
+      memory = memory;
+    }))

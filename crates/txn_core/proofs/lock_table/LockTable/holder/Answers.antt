@@ -5,4 +5,5 @@ use Rattle.txn_core.proofs.lock_table.LockTable.holder.Goals as goal
 
 pub returns : goal.returns
 returns c =
-    c.get.ensures ∙ sym (holder_seen c.args.table.now c.args.key.now c.self.inside.holders.tables) ∙ ap (holder_of c.args.table.now c.args.key.now) c.self.view_is
+    c.get.ensures ∙ sym (holder_seen c.args.table.now c.args.key.now c.self.inside.holders.tables)
+    ∙ ap (holder_of c.args.table.now c.args.key.now) c.self.view_is

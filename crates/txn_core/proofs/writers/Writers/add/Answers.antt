@@ -9,9 +9,12 @@ returns-in_err-insert-in-Some-clause-err c =
     let into = c.insert.new.self in
     let old = c.args.self.now.tables in
     let map = c.get_mut.follows.lender into in
-    let turns = written c.args.table.now c.in-Some.xids.now into old map c.in-Some.ensures.value (c.get_mut.follows.holds into) in
+    let turns = written c.args.table.now c.in-Some.xids.now into old map c.in-Some.ensures.value
+    (c.get_mut.follows.holds into) in
     let same : (t : List ℕ) (x : ℕ) → writes_in t x map ≡ writes_in t x old =
-    λ t x. writers_same x c.args.table.now t into old map turns (same_keys x c.in-Some.xids.now into c.in_err-insert-in-Some.ensures.err ∙ ap (xid_in x) c.in-Some.ensures.value) in
+    λ t x. writers_same x c.args.table.now t into old map turns
+    (same_keys x c.in-Some.xids.now into c.in_err-insert-in-Some.ensures.err
+    ∙ ap (xid_in x) c.in-Some.ensures.value) in
     whatever_failed _ same
 
 pub returns-in_err-insert-in-None-2-clause-err : goal.returns-in_err-insert-in-None-2-clause-err
@@ -19,7 +22,8 @@ unfolding writes_in
 returns-in_err-insert-in-None-2-clause-err c =
     let old = c.get_mut.follows.lender-at-none in
     let same : (t : List ℕ) (x : ℕ) → writes_in t x c.insert-in-None-2.new.self ≡ writes_in t x c.args.self.now.tables =
-    λ t x. ap (xid_in x) (same_entries t old c.insert-in-None-2.new.self c.in_err-insert-in-None-2.ensures.err) ∙ ap (writes_in t x) c.get_mut.follows.holds-at-none in
+    λ t x. ap (xid_in x) (same_entries t old c.insert-in-None-2.new.self c.in_err-insert-in-None-2.ensures.err)
+    ∙ ap (writes_in t x) c.get_mut.follows.holds-at-none in
     whatever_failed _ same
 
 pub returns-in_ok-insert-in-Some-clause-ok : goal.returns-in_ok-insert-in-Some-clause-ok
@@ -27,8 +31,11 @@ returns-in_ok-insert-in-Some-clause-ok c = λ t x.
     let into = c.insert.new.self in
     let old = c.args.self.now.tables in
     let map = c.get_mut.follows.lender into in
-    let turns = written c.args.table.now c.in-Some.xids.now into old map c.in-Some.ensures.value (c.get_mut.follows.holds into) in
-    writers_changed c.args.xid x c.args.table.now t true into old map turns (updated c.args.xid x true c.in-Some.xids.now into c.in_ok-insert-in-Some.ensures.updates ∙ ap (λ o. cond (c.args.xid == x) true (xid_in x o)) c.in-Some.ensures.value)
+    let turns = written c.args.table.now c.in-Some.xids.now into old map c.in-Some.ensures.value
+    (c.get_mut.follows.holds into) in
+    writers_changed c.args.xid x c.args.table.now t true into old map turns
+    (updated c.args.xid x true c.in-Some.xids.now into c.in_ok-insert-in-Some.ensures.updates
+    ∙ ap (λ o. cond (c.args.xid == x) true (xid_in x o)) c.in-Some.ensures.value)
 
 pub returns-in_ok-insert-in-None-2-clause-ok : goal.returns-in_ok-insert-in-None-2-clause-ok
 returns-in_ok-insert-in-None-2-clause-ok c = λ t x.
@@ -37,6 +44,9 @@ returns-in_ok-insert-in-None-2-clause-ok c = λ t x.
     let name = c.in_ok-from_slice-in-None.field-0.items in
     let turns = turns_by name (Some into) old c.insert-in-None-2.new.self c.in_ok-insert-in-None-2.ensures.updates in
     let inner = updated c.args.xid x true c.new-xids.result into c.in_ok-insert-in-None.ensures.updates in
-    let absent = ap (xid_in x) c.in-None.ensures.value ∙ ap (λ m. xid_in x (at_key c.args.table.now m)) (sym c.get_mut.follows.holds-at-none) ∙ ap (λ y. xid_in x (at_key y old)) (sym c.in_ok-from_slice-in-None.ensures.items) in
-    let all = writers_changed c.args.xid x name t true into old c.insert-in-None-2.new.self turns (inner ∙ ap (cond (c.args.xid == x) true) (no_keys x c.new-xids.result c.new-xids.ensures.empty ∙ absent)) in
+    let absent = ap (xid_in x) c.in-None.ensures.value ∙ ap (λ m. xid_in x (at_key c.args.table.now m))
+    (sym c.get_mut.follows.holds-at-none) ∙ ap (λ y. xid_in x (at_key y old))
+    (sym c.in_ok-from_slice-in-None.ensures.items) in
+    let all = writers_changed c.args.xid x name t true into old c.insert-in-None-2.new.self turns (inner
+    ∙ ap (cond (c.args.xid == x) true) (no_keys x c.new-xids.result c.new-xids.ensures.empty ∙ absent)) in
     rw (← c.in_ok-from_slice-in-None.ensures.items, ← c.get_mut.follows.holds-at-none) all

@@ -5,7 +5,8 @@ use Rattle.txn_core.proofs.writers.Writers.first.Goals as goal
 
 pub returns-in-Some : goal.returns-in-Some
 returns-in-Some c =
-    first_is_least c.args.table.now c.in-Some.xids.now c.args.self.now.tables c.least.result c.in-Some.ensures.value c.least.ensures.some c.least.ensures.member c.least.ensures.least
+    first_is_least c.args.table.now c.in-Some.xids.now c.args.self.now.tables c.least.result c.in-Some.ensures.value
+    c.least.ensures.some c.least.ensures.member c.least.ensures.least
 
 pub returns-in-None : goal.returns-in-None
 unfolding writes_in

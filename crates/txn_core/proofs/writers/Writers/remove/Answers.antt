@@ -10,9 +10,13 @@ returns-in-Some c t x =
     let into = c.remove.new.self in
     let old = c.args.self.now.tables in
     let map = c.get_mut.follows.lender into in
-    let turns = written c.args.table.now c.in-Some.xids.now into old map c.in-Some.ensures.value (c.get_mut.follows.holds into) in
-    writers_changed c.args.xid x c.args.table.now t false into old map turns (updated c.args.xid x false c.in-Some.xids.now into c.remove.ensures.updates ∙ ap (λ o. cond (c.args.xid == x) false (xid_in x o)) c.in-Some.ensures.value)
+    let turns = written c.args.table.now c.in-Some.xids.now into old map c.in-Some.ensures.value
+    (c.get_mut.follows.holds into) in
+    writers_changed c.args.xid x c.args.table.now t false into old map turns
+    (updated c.args.xid x false c.in-Some.xids.now into c.remove.ensures.updates
+    ∙ ap (λ o. cond (c.args.xid == x) false (xid_in x o)) c.in-Some.ensures.value)
 
 pub returns-in_default : goal.returns-in_default
 returns-in_default c t x =
-    none_removed c.args.xid x c.args.table.now t c.args.self.now.tables c.get_mut.follows.lender-at-none (sym c.get_mut.ensures.value ∙ ap option_copied_mut c.in_default.is) c.get_mut.follows.holds-at-none
+    none_removed c.args.xid x c.args.table.now t c.args.self.now.tables c.get_mut.follows.lender-at-none
+    (sym c.get_mut.ensures.value ∙ ap option_copied_mut c.in_default.is) c.get_mut.follows.holds-at-none

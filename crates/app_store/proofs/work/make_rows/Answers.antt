@@ -1,5 +1,0 @@
-use Rattle.std.proofs.Common.{◌∙◌}
-use Rattle.app_store.proofs.work.make_rows.Goals as goal
-
-pub returns-clause-works : goal.returns-clause-works
-returns-clause-works g c m held = rw (← (c.as_slice.ensures ∙ c.in_ok-stamp.ensures)) (c.write_rows.ensures.leaves m held)

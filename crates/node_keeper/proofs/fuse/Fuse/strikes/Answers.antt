@@ -1,0 +1,6 @@
+use Rattle.std.proofs.Common.{◌∙◌}
+use Rattle.node_keeper.proofs.Charging.{goes_on_call}
+use Rattle.node_keeper.proofs.fuse.Fuse.strikes.Goals as goal
+
+pub returns-clause-goes_on : goal.returns-clause-goes_on
+returns-clause-goes_on g c = goes_on_call _ _ (c.burn.ensures.burns.0 ∙ c.burnt.ensures)

@@ -1,0 +1,14 @@
+-- What every way in which a database goes on leads to.
+use Rattle.std.specs.Prelude.{ℕ, Bool}
+use Rattle.slon_model.specs.Tasks.{Task}
+use Rattle.slon_model.specs.Place.{Place, fallen, doubted}
+use Rattle.slon_model.specs.Moves.{Move, prepared, done}
+use Rattle.slon_laws.specs.Allowed.{MayMove}
+
+-- From P each allowed move of such a task, and what comes before it, leads to Q, and a fault and a doubt keep Q.
+pub record Keeps (IsOne : Task → Type 0) (P Q : Place → Type 0) : Type 0 where
+  pub stays : (p : Place) → P p → Q p
+  pub prepares : (task : Task) (move : Move) (p : Place) → MayMove task p move → P p → Q (prepared move p)
+  pub moves : (task : Task) (move : Move) (p : Place) → IsOne task → MayMove task p move → P p → Q (done move p)
+  pub falls : (count : ℕ) (p : Place) → Q p → Q (fallen count p)
+  pub wavers : (stands : Bool) (p : Place) → Q p → Q (doubted stands p)

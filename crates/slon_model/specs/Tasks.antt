@@ -1,0 +1,83 @@
+-- What a command is about: a new database, or a task of one database.
+use Rattle.std.specs.Prelude.{ℕ, List, [], ◌∷◌, Option, Some, None}
+use Rattle.slon_model.specs.declared.command.Crash.{Crash as CrashKind}
+use Rattle.slon_model.specs.declared.command.Command.{Command}
+use Rattle.slon_model.specs.declared.command.Command.TheVariants.{Database, Table, Begin, Insert, Update, Delete, Commit, Abort, Rows, Status, Crash, Up}
+use Rattle.slon_model.specs.Rows.{Row, Change, Put, Set, Remove}
+
+-- A write of the transaction of this name.
+pub record Write : Type 0 where
+  pub name : List ℕ
+  pub table : List ℕ
+  pub change : Change
+
+-- What one database is to do. The first is no command: it comes when a new database gets its store.
+pub data Task : Type 0 where
+  ToFound : Task
+  ToMake : (table : List ℕ) (columns : ℕ) → Task
+  ToOpen : (name : List ℕ) → Task
+  ToWrite : (w : Write) → Task
+  ToCommit : (name : List ℕ) → Task
+  ToAbort : (name : List ℕ) → Task
+  ToList : (table : List ℕ) → Task
+  ToTell : Task
+  ToCrash : (crash : CrashKind) → Task
+  ToRise : Task
+
+pub data Subject : Type 0 where
+  OnNew : (name : List ℕ) → Subject
+  OnOne : (database : List ℕ) (task : Task) → Subject
+
+-- the first value of a new row is its key
+abbrev pub key_of : List (List ℕ) → List ℕ
+key_of [] = []
+key_of (key ∷ row) = key
+
+abbrev pub row_of : List (List ℕ) → Row
+row_of [] = []
+row_of (key ∷ row) = row
+
+abbrev pub write_by : List ℕ → List ℕ → Change → Write
+write_by name table change = record { name = name; table = table; change = change }
+
+abbrev pub subject_of : Command → Subject
+subject_of (Database name) = OnNew name
+subject_of (Table database table columns) = OnOne database (ToMake table columns)
+subject_of (Begin database name) = OnOne database (ToOpen name)
+subject_of (Insert database name table values) = OnOne database (ToWrite (write_by name table (Put (key_of values) (row_of values))))
+subject_of (Update database name table key columns) = OnOne database (ToWrite (write_by name table (Set key columns)))
+subject_of (Delete database name table key) = OnOne database (ToWrite (write_by name table (Remove key)))
+subject_of (Commit database name) = OnOne database (ToCommit name)
+subject_of (Abort database name) = OnOne database (ToAbort name)
+subject_of (Rows database table) = OnOne database (ToList table)
+subject_of (Status database) = OnOne database ToTell
+subject_of (Crash database crash) = OnOne database (ToCrash crash)
+subject_of (Up database) = OnOne database ToRise
+
+-- ---- the words that a command names
+
+abbrev pub database_named : Subject → List ℕ
+database_named (OnNew name) = name
+database_named (OnOne database task) = database
+
+abbrev pub transaction_named : Subject → Option (List ℕ)
+transaction_named (OnOne database (ToOpen name)) = Some name
+transaction_named (OnOne database (ToWrite w)) = Some w.name
+transaction_named (OnOne database (ToCommit name)) = Some name
+transaction_named (OnOne database (ToAbort name)) = Some name
+transaction_named others = None
+
+abbrev pub table_named : Subject → Option (List ℕ)
+table_named (OnOne database (ToMake table columns)) = Some table
+table_named (OnOne database (ToWrite w)) = Some w.table
+table_named (OnOne database (ToList table)) = Some table
+table_named others = None
+
+-- The words that a refusal can tell.
+pub record Words : Type 0 where
+  pub database : List ℕ
+  pub transaction : Option (List ℕ)
+  pub table : Option (List ℕ)
+
+abbrev pub words_of : Subject → Words
+words_of s = record { database = database_named s; transaction = transaction_named s; table = table_named s }

@@ -1,0 +1,20 @@
+use Rattle.std.proofs.Common.{◌≡◌, List, Some}
+use Rattle.std.specs.FinMap.{entries}
+use Rattle.slon_base.specs.Keeper.{Store, sight, after}
+use Rattle.slon_base.specs.Codec.{AllAre}
+use Rattle.store_rows.specs.Scan.{ranged, spelled_rows}
+use Rattle.store_rows.proofs.Spaces.{Looked}
+use Rattle.store_rows.proofs.Scanning.{Ahead}
+use Rattle.store_rows.proofs.scan.scan_rows.Given as goal
+
+abbrev pub invariant-loop : goal.invariant-loop
+invariant-loop g l =
+    record {
+      looked : Looked (g.K.Keeper.kept l.fn.keeper) (g.K.Keeper.kept l.keeper);
+      scanned : (m : Store) (rows : List _) → sight (g.K.Keeper.kept l.fn.keeper) ≡ Some m →
+          AllAre (λ e. g.I.Spelled.Can e.0 × g.X.Spelled.Can e.1) rows →
+          ranged l.prefix
+          (after l.from (entries (m l.space))) ≡ spelled_rows l.prefix g.I.Spelled.bytes g.X.Spelled.bytes rows →
+          Ahead l.prefix g.I.Spelled.bytes g.X.Spelled.bytes g.I.Spelled.Can g.X.Spelled.Can
+          (entries (m l.space)) l.at l.counter l.found rows;
+    }

@@ -1,0 +1,74 @@
+// The rows of a space whose keys begin with a prefix, from a key on.
+ghost use Rattle.std.specs.Prelude.{◌≡◌, Some, List, OnOk, IfOk, IfErr, false};
+ghost use Rattle.std.specs.FinMap.{entries};
+ghost use Rattle.slon_base.specs.Keeper.{Store, sight, after};
+ghost use Rattle.slon_base.specs.Codec.{AllAre};
+ghost use Rattle.store_rows.specs.Steps.{Safe, IsWithinLimit, Gives, is_failed};
+ghost use Rattle.store_rows.specs.Scan.{ranged, spelled_rows};
+
+use crate::calls::{count_pairs, next_pair};
+use crate::stored_rows::read_alone;
+use crate::{Spelled, Stop};
+use slon_base::{Bytes, Keeper, Many};
+use std::alloc::Global;
+
+fn read_pair<I: Spelled, X: Spelled>(
+    alloc: Global,
+    space: u8,
+    key: &[u8],
+    value: &[u8],
+) -> Result<(I, X), Stop>
+    ensures never { is_failed result ≡ false }
+    ensures within { IfErr result IsWithinLimit }
+    ensures gives { (i : I) (x : X) → I.Can i → X.Can x → key.now ≡ I.bytes i → value.now ≡ X.bytes x →
+        Gives (λ found. found ≡ (i, x)) result }
+{
+    match read_alone(alloc, space, key) {
+        Ok(key) => match read_alone(alloc, space, value) {
+            Ok(value) => Ok((key, value)),
+            Err(stop) => Err(stop),
+        },
+        Err(stop) => Err(stop),
+    }
+}
+
+/// The rows whose keys have the prefix and come after the key `from`, ascending, by what stands behind the prefix.
+#[tactic(auto, using(crate::proofs::Causes::outside_within))]
+pub fn scan_rows<K: Keeper, I: Spelled, X: Spelled>(
+    alloc: Global,
+    keeper: &mut K,
+    space: u8,
+    prefix: &[u8],
+    from: &[u8],
+) -> Result<Many<(I, X)>, Stop>
+    ensures safe { Safe (K.kept keeper.old) (K.kept keeper.new) result }
+    ensures same { OnOk result ((K.kept keeper.new).pending ≡ (K.kept keeper.old).pending) }
+    ensures within { IfErr result IsWithinLimit }
+    ensures gives { (m : Store) (rows : List (I × X)) → sight (K.kept keeper.old) ≡ Some m →
+        AllAre (λ e. I.Can e.0 × X.Can e.1) rows →
+        ranged prefix.now (after from.now (entries (m space))) ≡ spelled_rows prefix.now I.bytes X.bytes rows →
+        Gives (λ found. found ≡ rows) result }
+{
+    let limit = count_pairs(keeper, space)?;
+    let mut found = Many::new(alloc);
+    let mut at = Bytes::from_slice(alloc, from)?;
+    for _ in 0..limit {
+        match next_pair(keeper, space, at.as_slice())? {
+            None => return Ok(found),
+            Some((key, value)) => {
+                if !key.as_slice().starts_with(prefix) {
+                    return Ok(found);
+                }
+                let (_, rest) = key.as_slice().split_at(prefix.len());
+                match read_pair(alloc, space, rest, value.as_slice()) {
+                    Ok(row) => {
+                        found.push(row)?;
+                        at = key;
+                    }
+                    Err(stop) => return Err(stop),
+                }
+            }
+        }
+    }
+    Ok(found)
+}
