@@ -17,18 +17,22 @@ rose_on old mid new (inl less) later small = inl (omega (arith, later, less))
 rose_on old mid new (inr last) later small = inr (omega (arith, last, later, small))
 
 -- a stop after a call that did not stop
-pub stops_since : {T : Type 0} (result : Result T Stop) (old mid new : Counts) → old.files ≤ mid.files → old.shelf ≤ mid.shelf → old.out ≤ mid.out →
+pub stops_since : {T : Type 0} (result : Result T Stop) (old mid new : Counts) → old.files ≤ mid.files →
+    old.shelf ≤ mid.shelf → old.out ≤ mid.out →
     HasCause mid new result → HasCause old new result
 stops_since (Err Read) old mid new files shelf out cause = rose_since old.files mid.files new.files files cause
 stops_since (Err Write) old mid new files shelf out cause = rose_since old.out mid.out new.out out cause
-stops_since (Err (NoStore name)) old mid new files shelf out cause = rose_since old.shelf mid.shelf new.shelf shelf cause
+stops_since (Err (NoStore name)) old mid new files shelf out cause = rose_since old.shelf mid.shelf new.shelf shelf
+    cause
 stops_since others old mid new files shelf out cause = tt
 
 -- the same stop, of another call
-pub stops_as : (T U : Type 0) (old new : Counts) (stop : Stop) (result : Result U Stop) → (y : Stop) × (result ≡ Err y) × (y ≡ stop) →
+pub stops_as : (T U : Type 0) (old new : Counts) (stop : Stop) (result : Result U Stop) →
+    (y : Stop) × (result ≡ Err y) × (y ≡ stop) →
     HasCause {T = T} old new (Err stop) → HasCause {T = U} old new result
 stops_as T U old new stop result (y, is, same) cause =
-    subst (λ r. HasCause {T = U} old new r) (sym is) (subst (λ s. HasCause {T = U} old new (Err s)) (sym same) (other stop cause))
+    subst (λ r. HasCause {T = U} old new r) (sym is)
+    (subst (λ s. HasCause {T = U} old new (Err s)) (sym same) (other stop cause))
   where
     other : (s : Stop) → HasCause {T = T} old new (Err s) → HasCause {T = U} old new (Err s)
     other Read c = c
@@ -37,7 +41,8 @@ stops_as T U old new stop result (y, is, same) cause =
     other others c = tt
 
 -- what holds of a stop holds of the call that hands it on
-pub handed_on : {T : Type 0} (P : Result T Stop → Type 0) {stop : Stop} (result : Result T Stop) → (y : Stop) × (result ≡ Err y) × (y ≡ stop) → P (Err stop) → P result
+pub handed_on : {T : Type 0} (P : Result T Stop → Type 0) {stop : Stop} (result : Result T Stop) →
+    (y : Stop) × (result ≡ Err y) × (y ≡ stop) → P (Err stop) → P result
 handed_on P result (y, is, same) holds = subst P (sym is) (subst (λ s. P (Err s)) (sym same) holds)
 
 -- a shelf that keeps its promises
@@ -45,15 +50,19 @@ pub never_still : (old new : Shelved) → new.promise ≡ old.promise → NeverF
 never_still old new same never place = ap (λ f. f place) same ∙ never place
 
 pub tells_still : (old new : Shelved) → new.promise ≡ old.promise → Tells old → Tells new
-tells_still old new same tells = subst (λ f. (place : ℕ) → ((f place).begins_empty ≡ true) × ((f place).tells_rows ≡ true)) (sym same) tells
+tells_still old new same tells = subst (λ f. (place : ℕ) →
+    ((f place).begins_empty ≡ true) × ((f place).tells_rows ≡ true)) (sym same) tells
 
 within_none : (left : Option ℕ) → Within (Some 0) left → left ≡ Some 0
 within_none None within = absurd within
 within_none (Some n) within = let none : n ≡ 0 = omega (arith, within) in ap Some none
 
 -- a store as it was promised begins empty, and fails at no call
-pub begins_empty : (shelf : Shelved) (place : ℕ) (k : Kept) → Tells shelf → IsAsPromised (shelf.promise place) k → k.held ≡ Some nothing
+pub begins_empty : (shelf : Shelved) (place : ℕ) (k : Kept) → Tells shelf → IsAsPromised (shelf.promise place) k →
+    k.held ≡ Some nothing
 begins_empty shelf place k tells promised = promised.empty (tells place).0 (tells place).1
 
-pub cannot_fail : (shelf : Shelved) (place : ℕ) (k : Kept) → NeverFails shelf → IsAsPromised (shelf.promise place) k → k.can_fail ≡ Some 0
-cannot_fail shelf place k never promised = within_none k.can_fail (subst (λ p. Within p.can_fail k.can_fail) (never place) promised.left)
+pub cannot_fail : (shelf : Shelved) (place : ℕ) (k : Kept) → NeverFails shelf → IsAsPromised (shelf.promise place) k →
+    k.can_fail ≡ Some 0
+cannot_fail shelf place k never promised = within_none k.can_fail
+    (subst (λ p. Within p.can_fail k.can_fail) (never place) promised.left)

@@ -37,16 +37,18 @@ unfolding IsAtMost
 one_taken n None most = absurd most
 one_taken n (Some m) most = (m, omega (arith, most), omega arith)
 
-promised_most : (n : ℕ) (promise : Promise) (kept : Kept) → IsAsPromised promise kept → promise.can_fail ≡ Some n → IsAtMost n kept.can_fail
+promised_most : (n : ℕ) (promise : Promise) (kept : Kept) → IsAsPromised promise kept → promise.can_fail ≡ Some n →
+    IsAtMost n kept.can_fail
 unfolding IsAtMost
 promised_most n promise kept promised is = subst (λ o. Within o kept.can_fail) is promised.left
 
--- how many were told, and how many can still come
+-- the failures that were told, and those that can still come, are at most n
 abbrev Leaves : ℕ → ℕ → Option ℕ → Type 0
 Leaves told n can_fail = (left : ℕ) × (told + left ≤ n) × IsAtMost left can_fail
 
 -- the replies so far and one more
-more_left : (failed : Bool) (told n : ℕ) (old new : Option ℕ) → Stays old new → Spends failed old new → Leaves told n old →
+more_left : (failed : Bool) (told n : ℕ) (old new : Option ℕ) → Stays old new → Spends failed old new →
+    Leaves told n old →
     Leaves (cond failed (told + 1) told) n new
 more_left false told n old new stays spends (left, few, most) = (left, few, stays left most)
 more_left true told n old new stays spends (left, few, most) =
@@ -67,12 +69,15 @@ sure_tells name (InDoubt database answer) is = absurd (false≢true is)
 sure_tells name others is = refl
 
 -- a reply that tells of none changes no count
-untold : (promise : ℕ → Promise) (h : Happening) (cluster : Clustered) (history : List Happening) → is_sure_reply h.reply ≡ true →
+untold : (promise : ℕ → Promise) (h : Happening) (cluster : Clustered) (history : List Happening) →
+    is_sure_reply h.reply ≡ true →
     IsWithin promise history cluster → IsWithin promise (h ∷ history) cluster
 untold promise h cluster history is w = record {
-  absent = λ name none. ap (λ b. cond b (failures name history + 1) (failures name history)) (sure_tells name h.reply is) ∙ w.absent name none;
+  absent = λ name none. ap (λ b. cond b (failures name history + 1) (failures name history))
+      (sure_tells name h.reply is) ∙ w.absent name none;
   present = λ name b n found told.
-      subst (λ c. Leaves (cond c (failures name history + 1) (failures name history)) n b.kept.can_fail) (sym (sure_tells name h.reply is))
+      subst (λ c. Leaves (cond c (failures name history + 1) (failures name history)) n b.kept.can_fail)
+      (sym (sure_tells name h.reply is))
       (w.present name b n found told);
 }
 
@@ -88,25 +93,31 @@ and_true false = refl
 record TellsOf (name : List ℕ) (h : Happening) (failed : Bool) : Type 0 where
   tells : (other : List ℕ) → tells_of other h.reply ≡ (failed && bytes_eq other name)
 
-failures_here : (name other : List ℕ) (h : Happening) (failed : Bool) (history : List Happening) → TellsOf name h failed → bytes_eq other name ≡ true →
+failures_here : (name other : List ℕ) (h : Happening) (failed : Bool) (history : List Happening) →
+    TellsOf name h failed → bytes_eq other name ≡ true →
     failures other (h ∷ history) ≡ cond failed (failures other history + 1) (failures other history)
 failures_here name other h failed history t same =
-    ap (λ c. cond c (failures other history + 1) (failures other history)) (t.tells other ∙ ap (λ x. failed && x) same ∙ and_true failed)
+    ap (λ c. cond c (failures other history + 1) (failures other history))
+    (t.tells other ∙ ap (λ x. failed && x) same ∙ and_true failed)
 
-failures_there : (name other : List ℕ) (h : Happening) (failed : Bool) (history : List Happening) → TellsOf name h failed → bytes_eq other name ≡ false →
+failures_there : (name other : List ℕ) (h : Happening) (failed : Bool) (history : List Happening) →
+    TellsOf name h failed → bytes_eq other name ≡ false →
     failures other (h ∷ history) ≡ failures other history
 failures_there name other h failed history t differ =
-    ap (λ c. cond c (failures other history + 1) (failures other history)) (t.tells other ∙ ap (λ x. failed && x) differ ∙ and_false failed)
+    ap (λ c. cond c (failures other history + 1) (failures other history))
+    (t.tells other ∙ ap (λ x. failed && x) differ ∙ and_false failed)
 
 some_none : {X : Type 0} {Y : Type 0} (x : X) → Some x ≡ None → Y
 some_none x is = absurd cc
 
 -- ---- a database that serves
 
-place_put : (name other : List ℕ) (d : Base) (bases : Named Base) → place_of name (put_named other d bases) ≡ place_of name bases
+place_put : (name other : List ℕ) (d : Base) (bases : Named Base) →
+    place_of name (put_named other d bases) ≡ place_of name bases
 place_put name other d [] = refl
 place_put name other d (b ∷ bs) =
-    elim (bytes_eq other b.0) as (λ c. place_of name (cond c ((b.0, d) ∷ bs) (b ∷ put_named other d bs)) ≡ place_of name (b ∷ bs)) [
+    elim (bytes_eq other b.0) as (λ c. place_of name (cond c ((b.0, d) ∷ bs) (b ∷ put_named other d bs)) ≡ place_of name
+    (b ∷ bs)) [
       | true ↦ refl
       | false ↦ ap (λ k. cond (bytes_eq name b.0) 0 (k + 1)) (place_put name other d bs)
     ]
@@ -120,22 +131,28 @@ record Spent (name : List ℕ) (h : Happening) (c : Clustered) (d : Base) : Type
   still : Stays b.kept.can_fail d.kept.can_fail
   spends : Spends failed b.kept.can_fail d.kept.can_fail
 
-asks_pays : (promise : ℕ → Promise) (name : List ℕ) (h : Happening) (old : Clustered) (d : Base) (history : List Happening) → Spent name h old d →
+asks_pays : (promise : ℕ → Promise) (name : List ℕ) (h : Happening) (old : Clustered) (d : Base)
+    (history : List Happening) → Spent name h old d →
     IsWithin promise history old → IsWithin promise (h ∷ history) (with_base name d old)
 asks_pays promise name h old d history s w = record {
   absent = λ other none. gone other (bytes_eq other name) refl none;
-  present = λ other e n is told. here other e n (bytes_eq other name) refl is (ap (λ k. (promise k).can_fail) (sym (place_put other name d old.bases)) ∙ told);
+  present = λ other e n is told. here other e n (bytes_eq other name) refl is
+      (ap (λ k. (promise k).can_fail) (sym (place_put other name d old.bases)) ∙ told);
 }
   where
     at : (other : List ℕ) → bytes_eq other name ≡ true → find_named other (put_named name d old.bases) ≡ Some d
-    at other same = ap (λ k. find_named k (put_named name d old.bases)) (bytes_same other name same) ∙ put_found name d s.b old.bases s.found
+    at other same = ap (λ k. find_named k (put_named name d old.bases)) (bytes_same other name same)
+        ∙ put_found name d s.b old.bases s.found
 
-    gone : (other : List ℕ) (c : Bool) → bytes_eq other name ≡ c → find_named other (put_named name d old.bases) ≡ None → failures other (h ∷ history) ≡ 0
+    gone : (other : List ℕ) (c : Bool) → bytes_eq other name ≡ c →
+        find_named other (put_named name d old.bases) ≡ None → failures other (h ∷ history) ≡ 0
     gone other true same none = some_none d (sym (at other same) ∙ none)
     gone other false differ none =
-        failures_there name other h s.failed history s.tells differ ∙ w.absent other (sym (put_other other name d old.bases differ) ∙ none)
+        failures_there name other h s.failed history s.tells differ
+        ∙ w.absent other (sym (put_other other name d old.bases differ) ∙ none)
 
-    here : (other : List ℕ) (e : Base) (n : ℕ) (c : Bool) → bytes_eq other name ≡ c → find_named other (put_named name d old.bases) ≡ Some e →
+    here : (other : List ℕ) (e : Base) (n : ℕ) (c : Bool) → bytes_eq other name ≡ c →
+        find_named other (put_named name d old.bases) ≡ Some e →
         (promise (place_of other old.bases)).can_fail ≡ Some n → Leaves (failures other (h ∷ history)) n e.kept.can_fail
     here other e n true same is told =
         let it : d ≡ e = one_found d e (sym (at other same) ∙ is) in
@@ -144,10 +161,12 @@ asks_pays promise name h old d history s w = record {
         (more_left s.failed (failures other history) n s.b.kept.can_fail d.kept.can_fail s.still s.spends
         (w.present other s.b n (ap (λ k. find_named k old.bases) (bytes_same other name same) ∙ s.found) told)))
     here other e n false differ is told =
-        subst (λ told. Leaves told n e.kept.can_fail) (sym (failures_there name other h s.failed history s.tells differ))
+        subst (λ told. Leaves told n e.kept.can_fail)
+        (sym (failures_there name other h s.failed history s.tells differ))
         (w.present other e n (sym (put_other other name d old.bases differ) ∙ is) told)
 
-pub moves_pays : (promise : ℕ → Promise) (command : Command) (old : Clustered) (reply : Reply) (new : Clustered) → Moves command old reply new →
+pub moves_pays : (promise : ℕ → Promise) (command : Command) (old : Clustered) (reply : Reply) (new : Clustered) →
+    Moves command old reply new →
     Pays promise command old reply new
 moves_pays promise command old reply new (Grants name about told same) armless choice history w =
     subst (IsWithin promise (happened command reply choice ∷ history)) (sym same)
@@ -155,10 +174,15 @@ moves_pays promise command old reply new (Grants name about told same) armless c
 moves_pays promise command old reply new (Misses name task about none told same) armless choice history w =
     subst (IsWithin promise (happened command reply choice ∷ history)) (sym same)
     (untold promise (happened command reply choice) old history (ap is_sure_reply told) w)
-moves_pays promise command old reply new (Asks name task b d result about found serves memory told same) armless choice history w =
-    subst (IsWithin promise (happened command reply choice ∷ history)) (sym same) (asks_pays promise name (happened command reply choice) old d history (record {
+moves_pays promise command old reply new (Asks name task b d result about found serves memory told same) armless choice
+    history w =
+    subst (IsWithin promise (happened command reply choice ∷ history)) (sym same)
+    (asks_pays promise name (happened command reply choice) old d history (record {
       failed = is_failure (trouble result);
-      tells = record { tells = λ other. ap (tells_of other) told ∙ reply_tells other (words_of (OnOne name task)) result };
+      tells = record {
+        tells = λ other. ap (tells_of other) told
+            ∙ reply_tells other (words_of (OnOne name task)) result;
+      };
       b = b;
       found = found;
       still = serves.still (sym (ap arms_on about) ∙ armless);
@@ -174,19 +198,24 @@ or_none (Some b) = refl
 behind_other : (name other : List ℕ) (b : Base) (bases : Named Base) → bytes_eq name other ≡ false →
     find_named name (bases ++ (other, b) ∷ []) ≡ find_named name bases
 behind_other name other b bases differ =
-    find-behind name other b bases ∙ ap (λ c. cond (is_some (find_named name bases)) (find_named name bases) (cond c (Some b) None)) differ ∙ or_none (find_named name bases)
+    find-behind name other b bases ∙ ap (λ c. cond (is_some (find_named name bases)) (find_named name bases)
+    (cond c (Some b) None)) differ ∙ or_none (find_named name bases)
 
-behind_new : (name other : List ℕ) (b : Base) (bases : Named Base) → bytes_eq name other ≡ true → find_named name bases ≡ None →
+behind_new : (name other : List ℕ) (b : Base) (bases : Named Base) → bytes_eq name other ≡ true →
+    find_named name bases ≡ None →
     find_named name (bases ++ (other, b) ∷ []) ≡ Some b
 behind_new name other b bases same none =
-    find-behind name other b bases ∙ ap (λ o. cond (is_some o) o (cond (bytes_eq name other) (Some b) None)) none ∙ ap (λ c. cond c (Some b) None) same
+    find-behind name other b bases ∙ ap (λ o. cond (is_some o) o (cond (bytes_eq name other) (Some b) None)) none
+    ∙ ap (λ c. cond c (Some b) None) same
 
 -- its place is behind all others
-place_new : (name other : List ℕ) (b : Base) (bases : Named Base) → bytes_eq name other ≡ true → find_named name bases ≡ None →
+place_new : (name other : List ℕ) (b : Base) (bases : Named Base) → bytes_eq name other ≡ true →
+    find_named name bases ≡ None →
     place_of name (bases ++ (other, b) ∷ []) ≡ length bases
 place_new name other b [] same none = ap (λ c. cond c 0 1) same
 place_new name other b (e ∷ es) same none =
-    elim (bytes_eq name e.0) as (λ c. cond c (Some e.1) (find_named name es) ≡ None → cond c 0 (place_of name (es ++ (other, b) ∷ []) + 1) ≡ suc (length es)) [
+    elim (bytes_eq name e.0) as (λ c. cond c (Some e.1) (find_named name es) ≡ None →
+    cond c 0 (place_of name (es ++ (other, b) ∷ []) + 1) ≡ suc (length es)) [
       | true ↦ λ found. absurd cc
       | false ↦ λ absent. let rest = place_new name other b es same absent in omega (arith, rest)
     ] none
@@ -195,7 +224,8 @@ place_old : (name other : List ℕ) (b e : Base) (bases : Named Base) → find_n
     place_of name (bases ++ (other, b) ∷ []) ≡ place_of name bases
 place_old name other b e [] found = absurd cc
 place_old name other b e (x ∷ xs) found =
-    elim (bytes_eq name x.0) as (λ c. cond c (Some x.1) (find_named name xs) ≡ Some e → cond c 0 (place_of name (xs ++ (other, b) ∷ []) + 1) ≡ cond c 0 (place_of name xs + 1)) [
+    elim (bytes_eq name x.0) as (λ c. cond c (Some x.1) (find_named name xs) ≡ Some e →
+    cond c 0 (place_of name (xs ++ (other, b) ∷ []) + 1) ≡ cond c 0 (place_of name xs + 1)) [
       | true ↦ λ here. refl
       | false ↦ λ later. ap (λ k. k + 1) (place_old name other b e xs later)
     ] found
@@ -210,7 +240,8 @@ record Opened (promise : ℕ → Promise) (name : List ℕ) (h : Happening) (c :
   still : Stays kept.can_fail b.kept.can_fail
   spends : Spends failed kept.can_fail b.kept.can_fail
 
-keeps_pays : (promise : ℕ → Promise) (name : List ℕ) (h : Happening) (old : Clustered) (b : Base) (history : List Happening) → Opened promise name h old b →
+keeps_pays : (promise : ℕ → Promise) (name : List ℕ) (h : Happening) (old : Clustered) (b : Base)
+    (history : List Happening) → Opened promise name h old b →
     IsWithin promise history old → IsWithin promise (h ∷ history) (with_more name b old)
 keeps_pays promise name h old b history s w = record {
   absent = λ other none. gone other (bytes_eq other name) refl none;
@@ -220,13 +251,17 @@ keeps_pays promise name h old b history s w = record {
     unused : (other : List ℕ) → bytes_eq other name ≡ true → find_named other old.bases ≡ None
     unused other same = ap (λ k. find_named k old.bases) (bytes_same other name same) ∙ s.free
 
-    gone : (other : List ℕ) (c : Bool) → bytes_eq other name ≡ c → find_named other (old.bases ++ (name, b) ∷ []) ≡ None → failures other (h ∷ history) ≡ 0
+    gone : (other : List ℕ) (c : Bool) → bytes_eq other name ≡ c →
+        find_named other (old.bases ++ (name, b) ∷ []) ≡ None → failures other (h ∷ history) ≡ 0
     gone other true same none = some_none b (sym (behind_new other name b old.bases same (unused other same)) ∙ none)
     gone other false differ none =
-        failures_there name other h s.failed history s.tells differ ∙ w.absent other (sym (behind_other other name b old.bases differ) ∙ none)
+        failures_there name other h s.failed history s.tells differ
+        ∙ w.absent other (sym (behind_other other name b old.bases differ) ∙ none)
 
-    here : (other : List ℕ) (e : Base) (n : ℕ) (c : Bool) → bytes_eq other name ≡ c → find_named other (old.bases ++ (name, b) ∷ []) ≡ Some e →
-        (promise (place_of other (old.bases ++ (name, b) ∷ []))).can_fail ≡ Some n → Leaves (failures other (h ∷ history)) n e.kept.can_fail
+    here : (other : List ℕ) (e : Base) (n : ℕ) (c : Bool) → bytes_eq other name ≡ c →
+        find_named other (old.bases ++ (name, b) ∷ []) ≡ Some e →
+        (promise (place_of other (old.bases ++ (name, b) ∷ []))).can_fail ≡ Some n →
+        Leaves (failures other (h ∷ history)) n e.kept.can_fail
     here other e n true same is told =
         let it : b ≡ e = one_found b e (sym (behind_new other name b old.bases same (unused other same)) ∙ is) in
         let bound : (promise (length old.bases)).can_fail ≡ Some n =
@@ -238,23 +273,31 @@ keeps_pays promise name h old b history s w = record {
         (n, omega (arith, none), promised_most n (promise (length old.bases)) s.kept s.promised bound)))
     here other e n false differ is told =
         let found : find_named other old.bases ≡ Some e = sym (behind_other other name b old.bases differ) ∙ is in
-        subst (λ told. Leaves told n e.kept.can_fail) (sym (failures_there name other h s.failed history s.tells differ))
-        (w.present other e n found (ap (λ k. (promise k).can_fail) (sym (place_old other name b e old.bases found)) ∙ told))
+        subst (λ told. Leaves told n e.kept.can_fail)
+        (sym (failures_there name other h s.failed history s.tells differ))
+        (w.present other e n found (ap (λ k. (promise k).can_fail) (sym (place_old other name b e old.bases found))
+        ∙ told))
 
 -- the store is as it was promised, and the name is free
 pub record MayMake (promise : ℕ → Promise) (name : List ℕ) (kept : Kept) (old : Clustered) : Type 0 where
   pub promised : IsAsPromised (promise (length old.bases)) kept
   pub free : find_named name old.bases ≡ None
 
-pub adopts_pays : (promise : ℕ → Promise) (name : List ℕ) (kept : Kept) (old : Clustered) (reply : Reply) (new : Clustered) →
+pub adopts_pays : (promise : ℕ → Promise) (name : List ℕ) (kept : Kept) (old : Clustered) (reply : Reply)
+    (new : Clustered) →
     MayMake promise name kept old → Adopts name kept old reply new → Pays promise (Database name) old reply new
 adopts_pays promise name kept old reply new may (Rejects b made told same) armless choice history w =
     subst (IsWithin promise (happened (Database name) reply choice ∷ history)) (sym same)
     (untold promise (happened (Database name) reply choice) old history (ap is_sure_reply told) w)
-adopts_pays promise name kept old reply new may (Keeps b result made memory kept_it told same) armless choice history w =
-    subst (IsWithin promise (happened (Database name) reply choice ∷ history)) (sym same) (keeps_pays promise name (happened (Database name) reply choice) old b history (record {
+adopts_pays promise name kept old reply new may (Keeps b result made memory kept_it told same) armless choice history w
+    =
+    subst (IsWithin promise (happened (Database name) reply choice ∷ history)) (sym same)
+    (keeps_pays promise name (happened (Database name) reply choice) old b history (record {
       failed = is_failure (trouble (settled result));
-      tells = record { tells = λ other. ap (tells_of other) told ∙ reply_tells other (words_of (OnNew name)) (settled result) };
+      tells = record {
+        tells = λ other. ap (tells_of other) told
+            ∙ reply_tells other (words_of (OnNew name)) (settled result);
+      };
       free = may.free;
       kept = kept;
       promised = may.promised;
@@ -266,6 +309,7 @@ adopts_pays promise name kept old reply new may (Keeps b result made memory kept
 pub granted_free : (name : List ℕ) (old mid : Clustered) → IsGranted name old mid → find_named name mid.bases ≡ None
 granted_free name old mid was = ap (λ (c : Clustered). find_named name c.bases) was.same ∙ was.free
 
-pub made_pays : (promise : ℕ → Promise) (name : List ℕ) (old mid : Clustered) (reply : Reply) (new : Clustered) → IsGranted name old mid →
+pub made_pays : (promise : ℕ → Promise) (name : List ℕ) (old mid : Clustered) (reply : Reply) (new : Clustered) →
+    IsGranted name old mid →
     Pays promise (Database name) mid reply new → Pays promise (Database name) old reply new
 made_pays promise name old mid reply new was pays = subst (λ c. Pays promise (Database name) c reply new) was.same pays

@@ -17,15 +17,18 @@ found_here : (b : Bool) (x : Base) (others : Option Base) → b ≡ true → con
 found_here true x others is = refl
 found_here false x others is = absurd (true≢false (sym is))
 
-found_later : (b : Bool) (x : Base) (others : Option Base) (y : Base) → b ≡ false → others ≡ Some y → cond b (Some x) others ≡ Some y
+found_later : (b : Bool) (x : Base) (others : Option Base) (y : Base) → b ≡ false → others ≡ Some y →
+    cond b (Some x) others ≡ Some y
 found_later false x others y is at = at
 found_later true x others y is at = absurd (true≢false is)
 
-put_here : (b : Bool) (name : List ℕ) (y : List ℕ × Base) (bs others : Named Base) → b ≡ true → y.0 ≡ name → y ∷ bs ≡ cond b ((name, y.1) ∷ bs) others
+put_here : (b : Bool) (name : List ℕ) (y : List ℕ × Base) (bs others : Named Base) → b ≡ true → y.0 ≡ name →
+    y ∷ bs ≡ cond b ((name, y.1) ∷ bs) others
 put_here true name y bs others is same = ap (λ n. (n, y.1) ∷ bs) same
 put_here false name y bs others is same = absurd (true≢false (sym is))
 
-put_later : (b : Bool) (first others expected : Named Base) → b ≡ false → others ≡ expected → others ≡ cond b first expected
+put_later : (b : Bool) (first others expected : Named Base) → b ≡ false → others ≡ expected →
+    others ≡ cond b first expected
 put_later false first others expected is same = same
 put_later true first others expected is same = absurd (true≢false is)
 
@@ -38,26 +41,36 @@ record IsFirst {X : Type 0} (f : X → List ℕ × Base) (name : List ℕ) (d : 
 first_later : {X : Type 0} (f : X → List ℕ × Base) (name : List ℕ) (d x : X) (xs : List X) (i : ℕ) →
     IsFirst f name d (x ∷ xs) (suc i) → IsFirst f name d xs i
 first_later f name d x xs i first =
-    record { inside = omega (arith, first.inside); named = first.named; before = λ k less. first.before (suc k) (omega (arith, less)) }
+    record {
+      inside = omega (arith, first.inside);
+      named = first.named;
+      before = λ k less. first.before (suc k) (omega (arith, less));
+    }
 
 -- it is what the name finds
-find_at : {X : Type 0} (f : X → List ℕ × Base) (name : List ℕ) (d : X) (items : List X) (i : ℕ) → IsFirst f name d items i →
+find_at : {X : Type 0} (f : X → List ℕ × Base) (name : List ℕ) (d : X) (items : List X) (i : ℕ) →
+    IsFirst f name d items i →
     find_named name (map f items) ≡ Some (f (get_or items i d)).1
 find_at f name d [] i first = absurd (omega (arith, first.inside))
-find_at f name d (x ∷ xs) zero first = found_here (bytes_eq name (f x).0) (f x).1 (find_named name (map f xs)) first.named
+find_at f name d (x ∷ xs) zero first = found_here (bytes_eq name (f x).0) (f x).1
+    (find_named name (map f xs)) first.named
 find_at f name d (x ∷ xs) (suc i) first =
-    found_later (bytes_eq name (f x).0) (f x).1 (find_named name (map f xs)) (f (get_or xs i d)).1 (first.before 0 (omega arith))
+    found_later (bytes_eq name (f x).0) (f x).1 (find_named name (map f xs)) (f (get_or xs i d)).1
+    (first.before 0 (omega arith))
     (find_at f name d xs i (first_later f name d x xs i first))
 
 -- and setting it is putting another under the name
-put_at : {X : Type 0} (f : X → List ℕ × Base) (name : List ℕ) (d y : X) (items : List X) (i : ℕ) → IsFirst f name d items i →
+put_at : {X : Type 0} (f : X → List ℕ × Base) (name : List ℕ) (d y : X) (items : List X) (i : ℕ) →
+    IsFirst f name d items i →
     (f y).0 ≡ (f (get_or items i d)).0 → map f (set items i y) ≡ put_named name (f y).1 (map f items)
 put_at f name d y [] i first same = absurd (omega (arith, first.inside))
 put_at f name d y (x ∷ xs) zero first same =
     put_here (bytes_eq name (f x).0) (f x).0 (f y) (map f xs) (f x ∷ put_named name (f y).1 (map f xs)) first.named same
 put_at f name d y (x ∷ xs) (suc i) first same =
-    put_later (bytes_eq name (f x).0) (((f x).0, (f y).1) ∷ map f xs) (f x ∷ map f (set xs i y)) (f x ∷ put_named name (f y).1 (map f xs))
-    (first.before 0 (omega arith)) (ap (λ bs. f x ∷ bs) (put_at f name d y xs i (first_later f name d x xs i first) same))
+    put_later (bytes_eq name (f x).0) (((f x).0, (f y).1) ∷ map f xs) (f x ∷ map f (set xs i y))
+    (f x ∷ put_named name (f y).1 (map f xs))
+    (first.before 0 (omega arith)) (ap (λ bs. f x ∷ bs)
+    (put_at f name d y xs i (first_later f name d x xs i first) same))
 
 -- an element at the first index of a name
 pub record IsAt {X : Type 0} (f : X → List ℕ × Base) (name : List ℕ) (items : List X) (i : ℕ) (x : X) : Type 0 where
@@ -67,19 +80,23 @@ pub record IsAt {X : Type 0} (f : X → List ℕ × Base) (name : List ℕ) (ite
 is_first : {X : Type 0} (f : X → List ℕ × Base) (name : List ℕ) (d : X) (items : List X) (i : ℕ) →
     position (λ x. bytes_eq name (f x).0) items ≡ Some i → IsFirst f name d items i
 is_first f name d items i at =
-    let first = position-Some (λ x. bytes_eq name (f x).0) items i d at in record { inside = first.0; named = first.1; before = first.2 }
+    let first = position-Some (λ x. bytes_eq name (f x).0) items i d at in
+    record { inside = first.0; named = first.1; before = first.2 }
 
-pub find_position : {X : Type 0} (f : X → List ℕ × Base) (name : List ℕ) (items : List X) (i : ℕ) (x : X) → IsAt f name items i x →
+pub find_position : {X : Type 0} (f : X → List ℕ × Base) (name : List ℕ) (items : List X) (i : ℕ) (x : X) →
+    IsAt f name items i x →
     find_named name (map f items) ≡ Some (f x).1
 find_position f name items i x is =
     find_at f name x items i (is_first f name x items i is.at) ∙ ap (λ z. Some (f z).1) (sym is.held)
 
-pub put_position : {X : Type 0} (f : X → List ℕ × Base) (name : List ℕ) (items : List X) (i : ℕ) (x y : X) → IsAt f name items i x →
+pub put_position : {X : Type 0} (f : X → List ℕ × Base) (name : List ℕ) (items : List X) (i : ℕ) (x y : X) →
+    IsAt f name items i x →
     (f y).0 ≡ (f x).0 → map f (set items i y) ≡ put_named name (f y).1 (map f items)
 put_position f name items i x y is same =
     put_at f name x y items i (is_first f name x items i is.at) (same ∙ ap (λ z. (f z).0) is.held)
 
-none_passes : {X : Type 0} (p : X → Bool) (xs : List X) (d : X) → position p xs ≡ None → (k : ℕ) → k < length xs → p (get_or xs k d) ≡ false
+none_passes : {X : Type 0} (p : X → Bool) (xs : List X) (d : X) → position p xs ≡ None → (k : ℕ) → k < length xs →
+    p (get_or xs k d) ≡ false
 none_passes p xs d none k less =
     let outside : length xs ≤ position_or_len p xs = grind (arith, common_steps) in
     fails_before_first p xs k d (omega (arith, outside, less))
@@ -87,9 +104,11 @@ none_passes p xs d none k less =
 find_none : {X : Type 0} (f : X → List ℕ × Base) (name : List ℕ) (d : X) (items : List X) →
     ((k : ℕ) → k < length items → bytes_eq name (f (get_or items k d)).0 ≡ false) → find_named name (map f items) ≡ None
 find_none f name d [] all = refl
-find_none f name d (x ∷ xs) all = rw (all 0 (omega arith)) (find_none f name d xs (λ k less. all (suc k) (omega (arith, less))))
+find_none f name d (x ∷ xs) all = rw (all 0 (omega arith))
+    (find_none f name d xs (λ k less. all (suc k) (omega (arith, less))))
 
-pub find_missing : {X : Type 0} (f : X → List ℕ × Base) (name : List ℕ) (items : List X) → position (λ x. bytes_eq name (f x).0) items ≡ None →
+pub find_missing : {X : Type 0} (f : X → List ℕ × Base) (name : List ℕ) (items : List X) →
+    position (λ x. bytes_eq name (f x).0) items ≡ None →
     find_named name (map f items) ≡ None
 find_missing f name [] none = refl
 find_missing f name (x ∷ xs) none =
@@ -101,7 +120,8 @@ pub find_some : {X : Type 0} (f : X → List ℕ × Base) (name : List ℕ) (ite
 find_some f name [] = refl
 find_some f name (y ∷ ys) = by_case (position (λ x. bytes_eq name (f x).0) (y ∷ ys)) refl
   where
-    by_case : (found : Option ℕ) → position (λ x. bytes_eq name (f x).0) (y ∷ ys) ≡ found → is_some (find_named name (map f (y ∷ ys))) ≡ is_some found
+    by_case : (found : Option ℕ) → position (λ x. bytes_eq name (f x).0) (y ∷ ys) ≡ found →
+        is_some (find_named name (map f (y ∷ ys))) ≡ is_some found
     by_case None is = ap is_some (find_missing f name (y ∷ ys) is)
     by_case (Some i) is = ap is_some (find_at f name y (y ∷ ys) i (is_first f name y (y ∷ ys) i is))
 
@@ -114,13 +134,16 @@ pub record Fitting (name : List ℕ) (places : Named Place) (bases : Named Base)
   pub fits : Fits place b
   pub puts : (q : Place) (d : Base) → Fits q d → FitsAll (put_named name q places) (put_named name d bases)
 
-pub fitting : (name : List ℕ) (b : Base) (places : Named Place) (bases : Named Base) → FitsAll places bases → find_named name bases ≡ Some b → Fitting name places bases b
+pub fitting : (name : List ℕ) (b : Base) (places : Named Place) (bases : Named Base) → FitsAll places bases →
+    find_named name bases ≡ Some b → Fitting name places bases b
 fitting name b [] [] all found = absurd cc
 fitting name b [] (e ∷ es) all found = absurd all
 fitting name b (p ∷ ps) [] all found = absurd all
-fitting name b (p ∷ ps) (e ∷ es) all found = go (bytes_eq name e.0) (bytes_eq name p.0) (ap (bytes_eq name) all.0) refl (fitting name b ps es all.2) found
+fitting name b (p ∷ ps) (e ∷ es) all found = go (bytes_eq name e.0) (bytes_eq name p.0) (ap (bytes_eq name) all.0) refl
+    (fitting name b ps es all.2) found
   where
-    go : (c d : Bool) → d ≡ c → bytes_eq name p.0 ≡ d → (find_named name es ≡ Some b → Fitting name ps es b) → cond c (Some e.1) (find_named name es) ≡ Some b → Fitting name (p ∷ ps) (e ∷ es) b
+    go : (c d : Bool) → d ≡ c → bytes_eq name p.0 ≡ d → (find_named name es ≡ Some b → Fitting name ps es b) →
+        cond c (Some e.1) (find_named name es) ≡ Some b → Fitting name (p ∷ ps) (e ∷ es) b
     go true true same there others at =
         let is : e.1 ≡ b = cc in
         record {
@@ -140,19 +163,23 @@ fitting name b (p ∷ ps) (e ∷ es) all found = go (bytes_eq name e.0) (bytes_e
     go true false same there others at = absurd (true≢false (sym same))
     go false true same there others at = absurd (true≢false same)
 
-pub missing_fits : (name : List ℕ) (places : Named Place) (bases : Named Base) → FitsAll places bases → find_named name bases ≡ None → find_named name places ≡ None
+pub missing_fits : (name : List ℕ) (places : Named Place) (bases : Named Base) → FitsAll places bases →
+    find_named name bases ≡ None → find_named name places ≡ None
 missing_fits name [] [] all none = refl
 missing_fits name [] (e ∷ es) all none = absurd all
 missing_fits name (p ∷ ps) [] all none = absurd all
-missing_fits name (p ∷ ps) (e ∷ es) all none = go (bytes_eq name e.0) (bytes_eq name p.0) (ap (bytes_eq name) all.0) refl (missing_fits name ps es all.2) none
+missing_fits name (p ∷ ps) (e ∷ es) all none = go (bytes_eq name e.0) (bytes_eq name p.0)
+    (ap (bytes_eq name) all.0) refl (missing_fits name ps es all.2) none
   where
-    go : (c d : Bool) → d ≡ c → bytes_eq name p.0 ≡ d → (find_named name es ≡ None → find_named name ps ≡ None) → cond c (Some e.1) (find_named name es) ≡ None → find_named name (p ∷ ps) ≡ None
+    go : (c d : Bool) → d ≡ c → bytes_eq name p.0 ≡ d → (find_named name es ≡ None → find_named name ps ≡ None) →
+        cond c (Some e.1) (find_named name es) ≡ None → find_named name (p ∷ ps) ≡ None
     go true true same there others at = absurd cc
     go false false same there others at = rw there (others at)
     go true false same there others at = absurd (true≢false (sym same))
     go false true same there others at = absurd (true≢false same)
 
-pub same_some : (name : List ℕ) (places : Named Place) (bases : Named Base) → FitsAll places bases → is_some (find_named name places) ≡ is_some (find_named name bases)
+pub same_some : (name : List ℕ) (places : Named Place) (bases : Named Base) → FitsAll places bases →
+    is_some (find_named name places) ≡ is_some (find_named name bases)
 same_some name places bases all = by_case (find_named name bases) refl
   where
     by_case : (found : Option Base) → find_named name bases ≡ found → is_some (find_named name places) ≡ is_some found
@@ -166,7 +193,8 @@ same_length (p ∷ ps) [] all = absurd all
 same_length (p ∷ ps) (e ∷ es) all = ap suc (same_length ps es all.2)
 
 -- a new database behind the others
-pub fits_more : (name : List ℕ) (p : Place) (b : Base) (places : Named Place) (bases : Named Base) → FitsAll places bases → Fits p b → FitsAll (places ++ (name, p) ∷ []) (bases ++ (name, b) ∷ [])
+pub fits_more : (name : List ℕ) (p : Place) (b : Base) (places : Named Place) (bases : Named Base) →
+    FitsAll places bases → Fits p b → FitsAll (places ++ (name, p) ∷ []) (bases ++ (name, b) ∷ [])
 fits_more name p b [] [] all here = (refl, here, tt)
 fits_more name p b [] (e ∷ es) all here = absurd all
 fits_more name p b (q ∷ qs) [] all here = absurd all

@@ -26,12 +26,14 @@ use Rattle.slon_main.specs.Calls.{is_making, with_base, with_more, grant, Moves,
 use Rattle.slon_main.proofs.Lifting.{IsAt, find_position, put_position, find_some}
 
 -- what follows of the reply of a call
-pub if_ok : {E : Type 0} (P Q : Reply → Type 0) (result : Result Reply E) → ((reply : Reply) → P reply → Q reply) → IfOk result P → IfOk result Q
+pub if_ok : {E : Type 0} (P Q : Reply → Type 0) (result : Result Reply E) → ((reply : Reply) → P reply → Q reply) →
+    IfOk result P → IfOk result Q
 if_ok P Q (Ok reply) from holds = from reply holds
 if_ok P Q (Err e) from holds = tt
 
 -- what holds of the reply that is told
-pub if_told : {E : Type 0} (P : Reply → Type 0) (result : Result Reply E) (reply : Reply) → IfOk result (λ r. r ≡ reply) → P reply → IfOk result P
+pub if_told : {E : Type 0} (P : Reply → Type 0) (result : Result Reply E) (reply : Reply) →
+    IfOk result (λ r. r ≡ reply) → P reply → IfOk result P
 if_told P result reply told holds = if_ok (λ r. r ≡ reply) P result (λ r is. subst P (sym is) holds) told
 
 pub not_so : (b : Bool) → (b ≡ true → false ≡ true) → b ≡ false
@@ -39,22 +41,27 @@ not_so false no_error = refl
 not_so true no_error = sym (no_error refl)
 
 -- what holds where a result is no want of memory holds of a call that fails there
-pub if_memory : {E : Type 0} (P : Reply → Type 0) (result : Result Reply E) (fault : DbFault) (reply : Reply) → IfOk result (λ r. r ≡ reply) →
-    (is_memory (halt_in fault) ≡ true → is_err result ≡ true) → (is_memory (halt_in fault) ≡ false → P reply) → IfOk result P
+pub if_memory : {E : Type 0} (P : Reply → Type 0) (result : Result Reply E) (fault : DbFault) (reply : Reply) →
+    IfOk result (λ r. r ≡ reply) →
+    (is_memory (halt_in fault) ≡ true → is_err result ≡ true) → (is_memory (halt_in fault) ≡ false → P reply) →
+    IfOk result P
 if_memory P (Ok r) fault reply is memory holds = subst P (sym is) (holds (not_so (is_memory (halt_in fault)) memory))
 if_memory P (Err e) fault reply is memory holds = tt
 
 -- ---- the words of a command
 
 pub same_words : (s : Subject) (database : List ℕ) (transaction table : Option (List ℕ)) → database ≡ database_named s →
-    transaction ≡ transaction_named s → table ≡ table_named s → record { database = database; transaction = transaction; table = table } ≡ words_of s
-same_words s database transaction table named by on = λ i. record { database = named i; transaction = by i; table = on i }
+    transaction ≡ transaction_named s → table ≡ table_named s →
+    record { database = database; transaction = transaction; table = table } ≡ words_of s
+same_words s database transaction table named by on = λ i.
+    record { database = named i; transaction = by i; table = on i }
 
 -- an answer names the database alone
 pub same_answer : (words : Words) (database : List ℕ) (done : Answered) → database ≡ words.database →
     reply_of (record { database = database; transaction = None; table = None }) (Ok done) ≡ reply_of words (Ok done)
 same_answer words database (Sure answer) is = refl
-same_answer words database (AnsweredInDoubt answer) is = ap (λ w. reply_of (record { database = w; transaction = None; table = None }) (Ok (AnsweredInDoubt answer))) is
+same_answer words database (AnsweredInDoubt answer) is = ap
+    (λ w. reply_of (record { database = w; transaction = None; table = None }) (Ok (AnsweredInDoubt answer))) is
 
 pub answer_memory : (done : Answered) → is_memory (trouble (Ok done)) ≡ false
 answer_memory (Sure answer) = refl
@@ -67,17 +74,21 @@ pub record Names (command : Command) (word : List ℕ) : Type 0 where
   pub is : word ≡ database_named (subject_of command)
   pub other : is_making (subject_of command) ≡ false
 
-pub moves_none : (command : Command) (c : Clustered) (word name : List ℕ) → Names command word → name ≡ word → find_named word c.bases ≡ None →
+pub moves_none : (command : Command) (c : Clustered) (word name : List ℕ) → Names command word → name ≡ word →
+    find_named word c.bases ≡ None →
     Moves command c (Refused (refused.NoDatabase name)) c
 moves_none command c word name names same none = go (subject_of command) refl names.is names.other
   where
-    go : (s : Subject) → subject_of command ≡ s → word ≡ database_named s → is_making s ≡ false → Moves command c (Refused (refused.NoDatabase name)) c
+    go : (s : Subject) → subject_of command ≡ s → word ≡ database_named s → is_making s ≡ false →
+        Moves command c (Refused (refused.NoDatabase name)) c
     go (OnNew made) about named other = absurd (true≢false other)
     go (OnOne one task) about named other =
-        Misses one task about (ap (λ w. find_named w c.bases) (sym named) ∙ none) (ap (λ w. Refused (refused.NoDatabase w)) (same ∙ named)) refl
+        Misses one task about (ap (λ w. find_named w c.bases) (sym named) ∙ none)
+        (ap (λ w. Refused (refused.NoDatabase w)) (same ∙ named)) refl
 
 -- an element of a list is the database of that word, and served a command
-pub record Asked {X : Type 0} (f : X → List ℕ × Base) (command : Command) (items : List X) (i : ℕ) (y : X) (result : Result Answered DbFault) : Type 0 where
+pub record Asked {X : Type 0} (f : X → List ℕ × Base) (command : Command) (items : List X) (i : ℕ) (y : X)
+    (result : Result Answered DbFault) : Type 0 where
   pub word : List ℕ
   pub names : Names command word
   pub x : X
@@ -86,10 +97,13 @@ pub record Asked {X : Type 0} (f : X → List ℕ × Base) (command : Command) (
   pub serves : ServesOn (subject_of command) (f x).1 result (f y).1
   pub memory : is_memory (trouble result) ≡ false
 
-pub moves_at : {X : Type 0} (f : X → List ℕ × Base) (command : Command) (limit : ℕ) (items : List X) (i : ℕ) (y : X) (result : Result Answered DbFault) →
+pub moves_at : {X : Type 0} (f : X → List ℕ × Base) (command : Command) (limit : ℕ) (items : List X) (i : ℕ) (y : X)
+    (result : Result Answered DbFault) →
     Asked f command items i y result →
-    Moves command (record { limit = limit; bases = map f items }) (reply_of (words_of (subject_of command)) result) (record { limit = limit; bases = map f (set items i y) })
-moves_at f command limit items i y result asked = go (subject_of command) refl asked.names.is asked.names.other asked.serves
+    Moves command (record { limit = limit; bases = map f items }) (reply_of (words_of (subject_of command)) result)
+    (record { limit = limit; bases = map f (set items i y) })
+moves_at f command limit items i y result asked = go
+    (subject_of command) refl asked.names.is asked.names.other asked.serves
   where
     old : Clustered
     old = record { limit = limit; bases = map f items }
@@ -97,33 +111,49 @@ moves_at f command limit items i y result asked = go (subject_of command) refl a
     new : Clustered
     new = record { limit = limit; bases = map f (set items i y) }
 
-    go : (s : Subject) → subject_of command ≡ s → asked.word ≡ database_named s → is_making s ≡ false → ServesOn s (f asked.x).1 result (f y).1 →
+    go : (s : Subject) → subject_of command ≡ s → asked.word ≡ database_named s → is_making s ≡ false →
+        ServesOn s (f asked.x).1 result (f y).1 →
         Moves command old (reply_of (words_of s) result) new
     go (OnNew made) about named other serves = absurd (true≢false other)
     go (OnOne one task) about named other serves =
         Asks one task (f asked.x).1 (f y).1 result about
-        (ap (λ w. find_named w old.bases) (sym named) ∙ find_position f asked.word items i asked.x asked.at) serves asked.memory refl
-        (ap (λ bs. record { limit = limit; bases = bs }) (put_position f asked.word items i asked.x y asked.at asked.same)
+        (ap (λ w. find_named w old.bases) (sym named)
+        ∙ find_position f asked.word items i asked.x asked.at) serves asked.memory refl
+        (ap (λ bs. record { limit = limit; bases = bs })
+        (put_position f asked.word items i asked.x y asked.at asked.same)
         ∙ ap (λ w. with_base w (f y).1 old) named)
 
 -- ---- whether there may be a new one
 
-pub grants_taken : {X : Type 0} (f : X → List ℕ × Base) (name : List ℕ) (limit : ℕ) (items : List X) → is_some (position (λ x. bytes_eq name (f x).0) items) ≡ true →
+pub grants_taken : {X : Type 0} (f : X → List ℕ × Base) (name : List ℕ) (limit : ℕ) (items : List X) →
+    is_some (position (λ x. bytes_eq name (f x).0) items) ≡ true →
     Refused (refused.NameUsed name) ≡ grant name (record { limit = limit; bases = map f items })
 grants_taken f name limit items is = rw (find_some f name items ∙ is) refl
 
-pub grants_more : {X : Type 0} (f : X → List ℕ × Base) (name : List ℕ) (limit : ℕ) (items : List X) → is_some (position (λ x. bytes_eq name (f x).0) items) ≡ false →
+pub grants_more : {X : Type 0} (f : X → List ℕ × Base) (name : List ℕ) (limit : ℕ) (items : List X) →
+    is_some (position (λ x. bytes_eq name (f x).0) items) ≡ false →
     length items < limit → Accepted Done ≡ grant name (record { limit = limit; bases = map f items })
-grants_more f name limit items is less = rw (find_some f name items ∙ is, length-map items f, lt-ltb (length items) limit less) refl
+grants_more f name limit items is less = rw (
+  find_some f name items ∙ is,
+  length-map items f,
+  lt-ltb (length items) limit less,
+) refl
 
-pub grants_none : {X : Type 0} (f : X → List ℕ × Base) (name : List ℕ) (limit : ℕ) (items : List X) → is_some (position (λ x. bytes_eq name (f x).0) items) ≡ false →
+pub grants_none : {X : Type 0} (f : X → List ℕ × Base) (name : List ℕ) (limit : ℕ) (items : List X) →
+    is_some (position (λ x. bytes_eq name (f x).0) items) ≡ false →
     limit ≤ length items → Refused (refused.Full limit) ≡ grant name (record { limit = limit; bases = map f items })
-grants_none f name limit items is full = rw (find_some f name items ∙ is, length-map items f, le-ltb (length items) limit full) refl
+grants_none f name limit items is full = rw (
+  find_some f name items ∙ is,
+  length-map items f,
+  le-ltb (length items) limit full,
+) refl
 
-pub granted_moves : {E : Type 0} (result : Result Reply E) (command : Command) (name : List ℕ) (c : Clustered) → command ≡ Database name →
+pub granted_moves : {E : Type 0} (result : Result Reply E) (command : Command) (name : List ℕ) (c : Clustered) →
+    command ≡ Database name →
     IfOk result (λ r. r ≡ grant name c) → IfOk result (λ r. Moves command c r c)
 granted_moves result command name c is told =
-    if_ok (λ r. r ≡ grant name c) (λ r. Moves command c r c) result (λ r same. Grants name (ap subject_of is) same refl) told
+    if_ok (λ r. r ≡ grant name c) (λ r. Moves command c r c) result
+    (λ r same. Grants name (ap subject_of is) same refl) told
 
 -- what was granted: all is as it was, and the name is free
 pub record IsGranted (name : List ℕ) (old mid : Clustered) : Type 0 where
@@ -135,7 +165,8 @@ granted_as : (name : List ℕ) (old : Clustered) → is_accepted (grant name old
 granted_as name old accepted = by (find_named name old.bases) (nat_lt (length old.bases) old.limit) refl refl accepted
   where
     by : (o : Option Base) (room : Bool) → find_named name old.bases ≡ o → nat_lt (length old.bases) old.limit ≡ room →
-        is_accepted (cond (is_some o) (Refused (refused.NameUsed name)) (cond room (Accepted Done) (Refused (refused.Full old.limit)))) ≡ true → IsGranted name old old
+        is_accepted (cond (is_some o) (Refused (refused.NameUsed name))
+        (cond room (Accepted Done) (Refused (refused.Full old.limit)))) ≡ true → IsGranted name old old
     by (Some b) room is has accepted = absurd (true≢false (sym accepted))
     by None false is has accepted = absurd (true≢false (sym accepted))
     by None true is has accepted = record { same = refl; done = rw (is, has) refl; free = is }
@@ -143,13 +174,17 @@ granted_as name old accepted = by (find_named name old.bases) (nat_lt (length ol
 one_name : (name made : List ℕ) → OnNew name ≡ OnNew made → name ≡ made
 one_name name made is = cc
 
-pub granted : (name : List ℕ) (command : Command) (old mid : Clustered) (reply : Reply) → command ≡ Database name → Moves command old reply mid →
+pub granted : (name : List ℕ) (command : Command) (old mid : Clustered) (reply : Reply) → command ≡ Database name →
+    Moves command old reply mid →
     is_accepted reply ≡ true → IsGranted name old mid
 granted name command old mid reply is (Grants made about told same) accepted =
     let named : made ≡ name = one_name made name (sym about ∙ ap subject_of is) in
-    subst (IsGranted name old) (sym same) (granted_as name old (ap (λ n. is_accepted (grant n old)) (sym named) ∙ sym (ap is_accepted told) ∙ accepted))
-granted name command old mid reply is (Misses one task about none told same) accepted = let bad : OnOne one task ≡ OnNew name = sym about ∙ ap subject_of is in absurd cc
-granted name command old mid reply is (Asks one task b d result about found serves memory told same) accepted = let bad : OnOne one task ≡ OnNew name = sym about ∙ ap subject_of is in absurd cc
+    subst (IsGranted name old) (sym same) (granted_as name old
+    (ap (λ n. is_accepted (grant n old)) (sym named) ∙ sym (ap is_accepted told) ∙ accepted))
+granted name command old mid reply is (Misses one task about none told same) accepted = let bad : OnOne one task ≡ OnNew
+    name = sym about ∙ ap subject_of is in absurd cc
+granted name command old mid reply is (Asks one task b d result about found serves memory told same) accepted = let bad
+    : OnOne one task ≡ OnNew name = sym about ∙ ap subject_of is in absurd cc
 
 -- ---- the making of a database
 
@@ -158,16 +193,20 @@ is_it NotEmpty is = refl
 is_it others is = absurd (true≢false (sym is))
 
 -- what the making of a database made of its store, behind a fuse that lets all pass
-pub made_by : (kept fused : Kept) (result outcome : Result (Unit {0}) DbFault) (b : Base) → Founds fused (settled result) b →
+pub made_by : (kept fused : Kept) (result outcome : Result (Unit {0}) DbFault) (b : Base) →
+    Founds fused (settled result) b →
     OnErr result (b.memory.up ≡ false) → (fused ≡ kept) × (result ≡ outcome) → Made kept outcome b
 made_by kept fused result outcome b founds down (same, is) =
     subst (λ r. Made kept r b) is (subst (λ k. Made k result b) same (record { founds = founds; down = down }))
 
-pub rejects : (name : List ℕ) (kept : Kept) (old : Clustered) (b : Base) (fault : DbFault) → Made kept (Err fault) b → is_not_empty fault ≡ true →
+pub rejects : (name : List ℕ) (kept : Kept) (old : Clustered) (b : Base) (fault : DbFault) → Made kept (Err fault) b →
+    is_not_empty fault ≡ true →
     Adopts name kept old (Refused (refused.NotEmpty name)) old
-rejects name kept old b fault made empty = Rejects b (subst (λ f. Made kept (Err f) b) (is_it fault empty) made) refl refl
+rejects name kept old b fault made empty = Rejects b
+    (subst (λ f. Made kept (Err f) b) (is_it fault empty) made) refl refl
 
-pub keeps_ok : (name : List ℕ) (kept : Kept) (old new : Clustered) (b : Base) (u : Unit {0}) → Made kept (Ok u) b → new ≡ with_more name b old →
+pub keeps_ok : (name : List ℕ) (kept : Kept) (old new : Clustered) (b : Base) (u : Unit {0}) → Made kept (Ok u) b →
+    new ≡ with_more name b old →
     Adopts name kept old (Accepted Done) new
 keeps_ok name kept old new b u made same = Keeps b (Ok u) made refl refl refl same
 
@@ -181,7 +220,8 @@ pub record Fell (name : List ℕ) (kept : Kept) (old : Clustered) (reply : Reply
   pub told : reply ≡ refusal_of (words_of (OnNew name)) fault
   pub same : new ≡ with_more name b old
 
-fell_reply : (name : List ℕ) (fault : DbFault) → refusal_of (words_of (OnNew name)) fault ≡ making_reply name (Err fault)
+fell_reply : (name : List ℕ) (fault : DbFault) → refusal_of (words_of (OnNew name)) fault ≡ making_reply name
+    (Err fault)
 fell_reply name (Halt Doubt) = refl
 fell_reply name others = refl
 
@@ -189,6 +229,8 @@ fell_memory : (fault : DbFault) → is_memory (halt_in fault) ≡ false → is_m
 fell_memory (Halt Doubt) memory = refl
 fell_memory others memory = memory
 
-pub keeps_err : (name : List ℕ) (kept : Kept) (old : Clustered) (reply : Reply) (new : Clustered) → Fell name kept old reply new → Adopts name kept old reply new
+pub keeps_err : (name : List ℕ) (kept : Kept) (old : Clustered) (reply : Reply) (new : Clustered) →
+    Fell name kept old reply new → Adopts name kept old reply new
 keeps_err name kept old reply new fell =
-    Keeps fell.b (Err fell.fault) fell.made (fell_memory fell.fault fell.memory) fell.empty (fell.told ∙ fell_reply name fell.fault) fell.same
+    Keeps fell.b (Err fell.fault) fell.made (fell_memory fell.fault fell.memory) fell.empty
+    (fell.told ∙ fell_reply name fell.fault) fell.same

@@ -24,12 +24,20 @@ line_within (c ∷ cs) =
 
 end_within : (n : ℕ) (bytes : List ℕ) → end_of n bytes ≤ length bytes
 end_within zero bytes = omega arith
-end_within (suc n) bytes = omega (arith, line_within bytes, end_within n (drop (line_size bytes) bytes), length-drop (line_size bytes) bytes)
+end_within (suc n) bytes = omega (
+  arith,
+  line_within bytes,
+  end_within n (drop (line_size bytes) bytes),
+  length-drop (line_size bytes) bytes,
+)
 
 end_later : (n m : ℕ) (bytes : List ℕ) → n ≤ m → end_of n bytes ≤ end_of m bytes
 end_later zero m bytes later = omega arith
 end_later (suc n) zero bytes later = absurd (omega (arith, later))
-end_later (suc n) (suc m) bytes later = omega (arith, end_later n m (drop (line_size bytes) bytes) (omega (arith, later)))
+end_later (suc n) (suc m) bytes later = omega (
+  arith,
+  end_later n m (drop (line_size bytes) bytes) (omega (arith, later)),
+)
 
 -- one more line
 end_next : (n : ℕ) (bytes : List ℕ) → end_of (suc n) bytes ≡ end_of n bytes + line_size (drop (end_of n bytes) bytes)
@@ -37,7 +45,9 @@ end_next zero bytes = omega arith
 end_next (suc n) bytes =
     let rest = drop (line_size bytes) bytes in
     let more : end_of (suc n) rest ≡ end_of n rest + line_size (drop (end_of n rest) rest) = end_next n rest in
-    let same : line_size (drop (end_of n rest) rest) ≡ line_size (drop (line_size bytes + end_of n rest) bytes) = ap line_size (drop-drop (end_of n rest) (line_size bytes) bytes) in
+    let same : line_size (drop (end_of n rest) rest) ≡ line_size
+    (drop (line_size bytes + end_of n rest) bytes) = ap line_size
+    (drop-drop (end_of n rest) (line_size bytes) bytes) in
     omega (arith, more, same)
 
 -- ---- where the first bad line is
@@ -46,31 +56,41 @@ stop_later : (number : ℕ) (ls : List (List ℕ)) (bad : ℕ) → (session_from
 stop_later number [] bad is = absurd cc
 stop_later number (line ∷ more) bad is = go (meaning line) (stop_later (number + 1) more bad) is
   where
-    go : (m : Meaning) → ((session_from (number + 1) more).stop ≡ Some bad → number + 1 ≤ bad) → (behind number m (session_from (number + 1) more)).stop ≡ Some bad → number ≤ bad
+    go : (m : Meaning) → ((session_from (number + 1) more).stop ≡ Some bad → number + 1 ≤ bad) →
+        (behind number m (session_from (number + 1) more)).stop ≡ Some bad → number ≤ bad
     go Silent later at = omega (arith, later at)
     go (Says command) later at = omega (arith, later at)
     go Bad later at = let same : number ≡ bad = cc in omega (arith, same)
 
-stop_behind : (number : ℕ) (m : Meaning) (session : Session) → (m ≡ Bad → ⊥) → (behind number m session).stop ≡ session.stop
+stop_behind : (number : ℕ) (m : Meaning) (session : Session) → (m ≡ Bad → ⊥) →
+    (behind number m session).stop ≡ session.stop
 stop_behind number Silent session good = refl
 stop_behind number (Says command) session good = refl
 stop_behind number Bad session good = absurd (good refl)
 
 -- ---- where a run is
 
+-- what a run has come to: the number of the next line, and what is read
+pub record Reached : Type 0 where
+  pub number : ℕ
+  pub reader : Reading
+  pub files : Filed
+
 -- Before the line of this number: the bytes to come are told, they are what is left behind the lines that were handed
 -- over, and the first bad line is not among these.
-pub record Came (bytes : List ℕ) (number : ℕ) (reader : Reading) (files : Filed) : Type 0 where
+pub record Came (bytes : List ℕ) (at : Reached) : Type 0 where
   pub rest : List ℕ
-  pub comes : Comes reader files rest
-  pub size : reader.taken + length rest ≡ length bytes
+  pub comes : Comes at.reader at.files rest
+  pub size : at.reader.taken + length rest ≡ length bytes
   pub before : ℕ
-  pub number_is : number ≡ before + 1
-  pub taken : reader.taken ≡ end_of before bytes
-  pub left : rest ≡ drop reader.taken bytes
-  pub stop : (session_of bytes).stop ≡ (session_from number (lines rest)).stop
+  pub number_is : at.number ≡ before + 1
+  pub taken : at.reader.taken ≡ end_of before bytes
+  pub left : rest ≡ drop at.reader.taken bytes
+  pub stop : (session_of bytes).stop ≡ (session_from at.number (lines rest)).stop
 
-pub came_first : (bytes : List ℕ) (reader : Reading) (files : Filed) → top files.stack ≡ Some bytes → reader.unread ≡ [] → reader.taken ≡ 0 → Came bytes 1 reader files
+pub came_first : (bytes : List ℕ) (reader : Reading) (files : Filed) → top files.stack ≡ Some bytes →
+    reader.unread ≡ [] →
+    reader.taken ≡ 0 → Came bytes (record { number = 1; reader = reader; files = files })
 came_first bytes reader files is none zero_taken = record {
   rest = bytes;
   comes = (bytes, is, ap (λ l. l ++ bytes) (sym none));
@@ -83,66 +103,98 @@ came_first bytes reader files is none zero_taken = record {
 }
 
 -- the end of the next line
-pub next_end : (bytes : List ℕ) (number : ℕ) (reader : Reading) (files : Filed) → (came : Came bytes number reader files) → reader.taken + line_size came.rest ≡ end_of (suc came.before) bytes
-next_end bytes number reader files came =
-    let same : line_size came.rest ≡ line_size (drop (end_of came.before bytes) bytes) = ap line_size (came.left ∙ ap (λ n. drop n bytes) came.taken) in
+pub next_end : (bytes : List ℕ) (at : Reached) → (came : Came bytes at) →
+    at.reader.taken + line_size came.rest ≡ end_of (suc came.before) bytes
+next_end bytes at came =
+    let same : line_size came.rest ≡ line_size (drop (end_of came.before bytes) bytes) =
+    ap line_size (came.left ∙ ap (λ n. drop n bytes) came.taken) in
     omega (arith, same, came.taken, end_next came.before bytes)
 
-number_end : (bytes : List ℕ) (number : ℕ) (reader : Reading) (files : Filed) → (came : Came bytes number reader files) → reader.taken + line_size came.rest ≡ end_of number bytes
-number_end bytes number reader files came =
-    let same : suc came.before ≡ number = omega (arith, came.number_is) in
-    next_end bytes number reader files came ∙ ap (λ n. end_of n bytes) same
+number_end : (bytes : List ℕ) (at : Reached) → (came : Came bytes at) →
+    at.reader.taken + line_size came.rest ≡ end_of at.number bytes
+number_end bytes at came =
+    let same : suc came.before ≡ at.number = omega (arith, came.number_is) in
+    next_end bytes at came ∙ ap (λ n. end_of n bytes) same
 
-pub came_on : (bytes line : List ℕ) (number : ℕ) (old new : Reading) (before files : Filed) → (came : Came bytes number old before) → Hands line came.rest old new files Line → (meaning line ≡ Bad → ⊥) → Came bytes (number + 1) new files
-came_on bytes line number old new before files came hands good = record {
-  rest = hands.rest;
-  comes = hands.comes;
-  size = hands.taken ∙ came.size;
-  before = suc came.before;
-  number_is = omega (arith, came.number_is);
-  taken = hands.size ∙ next_end bytes number old before came;
-  left = hands.left ∙ ap (drop (line_size came.rest)) came.left ∙ drop-drop (line_size came.rest) old.taken bytes ∙ ap (λ n. drop n bytes) (sym hands.size);
-  stop = came.stop ∙ ap (λ ls. (session_from number ls).stop) hands.takes ∙ stop_behind number (meaning line) (session_from (number + 1) (lines hands.rest)) good;
-}
+-- a line was handed over that is within the limit, and the next one comes
+pub record Passed (line rest : List ℕ) (at next : Reached) : Type 0 where
+  pub number : next.number ≡ at.number + 1
+  pub hands : Hands line rest at.reader next.reader next.files Line
+  pub short : next.reader.taken ≤ session_limit
+
+pub came_on : (bytes line : List ℕ) (at next : Reached) → (came : Came bytes at) → Passed line came.rest at next →
+    (meaning line ≡ Bad → ⊥) →
+    Came bytes next
+came_on bytes line at next came passed good =
+    let hands = passed.hands in
+    record {
+      rest = hands.rest;
+      comes = hands.comes;
+      size = hands.taken ∙ came.size;
+      before = suc came.before;
+      number_is = omega (arith, came.number_is, passed.number);
+      taken = hands.size ∙ next_end bytes at came;
+      left = hands.left ∙ ap (drop (line_size came.rest)) came.left
+          ∙ drop-drop (line_size came.rest) at.reader.taken bytes
+          ∙ ap (λ n. drop n bytes) (sym hands.size);
+      stop = came.stop ∙ ap (λ ls. (session_from at.number ls).stop) hands.takes
+          ∙ stop_behind at.number (meaning line) (session_from (at.number + 1) (lines hands.rest)) good
+          ∙ ap (λ n. (session_from n (lines hands.rest)).stop) (sym passed.number);
+    }
 
 -- ---- where a run ends
 
 pub too_long_is_bad : (whole : List ℕ) → line_limit < length whole → meaning whole ≡ Bad
 too_long_is_bad whole long = rw (lt-ltb line_limit (length whole) long) refl
 
-bad_here : (bytes whole : List ℕ) (more : List (List ℕ)) (number : ℕ) (reader : Reading) (files : Filed) → (came : Came bytes number reader files) → lines came.rest ≡ whole ∷ more → meaning whole ≡ Bad → (session_of bytes).stop ≡ Some number
-bad_here bytes whole more number reader files came first bad =
-    came.stop ∙ ap (λ ls. (session_from number ls).stop) first ∙ ap (λ m. (behind number m (session_from (number + 1) more)).stop) bad
+bad_here : (bytes whole : List ℕ) (more : List (List ℕ)) (at : Reached) → (came : Came bytes at) →
+    lines came.rest ≡ whole ∷ more →
+    meaning whole ≡ Bad → (session_of bytes).stop ≡ Some at.number
+bad_here bytes whole more at came first bad =
+    came.stop ∙ ap (λ ls. (session_from at.number ls).stop) first
+    ∙ ap (λ m. (behind at.number m (session_from (at.number + 1) more)).stop) bad
 
-counts_to : (bytes : List ℕ) (stop : Option ℕ) → (session_of bytes).stop ≡ stop → counted bytes stop ≤ session_limit → IsTooLong bytes → ⊥
-counts_to bytes stop is short long = let same : counted bytes (session_of bytes).stop ≡ counted bytes stop = ap (counted bytes) is in omega (arith, same, short, long)
+counts_to : (bytes : List ℕ) (stop : Option ℕ) → (session_of bytes).stop ≡ stop → counted bytes stop ≤ session_limit →
+    IsTooLong bytes → ⊥
+counts_to bytes stop is short long =
+    let same : counted bytes (session_of bytes).stop ≡ counted bytes stop = ap (counted bytes) is in
+    omega (arith, same, short, long)
 
-pub stops_end : (bytes : List ℕ) (number : ℕ) (reader : Reading) (files : Filed) → (came : Came bytes number reader files) → came.rest ≡ [] → reader.taken ≤ session_limit → StopsAt bytes (Ok tt)
-stops_end bytes number reader files came none short =
-    let is : (session_of bytes).stop ≡ None = came.stop ∙ ap (λ r. (session_from number (lines r)).stop) none in
+pub stops_end : (bytes : List ℕ) (at : Reached) → (came : Came bytes at) → came.rest ≡ [] →
+    at.reader.taken ≤ session_limit → StopsAt bytes (Ok tt)
+stops_end bytes at came none short =
+    let is : (session_of bytes).stop ≡ None = came.stop ∙ ap (λ r. (session_from at.number (lines r)).stop) none in
     let empty : length came.rest ≡ 0 = ap length none in
     (is, counts_to bytes None is (omega (arith, empty, came.size, short)))
 
-long_here : (bytes : List ℕ) (number : ℕ) (reader : Reading) (files : Filed) → (came : Came bytes number reader files) → session_limit < end_of number bytes → (stop : Option ℕ) → (session_of bytes).stop ≡ stop → session_limit < counted bytes stop
-long_here bytes number reader files came long None is = omega (arith, long, end_within number bytes)
-long_here bytes number reader files came long (Some bad) is =
-    omega (arith, long, end_later number bad bytes (stop_later number (lines came.rest) bad (sym came.stop ∙ is)))
+long_here : (bytes : List ℕ) (at : Reached) → (came : Came bytes at) → session_limit < end_of at.number bytes →
+    (stop : Option ℕ) →
+    (session_of bytes).stop ≡ stop → session_limit < counted bytes stop
+long_here bytes at came long None is = omega (arith, long, end_within at.number bytes)
+long_here bytes at came long (Some bad) is =
+    omega (arith, long, end_later at.number bad bytes (stop_later at.number (lines came.rest) bad (sym came.stop ∙ is)))
 
-pub stops_reading : (bytes : List ℕ) (number : ℕ) (line : List ℕ) (old new : Reading) (before files : Filed) → (came : Came bytes number old before) → (stop : Stop) → ReadsLine number line came.rest old new files (Err stop) → StopsAt bytes (Err stop)
-stops_reading bytes number line old new before files came (BadLine bad) (is, short, whole, more, long, first) =
-    let stop = bad_here bytes whole more number old before came first (too_long_is_bad whole long) in
-    (stop ∙ ap Some (sym is), counts_to bytes (Some number) stop (omega (arith, number_end bytes number old before came, short)))
-stops_reading bytes number line old new before files came TooLong reads =
-    long_here bytes number old before came (omega (arith, number_end bytes number old before came, reads)) (session_of bytes).stop refl
-stops_reading bytes number line old new before files came others reads = tt
+pub stops_reading : (bytes line : List ℕ) (at next : Reached) → (came : Came bytes at) → (stop : Stop) →
+    ReadsLine at.number line came.rest at.reader next.reader next.files (Err stop) → StopsAt bytes (Err stop)
+stops_reading bytes line at next came (BadLine bad) (is, short, whole, more, long, first) =
+    let stop = bad_here bytes whole more at came first (too_long_is_bad whole long) in
+    (stop ∙ ap Some (sym is), counts_to bytes (Some at.number) stop (omega (arith, number_end bytes at came, short)))
+stops_reading bytes line at next came TooLong reads =
+    long_here bytes at came (omega (arith, number_end bytes at came, reads)) (session_of bytes).stop refl
+stops_reading bytes line at next came others reads = tt
 
-pub stops_running : (bytes : List ℕ) (number : ℕ) (line : List ℕ) (old new : Reading) (before files : Filed) → (came : Came bytes number old before) → Hands line came.rest old new files Line → new.taken ≤ session_limit → (stop : Stop) → BadOnly number (meaning line) (Err stop) → StopsAt bytes (Err stop)
-stops_running bytes number line old new before files came hands short (BadLine bad) (is, means) =
-    let stop = bad_here bytes line (lines hands.rest) number old before came hands.takes means in
-    (stop ∙ ap Some (sym is), counts_to bytes (Some number) stop (omega (arith, number_end bytes number old before came, hands.size, short)))
-stops_running bytes number line old new before files came hands short Read only = absurd only
-stops_running bytes number line old new before files came hands short TooLong only = absurd only
-stops_running bytes number line old new before files came hands short others only = tt
+pub stops_running : (bytes line : List ℕ) (at next : Reached) → (came : Came bytes at) → Passed line came.rest at next →
+    (stop : Stop) →
+    BadOnly at.number (meaning line) (Err stop) → StopsAt bytes (Err stop)
+stops_running bytes line at next came passed (BadLine bad) (is, means) =
+    let stop = bad_here bytes line (lines passed.hands.rest) at came passed.hands.takes means in (
+      stop ∙ ap Some (sym is),
+      counts_to bytes (Some at.number) stop
+          (omega (arith, number_end bytes at came, passed.hands.size, passed.short)),
+    )
+stops_running bytes line at next came passed Read only = absurd only
+stops_running bytes line at next came passed TooLong only = absurd only
+stops_running bytes line at next came passed others only = tt
 
 -- what is too long has more bytes than the limit
 pub too_long : (bytes : List ℕ) → IsTooLong bytes → session_limit < length bytes
@@ -152,6 +204,7 @@ too_long bytes long = go (session_of bytes).stop long
     go None is = is
     go (Some number) is = omega (arith, is, end_within number bytes)
 
-pub long_only : (bytes : List ℕ) (result : Result (Unit {0}) Stop) → StopsAt bytes result → LongOnly {T = Unit {0}} (length bytes) result
+pub long_only : (bytes : List ℕ) (result : Result (Unit {0}) Stop) → StopsAt bytes result →
+    LongOnly {T = Unit {0}} (length bytes) result
 long_only bytes (Err TooLong) at = too_long bytes at
 long_only bytes others at = tt

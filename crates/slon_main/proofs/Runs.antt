@@ -25,7 +25,7 @@ use Rattle.slon_main.specs.Failing.{IsWithin}
 use Rattle.slon_main.specs.Running.{NeverFails, NoneArms, ReadsLine, RunsLine, Means, Ran, RanOn, IsMaking, IsBeyond, RunsSession}
 use Rattle.slon_main.proofs.Causes.{never_still}
 use Rattle.slon_main.proofs.Stepping.{sure_step}
-use Rattle.slon_main.proofs.Places.{Came, next_end, too_long_is_bad}
+use Rattle.slon_main.proofs.Places.{Reached, Came, next_end, too_long_is_bad}
 
 -- the session with commands before its others
 abbrev behind_commands : List Command → Session → Session
@@ -45,6 +45,9 @@ pub record Spot : Type 0 where
   pub output : Option (List ℕ)
   pub cluster : Clustered
 
+abbrev reached : Spot → Reached
+reached at = record { number = at.number; reader = at.reader; files = at.files }
+
 -- how it came there
 pub record Running (b : Begun) (at : Spot) : Type 0 where
   pub rest : List ℕ
@@ -56,7 +59,8 @@ pub record Running (b : Begun) (at : Spot) : Type 0 where
   pub session : session_of b.bytes ≡ behind_commands (commands_of history) (session_from at.number (lines rest))
   pub written : at.output ≡ Some (output_of history)
   pub agrees : Agrees world at.cluster
-  pub certain : NeverFails b.shelf → NoneArms (commands_of history) → IsDue (start b.limit) history world × AllCertain at.cluster
+  pub certain : NeverFails b.shelf → NoneArms (commands_of history) →
+      IsDue (start b.limit) history world × AllCertain at.cluster
   pub quiet : AllQuiet at.cluster → IsDue (start b.limit) history world
   pub few : NoneArms (commands_of history) → IsWithin b.shelf.promise history at.cluster
 
@@ -69,13 +73,19 @@ none_fits (b ∷ bs) all = absurd all
 start_certain : (limit : ℕ) (cluster : Clustered) → Agrees (start limit) cluster → AllCertain cluster
 start_certain limit cluster agrees = none_fits cluster.bases agrees.fits
 
-none_there : {X : Type 0} (bases : Named Base) → FitsAll [] bases → (name : List ℕ) (b : Base) → find_named name bases ≡ Some b → X
+none_there : {X : Type 0} (bases : Named Base) → FitsAll [] bases → (name : List ℕ) (b : Base) →
+    find_named name bases ≡ Some b → X
 none_there [] all name b found = absurd cc
 none_there (e ∷ es) all name b found = absurd all
 
-start_within : (promise : ℕ → Promise) (limit : ℕ) (cluster : Clustered) → Agrees (start limit) cluster → IsWithin promise [] cluster
+start_within : (promise : ℕ → Promise) (limit : ℕ) (cluster : Clustered) → Agrees (start limit) cluster →
+    IsWithin promise [] cluster
 start_within promise limit cluster agrees =
-    record { absent = λ name none. refl; present = λ name b n found told. none_there cluster.bases agrees.fits name b found }
+    record {
+      absent = λ name none. refl;
+      present = λ name b n found told. none_there cluster.bases agrees.fits name b
+          found;
+    }
 
 -- before the first line
 pub record First (b : Begun) (at : Spot) : Type 0 where
@@ -125,24 +135,30 @@ pub record LineRan (b : Begun) (now : Shelved) (line rest : List ℕ) (at next :
   pub number : next.number ≡ at.number + 1
   pub promised : now.promise ≡ b.shelf.promise
   pub hands : Hands line rest at.reader next.reader next.files Line
-  pub means : (w : World) → Follows w at.cluster → Means (meaning line) now w at.output next.output at.cluster next.cluster
+  pub means : (w : World) → Follows w at.cluster →
+      Means (meaning line) now w at.output next.output at.cluster next.cluster
 
-pub went_on : (b : Begun) (now : Shelved) (line : List ℕ) (at next : Spot) → (running : Running b at) → LineRan b now line running.rest at next → Running b next
+pub went_on : (b : Begun) (now : Shelved) (line : List ℕ) (at next : Spot) → (running : Running b at) →
+    LineRan b now line running.rest at next → Running b next
 went_on b now line at next running ran = go (meaning line) refl (ran.means running.world (follows b at running))
   where
     rest_session : Session
     rest_session = session_from (at.number + 1) (lines ran.hands.rest)
 
-    from : (m : Meaning) → meaning line ≡ m → session_of b.bytes ≡ behind_commands (commands_of running.history) (behind at.number m rest_session)
+    from : (m : Meaning) → meaning line ≡ m → session_of b.bytes ≡ behind_commands (commands_of running.history)
+        (behind at.number m rest_session)
     from m is =
-        running.session ∙ ap (λ ls. behind_commands (commands_of running.history) (session_from at.number ls)) ran.hands.takes
+        running.session ∙ ap (λ ls. behind_commands (commands_of running.history)
+        (session_from at.number ls)) ran.hands.takes
         ∙ ap (λ k. behind_commands (commands_of running.history) (behind at.number k rest_session)) is
 
     onward : (commands : List Command) → session_of b.bytes ≡ behind_commands commands rest_session →
         session_of b.bytes ≡ behind_commands commands (session_from next.number (lines ran.hands.rest))
-    onward commands is = is ∙ ap (λ n. behind_commands commands (session_from n (lines ran.hands.rest))) (sym ran.number)
+    onward commands is = is ∙ ap (λ n. behind_commands commands (session_from n (lines ran.hands.rest)))
+        (sym ran.number)
 
-    go : (m : Meaning) → meaning line ≡ m → Means m now running.world at.output next.output at.cluster next.cluster → Running b next
+    go : (m : Meaning) → meaning line ≡ m → Means m now running.world at.output next.output at.cluster next.cluster →
+        Running b next
     go Silent is (same, kept) = record {
       rest = ran.hands.rest;
       comes = ran.hands.comes;
@@ -153,7 +169,8 @@ went_on b now line at next running ran = go (meaning line) refl (ran.means runni
       session = onward (commands_of running.history) (from Silent is);
       written = same ∙ running.written;
       agrees = subst (Agrees running.world) (sym kept) running.agrees;
-      certain = λ never armless. let so_far = running.certain never armless in (so_far.0, subst AllCertain (sym kept) so_far.1);
+      certain = λ never armless. let so_far = running.certain never armless in
+          (so_far.0, subst AllCertain (sym kept) so_far.1);
       quiet = λ all. running.quiet (subst AllQuiet kept all);
       few = λ armless. subst (IsWithin b.shelf.promise running.history) (sym kept) (running.few armless);
     }
@@ -167,14 +184,17 @@ went_on b now line at next running ran = go (meaning line) refl (ran.means runni
           leads = (running.world, running.leads, said.goes.step);
           spoken = (says_spoken line command is, running.spoken);
           session = onward (commands_of running.history ++ command ∷ []) (from (Says command) is
-              ∙ ap (λ cs. record { commands = cs; stop = rest_session.stop }) (sym (append_assoc (commands_of running.history) (command ∷ []) rest_session.commands)));
+              ∙ ap (λ cs. record { commands = cs; stop = rest_session.stop })
+              (sym (append_assoc (commands_of running.history) (command ∷ []) rest_session.commands)));
           written = said.written_is ∙ ap (option_map (λ o. o ++ reply_line said.reply)) running.written;
           agrees = said.goes.agrees;
           certain = λ never armless.
               let so_far = running.certain never (none_before (commands_of running.history) command armless) in
               let here = said.certain (never_still b.shelf now ran.promised never) so_far.1 in
-              let due = sure_step running.world said.goes.world h said.goes.step here.0 in
-              ((running.world, so_far.0, due.0, due.1), here.1 (none_last (commands_of running.history) command armless));
+              let due = sure_step running.world said.goes.world h said.goes.step here.0 in (
+                (running.world, so_far.0, due.0, due.1),
+                here.1 (none_last (commands_of running.history) command armless),
+              );
           quiet = λ all.
               let here = said.quiet all in
               let due = sure_step running.world said.goes.world h said.goes.step here.0 in
@@ -182,13 +202,15 @@ went_on b now line at next running ran = go (meaning line) refl (ran.means runni
           few = λ armless.
               subst (λ p. IsWithin p (h ∷ running.history) next.cluster) ran.promised
               (said.pays (none_last (commands_of running.history) command armless) said.goes.choice running.history
-              (subst (λ p. IsWithin p running.history at.cluster) (sym ran.promised) (running.few (none_before (commands_of running.history) command armless))));
+              (subst (λ p. IsWithin p running.history at.cluster) (sym ran.promised)
+              (running.few (none_before (commands_of running.history) command armless))));
         }
     go Bad is none = absurd none
 
 -- ---- its end
 
-ran_so : (b : Begun) (at : Spot) → (running : Running b at) → (said : List Command) → commands_of running.history ≡ said → Ran b.shelf b.limit said at.output at.cluster
+ran_so : (b : Begun) (at : Spot) → (running : Running b at) → (said : List Command) →
+    commands_of running.history ≡ said → Ran b.shelf b.limit said at.output at.cluster
 ran_so b at running said is = record {
   history = running.history;
   world = running.world;
@@ -205,10 +227,12 @@ ran : (b : Begun) (at : Spot) → (running : Running b at) → (session_from at.
     Ran b.shelf b.limit (session_of b.bytes).commands at.output at.cluster
 ran b at running none =
     ran_so b at running (session_of b.bytes).commands
-    (sym (ap (λ s. s.commands) running.session ∙ ap (λ cs. commands_of running.history ++ cs) none ∙ append-nil (commands_of running.history)))
+    (sym (ap (λ s. s.commands) running.session ∙ ap (λ cs. commands_of running.history ++ cs) none
+    ∙ append-nil (commands_of running.history)))
 
 -- the commands so far are the first ones
-abbrev ran_on : (b : Begun) (at : Spot) → Running b at → RanOn b.shelf b.limit (session_of b.bytes).commands at.output at.cluster
+abbrev ran_on : (b : Begun) (at : Spot) → Running b at →
+    RanOn b.shelf b.limit (session_of b.bytes).commands at.output at.cluster
 ran_on b at running = record {
   first = commands_of running.history;
   others = (session_from at.number (lines running.rest)).commands;
@@ -217,7 +241,8 @@ ran_on b at running = record {
 }
 
 -- before the first line none was run
-pub ran_nothing : (shelf : Shelved) (limit : ℕ) (said : List Command) (output : Option (List ℕ)) (cluster : Clustered) → output ≡ Some [] →
+pub ran_nothing : (shelf : Shelved) (limit : ℕ) (said : List Command) (output : Option (List ℕ)) (cluster : Clustered) →
+    output ≡ Some [] →
     Agrees (start limit) cluster → RanOn shelf limit said output cluster
 ran_nothing shelf limit said output cluster empty agrees = record {
   first = [];
@@ -237,14 +262,16 @@ ran_nothing shelf limit said output cluster empty agrees = record {
 }
 
 -- no line is left
-pub ran_all : (b : Begun) (at : Spot) → (running : Running b at) → running.rest ≡ [] → RunsSession b.shelf b.limit b.bytes at.output at.cluster (Ok tt)
+pub ran_all : (b : Begun) (at : Spot) → (running : Running b at) → running.rest ≡ [] →
+    RunsSession b.shelf b.limit b.bytes at.output at.cluster (Ok tt)
 ran_all b at running none = (
   ran b at running (ap (λ r. (session_from at.number (lines r)).commands) none),
   ap (λ s. s.stop) running.session ∙ ap (λ r. (session_from at.number (lines r)).stop) none,
 )
 
 -- the next line is bad
-ran_to : (b : Begun) (at : Spot) → (running : Running b at) → (first : List ℕ) (more : List (List ℕ)) → lines running.rest ≡ first ∷ more → meaning first ≡ Bad →
+ran_to : (b : Begun) (at : Spot) → (running : Running b at) → (first : List ℕ) (more : List (List ℕ)) →
+    lines running.rest ≡ first ∷ more → meaning first ≡ Bad →
     RunsSession b.shelf b.limit b.bytes at.output at.cluster (Err (BadLine at.number))
 ran_to b at running first more is bad =
     (ran b at running (ap (λ s. s.commands) ends), ap (λ s. s.stop) running.session ∙ ap (λ s. s.stop) ends)
@@ -253,31 +280,36 @@ ran_to b at running first more is bad =
     ends = ap (session_from at.number) is ∙ ap (λ m. behind at.number m (session_from (at.number + 1) more)) bad
 
 -- the bytes to come are told once
-same_rest : (reader : Reading) (files : Filed) (one other : List ℕ) → Comes reader files one → Comes reader files other → one ≡ other
+same_rest : (reader : Reading) (files : Filed) (one other : List ℕ) → Comes reader files one →
+    Comes reader files other → one ≡ other
 same_rest reader files one other (left, top_is, is) (also, top_also, is_also) =
-    let same : left ≡ also = some_same left also (sym top_is ∙ top_also) in is ∙ ap (λ l. reader.unread ++ l) same ∙ sym is_also
+    let same : left ≡ also = some_same left also (sym top_is ∙ top_also) in
+    is ∙ ap (λ l. reader.unread ++ l) same ∙ sym is_also
   where
     some_same : (a b : List ℕ) → Some a ≡ Some b → a ≡ b
     some_same a b e = cc
 
 -- where the run is in the bytes, which is within the limit
 pub record Within (b : Begun) (at : Spot) : Type 0 where
-  pub came : Came b.bytes at.number at.reader at.files
+  pub came : Came b.bytes (reached at)
   pub small : at.reader.taken ≤ session_limit
 
 -- the next line ends beyond the limit
-beyond_here : (b : Begun) (at : Spot) → (running : Running b at) → Within b at → session_limit < at.reader.taken + line_size running.rest →
+beyond_here : (b : Begun) (at : Spot) → (running : Running b at) → Within b at →
+    session_limit < at.reader.taken + line_size running.rest →
     IsBeyond b.bytes (session_from at.number (lines running.rest)).commands
 beyond_here b at running within more =
     let came = within.came in
-    let same : running.rest ≡ came.rest = same_rest at.reader at.files running.rest came.rest running.comes came.comes in
+    let same : running.rest ≡ came.rest = same_rest at.reader at.files running.rest came.rest running.comes came.comes
+    in
     let size : line_size running.rest ≡ line_size came.rest = ap line_size same in
     record {
       count = came.before;
       within = omega (arith, within.small, came.taken);
-      beyond = omega (arith, more, size, next_end b.bytes at.number at.reader at.files came);
+      beyond = omega (arith, more, size, next_end b.bytes (reached at) came);
       behind = ap (λ n. (session_from n (lines running.rest)).commands) came.number_is
-          ∙ ap (λ r. (session_from (came.before + 1) (lines r)).commands) (same ∙ came.left ∙ ap (λ n. drop n b.bytes) came.taken);
+          ∙ ap (λ r. (session_from (came.before + 1) (lines r)).commands)
+          (same ∙ came.left ∙ ap (λ n. drop n b.bytes) came.taken);
     }
 
 -- the reading of the next line stopped
@@ -287,11 +319,13 @@ pub record ReadStopped (at : Spot) (rest : List ℕ) (stop : Stop) : Type 0 wher
   pub files : Filed
   pub reads : ReadsLine at.number line rest at.reader reader files (Err stop)
 
-pub read_stops : (b : Begun) (at : Spot) (stop : Stop) → (running : Running b at) → Within b at → ReadStopped at running.rest stop →
+pub read_stops : (b : Begun) (at : Spot) (stop : Stop) → (running : Running b at) → Within b at →
+    ReadStopped at running.rest stop →
     RunsSession b.shelf b.limit b.bytes at.output at.cluster (Err stop)
 read_stops b at stop running within stopped = go stop stopped.reads
   where
-    go : (s : Stop) → ReadsLine at.number stopped.line running.rest at.reader stopped.reader stopped.files (Err s) → RunsSession b.shelf b.limit b.bytes at.output at.cluster (Err s)
+    go : (s : Stop) → ReadsLine at.number stopped.line running.rest at.reader stopped.reader stopped.files (Err s) →
+        RunsSession b.shelf b.limit b.bytes at.output at.cluster (Err s)
     go (BadLine bad) (is, short, whole, more, long, first) =
         subst (λ n. RunsSession b.shelf b.limit b.bytes at.output at.cluster (Err (BadLine n))) (sym is)
         (ran_to b at running whole more first (too_long_is_bad whole long))
@@ -305,12 +339,14 @@ pub record LineStopped (now : Shelved) (line rest : List ℕ) (at next : Spot) (
   pub hands : Hands line rest at.reader next.reader next.files Line
   pub runs : RunsLine at.number (meaning line) now at.cluster next.cluster at.output next.output (Err stop)
 
-pub line_stops : (b : Begun) (now : Shelved) (line : List ℕ) (at next : Spot) (stop : Stop) → (running : Running b at) → LineStopped now line running.rest at next stop →
+pub line_stops : (b : Begun) (now : Shelved) (line : List ℕ) (at next : Spot) (stop : Stop) → (running : Running b at) →
+    LineStopped now line running.rest at next stop →
     RunsSession b.shelf b.limit b.bytes next.output next.cluster (Err stop)
 line_stops b now line at next stop running stopped = go stop stopped.runs
   where
     -- with nothing written and nothing changed
-    still : (s : Stop) → next.output ≡ at.output → next.cluster ≡ at.cluster → RunsSession b.shelf b.limit b.bytes at.output at.cluster (Err s) →
+    still : (s : Stop) → next.output ≡ at.output → next.cluster ≡ at.cluster →
+        RunsSession b.shelf b.limit b.bytes at.output at.cluster (Err s) →
         RunsSession b.shelf b.limit b.bytes next.output next.cluster (Err s)
     still s same kept runs =
         subst (λ o. RunsSession b.shelf b.limit b.bytes o next.cluster (Err s)) (sym same)
@@ -320,7 +356,8 @@ line_stops b now line at next stop running stopped = go stop stopped.runs
         RunsSession b.shelf b.limit b.bytes next.output next.cluster (Err s)
     go (BadLine bad) (is, means, same, kept) =
         subst (λ n. RunsSession b.shelf b.limit b.bytes next.output next.cluster (Err (BadLine n))) (sym is)
-        (still (BadLine at.number) same kept (ran_to b at running line (lines stopped.hands.rest) stopped.hands.takes means))
+        (still (BadLine at.number) same kept (ran_to b at running line
+        (lines stopped.hands.rest) stopped.hands.takes means))
     go Read runs = absurd runs
     go (NoStore name) (same, kept, means) =
         let first = ap (λ ls. (session_from at.number ls).commands) stopped.hands.takes

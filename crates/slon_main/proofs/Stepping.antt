@@ -31,20 +31,28 @@ use Rattle.slon_main.proofs.Certain.{never_fails}
 -- ---- steps that the rules allow
 
 granted_due : (name : List ℕ) (w : World) (c : Clustered) → Agrees w c → grant name c ≡ database_due name w
-granted_due name w c agrees = rw (same_some name w.places c.bases agrees.fits, same_length w.places c.bases agrees.fits, agrees.limit) refl
+granted_due name w c agrees = rw (
+  same_some name w.places c.bases agrees.fits,
+  same_length w.places c.bases agrees.fits,
+  agrees.limit,
+) refl
 
 -- what is known of the place of a database
-ready_place : (name : List ℕ) (b : Base) (w : World) (c : Clustered) → Follows w c → (fit : Fitting name w.places c.bases b) → Ready fit.place b
+ready_place : (name : List ℕ) (b : Base) (w : World) (c : Clustered) → Follows w c →
+    (fit : Fitting name w.places c.bases b) → Ready fit.place b
 ready_place name b w c follows fit = record {
   fits = fit.fits;
   sound = all_found Sound name fit.place w.places follows.sound fit.found;
   spelled = all_found IsSpelled name fit.place w.places follows.spelled fit.found;
 }
 
-pub steps : (command : Command) (old : Clustered) (reply : Reply) (new : Clustered) → Moves command old reply new → Steps command old reply new
+pub steps : (command : Command) (old : Clustered) (reply : Reply) (new : Clustered) → Moves command old reply new →
+    Steps command old reply new
 steps command old reply new (Grants name about told same) w follows =
-    subst (λ s. StepsOn s command w reply new) (sym about)
-    (told ∙ granted_due name w old follows.agrees ∙ ap (λ s. due_on s w) (sym about), subst (Agrees w) (sym same) follows.agrees)
+    subst (λ s. StepsOn s command w reply new) (sym about) (
+      told ∙ granted_due name w old follows.agrees ∙ ap (λ s. due_on s w) (sym about),
+      subst (Agrees w) (sym same) follows.agrees,
+    )
 steps command old reply new (Misses name task about none told same) w follows =
     subst (λ s. StepsOn s command w reply new) (sym about) (record {
       choice = AsDue;
@@ -65,18 +73,22 @@ steps command old reply new (Asks name task b d result about found serves memory
 
 -- ---- a step whose reply tells of no fault is the one that is due
 
-wavers_unsure : (d : Decision) (p : Place) (words : Words) → commits_at (move_of d) p ≡ true → is_sure_reply (reply_of words (unsure (result_of d))) ≡ false
+wavers_unsure : (d : Decision) (p : Place) (words : Words) → commits_at (move_of d) p ≡ true →
+    is_sure_reply (reply_of words (unsure (result_of d))) ≡ false
 wavers_unsure (Refuses fault) p words commits = absurd (true≢false (sym commits))
 wavers_unsure (Accepts answer move) p words commits = refl
 wavers_unsure Overflows p words commits = absurd (true≢false (sym commits))
 
-sure_choice : (task : Task) (p : Place) (choice : Choice) (result : Result Answered DbFault) (words : Words) → Takes task p choice result →
-    is_sure_reply (reply_of words result) ≡ true → (result ≡ sure (result_of (decide task p))) × (place_by task p choice ≡ place_by task p AsDue)
+sure_choice : (task : Task) (p : Place) (choice : Choice) (result : Result Answered DbFault) (words : Words) →
+    Takes task p choice result →
+    is_sure_reply (reply_of words result) ≡ true →
+    (result ≡ sure (result_of (decide task p))) × (place_by task p choice ≡ place_by task p AsDue)
 sure_choice task p AsDue result words takes certain = (takes.told, refl)
 sure_choice task p (AtFault count also) result words takes certain =
     absurd (true≢false (sym certain ∙ ap (λ r. is_sure_reply (reply_of words r)) takes.told))
 sure_choice task p (Wavers stands) result words takes certain =
-    absurd (true≢false (sym certain ∙ ap (λ r. is_sure_reply (reply_of words r)) takes.told ∙ wavers_unsure (decide task p) p words takes.may))
+    absurd (true≢false (sym certain ∙ ap (λ r. is_sure_reply (reply_of words r)) takes.told
+    ∙ wavers_unsure (decide task p) p words takes.may))
 
 accepted_after : (b : Bool) → b ≡ true → (w v : World) → v ≡ cond b v w
 accepted_after true is w v = refl
@@ -90,24 +102,32 @@ denied_after true is w v = absurd (true≢false is)
 abbrev IsDueOn : World → Reply → World → Subject → Type 0
 IsDueOn w reply v s = (reply ≡ due_on s w) × (v ≡ after_on s w)
 
-pub sure_step : (w v : World) (h : Happening) → Step w h v → is_sure_reply h.reply ≡ true → (h.reply ≡ due w h.command) × (v ≡ after w h.command)
+pub sure_step : (w v : World) (h : Happening) → Step w h v → is_sure_reply h.reply ≡ true →
+    (h.reply ≡ due w h.command) × (v ≡ after w h.command)
 sure_step w v h (StepGrants name result about done takes told same) certain =
-    let place = sure_choice ToFound bare_place h.choice result (words_of (OnNew name)) takes (sym (ap is_sure_reply told) ∙ certain) in
+    let place = sure_choice ToFound bare_place h.choice result (words_of (OnNew name)) takes
+    (sym (ap is_sure_reply told) ∙ certain) in
     subst (IsDueOn w h.reply v) (sym about) (
       told ∙ ap (reply_of (words_of (OnNew name))) place.0 ∙ sym done,
       same ∙ ap (λ q. adopted name q w) place.1
-          ∙ accepted_after (is_accepted (database_due name w)) (ap is_accepted done) w (adopted name (place_by ToFound bare_place AsDue) w),
+          ∙ accepted_after (is_accepted (database_due name w)) (ap is_accepted done) w
+          (adopted name (place_by ToFound bare_place AsDue) w),
     )
 sure_step w v h (StepDenies name about denied chosen told same) certain =
-    subst (IsDueOn w h.reply v) (sym about)
-    (told, same ∙ denied_after (is_accepted (database_due name w)) denied w (adopted name (place_by ToFound bare_place AsDue) w))
+    subst (IsDueOn w h.reply v) (sym about) (
+      told,
+      same ∙ denied_after (is_accepted (database_due name w)) denied w
+          (adopted name (place_by ToFound bare_place AsDue) w),
+    )
 sure_step w v h (StepMisses name task about none chosen told same) certain =
     subst (IsDueOn w h.reply v) (sym about)
     (told ∙ sym (ap (ask (words_of (OnOne name task)) task) none), same ∙ sym (ap (λ p. asked name task p w) none))
 sure_step w v h (StepAsks name task p result about found takes told same) certain =
-    let place = sure_choice task p h.choice result (words_of (OnOne name task)) takes (sym (ap is_sure_reply told) ∙ certain) in
+    let place = sure_choice task p h.choice result (words_of (OnOne name task)) takes
+    (sym (ap is_sure_reply told) ∙ certain) in
     subst (IsDueOn w h.reply v) (sym about) (
-      told ∙ ap (reply_of (words_of (OnOne name task))) place.0 ∙ sym (ap (ask (words_of (OnOne name task)) task) found),
+      told ∙ ap (reply_of (words_of (OnOne name task))) place.0
+          ∙ sym (ap (ask (words_of (OnOne name task)) task) found),
       same ∙ ap (λ q. changed name q w) place.1 ∙ sym (ap (λ o. asked name task o w) found),
     )
 
@@ -118,7 +138,8 @@ never_not_empty AsDue is = cc
 never_not_empty (AtFault count also) is = cc
 never_not_empty (Wavers stands) is = cc
 
-pub makes : (name : List ℕ) (kept : Kept) (old : Clustered) (reply : Reply) (new : Clustered) → Adopts name kept old reply new → kept.held ≡ Some nothing →
+pub makes : (name : List ℕ) (kept : Kept) (old : Clustered) (reply : Reply) (new : Clustered) →
+    Adopts name kept old reply new → kept.held ≡ Some nothing →
     Makes name old reply new
 makes name kept old reply new (Rejects b made told same) empty w agrees done =
     let comes = made.founds.begins empty refl in absurd (never_not_empty comes.0 comes.1.told)
@@ -129,38 +150,57 @@ makes name kept old reply new (Keeps b result made memory kept_it told same) emp
       world = adopted name (place_by ToFound bare_place comes.0) w;
       step = StepGrants name (settled result) refl done comes.1 told refl;
       agrees = subst (Agrees (adopted name (place_by ToFound bare_place comes.0) w)) (sym same)
-          (record { limit = agrees.limit; fits = fits_more name (place_by ToFound bare_place comes.0) b w.places old.bases agrees.fits comes.2 });
+          (record {
+            limit = agrees.limit;
+            fits = fits_more name
+                (place_by ToFound bare_place comes.0) b w.places old.bases agrees.fits comes.2;
+          });
     }
 
 -- over a store that is empty and cannot fail it is made
-sure_begun : (choice : Choice) (result : Result Answered DbFault) → result ≡ result_by ToFound bare_place choice → is_failure (trouble result) ≡ false → result ≡ Ok (Sure Done)
+sure_begun : (choice : Choice) (result : Result Answered DbFault) → result ≡ result_by ToFound bare_place choice →
+    is_failure (trouble result) ≡ false → result ≡ Ok (Sure Done)
 sure_begun AsDue result told certain = told
-sure_begun (AtFault count also) result told certain = absurd (true≢false (sym (ap (λ r. is_failure (trouble r)) told) ∙ certain))
-sure_begun (Wavers stands) result told certain = absurd (true≢false (sym (ap (λ r. is_failure (trouble r)) told) ∙ certain))
+sure_begun (AtFault count also) result told certain = absurd
+    (true≢false (sym (ap (λ r. is_failure (trouble r)) told) ∙ certain))
+sure_begun (Wavers stands) result told certain = absurd
+    (true≢false (sym (ap (λ r. is_failure (trouble r)) told) ∙ certain))
 
-pub adopts_done : (name : List ℕ) (kept : Kept) (old : Clustered) (reply : Reply) (new : Clustered) → Adopts name kept old reply new → kept.held ≡ Some nothing →
+pub adopts_done : (name : List ℕ) (kept : Kept) (old : Clustered) (reply : Reply) (new : Clustered) →
+    Adopts name kept old reply new → kept.held ≡ Some nothing →
     kept.can_fail ≡ Some 0 → reply ≡ Accepted Done
 adopts_done name kept old reply new (Rejects b made told same) empty never =
     let comes = made.founds.begins empty refl in absurd (never_not_empty comes.0 comes.1.told)
 adopts_done name kept old reply new (Keeps b result made memory kept_it told same) empty never =
     let comes = made.founds.begins empty memory in
     told ∙ ap (reply_of (words_of (OnNew name)))
-    (sure_begun comes.0 (settled result) comes.1.told (never_fails (is_failure (trouble (settled result))) kept.can_fail b.kept.can_fail made.founds.spends never))
+    (sure_begun comes.0 (settled result) comes.1.told
+    (never_fails (is_failure (trouble (settled result))) kept.can_fail b.kept.can_fail made.founds.spends never))
 
 -- a database that was not granted
-denied_on : (name : List ℕ) (old : Clustered) (reply : Reply) (new : Clustered) → Steps (Database name) old reply new → is_accepted reply ≡ false →
+denied_on : (name : List ℕ) (old : Clustered) (reply : Reply) (new : Clustered) → Steps (Database name) old reply new →
+    is_accepted reply ≡ false →
     Obeys (Database name) old reply new
 denied_on name old reply new goes refusal w follows =
     let here = goes w follows in
-    record { choice = AsDue; world = w; step = StepDenies name refl (sym (ap is_accepted here.0) ∙ refusal) refl here.0 refl; agrees = here.1 }
+    record {
+      choice = AsDue;
+      world = w;
+      step = StepDenies name refl
+          (sym (ap is_accepted here.0) ∙ refusal) refl here.0 refl;
+      agrees = here.1;
+    }
 
-pub denied : (name : List ℕ) (command : Command) (old : Clustered) (reply : Reply) (new : Clustered) → command ≡ Database name →
+pub denied : (name : List ℕ) (command : Command) (old : Clustered) (reply : Reply) (new : Clustered) →
+    command ≡ Database name →
     Steps command old reply new → is_accepted reply ≡ false → Obeys command old reply new
 denied name command old reply new is goes refusal =
-    subst (λ c. Obeys c old reply new) (sym is) (denied_on name old reply new (subst (λ c. Steps c old reply new) is goes) refusal)
+    subst (λ c. Obeys c old reply new) (sym is) (denied_on name old reply new
+    (subst (λ c. Steps c old reply new) is goes) refusal)
 
 -- a database that was granted and is made
-pub obeys_made : (name : List ℕ) (old mid : Clustered) (reply : Reply) (new : Clustered) → IsGranted name old mid → Makes name mid reply new →
+pub obeys_made : (name : List ℕ) (old mid : Clustered) (reply : Reply) (new : Clustered) → IsGranted name old mid →
+    Makes name mid reply new →
     Obeys (Database name) old reply new
 obeys_made name old mid reply new was makes_it w follows =
     makes_it w (subst (Agrees w) (sym was.same) follows.agrees) (sym (granted_due name w old follows.agrees) ∙ was.done)

@@ -1,5 +1,5 @@
 -- Why a fault or a doubt is told, and where none is.
-use Rattle.std.proofs.Common.{◌≡◌, ◌∙◌, ℕ, ◌≤◌, Bool, true, false, cond, List, [], ◌∷◌, ◌++◌, length, is_some, nat_lt, Some, Result, Ok, Err, inl, inr, refl, sym, ap, subst, true≢false, arith}
+use Rattle.std.proofs.Common.{◌≡◌, ◌∙◌, ℕ, ◌≤◌, Bool, true, false, cond, List, [], ◌∷◌, ◌++◌, length, is_some, nat_lt, Some, Result, Ok, Err, IfOk, inl, inr, refl, sym, ap, subst, true≢false, arith}
 use Rattle.std.specs.List.{AllByRecursion}
 use Rattle.std.specs.Str.{bytes_eq}
 use Rattle.slon_base.specs.Counts.{Rose}
@@ -21,8 +21,9 @@ use Rattle.slon_model.proofs.Names.{put_found, all_found, all_put, all_behind}
 use Rattle.app_store.specs.Base.{Base}
 use Rattle.app_store.specs.Serves.{Caused, is_failure, trouble, settled}
 use Rattle.slon_main.specs.Agreed.{Clustered}
-use Rattle.slon_main.specs.Calls.{arms_on, grant, with_more, Moves, Grants, Misses, Asks, ReplyCaused, is_sure_reply, AllCertain, StaysCertain, AllQuiet, StaysQuiet, Adopts, Rejects, Keeps, MakingReplyCaused, MakesCertain}
+use Rattle.slon_main.specs.Calls.{arms_on, grant, with_more, Moves, Grants, Misses, Asks, ReplyCaused, is_sure_reply, AllCertain, StaysCertain, AllQuiet, StaysQuiet, Adopts, Rejects, Keeps, MakingReplyCaused, MakesCertain, Steps}
 use Rattle.slon_main.proofs.Certain.{stays_none, never_fails}
+use Rattle.slon_main.proofs.Stepping.{steps}
 
 -- ---- why a fault is told
 
@@ -33,26 +34,53 @@ record Both (name : List ℕ) (old new : Clustered) : Type 0 where
   was : find_named name old.bases ≡ Some before
   is : find_named name new.bases ≡ Some behind
 
-answer_caused : (name : List ℕ) (task : Task) (result : Result Answered DbFault) (old new : Clustered) → (both : Both name old new) →
-    Caused task both.before.kept (trouble result) both.behind.kept → ReplyCaused (reply_of (words_of (OnOne name task)) result) old new
+answer_caused : (name : List ℕ) (task : Task) (result : Result Answered DbFault) (old new : Clustered) →
+    (both : Both name old new) →
+    Caused task both.before.kept (trouble result) both.behind.kept →
+    ReplyCaused (reply_of (words_of (OnOne name task)) result) old new
 answer_caused name task (Ok (AnsweredInDoubt answer)) old new both caused =
-    record { before = both.before; behind = both.behind; was = both.was; is = both.is; faults = caused.0; doubts = caused.1 }
+    record {
+      before = both.before;
+      behind = both.behind;
+      was = both.was;
+      is = both.is;
+      faults = caused.0;
+      doubts = caused.1;
+    }
 answer_caused name task (Err (Halt (HaltFault count))) old new both caused =
-    record { before = both.before; behind = both.behind; was = both.was; is = both.is; rose = caused.0; count_is = caused.1 }
+    record {
+      before = both.before;
+      behind = both.behind;
+      was = both.was;
+      is = both.is;
+      rose = caused.0;
+      count_is = caused.1;
+    }
 answer_caused name task (Err (Halt Doubt)) old new both caused =
-    record { before = both.before; behind = both.behind; was = both.was; is = both.is; faults = caused.0; doubts = caused.1 }
+    record {
+      before = both.before;
+      behind = both.behind;
+      was = both.was;
+      is = both.is;
+      faults = caused.0;
+      doubts = caused.1;
+    }
 answer_caused name task others old new both caused = tt
 
 granted_caused : (taken room : Bool) (name : List ℕ) (limit : ℕ) (old new : Clustered) →
-    ReplyCaused (cond taken (Refused (refused.NameUsed name)) (cond room (Accepted Done) (Refused (refused.Full limit)))) old new
+    ReplyCaused (cond taken (Refused (refused.NameUsed name))
+    (cond room (Accepted Done) (Refused (refused.Full limit)))) old new
 granted_caused true room name limit old new = tt
 granted_caused false true name limit old new = tt
 granted_caused false false name limit old new = tt
 
-pub moves_caused : (command : Command) (old : Clustered) (reply : Reply) (new : Clustered) → Moves command old reply new → ReplyCaused reply old new
+pub moves_caused : (command : Command) (old : Clustered) (reply : Reply) (new : Clustered) →
+    Moves command old reply new → ReplyCaused reply old new
 moves_caused command old reply new (Grants name about told same) =
-    subst (λ r. ReplyCaused r old new) (sym told) (granted_caused (is_some (find_named name old.bases)) (nat_lt (length old.bases) old.limit) name old.limit old new)
-moves_caused command old reply new (Misses name task about none told same) = subst (λ r. ReplyCaused r old new) (sym told) tt
+    subst (λ r. ReplyCaused r old new) (sym told) (granted_caused (is_some (find_named name old.bases))
+    (nat_lt (length old.bases) old.limit) name old.limit old new)
+moves_caused command old reply new (Misses name task about none told same) = subst (λ r. ReplyCaused r old new)
+    (sym told) tt
 moves_caused command old reply new (Asks name task b d result about found serves memory told same) =
     subst (λ r. ReplyCaused r old new) (sym told) (answer_caused name task result old new (record {
       before = b;
@@ -61,29 +89,36 @@ moves_caused command old reply new (Asks name task b d result about found serves
       is = ap (λ (c : Clustered). find_named name c.bases) same ∙ put_found name d b old.bases found;
     }) serves.caused)
 
-made_caused : (name : List ℕ) (kept : Kept) (old new : Clustered) (b : Base) (result : Result Answered DbFault) → new ≡ with_more name b old →
-    Caused ToFound kept (trouble result) b.kept → MakingReplyCaused name kept (reply_of (words_of (OnNew name)) result) old new
+made_caused : (name : List ℕ) (kept : Kept) (old new : Clustered) (b : Base) (result : Result Answered DbFault) →
+    new ≡ with_more name b old →
+    Caused ToFound kept (trouble result) b.kept → MakingReplyCaused name kept
+    (reply_of (words_of (OnNew name)) result) old new
 made_caused name kept old new b (Ok (AnsweredInDoubt answer)) same caused = (refl, b, same, caused.0, caused.1)
 made_caused name kept old new b (Err (Halt (HaltFault count))) same caused = (refl, b, same, caused.0, caused.1)
 made_caused name kept old new b (Err (Halt Doubt)) same caused = (refl, b, same, caused.0, caused.1)
 made_caused name kept old new b others same caused = tt
 
-pub adopts_caused : (name : List ℕ) (kept : Kept) (old : Clustered) (reply : Reply) (new : Clustered) → Adopts name kept old reply new →
+pub adopts_caused : (name : List ℕ) (kept : Kept) (old : Clustered) (reply : Reply) (new : Clustered) →
+    Adopts name kept old reply new →
     MakingReplyCaused name kept reply old new
-adopts_caused name kept old reply new (Rejects b made told same) = subst (λ r. MakingReplyCaused name kept r old new) (sym told) tt
+adopts_caused name kept old reply new (Rejects b made told same) = subst (λ r. MakingReplyCaused name kept r old new)
+    (sym told) tt
 adopts_caused name kept old reply new (Keeps b result made memory kept_it told same) =
-    subst (λ r. MakingReplyCaused name kept r old new) (sym told) (made_caused name kept old new b (settled result) same made.founds.caused)
+    subst (λ r. MakingReplyCaused name kept r old new) (sym told)
+    (made_caused name kept old new b (settled result) same made.founds.caused)
 
 -- ---- no fault where none can come
 
-pub answer_sure : (words : Words) (result : Result Answered DbFault) → is_failure (trouble result) ≡ false → is_sure_reply (reply_of words result) ≡ true
+pub answer_sure : (words : Words) (result : Result Answered DbFault) → is_failure (trouble result) ≡ false →
+    is_sure_reply (reply_of words result) ≡ true
 answer_sure words (Ok (AnsweredInDoubt answer)) is = absurd (true≢false is)
 answer_sure words (Err (Halt (HaltFault count))) is = absurd (true≢false is)
 answer_sure words (Err (Halt Doubt)) is = absurd (true≢false is)
 answer_sure words others is = refl
 
 granted_sure_by : (taken room : Bool) (name : List ℕ) (limit : ℕ) →
-    is_sure_reply (cond taken (Refused (refused.NameUsed name)) (cond room (Accepted Done) (Refused (refused.Full limit)))) ≡ true
+    is_sure_reply (cond taken (Refused (refused.NameUsed name))
+    (cond room (Accepted Done) (Refused (refused.Full limit)))) ≡ true
 granted_sure_by true room name limit = refl
 granted_sure_by false true name limit = refl
 granted_sure_by false false name limit = refl
@@ -91,22 +126,26 @@ granted_sure_by false false name limit = refl
 pub granted_sure : (name : List ℕ) (c : Clustered) → is_sure_reply (grant name c) ≡ true
 granted_sure name c = granted_sure_by (is_some (find_named name c.bases)) (nat_lt (length c.bases) c.limit) name c.limit
 
-pub moves_certain : (command : Command) (old : Clustered) (reply : Reply) (new : Clustered) → Moves command old reply new → StaysCertain command old reply new
+pub moves_certain : (command : Command) (old : Clustered) (reply : Reply) (new : Clustered) →
+    Moves command old reply new → StaysCertain command old reply new
 moves_certain command old reply new (Grants name about told same) certain =
     (ap is_sure_reply told ∙ granted_sure name old, λ armless. subst AllCertain (sym same) certain)
 moves_certain command old reply new (Misses name task about none told same) certain =
     (ap is_sure_reply told, λ armless. subst AllCertain (sym same) certain)
 moves_certain command old reply new (Asks name task b d result about found serves memory told same) certain =
-    let here : b.kept.can_fail ≡ Some 0 = all_found (λ (e : Base). e.kept.can_fail ≡ Some 0) name b old.bases certain found in (
+    let here : b.kept.can_fail ≡ Some 0 = all_found
+    (λ (e : Base). e.kept.can_fail ≡ Some 0) name b old.bases certain found in (
       ap is_sure_reply told ∙ answer_sure (words_of (OnOne name task)) result
           (never_fails (is_failure (trouble result)) b.kept.can_fail d.kept.can_fail serves.spends here),
       λ armless. subst AllCertain (sym same) (all_put (λ (e : Base). e.kept.can_fail ≡ Some 0) name d old.bases
           (stays_none b.kept.can_fail d.kept.can_fail (serves.still (sym (ap arms_on about) ∙ armless)) here) certain),
     )
 
-pub adopts_certain : (name : List ℕ) (kept : Kept) (old : Clustered) (reply : Reply) (new : Clustered) → Adopts name kept old reply new →
+pub adopts_certain : (name : List ℕ) (kept : Kept) (old : Clustered) (reply : Reply) (new : Clustered) →
+    Adopts name kept old reply new →
     MakesCertain kept old reply new
-adopts_certain name kept old reply new (Rejects b made told same) never = (ap is_sure_reply told, λ certain. subst AllCertain (sym same) certain)
+adopts_certain name kept old reply new (Rejects b made told same) never =
+    (ap is_sure_reply told, λ certain. subst AllCertain (sym same) certain)
 adopts_certain name kept old reply new (Keeps b result made memory kept_it told same) never = (
   ap is_sure_reply told ∙ answer_sure (words_of (OnNew name)) (settled result)
       (never_fails (is_failure (trouble (settled result))) kept.can_fail b.kept.can_fail made.founds.spends never),
@@ -121,7 +160,8 @@ no_rose : {a b : ℕ} → b ≡ 0 → Rose a b → ⊥
 no_rose is (inl more) = absurd (omega (arith, is, more))
 no_rose is (inr last) = absurd (omega (arith, is, last))
 
-quiet_sure : (task : Task) (old new : Kept) (result : Result Answered DbFault) → new.faults ≡ 0 → Caused task old (trouble result) new →
+quiet_sure : (task : Task) (old new : Kept) (result : Result Answered DbFault) → new.faults ≡ 0 →
+    Caused task old (trouble result) new →
     is_failure (trouble result) ≡ false
 quiet_sure task old new (Ok (AnsweredInDoubt answer)) quiet caused = absurd (no_rose quiet caused.0)
 quiet_sure task old new (Err (Halt (HaltFault count))) quiet caused = absurd (no_rose quiet caused.0)
@@ -129,11 +169,14 @@ quiet_sure task old new (Err (Halt Doubt)) quiet caused = absurd (no_rose quiet 
 quiet_sure task old new others quiet caused = refl
 
 -- the database that was asked, and all before it
-quiet_put : (name : List ℕ) (b d : Base) (bases : Named Base) → find_named name bases ≡ Some b → b.kept.faults ≤ d.kept.faults →
-    AllByRecursion (λ e. e.1.kept.faults ≡ 0) (put_named name d bases) → (d.kept.faults ≡ 0) × AllByRecursion (λ e. e.1.kept.faults ≡ 0) bases
+quiet_put : (name : List ℕ) (b d : Base) (bases : Named Base) → find_named name bases ≡ Some b →
+    b.kept.faults ≤ d.kept.faults →
+    AllByRecursion (λ e. e.1.kept.faults ≡ 0) (put_named name d bases) →
+    (d.kept.faults ≡ 0) × AllByRecursion (λ e. e.1.kept.faults ≡ 0) bases
 quiet_put name b d [] found later all = absurd cc
 quiet_put name b d (e ∷ es) found later all =
-    elim (bytes_eq name e.0) as (λ c. cond c (Some e.1) (find_named name es) ≡ Some b → AllByRecursion (λ e. e.1.kept.faults ≡ 0) (cond c ((e.0, d) ∷ es) (e ∷ put_named name d es))
+    elim (bytes_eq name e.0) as (λ c. cond c (Some e.1) (find_named name es) ≡ Some b →
+    AllByRecursion (λ e. e.1.kept.faults ≡ 0) (cond c ((e.0, d) ∷ es) (e ∷ put_named name d es))
     → (d.kept.faults ≡ 0) × ((e.1.kept.faults ≡ 0) × AllByRecursion (λ e. e.1.kept.faults ≡ 0) es)) [
       | true ↦ λ here quiet.
           let same : e.1 ≡ b = cc in
@@ -141,20 +184,52 @@ quiet_put name b d (e ∷ es) found later all =
       | false ↦ λ there quiet. let rest = quiet_put name b d es there later quiet.1 in (rest.0, (quiet.0, rest.1))
     ] found all
 
-pub moves_quiet : (command : Command) (old : Clustered) (reply : Reply) (new : Clustered) → Moves command old reply new → StaysQuiet reply old new
-moves_quiet command old reply new (Grants name about told same) quiet = (ap is_sure_reply told ∙ granted_sure name old, subst AllQuiet same quiet)
-moves_quiet command old reply new (Misses name task about none told same) quiet = (ap is_sure_reply told, subst AllQuiet same quiet)
+pub moves_quiet : (command : Command) (old : Clustered) (reply : Reply) (new : Clustered) →
+    Moves command old reply new → StaysQuiet reply old new
+moves_quiet command old reply new (Grants name about told same) quiet =
+    (ap is_sure_reply told ∙ granted_sure name old, subst AllQuiet same quiet)
+moves_quiet command old reply new (Misses name task about none told same) quiet =
+    (ap is_sure_reply told, subst AllQuiet same quiet)
 moves_quiet command old reply new (Asks name task b d result about found serves memory told same) quiet =
-    let parts = quiet_put name b d old.bases found serves.later (subst AllQuiet same quiet) in
-    (ap is_sure_reply told ∙ answer_sure (words_of (OnOne name task)) result (quiet_sure task b.kept d.kept result parts.0 serves.caused), parts.1)
+    let parts = quiet_put name b d old.bases found serves.later (subst AllQuiet same quiet) in (
+      ap is_sure_reply told ∙ answer_sure (words_of (OnOne name task)) result
+          (quiet_sure task b.kept d.kept result parts.0 serves.caused),
+      parts.1,
+    )
 
-quiet_behind : (name : List ℕ) (b : Base) (bases : Named Base) → AllByRecursion (λ e. e.1.kept.faults ≡ 0) (bases ++ (name, b) ∷ []) →
+quiet_behind : (name : List ℕ) (b : Base) (bases : Named Base) →
+    AllByRecursion (λ e. e.1.kept.faults ≡ 0) (bases ++ (name, b) ∷ []) →
     (b.kept.faults ≡ 0) × AllByRecursion (λ e. e.1.kept.faults ≡ 0) bases
 quiet_behind name b [] all = (all.0, tt)
 quiet_behind name b (e ∷ es) all = let rest = quiet_behind name b es all.1 in (rest.0, (all.0, rest.1))
 
-pub adopts_quiet : (name : List ℕ) (kept : Kept) (old : Clustered) (reply : Reply) (new : Clustered) → Adopts name kept old reply new → StaysQuiet reply old new
-adopts_quiet name kept old reply new (Rejects b made told same) quiet = (ap is_sure_reply told, subst AllQuiet same quiet)
+pub adopts_quiet : (name : List ℕ) (kept : Kept) (old : Clustered) (reply : Reply) (new : Clustered) →
+    Adopts name kept old reply new → StaysQuiet reply old new
+adopts_quiet name kept old reply new (Rejects b made told same) quiet =
+    (ap is_sure_reply told, subst AllQuiet same quiet)
 adopts_quiet name kept old reply new (Keeps b result made memory kept_it told same) quiet =
-    let parts = quiet_behind name b old.bases (subst AllQuiet same quiet) in
-    (ap is_sure_reply told ∙ answer_sure (words_of (OnNew name)) (settled result) (quiet_sure ToFound kept b.kept (settled result) parts.0 made.founds.caused), parts.1)
+    let parts = quiet_behind name b old.bases (subst AllQuiet same quiet) in (
+      ap is_sure_reply told ∙ answer_sure (words_of (OnNew name)) (settled result)
+          (quiet_sure ToFound kept b.kept (settled result) parts.0 made.founds.caused),
+      parts.1,
+    )
+
+-- ---- all that is promised of a command
+
+-- what is promised of a command that did this, where there was memory to reply
+pub record Promises {E : Type 0} (command : Command) (old : Clustered) (result : Result Reply E)
+    (new : Clustered) : Type 0 where
+  pub steps : IfOk result (λ reply. Steps command old reply new)
+  pub cause : IfOk result (λ reply. ReplyCaused reply old new)
+  pub certain : IfOk result (λ reply. StaysCertain command old reply new)
+  pub quiet : IfOk result (λ reply. StaysQuiet reply old new)
+
+pub promises : {E : Type 0} (command : Command) (old : Clustered) (result : Result Reply E) (new : Clustered) →
+    IfOk result (λ reply. Moves command old reply new) → Promises command old result new
+promises command old (Ok reply) new moves = record {
+  steps = steps command old reply new moves;
+  cause = moves_caused command old reply new moves;
+  certain = moves_certain command old reply new moves;
+  quiet = moves_quiet command old reply new moves;
+}
+promises command old (Err e) new moves = record { steps = tt; cause = tt; certain = tt; quiet = tt }

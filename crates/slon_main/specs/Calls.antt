@@ -47,15 +47,19 @@ with_base name d c = record { limit = c.limit; bases = put_named name d c.bases 
 -- whether there may be a new database of the name
 abbrev pub grant : List ℕ → Clustered → Reply
 grant name c =
-    if is_some (find_named name c.bases) then Refused (refused.NameUsed name) else (if nat_lt (length c.bases) c.limit then Accepted Done else Refused (refused.Full c.limit))
+    if is_some (find_named name c.bases) then Refused (refused.NameUsed name) else
+    (if nat_lt (length c.bases) c.limit then Accepted Done else Refused (refused.Full c.limit))
 
--- What a command does: the making of a database is granted or refused; or no database has the name; in both cases nothing
--- is changed. Or the database of the name serves the task, the reply is what it answers, and all others stay as they were.
+-- What a command does: the making of a database is granted or refused; or no database has the name; in both cases
+-- nothing is changed. Or the database of the name serves the task, the reply is what it answers, and all others stay
+-- as they were.
 pub data Moves (command : Command) (old : Clustered) (reply : Reply) (new : Clustered) : Type 0 where
-  Grants : (name : List ℕ) → subject_of command ≡ OnNew name → reply ≡ grant name old → new ≡ old → Moves command old reply new
+  Grants : (name : List ℕ) → subject_of command ≡ OnNew name → reply ≡ grant name old → new ≡ old →
+      Moves command old reply new
   Misses : (name : List ℕ) (task : Task) → subject_of command ≡ OnOne name task → find_named name old.bases ≡ None →
       reply ≡ Refused (refused.NoDatabase name) → new ≡ old → Moves command old reply new
-  Asks : (name : List ℕ) (task : Task) (b d : Base) (result : Result Answered DbFault) → subject_of command ≡ OnOne name task →
+  Asks : (name : List ℕ) (task : Task) (b d : Base) (result : Result Answered DbFault) →
+      subject_of command ≡ OnOne name task →
       find_named name old.bases ≡ Some b → Serves task b result d → is_memory (trouble result) ≡ false →
       reply ≡ reply_of (words_of (OnOne name task)) result → new ≡ with_base name d old → Moves command old reply new
 
@@ -66,8 +70,8 @@ pub record GoesOn (command : Command) (w : World) (reply : Reply) (new : Cluster
   pub step : Step w (happened command reply choice) world
   pub agrees : Agrees world new
 
--- From each world that agrees a new database is granted or refused as is due, and any other command leads by a step that
--- the rules allow to a world that agrees.
+-- From each world that agrees a new database is granted or refused as is due, and any other command leads by a step
+-- that the rules allow to a world that agrees.
 abbrev pub StepsOn : Subject → Command → World → Reply → Clustered → Type 0
 StepsOn (OnNew name) command w reply new = (reply ≡ due w command) × Agrees w new
 StepsOn (OnOne name task) command w reply new = GoesOn command w reply new
@@ -110,7 +114,8 @@ abbrev pub AllCertain : Clustered → Type 0
 AllCertain c = AllByRecursion (λ b. b.1.kept.can_fail ≡ Some 0) c.bases
 
 abbrev pub StaysCertain : Command → Clustered → Reply → Clustered → Type 0
-StaysCertain command old reply new = AllCertain old → (is_sure_reply reply ≡ true) × (arms_later command ≡ false → AllCertain new)
+StaysCertain command old reply new = AllCertain old →
+    (is_sure_reply reply ≡ true) × (arms_later command ≡ false → AllCertain new)
 
 -- no store of a database has counted a fault
 abbrev pub AllQuiet : Clustered → Type 0
@@ -147,20 +152,26 @@ with_more name b c = record { limit = c.limit; bases = c.bases ++ (name, b) ∷ 
 pub data Adopts (name : List ℕ) (kept : Kept) (old : Clustered) (reply : Reply) (new : Clustered) : Type 0 where
   Rejects : (b : Base) → Made kept (Err NotEmpty) b → reply ≡ Refused (refused.NotEmpty name) → new ≡ old →
       Adopts name kept old reply new
-  Keeps : (b : Base) (result : Result (Unit {0}) DbFault) → Made kept result b → is_memory (trouble (settled result)) ≡ false →
-      was_not_empty result ≡ false → reply ≡ making_reply name result → new ≡ with_more name b old → Adopts name kept old reply new
+  Keeps : (b : Base) (result : Result (Unit {0}) DbFault) → Made kept result b →
+      is_memory (trouble (settled result)) ≡ false →
+      was_not_empty result ≡ false → reply ≡ making_reply name result → new ≡ with_more name b old →
+      Adopts name kept old reply new
 
 -- From each world that agrees and grants the database its making is a step that the rules allow.
 abbrev pub Makes : List ℕ → Clustered → Reply → Clustered → Type 0
-Makes name old reply new = (w : World) → Agrees w old → due w (Database name) ≡ Accepted Done → GoesOn (Database name) w reply new
+Makes name old reply new = (w : World) → Agrees w old → due w (Database name) ≡ Accepted Done →
+    GoesOn (Database name) w reply new
 
 -- a fault or a doubt is told of the new database only where the counts of its store rose
 abbrev pub MakingReplyCaused : List ℕ → Kept → Reply → Clustered → Clustered → Type 0
 MakingReplyCaused name kept (Refused (refused.Fault database count)) old new =
-    (database ≡ name) × (b : Base) × (new ≡ with_more name b old) × Rose kept.faults b.kept.faults × (count ≡ b.kept.faults)
+    (database ≡ name) × (b : Base) × (new ≡ with_more name b old) × Rose kept.faults b.kept.faults
+    × (count ≡ b.kept.faults)
 MakingReplyCaused name kept (InDoubt database answer) old new =
-    (database ≡ name) × (b : Base) × (new ≡ with_more name b old) × Rose kept.faults b.kept.faults × Rose kept.doubts b.kept.doubts
+    (database ≡ name) × (b : Base) × (new ≡ with_more name b old) × Rose kept.faults b.kept.faults
+    × Rose kept.doubts b.kept.doubts
 MakingReplyCaused name kept others old new = Unit {0}
 
 abbrev pub MakesCertain : Kept → Clustered → Reply → Clustered → Type 0
-MakesCertain kept old reply new = kept.can_fail ≡ Some 0 → (is_sure_reply reply ≡ true) × (AllCertain old → AllCertain new)
+MakesCertain kept old reply new = kept.can_fail ≡ Some 0 →
+    (is_sure_reply reply ≡ true) × (AllCertain old → AllCertain new)

@@ -14,7 +14,7 @@ use Rattle.slon_main.specs.declared.run.Stop.TheVariants.{BadLine as StopsBad, R
 use Rattle.slon_main.specs.Agreed.{Clustered}
 use Rattle.slon_main.specs.Running.{Counts, Ran, RanOn, IsMaking, IsBeyond, IsTooLong}
 
--- how many databases a session allows
+-- the greatest number of databases of a session
 abbrev pub database_limit : ℕ
 database_limit = 16
 
@@ -49,8 +49,10 @@ long_line = codes "stop long\n"
 
 -- an ending with a last line: the line is written, or the output fails, or memory runs out; the databases are handed
 -- back only in the first case
-pub data Closes {C : Type 0} (line : List ℕ) (status : Status) (cluster : Option C) (old new : Poured) (is : Status) (has : Option C) : Type 0 where
-  Closed : is ≡ status → has ≡ cluster → new.written ≡ option_map (λ before. before ++ line) old.written → old.faults ≤ new.faults → Closes line status cluster old new is has
+pub data Closes {C : Type 0} (line : List ℕ) (status : Status) (cluster : Option C) (old new : Poured) (is : Status)
+    (has : Option C) : Type 0 where
+  Closed : is ≡ status → has ≡ cluster → new.written ≡ option_map (λ before. before ++ line) old.written →
+      old.faults ≤ new.faults → Closes line status cluster old new is has
   Failed : is ≡ WriteFault → has ≡ None → Rose old.faults new.faults → Closes line status cluster old new is has
   Short : is ≡ NoMemory → has ≡ None → old.faults ≤ new.faults → Closes line status cluster old new is has
 
@@ -99,10 +101,11 @@ is_lost NoMemory = true
 is_lost Missing = true
 is_lost others = false
 
--- What is written and handed back at the end of a session of these bytes, and after the lines before its first bad one:
--- the replies to exactly their commands, as the rules allow, and databases that agree with the rules. Without a store these are
--- the replies to all commands before the one that was to make the database, where there are too many bytes exactly those of the
--- lines that end within as many as there may be, and where a file fails those to the first commands.
+-- What is written and handed back at the end of a session of these bytes, and after the lines before its first bad
+-- one: the replies to exactly their commands, as the rules allow, and databases that agree with the rules. Without a
+-- store these are the replies to all commands before the one that was to make the database, where there are too many
+-- bytes exactly those of the lines that end within as many as there may be, and where a file fails those to the first
+-- commands.
 abbrev pub EndsRun : Shelved → Status → List ℕ → Option (List ℕ) → Option Clustered → Type 0
 EndsRun shelf Done bytes written (Some cluster) =
     Ran shelf database_limit (session_of bytes).commands written cluster × ((session_of bytes).stop ≡ None)
@@ -113,7 +116,8 @@ EndsRun shelf ReadFault bytes written (Some cluster) =
     (output : List ℕ) × RanOn shelf database_limit (session_of bytes).commands (Some output) cluster
     × (written ≡ Some (output ++ read_line))
 EndsRun shelf NoStore bytes written (Some cluster) =
-    (output : List ℕ) × (name : List ℕ) × (on : RanOn shelf database_limit (session_of bytes).commands (Some output) cluster)
+    (output : List ℕ) × (name : List ℕ) × (on : RanOn shelf database_limit (session_of bytes).commands
+    (Some output) cluster)
     × IsMaking name on.others × (written ≡ Some (output ++ store_line name))
 EndsRun shelf TooLong bytes written (Some cluster) =
     (output : List ℕ) × (on : RanOn shelf database_limit (session_of bytes).commands (Some output) cluster)

@@ -30,8 +30,8 @@ abbrev pub place_of : List ℕ → Named Base → ℕ
 place_of name [] = 0
 place_of name (b ∷ bs) = if bytes_eq name b.0 then 0 else place_of name bs + 1
 
--- The replies that tell of a fault or a doubt of a database, and the calls of its store that can still fail, are together
--- at most as many as the shelf told of the store. No reply tells of a database that is not there.
+-- The replies that tell of a fault or a doubt of a database, and the calls of its store that can still fail, are
+-- together at most as many as the shelf told of the store. No reply tells of a database that is not there.
 pub record IsWithin (promise : ℕ → Promise) (history : List Happening) (cluster : Clustered) : Type 0 where
   pub absent : (name : List ℕ) → find_named name cluster.bases ≡ None → failures name history ≡ 0
   pub present : (name : List ℕ) (b : Base) (n : ℕ) → find_named name cluster.bases ≡ Some b →

@@ -27,7 +27,8 @@ Tells shelf = (place : ℕ) → ((shelf.promise place).begins_empty ≡ true) ×
 
 -- it tells also that they fail at no call
 abbrev pub NeverFails : Shelved → Type 0
-NeverFails shelf = (place : ℕ) → shelf.promise place ≡ record { begins_empty = true; tells_rows = true; can_fail = Some 0 }
+NeverFails shelf = (place : ℕ) → shelf.promise place ≡
+    record { begins_empty = true; tells_rows = true; can_fail = Some 0 }
 
 -- what a call leaves of the shelf: its promises, and a count that never falls
 pub record Shelves (old new : Shelved) : Type 0 where
@@ -39,6 +40,9 @@ pub record Counts : Type 0 where
   pub files : ℕ
   pub shelf : ℕ
   pub out : ℕ
+
+abbrev pub counts : ℕ → ℕ → ℕ → Counts
+counts files shelf out = record { files = files; shelf = shelf; out = out }
 
 -- A run stops for a fault of an object only where the count of that object rose.
 abbrev pub HasCause : {T : Type 0} → Counts → Counts → Result T Stop → Type 0
@@ -81,7 +85,8 @@ is_no_store others = false
 abbrev pub ReadsLine : ℕ → List ℕ → List ℕ → Reading → Reading → Filed → Result Bool Stop → Type 0
 ReadsLine number line bytes old new files (Ok true) = Hands line bytes old new files Line
 ReadsLine number line bytes old new files (Ok false) = bytes ≡ []
-ReadsLine number line bytes old new files (Err (BadLine bad)) = (bad ≡ number) × (old.taken + line_size bytes ≤ session_limit)
+ReadsLine number line bytes old new files (Err (BadLine bad)) = (bad ≡ number)
+    × (old.taken + line_size bytes ≤ session_limit)
     × (whole : List ℕ) × (more : List (List ℕ)) × (line_limit < length whole) × (lines bytes ≡ whole ∷ more)
 ReadsLine number line bytes old new files (Err Read) = Unit {0}
 ReadsLine number line bytes old new files (Err NoMemory) = Unit {0}
@@ -93,7 +98,8 @@ abbrev pub Obeys : Command → Clustered → Reply → Clustered → Type 0
 Obeys command old reply new = (w : World) → Follows w old → GoesOn command w reply new
 
 -- A command that a line says goes on by a step that the rules allow, and its reply is written.
-pub record Replies (shelf : Shelved) (command : Command) (w : World) (before written : Option (List ℕ)) (old new : Clustered) : Type 0 where
+pub record Replies (shelf : Shelved) (command : Command) (w : World) (before written : Option (List ℕ))
+    (old new : Clustered) : Type 0 where
   pub reply : Reply
   pub goes : GoesOn command w reply new
   pub written_is : written ≡ option_map (λ bytes. bytes ++ reply_line reply) before
@@ -112,10 +118,14 @@ Means Silent shelf w before written old new = (written ≡ before) × (new ≡ o
 Means (Says command) shelf w before written old new = Replies shelf command w before written old new
 Means Bad shelf w before written old new = ⊥
 
-abbrev pub RunsLine : ℕ → Meaning → Shelved → Clustered → Clustered → Option (List ℕ) → Option (List ℕ) → Result (Unit {0}) Stop → Type 0
-RunsLine number meaning shelf old new before written (Ok u) = (w : World) → Follows w old → Means meaning shelf w before written old new
-RunsLine number meaning shelf old new before written (Err (BadLine bad)) = (bad ≡ number) × (meaning ≡ Bad) × (written ≡ before) × (new ≡ old)
-RunsLine number meaning shelf old new before written (Err (NoStore name)) = (written ≡ before) × (new ≡ old) × (meaning ≡ Says (Database name))
+abbrev pub RunsLine : ℕ → Meaning → Shelved → Clustered → Clustered → Option (List ℕ) → Option (List ℕ) →
+    Result (Unit {0}) Stop → Type 0
+RunsLine number meaning shelf old new before written (Ok u) = (w : World) → Follows w old →
+    Means meaning shelf w before written old new
+RunsLine number meaning shelf old new before written (Err (BadLine bad)) = (bad ≡ number) × (meaning ≡ Bad)
+    × (written ≡ before) × (new ≡ old)
+RunsLine number meaning shelf old new before written (Err (NoStore name)) = (written ≡ before) × (new ≡ old)
+    × (meaning ≡ Says (Database name))
 RunsLine number meaning shelf old new before written (Err Write) = Unit {0}
 RunsLine number meaning shelf old new before written (Err NoMemory) = Unit {0}
 RunsLine number meaning shelf old new before written (Err others) = ⊥
@@ -132,10 +142,12 @@ BadOnly number meaning (Err others) = Unit {0}
 abbrev pub NoneArms : List Command → Type 0
 NoneArms commands = AllByRecursion (λ command. arms_later command ≡ false) commands
 
--- A history of exactly these commands that the rules allow was run, its lines were written, and the databases agree with
--- the rules after it. Where no store can fail, or none has counted a fault at the end, each reply is the one that is due. Where no
--- command has a store fail, the replies that tell of faults of a database are at most as many as the calls of its store that can fail.
-pub record Ran (shelf : Shelved) (limit : ℕ) (said : List Command) (output : Option (List ℕ)) (cluster : Clustered) : Type 0 where
+-- A history of exactly these commands that the rules allow was run, its lines were written, and the databases agree
+-- with the rules after it. Where no store can fail, or none has counted a fault at the end, each reply is the one
+-- that is due. Where no command has a store fail, the replies that tell of faults of a database are at most as many
+-- as the calls of its store that can fail.
+pub record Ran (shelf : Shelved) (limit : ℕ) (said : List Command) (output : Option (List ℕ))
+    (cluster : Clustered) : Type 0 where
   pub history : List Happening
   pub world : World
   pub leads : Leads (start limit) history world
@@ -147,7 +159,8 @@ pub record Ran (shelf : Shelved) (limit : ℕ) (said : List Command) (output : O
   pub few : NoneArms said → IsWithin shelf.promise history cluster
 
 -- the first of these commands were run so
-pub record RanOn (shelf : Shelved) (limit : ℕ) (said : List Command) (output : Option (List ℕ)) (cluster : Clustered) : Type 0 where
+pub record RanOn (shelf : Shelved) (limit : ℕ) (said : List Command) (output : Option (List ℕ))
+    (cluster : Clustered) : Type 0 where
   pub first : List Command
   pub others : List Command
   pub parts : said ≡ first ++ others
@@ -163,7 +176,7 @@ abbrev pub IsMaking : List ℕ → List Command → Type 0
 IsMaking name [] = ⊥
 IsMaking name (command ∷ more) = command ≡ Database name
 
--- the commands of all lines behind the first `count` ones
+-- the commands of all lines behind the first `count` lines
 abbrev pub commands_behind : ℕ → List ℕ → List Command
 commands_behind count bytes = (session_from (count + 1) (lines (drop (end_of count bytes) bytes))).commands
 
@@ -174,9 +187,9 @@ pub record IsBeyond (bytes : List ℕ) (others : List Command) : Type 0 where
   pub beyond : session_limit < end_of (suc count) bytes
   pub behind : others ≡ commands_behind count bytes
 
--- At its end and at a bad line a run has run all commands before it. Without a store it has run all before the one that was
--- to make the database, and at the greatest number of bytes exactly those of the lines that end within it. At a fault of a
--- file it has run the first ones.
+-- At its end and at a bad line a run has run all commands before it. Without a store it has run all before the one
+-- that was to make the database, and at the greatest number of bytes exactly those of the lines that end within it.
+-- At a fault of a file it has run the first ones.
 abbrev pub RunsSession : Shelved → ℕ → List ℕ → Option (List ℕ) → Clustered → Result (Unit {0}) Stop → Type 0
 RunsSession shelf limit bytes written cluster (Ok u) =
     Ran shelf limit (session_of bytes).commands written cluster × ((session_of bytes).stop ≡ None)

@@ -79,7 +79,12 @@ fn refused(
     table: Option<&Text>,
     fault: DbFault,
 ) -> Result<Reply, NoMemory>
-    ensures reply { IfOk result (λ reply. reply ≡ world.refusal_of (record { database = database.now; transaction = option_map (λ w. w.now) transaction.entry; table = option_map (λ w. w.now) table.entry }) fault) }
+    ensures reply { IfOk result (λ reply. reply ≡ world.refusal_of
+        (record {
+          database = database.now;
+          transaction = option_map (λ w. w.now) transaction.entry;
+          table = option_map (λ w. w.now) table.entry;
+        }) fault) }
     ensures memory { is_memory (halt_in fault) ≡ true → is_err result ≡ true }
 {
     let refusal = match fault {
@@ -114,7 +119,8 @@ fn refused(
 
 /// The reply to a command that a database accepted.
 fn answered(alloc: Global, database: &Text, answered: Answered) -> Result<Reply, NoMemory>
-    ensures { IfOk result (λ reply. reply ≡ world.reply_of (record { database = database.now; transaction = None; table = None }) (Ok answered)) }
+    ensures { IfOk result (λ reply. reply ≡ world.reply_of
+        (record { database = database.now; transaction = None; table = None }) (Ok answered)) }
 {
     match answered {
         Answered::Sure(answer) => Ok(Reply::Accepted(answer)),
@@ -178,7 +184,8 @@ impl<K: Keeper> Cluster<K> {
     fn ask(&mut self, command: &Command) -> Result<Reply, NoMemory>
         requires spoken { IsSpoken command.now }
         requires other { is_making (subject_of command.now) ≡ false }
-        ensures { IfOk result (λ reply. Moves command.now (cluster_of K.kept self.old) reply (cluster_of K.kept self.new)) }
+        ensures { IfOk result (λ reply. Moves command.now (cluster_of K.kept self.old) reply
+            (cluster_of K.kept self.new)) }
     {
         let database = command.database();
         let Some(i) = self.index_of(database) else {
@@ -205,11 +212,16 @@ impl<K: Keeper> Cluster<K> {
     /// `NoMemory` where there is none.
     pub fn step(&mut self, command: &Command) -> Result<Reply, NoMemory>
         requires { IsSpoken command.now }
-        ensures moves { IfOk result (λ reply. Moves command.now (cluster_of K.kept self.old) reply (cluster_of K.kept self.new)) }
-        ensures steps { IfOk result (λ reply. Steps command.now (cluster_of K.kept self.old) reply (cluster_of K.kept self.new)) }
-        ensures cause { IfOk result (λ reply. ReplyCaused reply (cluster_of K.kept self.old) (cluster_of K.kept self.new)) }
-        ensures certain { IfOk result (λ reply. StaysCertain command.now (cluster_of K.kept self.old) reply (cluster_of K.kept self.new)) }
-        ensures quiet { IfOk result (λ reply. StaysQuiet reply (cluster_of K.kept self.old) (cluster_of K.kept self.new)) }
+        ensures moves { IfOk result (λ reply. Moves command.now (cluster_of K.kept self.old) reply
+            (cluster_of K.kept self.new)) }
+        ensures steps { IfOk result (λ reply. Steps command.now (cluster_of K.kept self.old) reply
+            (cluster_of K.kept self.new)) }
+        ensures cause { IfOk result (λ reply. ReplyCaused reply (cluster_of K.kept self.old)
+            (cluster_of K.kept self.new)) }
+        ensures certain { IfOk result (λ reply. StaysCertain command.now (cluster_of K.kept self.old) reply
+            (cluster_of K.kept self.new)) }
+        ensures quiet { IfOk result (λ reply. StaysQuiet reply (cluster_of K.kept self.old)
+            (cluster_of K.kept self.new)) }
     {
         match command {
             Command::Database { name } => self.grant(name),
@@ -219,7 +231,8 @@ impl<K: Keeper> Cluster<K> {
 
     /// Keeps a database behind the others.
     fn keep(&mut self, name: Text, database: Database<K>) -> Result<(), NoMemory>
-        ensures { IfOk result (λ _. cluster_of K.kept self.new ≡ calls.with_more name (base_of K.kept database) (cluster_of K.kept self.old)) }
+        ensures { IfOk result (λ _. cluster_of K.kept self.new ≡ calls.with_more name (base_of K.kept database)
+            (cluster_of K.kept self.old)) }
     {
         match self.databases.push(Named { name, database }) {
             Ok(()) => Ok(()),
@@ -234,12 +247,18 @@ impl<K: Keeper> Cluster<K> {
     ///
     /// `NoMemory` where there is none.
     pub fn adopt(&mut self, name: Text, keeper: K) -> Result<Reply, NoMemory>
-        ensures adopts { IfOk result (λ reply. Adopts name (K.kept keeper) (cluster_of K.kept self.old) reply (cluster_of K.kept self.new)) }
-        ensures makes { (K.kept keeper).held ≡ Some nothing → IfOk result (λ reply. Makes name (cluster_of K.kept self.old) reply (cluster_of K.kept self.new)) }
-        ensures done { (K.kept keeper).held ≡ Some nothing → (K.kept keeper).can_fail ≡ Some 0 → IfOk result (λ reply. reply ≡ IsAccepted IsDone) }
-        ensures cause { IfOk result (λ reply. MakingReplyCaused name (K.kept keeper) reply (cluster_of K.kept self.old) (cluster_of K.kept self.new)) }
-        ensures certain { IfOk result (λ reply. MakesCertain (K.kept keeper) (cluster_of K.kept self.old) reply (cluster_of K.kept self.new)) }
-        ensures quiet { IfOk result (λ reply. StaysQuiet reply (cluster_of K.kept self.old) (cluster_of K.kept self.new)) }
+        ensures adopts { IfOk result (λ reply. Adopts name (K.kept keeper) (cluster_of K.kept self.old) reply
+            (cluster_of K.kept self.new)) }
+        ensures makes { (K.kept keeper).held ≡ Some nothing →
+            IfOk result (λ reply. Makes name (cluster_of K.kept self.old) reply (cluster_of K.kept self.new)) }
+        ensures done { (K.kept keeper).held ≡ Some nothing → (K.kept keeper).can_fail ≡ Some 0 →
+            IfOk result (λ reply. reply ≡ IsAccepted IsDone) }
+        ensures cause { IfOk result (λ reply. MakingReplyCaused name (K.kept keeper) reply (cluster_of K.kept self.old)
+            (cluster_of K.kept self.new)) }
+        ensures certain { IfOk result (λ reply. MakesCertain (K.kept keeper) (cluster_of K.kept self.old) reply
+            (cluster_of K.kept self.new)) }
+        ensures quiet { IfOk result (λ reply. StaysQuiet reply (cluster_of K.kept self.old)
+            (cluster_of K.kept self.new)) }
     {
         let (database, created) = Database::create(self.alloc, Fuse::new(keeper));
         match created {

@@ -15,7 +15,7 @@ ghost use Rattle.slon_main.specs.Clustered.{cluster_of};
 ghost use Rattle.slon_main.specs.Failing.{Pays};
 ghost use Rattle.slon_model.specs.Names.{find_named};
 ghost use Rattle.slon_model.specs.declared.command.Command.TheVariants.{Database as DatabaseCommand};
-ghost use Rattle.slon_main.specs.Running.{Tells, NeverFails, Shelves, HasCause, ReadsLine, Obeys, Replies, RunsLine, RunsSession, NamesMade, BadOnly, StopsAt, is_of_store, is_of_output, is_of_command, is_of_line, is_no_store};
+ghost use Rattle.slon_main.specs.Running.{counts, Tells, NeverFails, Shelves, HasCause, ReadsLine, Obeys, Replies, RunsLine, RunsSession, NamesMade, BadOnly, StopsAt, is_of_store, is_of_output, is_of_command, is_of_line, is_no_store};
 
 use crate::cluster::Cluster;
 use crate::status::NoMemory;
@@ -50,10 +50,12 @@ fn read_line<F: Files>(
 ) -> Result<bool, Stop>
     requires { 0 < length (F.filed files.old).stack }
     ensures files { Stays (F.filed files.old) (F.filed files.new) }
-    ensures cause { (shelf out : ℕ) → HasCause (record { files = (F.filed files.old).faults; shelf = shelf; out = out }) (record { files = (F.filed files.new).faults; shelf = shelf; out = out }) result }
+    ensures cause { (shelf out : ℕ) → HasCause (counts (F.filed files.old).faults shelf out)
+        (counts (F.filed files.new).faults shelf out) result }
     ensures limit { IfOk result (λ _. reader.new.taken ≤ session_limit) }
     ensures moves { IfOk result (λ more. more ≡ true → reader.old.taken < reader.new.taken) }
-    ensures reads { (bytes : List ℕ) → Comes reader.old (F.filed files.old) bytes → ReadsLine number line.new.items bytes reader.old reader.new (F.filed files.new) result }
+    ensures reads { (bytes : List ℕ) → Comes reader.old (F.filed files.old) bytes →
+        ReadsLine number line.new.items bytes reader.old reader.new (F.filed files.new) result }
 {
     match reader.next_line(files, line) {
         Ok(next) => match next {
@@ -72,13 +74,21 @@ fn read_line<F: Files>(
 /// Makes a database over the next store of the shelf.
 fn make<S: Shelf>(cluster: &mut Cluster<S::Store>, shelf: &mut S, name: Text) -> Result<Reply, Stop>
     ensures shelf { Shelves (S.shelved shelf.old) (S.shelved shelf.new) }
-    ensures cause { (files out : ℕ) → HasCause (record { files = files; shelf = (S.shelved shelf.old).faults; out = out }) (record { files = files; shelf = (S.shelved shelf.new).faults; out = out }) result }
-    ensures made { Tells (S.shelved shelf.old) → IfOk result (λ reply. Makes name (cluster_of S.Store.kept cluster.old) reply (cluster_of S.Store.kept cluster.new)) }
-    ensures certain { NeverFails (S.shelved shelf.old) → IfOk result (λ reply. (is_sure_reply reply ≡ true) × (AllCertain (cluster_of S.Store.kept cluster.old) → AllCertain (cluster_of S.Store.kept cluster.new))) }
-    ensures quiet { IfOk result (λ reply. StaysQuiet reply (cluster_of S.Store.kept cluster.old) (cluster_of S.Store.kept cluster.new)) }
-    ensures pays { find_named name (cluster_of S.Store.kept cluster.old).bases ≡ None → IfOk result (λ reply. Pays (S.shelved shelf.old).promise (DatabaseCommand name) (cluster_of S.Store.kept cluster.old) reply (cluster_of S.Store.kept cluster.new)) }
+    ensures cause { (files out : ℕ) → HasCause (counts files (S.shelved shelf.old).faults out)
+        (counts files (S.shelved shelf.new).faults out) result }
+    ensures made { Tells (S.shelved shelf.old) → IfOk result
+        (λ reply. Makes name (cluster_of S.Store.kept cluster.old) reply (cluster_of S.Store.kept cluster.new)) }
+    ensures certain { NeverFails (S.shelved shelf.old) →
+        IfOk result (λ reply. (is_sure_reply reply ≡ true)
+        × (AllCertain (cluster_of S.Store.kept cluster.old) → AllCertain (cluster_of S.Store.kept cluster.new))) }
+    ensures quiet { IfOk result (λ reply. StaysQuiet reply (cluster_of S.Store.kept cluster.old)
+        (cluster_of S.Store.kept cluster.new)) }
+    ensures pays { find_named name (cluster_of S.Store.kept cluster.old).bases ≡ None →
+        IfOk result (λ reply. Pays (S.shelved shelf.old).promise (DatabaseCommand name)
+        (cluster_of S.Store.kept cluster.old) reply (cluster_of S.Store.kept cluster.new)) }
     ensures named { IfErr result (NamesMade (DatabaseCommand name)) }
-    ensures unmade { IfErr result (λ stop. is_no_store stop ≡ true → cluster_of S.Store.kept cluster.new ≡ cluster_of S.Store.kept cluster.old) }
+    ensures unmade { IfErr result (λ stop. is_no_store stop ≡ true →
+        cluster_of S.Store.kept cluster.new ≡ cluster_of S.Store.kept cluster.old) }
     ensures stop { IfErr result (λ stop. is_of_store stop ≡ true) }
 {
     let Ok(place) = u32::try_from(cluster.len()) else {
@@ -105,13 +115,20 @@ fn obey<S: Shelf>(
 ) -> Result<Reply, Stop>
     requires { IsSpoken command.now }
     ensures shelf { Shelves (S.shelved shelf.old) (S.shelved shelf.new) }
-    ensures cause { (files out : ℕ) → HasCause (record { files = files; shelf = (S.shelved shelf.old).faults; out = out }) (record { files = files; shelf = (S.shelved shelf.new).faults; out = out }) result }
-    ensures obeys { Tells (S.shelved shelf.old) → IfOk result (λ reply. Obeys command.now (cluster_of S.Store.kept cluster.old) reply (cluster_of S.Store.kept cluster.new)) }
-    ensures certain { NeverFails (S.shelved shelf.old) → IfOk result (λ reply. StaysCertain command.now (cluster_of S.Store.kept cluster.old) reply (cluster_of S.Store.kept cluster.new)) }
-    ensures quiet { IfOk result (λ reply. StaysQuiet reply (cluster_of S.Store.kept cluster.old) (cluster_of S.Store.kept cluster.new)) }
-    ensures pays { IfOk result (λ reply. Pays (S.shelved shelf.old).promise command.now (cluster_of S.Store.kept cluster.old) reply (cluster_of S.Store.kept cluster.new)) }
+    ensures cause { (files out : ℕ) → HasCause (counts files (S.shelved shelf.old).faults out)
+        (counts files (S.shelved shelf.new).faults out) result }
+    ensures obeys { Tells (S.shelved shelf.old) → IfOk result
+        (λ reply. Obeys command.now (cluster_of S.Store.kept cluster.old) reply (cluster_of S.Store.kept cluster.new)) }
+    ensures certain { NeverFails (S.shelved shelf.old) →
+        IfOk result (λ reply. StaysCertain command.now (cluster_of S.Store.kept cluster.old) reply
+        (cluster_of S.Store.kept cluster.new)) }
+    ensures quiet { IfOk result (λ reply. StaysQuiet reply (cluster_of S.Store.kept cluster.old)
+        (cluster_of S.Store.kept cluster.new)) }
+    ensures pays { IfOk result (λ reply. Pays (S.shelved shelf.old).promise command.now
+        (cluster_of S.Store.kept cluster.old) reply (cluster_of S.Store.kept cluster.new)) }
     ensures named { IfErr result (NamesMade command.now) }
-    ensures unmade { IfErr result (λ stop. is_no_store stop ≡ true → cluster_of S.Store.kept cluster.new ≡ cluster_of S.Store.kept cluster.old) }
+    ensures unmade { IfErr result (λ stop. is_no_store stop ≡ true →
+        cluster_of S.Store.kept cluster.new ≡ cluster_of S.Store.kept cluster.old) }
     ensures stop { IfErr result (λ stop. is_of_store stop ≡ true) }
 {
     let Ok(reply) = cluster.step(command) else {
@@ -144,9 +161,11 @@ fn is_accepted(reply: &Reply) -> bool
 
 /// Writes a reply with its newline, in one piece.
 fn answer<O: Sink>(alloc: Global, reply: &Reply, out: &mut O) -> Result<(), Stop>
-    ensures cause { (files shelf : ℕ) → HasCause (record { files = files; shelf = shelf; out = (O.poured out.old).faults }) (record { files = files; shelf = shelf; out = (O.poured out.new).faults }) result }
+    ensures cause { (files shelf : ℕ) → HasCause (counts files shelf (O.poured out.old).faults)
+        (counts files shelf (O.poured out.new).faults) result }
     ensures later { (O.poured out.old).faults ≤ (O.poured out.new).faults }
-    ensures written { OnOk result ((O.poured out.new).written ≡ option_map (λ bytes. bytes ++ reply_line reply.now) (O.poured out.old).written) }
+    ensures written { OnOk result ((O.poured out.new).written ≡ option_map (λ bytes. bytes ++ reply_line reply.now)
+        (O.poured out.old).written) }
     ensures stop { IfErr result (λ stop. is_of_output stop ≡ true) }
 {
     let Ok(line) = print_line(alloc, reply) else {
@@ -172,11 +191,17 @@ fn run_command<S: Shelf, O: Sink>(
     requires { IsSpoken command.now }
     ensures shelf { Shelves (S.shelved shelf.old) (S.shelved shelf.new) }
     ensures later { (O.poured out.old).faults ≤ (O.poured out.new).faults }
-    ensures cause { (files : ℕ) → HasCause (record { files = files; shelf = (S.shelved shelf.old).faults; out = (O.poured out.old).faults }) (record { files = files; shelf = (S.shelved shelf.new).faults; out = (O.poured out.new).faults }) result }
+    ensures cause { (files : ℕ) → HasCause (counts files (S.shelved shelf.old).faults (O.poured out.old).faults)
+        (counts files (S.shelved shelf.new).faults (O.poured out.new).faults) result }
     ensures stop { IfErr result (λ stop. is_of_command stop ≡ true) }
-    ensures runs { Tells (S.shelved shelf.old) → OnOk result ((w : World) → Follows w (cluster_of S.Store.kept cluster.old) → Replies (S.shelved shelf.old) command.now w (O.poured out.old).written (O.poured out.new).written (cluster_of S.Store.kept cluster.old) (cluster_of S.Store.kept cluster.new)) }
+    ensures runs { Tells (S.shelved shelf.old) → OnOk result
+        ((w : World) → Follows w (cluster_of S.Store.kept cluster.old) →
+        Replies (S.shelved shelf.old) command.now w (O.poured out.old).written (O.poured out.new).written
+        (cluster_of S.Store.kept cluster.old) (cluster_of S.Store.kept cluster.new)) }
     ensures named { IfErr result (NamesMade command.now) }
-    ensures unmade { IfErr result (λ stop. is_no_store stop ≡ true → ((O.poured out.new).written ≡ (O.poured out.old).written) × (cluster_of S.Store.kept cluster.new ≡ cluster_of S.Store.kept cluster.old)) }
+    ensures unmade { IfErr result (λ stop. is_no_store stop ≡ true →
+        ((O.poured out.new).written ≡ (O.poured out.old).written)
+        × (cluster_of S.Store.kept cluster.new ≡ cluster_of S.Store.kept cluster.old)) }
 {
     let reply = obey(alloc, cluster, shelf, command)?;
     answer(alloc, &reply, out)
@@ -193,10 +218,13 @@ fn run_line<S: Shelf, O: Sink>(
 ) -> Result<(), Stop>
     ensures shelf { Shelves (S.shelved shelf.old) (S.shelved shelf.new) }
     ensures later { (O.poured out.old).faults ≤ (O.poured out.new).faults }
-    ensures cause { (files : ℕ) → HasCause (record { files = files; shelf = (S.shelved shelf.old).faults; out = (O.poured out.old).faults }) (record { files = files; shelf = (S.shelved shelf.new).faults; out = (O.poured out.new).faults }) result }
+    ensures cause { (files : ℕ) → HasCause (counts files (S.shelved shelf.old).faults (O.poured out.old).faults)
+        (counts files (S.shelved shelf.new).faults (O.poured out.new).faults) result }
     ensures stop { IfErr result (λ stop. is_of_line stop ≡ true) }
     ensures bad { BadOnly number (meaning line.now) result }
-    ensures runs { Tells (S.shelved shelf.old) → RunsLine number (meaning line.now) (S.shelved shelf.old) (cluster_of S.Store.kept cluster.old) (cluster_of S.Store.kept cluster.new) (O.poured out.old).written (O.poured out.new).written result }
+    ensures runs { Tells (S.shelved shelf.old) → RunsLine number (meaning line.now) (S.shelved shelf.old)
+        (cluster_of S.Store.kept cluster.old) (cluster_of S.Store.kept cluster.new) (O.poured out.old).written
+        (O.poured out.new).written result }
 {
     match read_command(alloc, line, number) {
         Ok(said) => match said {
@@ -221,9 +249,14 @@ pub fn run_session<F: Files, S: Shelf, O: Sink>(
     requires { 0 < length (F.filed files.old).stack }
     ensures files { Stays (F.filed files.old) (F.filed files.new) }
     ensures later { (O.poured out.old).faults ≤ (O.poured out.new).faults }
-    ensures cause { HasCause (record { files = (F.filed files.old).faults; shelf = (S.shelved shelf.old).faults; out = (O.poured out.old).faults }) (record { files = (F.filed files.new).faults; shelf = (S.shelved shelf.new).faults; out = (O.poured out.new).faults }) result }
+    ensures cause { HasCause (counts (F.filed files.old).faults (S.shelved shelf.old).faults (O.poured out.old).faults)
+        (counts (F.filed files.new).faults (S.shelved shelf.new).faults (O.poured out.new).faults) result }
     ensures place { (bytes : List ℕ) → top (F.filed files.old).stack ≡ Some bytes → StopsAt bytes result }
-    ensures runs { (bytes : List ℕ) (limit : ℕ) → top (F.filed files.old).stack ≡ Some bytes → Tells (S.shelved shelf.old) → (O.poured out.old).written ≡ Some [] → Agrees (start limit) (cluster_of S.Store.kept cluster.old) → RunsSession (S.shelved shelf.old) limit bytes (O.poured out.new).written (cluster_of S.Store.kept cluster.new) result }
+    ensures runs { (bytes : List ℕ) (limit : ℕ) → top (F.filed files.old).stack ≡ Some bytes →
+        Tells (S.shelved shelf.old) → (O.poured out.old).written ≡ Some [] →
+        Agrees (start limit) (cluster_of S.Store.kept cluster.old) →
+        RunsSession (S.shelved shelf.old) limit bytes (O.poured out.new).written
+        (cluster_of S.Store.kept cluster.new) result }
 {
     let Ok(mut reader) = LineReader::new(alloc) else {
         return Err(Stop::NoMemory);

@@ -6,7 +6,7 @@ ghost use Rattle.session_text.specs.Reading.{session_limit};
 ghost use Rattle.std.specs.Prelude.{string_bytes, IfOk};
 ghost use Rattle.slon_main.specs.Ending as ending;
 ghost use Rattle.slon_main.specs.Clustered.{cluster_of};
-ghost use Rattle.slon_main.specs.Running.{Tells};
+ghost use Rattle.slon_main.specs.Running.{counts, Tells};
 ghost use Rattle.slon_main.specs.Ending.{Closes, ClosesAt, hands_back, FaultOnly, NoneRose, IsWhole, is_run, is_whole, is_refused, is_lost, EndsRun, EndsAt, Holds, Lacks, MissingOnly, UsageOnly};
 
 use crate::cluster::Cluster;
@@ -16,7 +16,7 @@ use node_keeper::Keeper;
 use slon_base::{Files, OutFault, Shelf, Sink, Text};
 use std::alloc::{AllocError, Global};
 
-/// How many databases a session allows.
+/// The greatest number of databases of a session.
 const DATABASE_LIMIT: u32 = 16;
 
 /// The last line where the words are not one name.
@@ -131,9 +131,13 @@ fn run_entered<F: Files, S: Shelf, O: Sink>(
     requires { 0 < length (F.filed files.old).stack }
     ensures run { is_run result.status ≡ true }
     ensures cluster { is_some result.cluster ≡ hands_back result.status }
-    ensures faults { FaultOnly result.status (record { files = (F.filed files.old).faults; shelf = (S.shelved shelf.old).faults; out = (O.poured out.old).faults }) (record { files = (F.filed files.new).faults; shelf = (S.shelved shelf.new).faults; out = (O.poured out.new).faults }) }
+    ensures faults { FaultOnly result.status (counts (F.filed files.old).faults (S.shelved shelf.old).faults
+        (O.poured out.old).faults) (counts (F.filed files.new).faults (S.shelved shelf.new).faults
+        (O.poured out.new).faults) }
     ensures place { (bytes : List ℕ) → top (F.filed files.old).stack ≡ Some bytes → EndsAt result.status bytes }
-    ensures ends { (bytes : List ℕ) → top (F.filed files.old).stack ≡ Some bytes → Tells (S.shelved shelf.old) → (O.poured out.old).written ≡ Some [] → EndsRun (S.shelved shelf.old) result.status bytes (O.poured out.new).written (option_map (cluster_of S.Store.kept) result.cluster) }
+    ensures ends { (bytes : List ℕ) → top (F.filed files.old).stack ≡ Some bytes → Tells (S.shelved shelf.old) →
+        (O.poured out.old).written ≡ Some [] → EndsRun (S.shelved shelf.old) result.status bytes
+        (O.poured out.new).written (option_map (cluster_of S.Store.kept) result.cluster) }
 {
     let mut cluster = Cluster::new(alloc, DATABASE_LIMIT);
     let ran = run_session(alloc, &mut cluster, files, shelf, out);
@@ -172,15 +176,24 @@ pub fn slon_main<F: Files, S: Shelf, O: Sink>(
     shelf: &mut S,
     out: &mut O,
 ) -> Ended<S::Store>
-    ensures ends { (bytes : List ℕ) → Holds words.now bytes (F.filed files.old) → Tells (S.shelved shelf.old) → (O.poured out.old).written ≡ Some [] → EndsRun (S.shelved shelf.old) result.status bytes (O.poured out.new).written (option_map (cluster_of S.Store.kept) result.cluster) }
+    ensures ends { (bytes : List ℕ) → Holds words.now bytes (F.filed files.old) → Tells (S.shelved shelf.old) →
+        (O.poured out.old).written ≡ Some [] → EndsRun (S.shelved shelf.old) result.status bytes
+        (O.poured out.new).written (option_map (cluster_of S.Store.kept) result.cluster) }
     ensures cluster { is_some result.cluster ≡ hands_back result.status }
-    ensures faults { FaultOnly result.status (record { files = (F.filed files.old).faults; shelf = (S.shelved shelf.old).faults; out = (O.poured out.old).faults }) (record { files = (F.filed files.new).faults; shelf = (S.shelved shelf.new).faults; out = (O.poured out.new).faults }) }
-    ensures complete { (bytes : List ℕ) → Holds words.now bytes (F.filed files.old) → IsWhole bytes → NoneRose (record { files = (F.filed files.old).faults; shelf = (S.shelved shelf.old).faults; out = (O.poured out.old).faults }) (record { files = (F.filed files.new).faults; shelf = (S.shelved shelf.new).faults; out = (O.poured out.new).faults }) → is_whole result.status ≡ true }
+    ensures faults { FaultOnly result.status (counts (F.filed files.old).faults (S.shelved shelf.old).faults
+        (O.poured out.old).faults) (counts (F.filed files.new).faults (S.shelved shelf.new).faults
+        (O.poured out.new).faults) }
+    ensures complete { (bytes : List ℕ) → Holds words.now bytes (F.filed files.old) → IsWhole bytes →
+        NoneRose (counts (F.filed files.old).faults (S.shelved shelf.old).faults (O.poured out.old).faults)
+        (counts (F.filed files.new).faults (S.shelved shelf.new).faults (O.poured out.new).faults) →
+        is_whole result.status ≡ true }
     ensures place { (bytes : List ℕ) → Holds words.now bytes (F.filed files.old) → EndsAt result.status bytes }
-    ensures long { (bytes : List ℕ) → Holds words.now bytes (F.filed files.old) → result.status ≡ Status.TooLong → session_limit < length bytes }
+    ensures long { (bytes : List ℕ) → Holds words.now bytes (F.filed files.old) → result.status ≡ Status.TooLong →
+        session_limit < length bytes }
     ensures usage { result.status ≡ Status.Usage → UsageOnly words.now (O.poured out.old) (O.poured out.new) }
     ensures refused { ending.session_word words.now ≡ None → is_refused result.status ≡ true }
-    ensures missing { result.status ≡ Status.Missing → MissingOnly words.now (F.filed files.old) (O.poured out.old) (O.poured out.new) }
+    ensures missing { result.status ≡ Status.Missing →
+        MissingOnly words.now (F.filed files.old) (O.poured out.old) (O.poured out.new) }
     ensures lost { Lacks words.now (F.filed files.old) → is_lost result.status ≡ true }
 {
     let Some(name) = session_word(words) else {

@@ -7,11 +7,17 @@ use Rattle.slon_main.proofs.run.run_command.Goals as goal
 
 pub returns-in_err-reply-clause-cause : goal.returns-in_err-reply-clause-cause
 returns-in_err-reply-clause-cause g c files =
-    stops_as Reply (Unit {0}) _ _ c.in_err-reply.field-0.0 c.from_residual.result (err_from_is_err_and c.from_residual.result c.from_residual.ensures.1) (c.in_err-reply.ensures.cause files _)
+    stops_as Reply (Unit {0}) _ _ c.in_err-reply.field-0.0 c.from_residual.result
+    (err_from_is_err_and c.from_residual.result c.from_residual.ensures.1) (c.in_err-reply.ensures.cause files _)
 
 pub returns-clause-cause : goal.returns-clause-cause
 returns-clause-cause g c files =
-    stops_since c.answer.result _ (record { files = files; shelf = (g.S.Shelf.shelved c.obey.new.shelf).faults; out = (g.O.Sink.poured c.args.out.now).faults }) _ (omega arith) c.obey.ensures.shelf.later (omega arith) (c.answer.ensures.cause files _)
+    stops_since c.answer.result _ (record {
+      files = files;
+      shelf = (g.S.Shelf.shelved c.obey.new.shelf).faults;
+      out = (g.O.Sink.poured c.args.out.now).faults;
+    }) _ (omega arith) c.obey.ensures.shelf.later (omega arith)
+    (c.answer.ensures.cause files _)
 
 pub returns-clause-runs : goal.returns-clause-runs
 returns-clause-runs g c tells =

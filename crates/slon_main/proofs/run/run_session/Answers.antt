@@ -17,7 +17,8 @@ loop-line-init g c = record {
   later = omega arith;
   count = omega arith;
   limit = omega (arith, c.in-Ok.ensures.1);
-  came = λ bytes is. came_first bytes c.in-Ok.reader (g.F.Files.filed c.args.files.now) is c.in-Ok.ensures.0 c.in-Ok.ensures.1;
+  came = λ bytes is. came_first bytes c.in-Ok.reader
+      (g.F.Files.filed c.args.files.now) is c.in-Ok.ensures.0 c.in-Ok.ensures.1;
   runs = λ bytes limit is tells empty agrees.
       begun (record { shelf = g.S.Shelf.shelved c.args.shelf.now; limit = limit; bytes = bytes }) _ (record {
         number = refl;
@@ -30,21 +31,42 @@ loop-line-init g c = record {
 
 pub returns-in_err-read_line-clause-cause : goal.returns-in_err-read_line-clause-cause
 returns-in_err-read_line-clause-cause g c =
-    stops_as Bool (Unit {0}) _ _ c.in_err-read_line.field-0.0 c.from_residual.result (err_from_is_err_and c.from_residual.result c.from_residual.ensures.1)
-    (stops_since {T = Bool} (Err c.in_err-read_line.field-0.0) _ (record { files = (g.F.Files.filed c.loop-line.files).faults; shelf = (g.S.Shelf.shelved c.loop-line.shelf).faults; out = (g.O.Sink.poured c.loop-line.out).faults }) _ c.loop-line.invariant.files.faults c.loop-line.invariant.shelf.later c.loop-line.invariant.later
-    (c.in_err-read_line.ensures.cause (g.S.Shelf.shelved c.loop-line.shelf).faults (g.O.Sink.poured c.loop-line.out).faults))
+    stops_as Bool (Unit {0}) _ _ c.in_err-read_line.field-0.0 c.from_residual.result
+    (err_from_is_err_and c.from_residual.result c.from_residual.ensures.1)
+    (stops_since {T = Bool} (Err c.in_err-read_line.field-0.0) _
+    (record {
+      files = (g.F.Files.filed c.loop-line.files).faults;
+      shelf = (g.S.Shelf.shelved c.loop-line.shelf).faults;
+      out = (g.O.Sink.poured c.loop-line.out).faults;
+    }) _ c.loop-line.invariant.files.faults
+    c.loop-line.invariant.shelf.later c.loop-line.invariant.later
+    (c.in_err-read_line.ensures.cause (g.S.Shelf.shelved c.loop-line.shelf).faults
+    (g.O.Sink.poured c.loop-line.out).faults))
 
 pub returns-in_err-read_line-clause-place : goal.returns-in_err-read_line-clause-place
 returns-in_err-read_line-clause-place g c bytes is =
     let came = c.loop-line.invariant.came bytes is in
-    handed_on (StopsAt bytes) c.from_residual.result (err_from_is_err_and c.from_residual.result c.from_residual.ensures.1)
-    (stops_reading bytes c.loop-line.number c.read_line.new.line.items c.loop-line.reader c.read_line.new.reader (g.F.Files.filed c.loop-line.files) (g.F.Files.filed c.read_line.new.files) came c.in_err-read_line.field-0.0 (c.in_err-read_line.ensures.reads came.rest came.comes))
+    handed_on (StopsAt bytes) c.from_residual.result
+    (err_from_is_err_and c.from_residual.result c.from_residual.ensures.1)
+    (stops_reading bytes c.read_line.new.line.items _
+    (record {
+      number = c.loop-line.number + 1;
+      reader = c.read_line.new.reader;
+      files = g.F.Files.filed c.read_line.new.files;
+    })
+    came c.in_err-read_line.field-0.0 (c.in_err-read_line.ensures.reads came.rest came.comes))
 
 pub returns-in_err-read_line-clause-runs : goal.returns-in_err-read_line-clause-runs
 returns-in_err-read_line-clause-runs g c bytes limit is tells empty agrees =
     let running = c.loop-line.invariant.runs bytes limit is tells empty agrees in
-    handed_on (RunsSession (g.S.Shelf.shelved c.args.shelf.now) limit bytes (g.O.Sink.poured c.loop-line.out).written (cluster_of g.S.Store.Keeper.kept c.loop-line.cluster)) c.from_residual.result (err_from_is_err_and c.from_residual.result c.from_residual.ensures.1)
-    (read_stops (record { shelf = g.S.Shelf.shelved c.args.shelf.now; limit = limit; bytes = bytes }) _ c.in_err-read_line.field-0.0 running
+    handed_on (RunsSession (g.S.Shelf.shelved c.args.shelf.now) limit bytes (g.O.Sink.poured c.loop-line.out).written
+    (cluster_of g.S.Store.Keeper.kept c.loop-line.cluster)) c.from_residual.result
+    (err_from_is_err_and c.from_residual.result c.from_residual.ensures.1)
+    (read_stops (record {
+      shelf = g.S.Shelf.shelved c.args.shelf.now;
+      limit = limit;
+      bytes = bytes;
+    }) _ c.in_err-read_line.field-0.0 running
     (record { came = c.loop-line.invariant.came bytes is; small = c.loop-line.invariant.limit }) (record {
       line = c.read_line.new.line.items;
       reader = c.read_line.new.reader;
@@ -54,23 +76,49 @@ returns-in_err-read_line-clause-runs g c bytes limit is tells empty agrees =
 
 pub returns-in_err-run_line-clause-cause : goal.returns-in_err-run_line-clause-cause
 returns-in_err-run_line-clause-cause g c =
-    handed_on (HasCause {T = Unit {0}} _ _) c.from_residual-in_err-run_line.result (err_from_is_err_and c.from_residual-in_err-run_line.result c.from_residual-in_err-run_line.ensures.1)
-    (stops_since {T = Unit {0}} (Err c.in_err-run_line.field-0.0) _ (record { files = (g.F.Files.filed c.read_line.new.files).faults; shelf = (g.S.Shelf.shelved c.loop-line.shelf).faults; out = (g.O.Sink.poured c.loop-line.out).faults }) _ (omega (arith, c.loop-line.invariant.files.faults, c.read_line.ensures.files.faults)) c.loop-line.invariant.shelf.later c.loop-line.invariant.later
+    handed_on (HasCause {T = Unit {0}} _ _) c.from_residual-in_err-run_line.result
+    (err_from_is_err_and c.from_residual-in_err-run_line.result c.from_residual-in_err-run_line.ensures.1)
+    (stops_since {T = Unit {0}} (Err c.in_err-run_line.field-0.0) _
+    (record {
+      files = (g.F.Files.filed c.read_line.new.files).faults;
+      shelf = (g.S.Shelf.shelved c.loop-line.shelf).faults;
+      out = (g.O.Sink.poured c.loop-line.out).faults;
+    }) _
+    (omega (
+      arith,
+      c.loop-line.invariant.files.faults,
+      c.read_line.ensures.files.faults,
+    )) c.loop-line.invariant.shelf.later c.loop-line.invariant.later
     (c.in_err-run_line.ensures.cause (g.F.Files.filed c.read_line.new.files).faults))
 
 pub returns-in_err-run_line-clause-place : goal.returns-in_err-run_line-clause-place
 returns-in_err-run_line-clause-place g c bytes is =
     let came = c.loop-line.invariant.came bytes is in
-    let hands = subst (λ l. Hands l came.rest c.loop-line.reader c.read_line.new.reader (g.F.Files.filed c.read_line.new.files) Line) (sym c.deref.ensures.value) (rw c.if-branch.true at c.in_ok-read_line.ensures.reads came.rest came.comes) in
-    handed_on (StopsAt bytes) c.from_residual-in_err-run_line.result (err_from_is_err_and c.from_residual-in_err-run_line.result c.from_residual-in_err-run_line.ensures.1)
-    (stops_running bytes _ _ _ _ _ _ came hands c.in_ok-read_line.ensures.limit c.in_err-run_line.field-0.0 c.in_err-run_line.ensures.bad)
+    let hands = subst (λ l. Hands l came.rest c.loop-line.reader c.read_line.new.reader
+    (g.F.Files.filed c.read_line.new.files) Line) (sym c.deref.ensures.value)
+    (rw c.if-branch.true at c.in_ok-read_line.ensures.reads came.rest came.comes) in
+    handed_on (StopsAt bytes) c.from_residual-in_err-run_line.result
+    (err_from_is_err_and c.from_residual-in_err-run_line.result c.from_residual-in_err-run_line.ensures.1)
+    (stops_running bytes c.deref.result.now _
+    (record {
+      number = c.loop-line.number + 1;
+      reader = c.read_line.new.reader;
+      files = g.F.Files.filed c.read_line.new.files;
+    })
+    came (record { number = refl; hands = hands; short = c.in_ok-read_line.ensures.limit }) c.in_err-run_line.field-0.0
+    c.in_err-run_line.ensures.bad)
 
 pub returns-in_err-run_line-clause-runs : goal.returns-in_err-run_line-clause-runs
 returns-in_err-run_line-clause-runs g c bytes limit is tells empty agrees =
     let running = c.loop-line.invariant.runs bytes limit is tells empty agrees in
-    let hands = subst (λ l. Hands l running.rest c.loop-line.reader c.read_line.new.reader (g.F.Files.filed c.read_line.new.files) Line) (sym c.deref.ensures.value) (rw c.if-branch.true at c.in_ok-read_line.ensures.reads running.rest running.comes) in
-    handed_on (RunsSession (g.S.Shelf.shelved c.args.shelf.now) limit bytes (g.O.Sink.poured c.run_line.new.out).written (cluster_of g.S.Store.Keeper.kept c.run_line.new.cluster)) c.from_residual-in_err-run_line.result (err_from_is_err_and c.from_residual-in_err-run_line.result c.from_residual-in_err-run_line.ensures.1)
-    (line_stops (record { shelf = g.S.Shelf.shelved c.args.shelf.now; limit = limit; bytes = bytes }) (g.S.Shelf.shelved c.loop-line.shelf) c.deref.result.now _ (record {
+    let hands = subst (λ l. Hands l running.rest c.loop-line.reader c.read_line.new.reader
+    (g.F.Files.filed c.read_line.new.files) Line) (sym c.deref.ensures.value)
+    (rw c.if-branch.true at c.in_ok-read_line.ensures.reads running.rest running.comes) in
+    handed_on (RunsSession (g.S.Shelf.shelved c.args.shelf.now) limit bytes (g.O.Sink.poured c.run_line.new.out).written
+    (cluster_of g.S.Store.Keeper.kept c.run_line.new.cluster)) c.from_residual-in_err-run_line.result
+    (err_from_is_err_and c.from_residual-in_err-run_line.result c.from_residual-in_err-run_line.ensures.1)
+    (line_stops (record { shelf = g.S.Shelf.shelved c.args.shelf.now; limit = limit; bytes = bytes })
+    (g.S.Shelf.shelved c.loop-line.shelf) c.deref.result.now _ (record {
       number = c.loop-line.number + 1;
       reader = c.read_line.new.reader;
       files = g.F.Files.filed c.read_line.new.files;
@@ -78,35 +126,51 @@ returns-in_err-run_line-clause-runs g c bytes limit is tells empty agrees =
       cluster = cluster_of g.S.Store.Keeper.kept c.run_line.new.cluster;
     }) c.in_err-run_line.field-0.0 running (record {
       hands = hands;
-      runs = c.in_err-run_line.ensures.runs (tells_still (g.S.Shelf.shelved c.args.shelf.now) (g.S.Shelf.shelved c.loop-line.shelf) c.loop-line.invariant.shelf.promise tells);
+      runs = c.in_err-run_line.ensures.runs (tells_still (g.S.Shelf.shelved c.args.shelf.now)
+          (g.S.Shelf.shelved c.loop-line.shelf) c.loop-line.invariant.shelf.promise tells);
     }))
 
 pub loop-line-preserved : goal.loop-line-preserved
 loop-line-preserved g c = record {
   files = stays_on _ _ _ c.loop-line.invariant.files c.read_line.ensures.files;
-  shelf = record { promise = c.run_line.ensures.shelf.promise ∙ c.loop-line.invariant.shelf.promise; later = omega (arith, c.loop-line.invariant.shelf.later, c.run_line.ensures.shelf.later) };
+  shelf = record {
+    promise = c.run_line.ensures.shelf.promise ∙ c.loop-line.invariant.shelf.promise;
+    later = omega (arith, c.loop-line.invariant.shelf.later, c.run_line.ensures.shelf.later);
+  };
   later = omega (arith, c.loop-line.invariant.later, c.run_line.ensures.later);
   count = omega (arith, c.loop-line.invariant.count, c.in_ok-read_line.ensures.moves c.if-branch.true);
   limit = c.in_ok-read_line.ensures.limit;
   came = λ bytes is.
       let came = c.loop-line.invariant.came bytes is in
-      let hands = subst (λ l. Hands l came.rest c.loop-line.reader c.read_line.new.reader (g.F.Files.filed c.read_line.new.files) Line) (sym c.deref.ensures.value) (rw c.if-branch.true at c.in_ok-read_line.ensures.reads came.rest came.comes) in
-      came_on bytes _ _ _ _ _ _ came hands c.in_ok-run_line.ensures.bad;
+      let hands = subst (λ l. Hands l came.rest c.loop-line.reader c.read_line.new.reader
+      (g.F.Files.filed c.read_line.new.files) Line) (sym c.deref.ensures.value)
+      (rw c.if-branch.true at c.in_ok-read_line.ensures.reads came.rest came.comes) in
+      came_on bytes c.deref.result.now _ _ came (record {
+        number = refl;
+        hands = hands;
+        short = c.in_ok-read_line.ensures.limit;
+      })
+      c.in_ok-run_line.ensures.bad;
   runs = λ bytes limit is tells empty agrees.
       let running = c.loop-line.invariant.runs bytes limit is tells empty agrees in
-      let hands = subst (λ l. Hands l running.rest c.loop-line.reader c.read_line.new.reader (g.F.Files.filed c.read_line.new.files) Line) (sym c.deref.ensures.value) (rw c.if-branch.true at c.in_ok-read_line.ensures.reads running.rest running.comes) in
-      went_on (record { shelf = g.S.Shelf.shelved c.args.shelf.now; limit = limit; bytes = bytes }) (g.S.Shelf.shelved c.loop-line.shelf) c.deref.result.now _ _ running (record {
+      let hands = subst (λ l. Hands l running.rest c.loop-line.reader c.read_line.new.reader
+      (g.F.Files.filed c.read_line.new.files) Line) (sym c.deref.ensures.value)
+      (rw c.if-branch.true at c.in_ok-read_line.ensures.reads running.rest running.comes) in
+      went_on (record { shelf = g.S.Shelf.shelved c.args.shelf.now; limit = limit; bytes = bytes })
+      (g.S.Shelf.shelved c.loop-line.shelf) c.deref.result.now _ _ running (record {
         number = refl;
         promised = c.loop-line.invariant.shelf.promise;
         hands = hands;
-        means = c.in_ok-run_line.ensures.runs (tells_still (g.S.Shelf.shelved c.args.shelf.now) (g.S.Shelf.shelved c.loop-line.shelf) c.loop-line.invariant.shelf.promise tells);
+        means = c.in_ok-run_line.ensures.runs (tells_still (g.S.Shelf.shelved c.args.shelf.now)
+            (g.S.Shelf.shelved c.loop-line.shelf) c.loop-line.invariant.shelf.promise tells);
       });
 }
 
 pub returns-clause-place : goal.returns-clause-place
 returns-clause-place g c bytes is =
     let came = c.loop-line.invariant.came bytes is in
-    stops_end bytes _ _ _ came (rw c.if-branch.false at c.in_ok-read_line.ensures.reads came.rest came.comes) c.loop-line.invariant.limit
+    stops_end bytes _ came (rw c.if-branch.false at c.in_ok-read_line.ensures.reads came.rest came.comes)
+    c.loop-line.invariant.limit
 
 pub returns-clause-runs : goal.returns-clause-runs
 returns-clause-runs g c bytes limit is tells empty agrees =

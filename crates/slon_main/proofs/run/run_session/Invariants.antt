@@ -17,9 +17,12 @@ invariant-loop-line g l = record {
   later : (g.O.Sink.poured l.fn.out).faults ≤ (g.O.Sink.poured l.out).faults;
   count : l.number ≤ l.reader.taken + 1;
   limit : l.reader.taken ≤ session_limit;
-  came : (bytes : List ℕ) → top (g.F.Files.filed l.fn.files).stack ≡ Some bytes → Came bytes l.number l.reader (g.F.Files.filed l.files);
-  runs : (bytes : List ℕ) (limit : ℕ) → top (g.F.Files.filed l.fn.files).stack ≡ Some bytes → Tells (g.S.Shelf.shelved l.fn.shelf) →
-      (g.O.Sink.poured l.fn.out).written ≡ Some [] → Agrees (start limit) (cluster_of g.S.Store.Keeper.kept l.fn.cluster) →
+  came : (bytes : List ℕ) → top (g.F.Files.filed l.fn.files).stack ≡ Some bytes →
+      Came bytes (record { number = l.number; reader = l.reader; files = g.F.Files.filed l.files });
+  runs : (bytes : List ℕ) (limit : ℕ) → top (g.F.Files.filed l.fn.files).stack ≡ Some bytes →
+      Tells (g.S.Shelf.shelved l.fn.shelf) →
+      (g.O.Sink.poured l.fn.out).written ≡ Some [] →
+      Agrees (start limit) (cluster_of g.S.Store.Keeper.kept l.fn.cluster) →
       Running (record { shelf = g.S.Shelf.shelved l.fn.shelf; limit = limit; bytes = bytes }) (record {
         number = l.number;
         reader = l.reader;

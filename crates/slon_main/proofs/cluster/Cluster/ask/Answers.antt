@@ -9,14 +9,17 @@ use Rattle.slon_main.proofs.cluster.Cluster.ask.Goals as goal
 
 pub returns-in_default : goal.returns-in_default
 returns-in_default g c =
-    moves_none c.args.command.now (cluster_of g.K.Keeper.kept c.args.self.now) _ _ (record { is = c.database-database.ensures; other = c.requires.other }) c.in_ok-database.ensures
-    (find_missing (named_base {g = g.K.Keeper} g.K.Keeper.kept) c.database-database.result.now c.args.self.now.databases.items (sym c.index_of.ensures ∙ c.in_default.is))
+    moves_none c.args.command.now (cluster_of g.K.Keeper.kept c.args.self.now) _ _
+    (record { is = c.database-database.ensures; other = c.requires.other }) c.in_ok-database.ensures
+    (find_missing (named_base {g = g.K.Keeper} g.K.Keeper.kept) c.database-database.result.now
+    c.args.self.now.databases.items (sym c.index_of.ensures ∙ c.in_default.is))
 
 pub returns-in-Ok : goal.returns-in-Ok
 returns-in-Ok g c =
     let words = words_of (subject_of c.args.command.now) in
     if_told _ c.answered.result (reply_of words (Ok c.in-Ok.done))
-    (subst (λ (r : Reply). IfOk c.answered.result (λ told. told ≡ r)) (same_answer words c.database-database.result.now c.in-Ok.done c.database-database.ensures) c.answered.ensures)
+    (subst (λ (r : Reply). IfOk c.answered.result (λ told. told ≡ r))
+    (same_answer words c.database-database.result.now c.in-Ok.done c.database-database.ensures) c.answered.ensures)
     (moves_at (named_base g.K.Keeper.kept) c.args.command.now _ _ _ _ (Ok c.in-Ok.done) (record {
       word = c.database-database.result.now;
       names = record { is = c.database-database.ensures; other = c.requires.other };
@@ -29,9 +32,11 @@ returns-in-Ok g c =
 
 pub returns-in-Err : goal.returns-in-Err
 returns-in-Err g c =
-    if_memory _ c.refused.result c.in-Err.fault (reply_of (words_of (subject_of c.args.command.now)) (Err c.in-Err.fault))
+    if_memory _ c.refused.result c.in-Err.fault (reply_of (words_of (subject_of c.args.command.now))
+    (Err c.in-Err.fault))
     (subst (λ words. IfOk c.refused.result (λ told. told ≡ refusal_of words c.in-Err.fault))
-    (same_words (subject_of c.args.command.now) _ _ _ c.database-database.ensures c.transaction.ensures c.table.ensures) c.refused.ensures.reply) c.refused.ensures.memory
+    (same_words (subject_of c.args.command.now) _ _ _ c.database-database.ensures c.transaction.ensures c.table.ensures)
+    c.refused.ensures.reply) c.refused.ensures.memory
     (λ memory. moves_at (named_base g.K.Keeper.kept) c.args.command.now _ _ _ _ (Err c.in-Err.fault) (record {
       word = c.database-database.result.now;
       names = record { is = c.database-database.ensures; other = c.requires.other };
