@@ -1,13 +1,16 @@
 -- What a store in memory holds and what is pending in it.
-use Rattle.std.proofs.Common.{◌≡◌, ◌⊎◌, ℕ, zero, suc, Bool, true, false, ◌&&◌, List, [], ◌∷◌, ◌++◌, map, get_or, Some, if◌then◌else◌, refl, sym, ap, ◌∙◌, inl, inr, is_some}
+use Rattle.std.proofs.Common.{◌≡◌, ◌⊎◌, ℕ, zero, suc, Bool, true, false, ◌&&◌, List, [], ◌∷◌, ◌++◌, map, get_or, Some}
+use Rattle.std.proofs.Common.{if◌then◌else◌, refl, sym, ap, ◌∙◌, inl, inr, is_some}
 use Rattle.std.proofs.lemmas.Bool.{false≢true}
 use Rattle.std.proofs.Math.ListN.{get_or-map}
 use Rattle.std.specs.FinMap.{empty, entries, same_entries_map}
 use Rattle.slon_base.specs.Keeper.{Space, Store, sight}
 use Rattle.node_keeper.specs.declared.fault_plan.FaultPlan.{FaultPlan}
+use Rattle.node_keeper.specs.declared.mem_keeper.MemKeeper.{MemKeeper}
 use Rattle.node_keeper.specs.declared.mem_keeper.Phase.{Phase}
 use Rattle.node_keeper.specs.declared.mem_keeper.Phase.TheVariants.{Idle, Open, Torn}
 use Rattle.node_keeper.specs.MemKept.{held_store, pending_store, pending_in, IsSettled, mem_kept, is_open, ended}
+use Rattle.node_keeper.specs.Told.{kept_of}
 
 same_some : {A : Type 0} (x y : A) → Some x ≡ Some y → x ≡ y
 same_some x y e = cc
@@ -17,12 +20,19 @@ pub settled_store : (spaces : List (Space × Space)) → IsSettled Idle spaces �
 settled_store spaces settled = λ i space. same_entries_map _ _ (settled refl space) i
 
 -- what reads see is pending
-pub seen : (spaces : List (Space × Space)) (phase : Phase) (plan : FaultPlan) (doubts : ℕ) (m : Store) →
+seen : (spaces : List (Space × Space)) (phase : Phase) (plan : FaultPlan) (doubts : ℕ) (m : Store) →
     IsSettled phase spaces → sight (mem_kept spaces plan phase doubts) ≡ Some m → (space : ℕ) →
     pending_store spaces space ≡ m space
 seen spaces Idle plan doubts m settled e space = ap (λ s. s space) (settled_store spaces settled ∙ same_some _ _ e)
 seen spaces Open plan doubts m settled e space = ap (λ s. s space) (same_some _ _ e)
 seen spaces Torn plan doubts m settled e space = cc
+
+-- and so is what a call finds in the spaces after it was counted
+pub seen_in : (k : MemKeeper) (counted : List (Space × Space)) (space : ℕ) (at : Space × Space) →
+    at ≡ get_or counted space (empty, empty) → counted ≡ k.spaces.items → (m : Store) → sight (kept_of k) ≡ Some m →
+    at.1 ≡ m space
+seen_in k counted space at is same m e = ap (λ p. p.1) is ∙ ap (λ spaces. pending_store spaces space) same
+    ∙ seen k.spaces.items k.phase k.plan k.doubts m k.settled e space
 
 ended-at : (commits : Bool) (spaces : List (Space × Space)) (space : ℕ) → get_or (map (ended commits) spaces) space
     (empty, empty) ≡ ended commits (get_or spaces space (empty, empty))

@@ -1,5 +1,6 @@
 -- Which listed calls are still to come, and whether the next one is listed.
-use Rattle.std.proofs.Common.{◌≡◌, ℕ, ◌+◌, ◌≤◌, ◌<◌, ◌==◌, ◌||◌, ◌&&◌, ◌-◌, ◌^◌, Bool, true, false, cond, not, List, [], ◌∷◌, get_or, Result, Ok, Err, nat_lt, arith, sym, ap, subst, ◌∙◌, refl}
+use Rattle.std.proofs.Common.{◌≡◌, ℕ, ◌+◌, ◌≤◌, ◌<◌, ◌==◌, ◌||◌, ◌&&◌, ◌-◌, ◌^◌, Bool, true, false, cond, not, List, []}
+use Rattle.std.proofs.Common.{◌∷◌, get_or, Result, Ok, Err, nat_lt, arith, sym, ap, subst, ◌∙◌, refl}
 use Rattle.std.specs.Prelude.{is_err}
 use Rattle.std.specs.List.{list_any}
 use Rattle.std.specs.List.Sorted.{IsBinarySearchResult, IsPermutation, IsNonDecreasing}

@@ -1,29 +1,24 @@
 -- What the slots show, by look-ups.
-use Rattle.std.proofs.Common.{◌≡◌, ℕ, ◌+◌, ◌-◌, ◌≤◌, Bool, true, false, cond, List, [], ◌∷◌, length, Option, Some, None, is_some, IsSome, Vec, refl, sym, ◌∙◌, ap, subst, arith, zero, suc, T, ◌&&◌}
+use Rattle.std.proofs.Common.{◌≡◌, ℕ, ◌+◌, ◌-◌, ◌≤◌, Bool, true, false, cond, List, [], ◌∷◌, length, Option, Some, None}
+use Rattle.std.proofs.Common.{is_some, IsSome, Vec, refl, sym, ◌∙◌, ap, subst, arith, zero, suc, T, ◌&&◌}
 use Rattle.std.proofs.lemmas.Bool.{false≢true}
 use mir.Val.{bool_byte}
 use Rattle.std.specs.declared.alloc.Global.{Global}
-use Rattle.std.specs.declared.cmp.Ordering.{Ordering}
-use Rattle.std.specs.declared.cmp.Ordering.TheVariants.{Less, Equal, Greater}
+use Rattle.std.specs.declared.cmp.Ordering.TheVariants.{Less, Equal}
 use Rattle.std.specs.Ordering.{is_eq, is_lt, eq_by_cmp}
 use Rattle.std.specs.Cmp.Lexicographic.{nat_list_cmp_total}
 use Rattle.std.specs.List.{AllByRecursion, filter}
 use Rattle.std.specs.List.Sorted.{IsStrictlySortedBy}
 use Rattle.std.specs.Map.{lookup, keys_of, KeepsOthers}
 use Rattle.std.specs.BTreeMap.{UpdatesBy, WritesThrough}
-use Rattle.std.specs.FinMap.{empty, get, len, entries, from_sorted, get-from_sorted, get-insert, get-remove, len-entries, len-insert, len-remove, empty_of_len, get-empty, entries-from_sorted, same_map, slice_cmp-IsAntisymmetric, nat_cmp-IsAntisymmetric}
+use Rattle.std.specs.FinMap.{empty, get, len, entries, from_sorted, get-from_sorted, get-insert, get-remove}
+use Rattle.std.specs.FinMap.{len-entries, len-insert, len-remove, empty_of_len, get-empty, entries-from_sorted}
+use Rattle.std.specs.FinMap.{same_map, slice_cmp-IsAntisymmetric, nat_cmp-IsAntisymmetric}
 use Rattle.std.specs.FinMap.Entries.{find, below_all, is_sorted}
 use Rattle.std.specs.Option.{option_flatten}
 use Rattle.slon_base.specs.Keeper.{key_cmp, Space, after}
+use Rattle.slon_base.proofs.Order.{same_keys, equal_of, less_of}
 use Rattle.node_keeper.specs.Slots.{Slot, SlotMap, vec_cmp, IsInOrder, HasSlot, slot_at, shown, living, pairs, with_at}
-
-pub same_key : (q key : List ℕ) → key_cmp q key ≡ Equal → q ≡ key
-same_key q key = slice_cmp-IsAntisymmetric nat_cmp-IsAntisymmetric q key
-
-is_equal : (o : Ordering) → is_eq o ≡ true → o ≡ Equal
-is_equal Less e = cc
-is_equal Equal e = refl
-is_equal Greater e = cc
 
 pub same_space : (m n : Space) → ((q : List ℕ) → get m q ≡ get n q) → m ≡ n
 same_space m n h = same_map nat_list_cmp_total (slice_cmp-IsAntisymmetric nat_cmp-IsAntisymmetric) m n h
@@ -63,7 +58,7 @@ find-living : (q : List ℕ) (es : List (Vec ℕ Global × Slot)) → IsStrictly
 unfolding IsStrictlySortedBy
 find-living q [] s = refl
 find-living q (e ∷ es) s = find-shown q e.0.items e.1 (living es) _ (find-living q es s.1) (λ eq. missed q e.0.items es
-    (is_equal _ eq) s.0)
+    (equal_of _ eq) s.0)
 
 both : (a b : Bool) → T a → T b → T (a && b)
 both true b p r = r
@@ -111,7 +106,7 @@ len-pairs m s = rw (len-entries (pairs m), entries-pairs m s) (length-living m.e
 -- ---- after a change of the slot of one key
 
 apart : (q key k : List ℕ) → is_eq (key_cmp q key) ≡ false → is_eq (key_cmp key k) ≡ true → is_eq (key_cmp q k) ≡ false
-apart q key k ne e = let same : key ≡ k = same_key key k (is_equal _ e) in
+apart q key k ne e = let same : key ≡ k = same_keys key k (equal_of _ e) in
     subst (λ x. is_eq (key_cmp q x) ≡ false) same ne
 
 -- m is changed to n at the key
@@ -123,9 +118,9 @@ turns_by : (key : List ℕ) (w : Option Slot) (m n : SlotMap) → UpdatesBy vec_
 unfolding KeepsOthers
 turns_by key w m n u q =
     elim (is_eq (key_cmp q key)) as (λ b. is_eq (key_cmp q key) ≡ b → slot_at n q ≡ cond b w (slot_at m q)) [
-      | true ↦ λ e. ap (slot_at n) (same_key q key (is_equal _ e)) ∙ u.1
+      | true ↦ λ e. ap (slot_at n) (same_keys q key (equal_of _ e)) ∙ u.1
       | false ↦ λ e. u.3 (λ k. is_eq (key_cmp q k.items)) (λ x y t. ap is_eq (nat_list_cmp_total.congr q x.items y.items
-          (is_equal _ t))) (λ k t. apart q key k.items e t)
+          (equal_of _ t))) (λ k t. apart q key k.items e t)
     ] refl
 
 pairs_turn : (key : List ℕ) (w : Option Slot) (m n : SlotMap) → IsInOrder m → IsInOrder n → Turns key w m n →
@@ -144,7 +139,7 @@ keeps_slots key slot m n u q h = ap is_some (u q)
 pub with_at-same : (key : List ℕ) (o : Option (List ℕ)) (m : Space) → get m key ≡ o → with_at key o m ≡ m
 with_at-same key o m e = same_space _ _ (λ q. get-with_at key o m q
     ∙ elim (is_eq (key_cmp q key)) as (λ b. is_eq (key_cmp q key) ≡ b → cond b o (get m q) ≡ get m q) [
-      | true ↦ λ h. sym e ∙ ap (get m) (sym (same_key q key (is_equal _ h)))
+      | true ↦ λ h. sym e ∙ ap (get m) (sym (same_keys q key (equal_of _ h)))
       | false ↦ λ h. refl
     ] refl)
 
@@ -197,9 +192,9 @@ turned key slot m n s t u =
     }
 
 -- the same, written through what `get_mut` lends
-pub written : (key : List ℕ) (old w slot : Slot) (m n : SlotMap) → IsInOrder m → Some old ≡ slot_at m key → w ≡ slot →
-    WritesThrough vec_cmp (λ k. key_cmp key k.items) m w n → Turned key slot m n
-written key old w slot m n s e is h =
+pub written : {old w : Slot} (key : List ℕ) (slot : Slot) (m n : SlotMap) → IsInOrder m → Some old ≡ slot_at m key →
+    w ≡ slot → WritesThrough vec_cmp (λ k. key_cmp key k.items) m w n → Turned key slot m n
+written {w = w} key slot m n s e is h =
     subst (λ x. Turned key x m n) is (turned key w m n s h.4 (h.3 (subst IsSome e refl)))
 
 -- a slot with no value shows nothing
@@ -232,11 +227,6 @@ after-shown start k None others true e same = same refl
 after-shown start k None others false e same = refl
 after-shown start k (Some v) others b e same = ap (λ x. cond x ((k, v) ∷ others) (after start others)) e
 
-is_less : (o : Ordering) → is_lt o ≡ true → o ≡ Less
-is_less Less e = refl
-is_less Equal e = cc
-is_less Greater e = cc
-
 pub living-between : (start : List ℕ) (es : List (Vec ℕ Global × Slot)) → IsStrictlySortedBy vec_cmp (keys_of es) →
     living (filter (λ e. is_lt (key_cmp start e.0.items) && true) es) ≡ after start (living es)
 unfolding IsStrictlySortedBy
@@ -247,8 +237,8 @@ living-between start (e ∷ es) s =
     elim (is_lt (key_cmp start e.0.items)) as (λ b. is_lt (key_cmp start e.0.items) ≡ b →
     living (cond (b && true) (e ∷ others) others) ≡ after start (shown e.0.items e.1 (living es))) [
       | true ↦ λ h.
-          let same =
-          after-below start (living es) (below-living start es (all_above start e.0.items es (is_less _ h) s.0)) in
+          let above = all_above start e.0.items es (less_of _ (subst T (sym h) tt)) s.0 in
+          let same = after-below start (living es) (below-living start es above) in
           ap (shown e.0.items e.1) (rest ∙ same) ∙ sym (after-shown start e.0.items e.1 (living es) true h (λ _. same))
       | false ↦ λ h. rest ∙ sym (after-shown start e.0.items e.1 (living es) false h (λ no. absurd (false≢true no)))
     ] refl
@@ -259,7 +249,7 @@ pub with_at-back : (key : List ℕ) (old new : Option (List ℕ)) (m : Space) �
 with_at-back key old new m e = same_space _ _ (λ q. get-with_at key old (with_at key new m) q
     ∙ ap (cond (eq_by_cmp key_cmp q key) old) (get-with_at key new m q)
     ∙ elim (is_eq (key_cmp q key)) as (λ b. is_eq (key_cmp q key) ≡ b → cond b old (cond b new (get m q)) ≡ get m q) [
-      | true ↦ λ h. e ∙ ap (get m) (sym (same_key q key (is_equal _ h)))
+      | true ↦ λ h. e ∙ ap (get m) (sym (same_keys q key (equal_of _ h)))
       | false ↦ λ h. refl
     ] refl)
 

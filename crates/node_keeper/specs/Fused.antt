@@ -4,8 +4,8 @@ use Rattle.slon_base.specs.Keeper.{Kept, Commits, RollsBack, is_doubt}
 use Rattle.slon_base.specs.declared.fault.KeepFault.{KeepFault}
 use Rattle.slon_base.specs.declared.fault.KeepFault.TheVariants.{Failed}
 use Rattle.node_keeper.specs.Plan.{capped}
-use Rattle.node_keeper.specs.declared.charge.Charge.{Charge}
-use Rattle.node_keeper.specs.Charges.{burnt, burnt_by_commit, is_blown, keeps, strikes, strikes_commit, bound, GoesOn}
+use Rattle.slon_base.specs.declared.charge.Charge.{Charge}
+use Rattle.slon_base.specs.Charges.{burnt, burnt_by_commit, is_blown, keeps, strikes, strikes_commit, bound, GoesOn}
 use Rattle.node_keeper.specs.declared.fuse.Fuse.{Fuse}
 
 -- what is told of a fuse, by what is told of the store that it passes calls on to
@@ -14,13 +14,21 @@ fuse_kept kept f = record {
   held = (kept f.keeper).held;
   pending = (kept f.keeper).pending;
   can_fail = bound f.charge (kept f.keeper).can_fail;
+  told = f.charge;
   faults = capped ((kept f.keeper).faults + f.own_faults);
   doubts = capped ((kept f.keeper).doubts + f.own_doubts);
 }
 
--- the same with another bound on failures to come
-abbrev pub with_left : Option ℕ → Kept → Kept
-with_left left k = record { held = k.held; pending = k.pending; can_fail = left; faults = k.faults; doubts = k.doubts }
+-- the same where it is told another charge, with this bound on failures to come
+abbrev pub told_so : Charge → Option ℕ → Kept → Kept
+told_so charge left k = record {
+  held = k.held;
+  pending = k.pending;
+  can_fail = left;
+  told = charge;
+  faults = k.faults;
+  doubts = k.doubts;
+}
 
 -- only the charge is another one
 pub record IsCharged {K : Type 0} (told : Charge) (old new : Fuse K) : Type 0 where
@@ -60,8 +68,7 @@ masked (Ok x) = Failed
 masked (Err fault) = fault
 
 -- A commit that the fuse fails: where it is to be kept, the wrapped store made it, or told why not, and else it does
--- not
--- reach the wrapped store.
+-- not reach the wrapped store.
 abbrev pub FailsCommit : {K : Type 0} → Bool → (K → Kept) → Fuse K → Fuse K → Result (Unit {0}) KeepFault → Type 0
 FailsCommit true kept old new result = (answer : Result (Unit {0}) KeepFault)
     × Commits (kept old.keeper) (kept new.keeper) answer × (result ≡ Err (masked answer))
@@ -69,7 +76,9 @@ FailsCommit false kept old new result = (result ≡ Err Failed) × (new.keeper �
 
 pub record FusesCommit {K : Type 0} (kept : K → Kept) (old new : Fuse K) (result : Result (Unit {0}) KeepFault) : Type 0
   where
-    pub burns : Burns (burnt_by_commit old.charge) old new
+    pub burns : new.charge ≡ burnt_by_commit old.charge
+    pub faults : new.own_faults ≡ (if strikes_commit old.charge
+        && is_doubt result then capped (old.own_faults + 1) else old.own_faults)
     pub goes_on : GoesOn old.charge new.charge
     pub doubts : new.own_doubts ≡ (if strikes_commit old.charge
         && is_doubt result then capped (old.own_doubts + 1) else old.own_doubts)

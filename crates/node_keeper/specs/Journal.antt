@@ -7,8 +7,8 @@ use Rattle.node_keeper.specs.Slots.{SlotMap, HasSlot, with_at}
 -- the pairs before these changes, the newest undone first
 abbrev pub undone : List Change → Space → Space
 undone [] m = m
-undone (c ∷ cs) m = with_at c.key.items c.old (undone cs m)
+undone (c ∷ cs) m = with_at c.key c.old (undone cs m)
 
 -- the keys of the first n changes have slots
 abbrev pub HaveSlots : SlotMap → List Change → ℕ → Type 0
-HaveSlots m changes n = (k : ℕ) (d : Change) → k < n → HasSlot m (slice_index_or changes k d).key.items
+HaveSlots m changes n = (k : ℕ) (d : Change) → k < n → HasSlot m (slice_index_or changes k d).key

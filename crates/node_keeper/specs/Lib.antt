@@ -1,4 +1,4 @@
-pub mod Charges
+pub mod Ahead
 pub mod FilesTold
 pub mod Fused
 pub mod Journal

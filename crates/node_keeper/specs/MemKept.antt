@@ -1,7 +1,9 @@
 -- What a store in memory tells.
-use Rattle.std.specs.Prelude.{◌≡◌, ℕ, Bool, true, false, List, [], ◌∷◌, ◌==◌, ◌||◌, Option, Some, None, slice_index_or, slice_set, if◌then◌else◌}
+use Rattle.std.specs.Prelude.{◌≡◌, ℕ, Bool, true, false, List, [], ◌∷◌, ◌==◌, ◌||◌, Option, Some, None, slice_index_or}
+use Rattle.std.specs.Prelude.{slice_set, if◌then◌else◌}
 use Rattle.std.specs.FinMap.{empty, entries}
 use Rattle.slon_base.specs.Keeper.{Space, Store, Kept}
+use Rattle.slon_base.specs.declared.charge.Charge.TheVariants.{Off}
 use Rattle.node_keeper.specs.declared.fault_plan.FaultPlan.{FaultPlan}
 use Rattle.node_keeper.specs.declared.mem_keeper.Phase.{Phase}
 use Rattle.node_keeper.specs.declared.mem_keeper.Phase.TheVariants.{Idle, Open, Torn}
@@ -28,13 +30,11 @@ IsSettled phase spaces = phase ≡ Idle → (space : ℕ) → entries (pending_s
 -- the phase after a call that failed
 abbrev pub torn : Phase → Phase
 torn Idle = Idle
-torn Open = Torn
-torn Torn = Torn
+torn others = Torn
 
 abbrev pub is_open : Phase → Bool
-is_open Idle = false
 is_open Open = true
-is_open Torn = false
+is_open others = false
 
 -- a space after a transaction that holds what was pending, or does not
 abbrev pub ended : Bool → Space × Space → Space × Space
@@ -63,6 +63,7 @@ mem_kept spaces plan phase doubts = record {
   held = Some (held_store spaces);
   pending = pending_in phase (pending_store spaces);
   can_fail = Some (left plan.fails.items plan.calls);
+  told = Off;
   faults = plan.faults;
   doubts = doubts;
 }

@@ -25,5 +25,5 @@ promised keepers place = record {
       Some (can_fail (slice_get keepers place));
 }
 
-abbrev pub shelved_of : List (Vec ℕ Global × Bool) → FaultPlan → Shelved
-shelved_of keepers plan = record { promise = promised keepers; faults = plan.faults }
+abbrev pub shelved_of : List (Vec ℕ Global × Bool) → List (Option (List ℕ) × ℕ) → FaultPlan → Shelved
+shelved_of keepers asked plan = record { promise = promised keepers; asked = Some asked; faults = plan.faults }

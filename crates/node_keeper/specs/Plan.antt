@@ -1,5 +1,6 @@
 -- Which calls fail.
-use Rattle.std.specs.Prelude.{◌≡◌, ◌≤◌, true, if◌then◌else◌, ℕ, ◌+◌, ◌==◌, ◌&&◌, ◌^◌, ◌-◌, Bool, List, nat_lt, min, count_by}
+use Rattle.std.specs.Prelude.{◌≡◌, ◌≤◌, true, if◌then◌else◌, ℕ, ◌+◌, ◌==◌, ◌&&◌, ◌^◌, ◌-◌, Bool, List, nat_lt, min}
+use Rattle.std.specs.Prelude.{count_by}
 use Rattle.std.specs.List.Sorted.{IsPermutation}
 use Rattle.std.specs.List.{list_any}
 use Rattle.slon_base.specs.Counts.{Rose}

@@ -4,4 +4,4 @@ use Rattle.slon_base.specs.Outside.{Poured}
 use Rattle.node_keeper.specs.declared.mem_sink.MemSink.{MemSink}
 
 abbrev pub poured_of : MemSink → Poured
-poured_of s = record { written = Some s.written.items; faults = s.plan.faults }
+poured_of s = record { pieces = Some s.pieces.items; faults = s.plan.faults }

@@ -1,6 +1,7 @@
 -- What is told of a store in memory.
 use Rattle.std.specs.Prelude.{ℕ, Bool, ◌&&◌, ◌||◌, not, Some, None}
 use Rattle.slon_base.specs.Keeper.{Kept, nothing}
+use Rattle.slon_base.specs.declared.charge.Charge.TheVariants.{Off}
 use Rattle.node_keeper.specs.declared.mem_keeper.MemKeeper.{MemKeeper}
 use Rattle.node_keeper.specs.MemKept.{mem_kept, is_open}
 use Rattle.node_keeper.specs.Plan.{is_due}
@@ -10,7 +11,7 @@ kept_of k = mem_kept k.spaces.items k.plan k.phase k.doubts
 
 -- an empty store of which this number of calls can fail
 abbrev pub fresh : ℕ → Kept
-fresh left = record { held = Some nothing; pending = None; can_fail = Some left; faults = 0; doubts = 0 }
+fresh left = record { held = Some nothing; pending = None; can_fail = Some left; told = Off; faults = 0; doubts = 0 }
 
 -- the next call has to fail
 abbrev pub fails_next : MemKeeper → Bool

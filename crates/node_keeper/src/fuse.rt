@@ -1,24 +1,22 @@
 // A store that passes calls on, and fails them from a call on, as it is told.
 ghost use Rattle.std.specs.Prelude.{◌≡◌, None, is_some, true, false};
 ghost use Rattle.slon_base.specs.Keeper.{Begins, Gets, GetsNext, Counts, Changes, Commits, RollsBack, put_at, del_at};
-ghost use Rattle.node_keeper.specs.Charges.{burnt, burnt_by_commit, is_blown, strikes, strikes_commit, GoesOn};
-ghost use Rattle.node_keeper.specs.Fused.{fuse_kept, with_left, IsCharged, Burns, Fuses, FusesCommit, FusesRollback, masked};
+ghost use Rattle.slon_base.specs.Charges.{burnt, burnt_by_commit, is_blown, strikes, strikes_commit, GoesOn, KeepsTold};
+ghost use Rattle.node_keeper.specs.Fused.{fuse_kept, told_so, IsCharged, Burns, Fuses, FusesCommit, FusesRollback};
+ghost use Rattle.node_keeper.specs.Fused.{masked};
 
-use crate::charge::Charge;
-use slon_base::{Bytes, KeepFault, Keeper};
+use slon_base::{Bytes, Charge, KeepFault, Keeper};
 
 /// A store that passes calls on to another one, and can be told to fail them from a call on.
 ///
 /// The calls that can fail are `begin`, `get`, `next_after`, `count`, `put`, `del`, `commit` and `rollback`. From the
-/// first
-/// one on that it fails it is blown: it fails every call, and counts each as a fault, until it is told otherwise. What
-/// it
-/// counted stays counted, whatever it is told.
+/// first one on that it fails it is blown: it fails every call, and counts each as a fault, until it is told otherwise.
+/// What it counted stays counted, whatever it is told.
 ///
 /// A commit that it fails is durable all the same if it was told to keep it: it answers `Failed` though the wrapped
-/// store
-/// made the commit, or what the wrapped store answered where that failed. Else the commit is not made. A rollback
-/// always reaches the wrapped store, so that nothing is pending afterwards. No other call that it fails does.
+/// store made the commit, or what the wrapped store answered where that failed; a want of memory is no fault. Else the
+/// commit is not made. A rollback always reaches the wrapped store, so that nothing is pending afterwards. No other
+/// call that it fails does.
 #[derive(Drop)]
 pub struct Fuse<K: Keeper> {
     /// The wrapped store.
@@ -31,7 +29,7 @@ pub struct Fuse<K: Keeper> {
 impl<K: Keeper> Fuse<K> {
     /// Passes on to this store, and fails no call.
     pub fn new(keeper: K) -> Fuse<K>
-        ensures kept { fuse_kept K.kept result ≡ K.kept keeper }
+        ensures kept { fuse_kept K.kept result ≡ told_so Charge.Off (K.kept keeper).can_fail (K.kept keeper) }
         ensures keeper { result.keeper ≡ keeper }
         ensures charge { result.charge ≡ Charge.Off }
         ensures faults { result.own_faults ≡ 0 }
@@ -51,7 +49,7 @@ impl<K: Keeper> Fuse<K> {
     /// is durable if `keep` is set, and else is not made.
     pub fn arm(&mut self, calls: u64, keep: bool)
         ensures charged { IsCharged (Charge.After calls keep) self.old self.new }
-        ensures kept { fuse_kept K.kept self.new ≡ with_left None (fuse_kept K.kept self.old) }
+        ensures kept { fuse_kept K.kept self.new ≡ told_so (Charge.After calls keep) None (fuse_kept K.kept self.old) }
     {
         self.charge = Charge::After { calls, keep };
     }
@@ -60,7 +58,7 @@ impl<K: Keeper> Fuse<K> {
     /// made.
     pub fn arm_commit(&mut self, keep: bool)
         ensures charged { IsCharged (Charge.AtCommit keep) self.old self.new }
-        ensures kept { fuse_kept K.kept self.new ≡ with_left None (fuse_kept K.kept self.old) }
+        ensures kept { fuse_kept K.kept self.new ≡ told_so (Charge.AtCommit keep) None (fuse_kept K.kept self.old) }
     {
         self.charge = Charge::AtCommit { keep };
     }
@@ -68,7 +66,7 @@ impl<K: Keeper> Fuse<K> {
     /// Fails no call from now on.
     pub fn disarm(&mut self)
         ensures charged { IsCharged Charge.Off self.old self.new }
-        ensures kept { fuse_kept K.kept self.new ≡ with_left (K.kept self.old.keeper).can_fail
+        ensures kept { fuse_kept K.kept self.new ≡ told_so Charge.Off (K.kept self.old.keeper).can_fail
             (fuse_kept K.kept self.old) }
     {
         self.charge = Charge::Off;
@@ -93,21 +91,25 @@ impl<K: Keeper> Fuse<K> {
         ensures fails { result ≡ strikes self.old.charge }
         ensures burns { Burns (burnt self.old.charge) self.old self.new }
         ensures goes_on { GoesOn self.old.charge self.new.charge }
+        ensures told { KeepsTold self.old.charge self.new.charge }
         ensures doubts { self.new.own_doubts ≡ self.old.own_doubts }
         ensures keeper { self.new.keeper ≡ self.old.keeper }
     {
         self.burn(self.charge.burnt())
     }
 
-    // Counts a commit, and says whether the fuse fails it.
+    // Lets a commit burn the charge, and says whether the fuse fails it.
     fn strikes_commit(&mut self) -> bool
         ensures fails { result ≡ strikes_commit self.old.charge }
-        ensures burns { Burns (burnt_by_commit self.old.charge) self.old self.new }
+        ensures burns { self.new.charge ≡ burnt_by_commit self.old.charge }
+        ensures faults { self.new.own_faults ≡ self.old.own_faults }
         ensures goes_on { GoesOn self.old.charge self.new.charge }
+        ensures told { KeepsTold self.old.charge self.new.charge }
         ensures doubts { self.new.own_doubts ≡ self.old.own_doubts }
         ensures keeper { self.new.keeper ≡ self.old.keeper }
     {
-        self.burn(self.charge.burnt_by_commit())
+        self.charge = self.charge.burnt_by_commit();
+        self.charge.is_blown()
     }
 }
 
@@ -202,6 +204,7 @@ impl<K: Keeper> Keeper for Fuse<K> {
             _ => KeepFault::Failed,
         };
         if fault == KeepFault::Failed {
+            self.own_faults = self.own_faults.saturating_add(1);
             self.own_doubts = self.own_doubts.saturating_add(1);
         }
         Err(fault)

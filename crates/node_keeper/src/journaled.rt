@@ -6,23 +6,26 @@ ghost use Rattle.slon_base.specs.Keeper.{after, first};
 ghost use Rattle.node_keeper.specs.Slots.{pairs};
 ghost use Rattle.node_keeper.specs.Journal.{undone, HaveSlots};
 
+use crate::ahead::Ahead;
 use crate::slots::Slots;
 use slon_base::Bytes;
 use std::alloc::{AllocError, Global};
 use std::marker::Model;
 
-/// A key that the open transaction changed, and the value that it had before.
+/// A key that the open transaction changed, the value that it had before, and whether it has none since.
 #[derive(Drop)]
 pub struct Change {
-    key: Vec<u8>,
+    key: Bytes,
     old: Option<Bytes>,
+    deletes: bool,
 }
 
-/// One space: the pairs that are pending, and the changes since what is held.
+/// One space: the pairs that are pending, the changes since what is held, and pending pairs that were read ahead.
 #[derive(Drop)]
 pub struct Journaled {
     slots: Slots,
     changes: Vec<Change>,
+    ahead: Ahead,
 }
 
 impl Model for Journaled {
@@ -33,14 +36,17 @@ impl Model for Journaled {
 
     ghost Value = { Space × Space };
 
-    ghost coded = { coded× (code (coded_list coded_ℕ) (coded_list coded_ℕ)) (code (coded_list coded_ℕ) (coded_list coded_ℕ)) };
+    ghost coded = { coded× (code (coded_list coded_ℕ) (coded_list coded_ℕ))
+        (code (coded_list coded_ℕ) (coded_list coded_ℕ)) };
 
     ghost use Rattle.node_keeper.specs.Slots.{pairs};
     ghost use Rattle.node_keeper.specs.Journal.{undone, HaveSlots};
+    ghost use Rattle.node_keeper.specs.Ahead.{IsAhead};
 
     ghost view = { λ j. (undone j.changes.items (pairs j.slots.map), pairs j.slots.map) };
 
-    ghost invariant = { λ j. HaveSlots j.slots.map j.changes.items (length j.changes.items) };
+    ghost invariant = { λ j. HaveSlots j.slots.map j.changes.items (length j.changes.items)
+        × IsAhead j.ahead.key j.ahead.pairs.items (pairs j.slots.map) };
 }
 
 impl Journaled {
@@ -51,6 +57,7 @@ impl Journaled {
         Journaled {
             slots: Slots::new(alloc),
             changes: Vec::new(alloc),
+            ahead: Ahead::new(alloc),
         }
     }
 
@@ -70,13 +77,15 @@ impl Journaled {
 
     /// Copies the first pending pair with a greater key.
     pub(crate) fn next_after(
-        &self,
+        &mut self,
         alloc: Global,
         key: &[u8],
     ) -> Result<Option<(Bytes, Bytes)>, AllocError>
-        ensures { IfOk result (λ found. found ≡ first (after key.now (entries self.now.1))) }
+        ensures next { IfOk result (λ found. found ≡ first (after key.now (entries self.old.1))) }
+        ensures same { self.new ≡ self.old }
     {
-        self.slots.next_after(alloc, key)
+        self.ahead.reach(alloc, &self.slots, key)?;
+        self.ahead.take(alloc)
     }
 
     /// Puts a value at a key. Without memory nothing is changed.
@@ -84,12 +93,18 @@ impl Journaled {
         ensures ok { OnOk result (self.new ≡ (self.old.0, insert self.old.1 key.now value.now)) }
         ensures err { OnErr result (self.new ≡ self.old) }
     {
+        self.ahead.forget();
         let value = Bytes::from_slice(alloc, value)?;
         let slot = Vec::from_slice(alloc, key)?;
-        let key = Vec::from_slice(alloc, key)?;
+        let key = Bytes::from_slice(alloc, key)?;
         self.changes.reserve(1)?;
         let old = self.slots.put(slot, value)?;
-        self.changes.push(Change { key, old }).unwrap();
+        let change = Change {
+            key,
+            old,
+            deletes: false,
+        };
+        self.changes.push(change).unwrap();
         Ok(())
     }
 
@@ -98,13 +113,19 @@ impl Journaled {
         ensures ok { OnOk result (self.new ≡ (self.old.0, remove self.old.1 key.now)) }
         ensures err { OnErr result (self.new ≡ self.old) }
     {
+        self.ahead.forget();
         if self.slots.get(key).is_none() {
             return Ok(());
         }
-        let copy = Vec::from_slice(alloc, key)?;
+        let copy = Bytes::from_slice(alloc, key)?;
         self.changes.reserve(1)?;
         let old = self.slots.set(key, None);
-        self.changes.push(Change { key: copy, old }).unwrap();
+        let change = Change {
+            key: copy,
+            old,
+            deletes: true,
+        };
+        self.changes.push(change).unwrap();
         Ok(())
     }
 
@@ -112,20 +133,24 @@ impl Journaled {
     pub(crate) fn end(&mut self, commits: bool)
         ensures { self.new ≡ (if commits then (self.old.1, self.old.1) else (self.old.0, self.old.0)) }
     {
+        self.ahead.forget();
         if !commits {
             undo(&mut self.slots, &mut self.changes);
         }
-        settle(&mut self.slots, &mut self.changes);
+        settle(&mut self.slots, &mut self.changes, commits);
     }
 }
 
-// Takes away the slots that the changes left with no value, and forgets the changes.
-fn settle(slots: &mut Slots, changes: &mut Vec<Change>)
+// Takes away the slots that the changes left with no value, and forgets the changes. After a commit only those that
+// take a pair away can have left one.
+fn settle(slots: &mut Slots, changes: &mut Vec<Change>, commits: bool)
     ensures pairs { pairs slots.new.map ≡ pairs slots.old.map }
     ensures none { changes.new.items ≡ [] }
 {
     for change in changes.as_slice() {
-        slots.sweep(change.key.as_slice());
+        if change.deletes || !commits {
+            slots.sweep(change.key.as_slice());
+        }
     }
     changes.clear();
 }
@@ -138,6 +163,6 @@ fn undo(slots: &mut Slots, changes: &mut Vec<Change>)
     for index in (0..changes.len()).rev() {
         let change = &mut changes[index];
         let old = change.old.take();
-        let _ = slots.set(change.key.as_slice(), old);
+        drop(slots.set(change.key.as_slice(), old));
     }
 }

@@ -1,7 +1,7 @@
 //! Stores in memory, and a store that passes calls on to another one and fails them from a call on, as it is told.
 #![tactic(auto)]
 
-mod charge;
+mod ahead;
 mod fault_plan;
 mod fuse;
 mod journaled;
@@ -16,4 +16,4 @@ pub use mem_files::MemFiles;
 pub use mem_keeper::MemKeeper;
 pub use mem_shelf::MemShelf;
 pub use mem_sink::MemSink;
-pub use slon_base::{Files, Keeper, Shelf, Sink};
+pub use slon_base::{Charge, Files, Keeper, Shelf, Sink};

@@ -1,5 +1,5 @@
 // Files in memory, with calls that fail as it was told.
-ghost use Rattle.std.specs.Prelude.{◌≡◌, ◌+◌, ◌^◌, ◌<◌, Some, Err, [], true, length, nat_eq, position};
+ghost use Rattle.std.specs.Prelude.{◌≡◌, ◌+◌, ◌^◌, ◌<◌, Some, None, Err, [], true, length, nat_eq, position};
 ghost use Rattle.std.specs.Cmp.Lexicographic.{pointwise};
 ghost use Rattle.node_keeper.specs.Plan.{Counted, IsFrom, is_due};
 ghost use Rattle.slon_base.specs.Outside.{Enters, ReadsOn, Leaves};
@@ -22,6 +22,8 @@ pub struct Entered {
 pub struct MemFiles {
     files: Vec<(Text, Bytes)>,
     stack: VecDeque<Entered>,
+    // The one that was left last.
+    left: Option<Entered>,
     plan: FaultPlan,
 }
 
@@ -31,12 +33,18 @@ impl MemFiles {
     /// These files, with none entered. Of a name that stands twice the first file is taken. The calls of `enter` and
     /// `read` with the numbers `fails` fail, counted from 1.
     pub fn new(alloc: Global, names: Vec<(Text, Bytes)>, fails: Vec<u64>) -> MemFiles
-        ensures told { filed_of result ≡ record { names = Some (named names.items); stack = []; faults = 0 } }
+        ensures told { filed_of result ≡ record {
+          names = Some (named names.items);
+          stack = [];
+          unread = None;
+          faults = 0;
+        } }
         ensures plan { IsFrom fails.items result.plan }
     {
         MemFiles {
             files: names,
             stack: VecDeque::new(alloc),
+            left: None,
             plan: FaultPlan::new(fails),
         }
     }
@@ -92,7 +100,7 @@ impl Files for MemFiles {
         ensures leaves { Leaves (filed_of self.old) (filed_of self.new) }
         ensures plan { self.new.plan ≡ self.old.plan }
     {
-        let _ = self.stack.pop_front();
+        self.left = self.stack.pop_front();
     }
 
     fn faults(&self) -> u64 {

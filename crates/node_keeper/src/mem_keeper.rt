@@ -1,7 +1,10 @@
 // A store in memory, with calls that fail as it was told.
-ghost use Rattle.std.specs.Prelude.{◌≡◌, ◌+◌, ◌≤◌, Some, None, Ok, Err, vec_len, map, slice_index_or, true, false, OnOk, OnErr, IfErr, IfOk, is_err, is_some, length, not, ◌&&◌, ◌||◌, min, ◌-◌, ◌^◌, if◌then◌else◌};
-ghost use Rattle.std.specs.FinMap.{empty};
+ghost use Rattle.std.specs.Prelude.{◌≡◌, ◌+◌, ◌≤◌, Some, None, Ok, Err, vec_len, map, slice_index_or, true, false};
+ghost use Rattle.std.specs.Prelude.{OnOk, OnErr, IfErr, IfOk, is_err, is_some, length, not, ◌&&◌, ◌||◌, min, ◌-◌, ◌^◌};
+ghost use Rattle.std.specs.Prelude.{if◌then◌else◌};
+ghost use Rattle.std.specs.FinMap.{empty, entries};
 ghost use Rattle.slon_base.specs.Keeper.{Begins, Gets, GetsNext, Counts, Changes, Commits, RollsBack, put_at, del_at};
+ghost use Rattle.slon_base.specs.Keeper.{after, first};
 ghost use Rattle.node_keeper.specs.Plan.{Counted, CountsCall, IsFrom, capped, left};
 ghost use Rattle.node_keeper.specs.MemKept.{IsSettled, IsTracked, torn, is_open, ended, ended_in};
 
@@ -157,7 +160,7 @@ impl Keeper for MemKeeper {
         if self.strikes() {
             return Err(KeepFault::Failed);
         }
-        Ok(self.space(space).next_after(self.alloc, key)?)
+        Ok(next_in(self.spaces.as_mut_slice(), self.alloc, space, key)?)
     }
 
     fn count(&mut self, space: u8) -> Result<u64, KeepFault>
@@ -258,4 +261,19 @@ fn end_touched(spaces: &mut [Journaled], touched: &[u8], commits: bool)
     for space in touched {
         spaces[*space as usize].end(commits);
     }
+}
+
+// Copies the first pending pair of a space with a greater key.
+fn next_in(
+    spaces: &mut [Journaled],
+    alloc: Global,
+    space: u8,
+    key: &[u8],
+) -> Result<Option<(Bytes, Bytes)>, AllocError>
+    requires { length spaces.old ≡ 256 }
+    ensures next { IfOk result (λ found. found ≡ first (after key.now (entries (slice_index_or spaces.old space
+        (empty, empty)).1))) }
+    ensures same { spaces.new ≡ spaces.old }
+{
+    spaces[space as usize].next_after(alloc, key)
 }

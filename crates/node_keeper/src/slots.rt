@@ -1,17 +1,21 @@
 // The slots of one space: what a transaction takes away keeps its slot until the transaction ends, so that it can be
 // put back without memory.
-ghost use Rattle.std.specs.Prelude.{◌≡◌, true, is_some, ℕ, List, Some, None, IfOk, OnOk, OnErr};
+ghost use Rattle.std.specs.Prelude.{◌≡◌, [], true, is_some, ℕ, List, Some, None, IfOk, OnOk, OnErr};
 ghost use Rattle.std.specs.Option.{option_map};
 ghost use Rattle.std.specs.FinMap.{empty, get, len, entries, insert};
 ghost use Rattle.std.proofs.Props.{props};
-ghost use Rattle.slon_base.specs.Keeper.{after, first};
+ghost use Rattle.slon_base.specs.Keeper.{after};
+ghost use Rattle.node_keeper.specs.Ahead.{IsAhead};
 ghost use Rattle.node_keeper.specs.Slots.{IsInOrder, HasSlot, pairs, slot_at, with_at};
 
 use slon_base::Bytes;
 use std::alloc::{AllocError, Global};
-use std::collections::BTreeMap;
+use std::collections::{BTreeMap, VecDeque};
 use std::mem;
 use std::ops::Bound;
+
+/// How many pairs are copied at once.
+const AHEAD_LEN: usize = 32;
 
 /// Keys in the order of their bytes, each with a value, or with none where that was taken away.
 #[derive(Drop)]
@@ -51,22 +55,27 @@ impl Slots {
         self.live
     }
 
-    /// Copies the first pair with a greater key.
-    pub(crate) fn next_after(
+    /// Copies the first pairs with greater keys: some, where there are any.
+    pub(crate) fn pairs_after(
         &self,
         alloc: Global,
         key: &[u8],
-    ) -> Result<Option<(Bytes, Bytes)>, AllocError>
-        ensures { IfOk result (λ found. found ≡ first (after key.now (entries (pairs self.now.map)))) }
+    ) -> Result<VecDeque<(Bytes, Bytes)>, AllocError>
+        ensures ahead { IfOk result (λ found. IsAhead key.now found.items (pairs self.now.map)) }
+        ensures none { IfOk result (λ found. found.items ≡ [] → after key.now (entries (pairs self.now.map)) ≡ []) }
     {
         let start = Vec::from_slice(alloc, key)?;
+        let mut found = VecDeque::with_capacity(alloc, AHEAD_LEN)?;
         for (key, slot) in self.map.range((Bound::Excluded(start), Bound::Unbounded)) {
             if let Some(value) = slot {
                 let key = Bytes::from_slice(alloc, key.as_slice())?;
-                return Ok(Some((key, Bytes::from_slice(alloc, value.as_slice())?)));
+                found.push_back((key, Bytes::from_slice(alloc, value.as_slice())?))?;
+                if found.len() >= AHEAD_LEN {
+                    return Ok(found);
+                }
             }
         }
-        Ok(None)
+        Ok(found)
     }
 
     /// Puts a value at a key and answers the one that was there. Without memory nothing is changed.

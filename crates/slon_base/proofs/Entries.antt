@@ -1,5 +1,6 @@
 -- A tree's entries, with their keys as bytes, are a finite map's.
-use Rattle.std.proofs.Common.{◌≡◌, ℕ, suc, Bool, true, false, cond, List, [], ◌∷◌, length, Option, None, T, refl, true≢false, sym, ap, subst, ◌∙◌}
+use Rattle.std.proofs.Common.{◌≡◌, ℕ, suc, Bool, true, false, cond, List, [], ◌∷◌, length, Option, None, T, refl}
+use Rattle.std.proofs.Common.{true≢false, sym, ap, subst, ◌∙◌}
 use Rattle.std.specs.Global.{Vec}
 use Rattle.std.specs.declared.cmp.Ordering.{Ordering}
 use Rattle.std.specs.declared.cmp.Ordering.TheVariants.{Less, Equal, Greater}
@@ -9,8 +10,13 @@ use Rattle.std.specs.Cmp.{alike_right}
 use Rattle.std.specs.Cmp.Lexicographic.{slice_cmp, nat_list_cmp_total}
 use Rattle.std.specs.Map.{lookup, remove_entry}
 use Rattle.std.specs.BTreeMap.{insert_entry}
-use Rattle.std.specs.FinMap.{get, insert, empty, entries, len, len-entries, empty_of_len, from_sorted, get-from_sorted, entries-from_sorted, entries-insert, same_entries_map, same_map, remove, get-remove, slice_cmp-IsAntisymmetric, nat_cmp-IsAntisymmetric}
-use Rattle.std.specs.FinMap.Entries.{find, put, is_sorted, below_all, where_key, by_order, is_sorted-put, is_sorted-where_key, find-where_key}
+use Rattle.std.specs.FinMap.{get, insert, empty, entries, len, len-entries, empty_of_len, from_sorted, get-from_sorted}
+use Rattle.std.specs.FinMap.{entries-from_sorted, entries-insert, same_entries_map, same_map, remove, get-remove}
+use Rattle.std.specs.FinMap.{slice_cmp-IsAntisymmetric, nat_cmp-IsAntisymmetric}
+use Rattle.std.specs.FinMap.Entries.{find, put, is_sorted, below_all, where_key, by_order, is_sorted-put}
+use Rattle.std.specs.FinMap.Entries.{is_sorted-where_key, find-where_key}
+use Rattle.slon_lemmas.proofs.Keys.{less_of}
+use Rattle.slon_lemmas.proofs.Tests.{front_of, back_of}
 use Rattle.slon_base.specs.Keeper.{key_cmp}
 use Rattle.slon_base.specs.ByteMap.{pairs}
 
@@ -88,19 +94,6 @@ all_stay {V} q first (e ∷ es) same below =
     (where_key key_cmp (λ x. not (is_eq (key_cmp q x))) es)) (nat_list_cmp_total.congr q first e.0 same
     ∙ less_of (key_cmp first e.0) (front_of _ _ below))
     ∙ ap (λ (rest : List (List ℕ × V)). e ∷ rest) (all_stay q first es same (back_of _ _ below))
-  where
-    less_of : (o : Ordering) → T (is_lt o) → o ≡ Less
-    less_of Less t = refl
-    less_of Equal t = absurd t
-    less_of Greater t = absurd t
-
-    front_of : (a b : Bool) → T (a && b) → T a
-    front_of true b t = tt
-    front_of false b t = absurd t
-
-    back_of : (a b : Bool) → T (a && b) → T b
-    back_of true b t = t
-    back_of false b t = absurd t
 
 removed-pairs : {V : Type 0} (q : List ℕ) (es : List (Vec ℕ × V)) → T (is_sorted key_cmp (pairs es)) →
     pairs (remove_entry (λ k. is_eq (slice_cmp nat_cmp q k.items)) es) ≡ where_key key_cmp
@@ -117,14 +110,6 @@ removed-pairs {V} q (e ∷ es) sorted =
       | Greater ↦ λ is. ap (λ (rest : List (List ℕ × V)). (e.0.items, e.1) ∷ rest)
           (removed-pairs q es (back_of _ _ sorted))
     ] refl
-  where
-    front_of : (a b : Bool) → T (a && b) → T a
-    front_of true b t = tt
-    front_of false b t = absurd t
-
-    back_of : (a b : Bool) → T (a && b) → T b
-    back_of true b t = t
-    back_of false b t = absurd t
 
 pub in_order-remove : {V : Type 0} (q : List ℕ) (es : List (Vec ℕ × V)) → IsInOrder es →
     IsInOrder (remove_entry (λ k. is_eq (slice_cmp nat_cmp q k.items)) es)

@@ -1,2 +1,4 @@
+pub mod Charging
 pub mod Entries
+pub mod Order
 pub mod Spelled

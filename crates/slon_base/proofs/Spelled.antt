@@ -1,8 +1,10 @@
 -- No spelling begins another, so what is spelled is read back, whatever follows it.
-use Rattle.std.proofs.Common.{◌≡◌, ℕ, ◌+◌, ◌^◌, ◌<◌, ◌≤◌, List, ◌++◌, length, get_or, take, drop, refl, sym, ap, ◌∙◌, append_assoc, arith, inl, inr}
+use Rattle.std.proofs.Common.{◌≡◌, ℕ, ◌+◌, ◌^◌, ◌<◌, ◌≤◌, List, ◌++◌, length, get_or, take, drop, refl, sym, ap, ◌∙◌}
+use Rattle.std.proofs.Common.{append_assoc, arith, inl, inr}
 use Rattle.std.specs.Int.{w32, w64, from_be_bytes}
 use Rattle.std.proofs.lemmas.Bool.{cases_lt}
-use Rattle.std.proofs.lemmas.List.{take_at, drop_at, take-append-drop, length-append, length-take, get_or-take, get_or_past}
+use Rattle.std.proofs.lemmas.List.{take_at, drop_at, take-append-drop, length-append, length-take, get_or-take}
+use Rattle.std.proofs.lemmas.List.{get_or_past}
 use Rattle.std.proofs.lemmas.Nat.{be_bytes_4, be_bytes_8, from_be_bytes-to_be_bytes_4, from_be_bytes-to_be_bytes_8}
 use Rattle.slon_base.specs.Codec.{number_bytes, count_bytes, text_bytes, IsShortText}
 
@@ -69,20 +71,24 @@ pub length-text_bytes : (t : List ℕ) → length (text_bytes t) ≡ 4 + length 
 unfolding text_bytes
 length-text_bytes t = length-append (count_bytes (length t)) t ∙ ap (λ n. n + length t) (length-count_bytes (length t))
 
+-- a list by its front
+front_is : (k : ℕ) (bytes front : List ℕ) → take k bytes ≡ front → bytes ≡ front ++ drop k bytes
+front_is k bytes front e = sym (take-append-drop k bytes) ∙ ap (λ l. l ++ drop k bytes) e
+
 -- what eight bytes at the front spell
 pub number_at-is : (bytes : List ℕ) (n : ℕ) → IsBytes bytes → 8 ≤ length bytes → n ≡ from_be_bytes w64 (take 8 bytes) →
     bytes ≡ number_bytes n ++ drop 8 bytes
 unfolding number_bytes
 number_at-is bytes n fits long is =
-    sym (take-append-drop 8 bytes) ∙ ap (λ front. front ++ drop 8 bytes)
-    (sym (be_bytes_8 (take 8 bytes) n (omega (arith, length-take 8 bytes)) (IsBytes-take 8 bytes fits) is))
+    let eight = be_bytes_8 (take 8 bytes) n (omega (arith, length-take 8 bytes)) (IsBytes-take 8 bytes fits) is in
+    front_is 8 bytes (number_bytes n) (sym eight)
 
 -- what four bytes at the front spell
 pub count_at-is : (bytes : List ℕ) (n : ℕ) → IsBytes bytes → 4 ≤ length bytes → n ≡ from_be_bytes w32 (take 4 bytes) →
     bytes ≡ count_bytes n ++ drop 4 bytes
 unfolding count_bytes
 count_at-is bytes n fits long is =
-    sym (take-append-drop 4 bytes) ∙ ap (λ front. front ++ drop 4 bytes)
+    front_is 4 bytes (count_bytes n)
     (sym (be_bytes_4 (take 4 bytes) n (omega (arith, length-take 4 bytes)) (IsBytes-take 4 bytes fits) is))
 
 -- a text begins with its count

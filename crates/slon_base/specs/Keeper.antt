@@ -1,11 +1,14 @@
 -- What a store holds, and what each of its calls does.
-use Rattle.std.specs.Prelude.{◌≡◌, ◌⊎◌, ℕ, ◌≤◌, ◌==◌, if◌then◌else◌, Bool, true, false, List, [], ◌∷◌, Option, Some, None, Result, Ok, Err, IfOk, OnOk, IsErrOf, unwrap_or, is_some, suc}
+use Rattle.std.specs.Prelude.{◌≡◌, ◌⊎◌, ℕ, ◌≤◌, ◌==◌, if◌then◌else◌, Bool, true, false, List, [], ◌∷◌, Option, Some}
+use Rattle.std.specs.Prelude.{None, Result, Ok, Err, IfOk, OnOk, IsErrOf, unwrap_or, is_some, suc}
 use Rattle.std.specs.Option.{option_map}
 use Rattle.std.specs.declared.cmp.Ordering.{Ordering}
 use Rattle.std.specs.Ordering.{nat_cmp, is_lt}
 use Rattle.std.specs.Cmp.Lexicographic.{slice_cmp}
 use Rattle.std.specs.FinMap.{FinMap, get, insert, remove, entries, empty, len}
 use Rattle.slon_base.specs.Counts.{Rose, Within}
+use Rattle.slon_base.specs.Charges.{KeepsTold}
+use Rattle.slon_base.specs.declared.charge.Charge.{Charge}
 use Rattle.slon_base.specs.declared.fault.KeepFault.{KeepFault}
 use Rattle.slon_base.specs.declared.fault.KeepFault.TheVariants.{Failed, NoMemory}
 
@@ -40,6 +43,8 @@ pub record Kept : Type 0 where
   pub pending : Option (Option Store)
   -- at most how many calls can still fail, where that is told
   pub can_fail : Option ℕ
+  -- which calls it was told to fail on purpose
+  pub told : Charge
   pub faults : ℕ
   pub doubts : ℕ
 
@@ -64,10 +69,13 @@ is_doubt (Ok x) = false
 is_doubt (Err Failed) = true
 is_doubt (Err NoMemory) = false
 
--- a failure has a cause: a count rose, and one failure fewer is to come
+-- A failure has a cause: a count rose, and one failure fewer is to come. A call that does not fail counts no fault.
+-- What the store was told to fail goes on.
 pub record HasCause {T : Type 0} (old new : Kept) (result : Result T KeepFault) : Type 0 where
   pub later : old.faults ≤ new.faults
   pub failed : IsErrOf result Failed → Rose old.faults new.faults
+  pub quiet : is_doubt result ≡ false → new.faults ≡ old.faults
+  pub told : KeepsTold old.told new.told
   pub left : Within old.can_fail (one_more result new.can_fail)
 
 -- a read gives what P says of what it sees, and changes nothing

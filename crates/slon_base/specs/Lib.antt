@@ -1,6 +1,10 @@
 pub mod ByteMap
+pub mod Charges
 pub mod Codec
+pub mod Compact
 pub mod Counts
+pub mod Faults
+pub mod Few
 pub mod Keeper
 pub mod Outside
 pub mod Shelf

@@ -1,5 +1,7 @@
 -- Files and the output, and what each of their calls does.
-use Rattle.std.specs.Prelude.{◌≡◌, ℕ, ◌≤◌, List, [], ◌∷◌, ◌++◌, length, take, drop, Option, Some, None, Result, IfOk, OnErr, IsErrOf, OnOk, Bool, true, false}
+use Rattle.std.specs.Prelude.{◌≡◌, ℕ, ◌≤◌, List, [], ◌∷◌, ◌++◌, length, take, drop, Option, Some, None, Result, IfOk}
+use Rattle.std.specs.Prelude.{OnErr, IsErrOf, OnOk, Bool, true, false}
+use Rattle.std.specs.List.{concat}
 use Rattle.std.specs.Option.{option_map}
 use Rattle.slon_base.specs.Counts.{Rose}
 use Rattle.slon_base.specs.declared.fault.OutFault.{OutFault}
@@ -11,10 +13,12 @@ pub record Tells {T : Type 0} (old new : ℕ) (result : Result T OutFault) : Typ
   pub failed : IsErrOf result Failed → Rose old new
 
 -- Files: what each name holds, where that is told; what is left of each entered file, the one entered last first,
--- with None where that is not told; and the count of faults.
+-- with None where that is not told; what was left of the file that was left last, where that is told; and the count of
+-- faults.
 pub record Filed : Type 0 where
   pub names : Option (List ℕ → Option (List ℕ))
   pub stack : List (Option (List ℕ))
+  pub unread : Option (List ℕ)
   pub faults : ℕ
 
 -- what is left of a file that is entered now
@@ -42,6 +46,7 @@ Entered name old stack false = (stack ≡ old.stack) × HasNoFile old.names name
 pub record Enters (name : List ℕ) (old new : Filed) (result : Result Bool OutFault) : Type 0 where
   pub cause : Tells old.faults new.faults result
   pub names : new.names ≡ old.names
+  pub unread : new.unread ≡ old.unread
   pub entered : IfOk result (Entered name old new.stack)
   pub failed : OnErr result (new.stack ≡ old.stack)
 
@@ -59,28 +64,39 @@ top (left ∷ others) = left
 pub record ReadsOn (into : List ℕ) (old new : Filed) (result : Result ℕ OutFault) : Type 0 where
   pub cause : Tells old.faults new.faults result
   pub names : new.names ≡ old.names
+  pub unread : new.unread ≡ old.unread
   pub depth : length new.stack ≡ length old.stack
   pub others : drop 1 new.stack ≡ drop 1 old.stack
+  pub failed : OnErr result (new.stack ≡ old.stack)
   pub count : IfOk result (λ n. n ≤ length into)
   pub bytes : IfOk result (λ n. Reads into n (top old.stack) (top new.stack))
 
 pub record Leaves (old new : Filed) : Type 0 where
   pub names : new.names ≡ old.names
   pub stack : new.stack ≡ drop 1 old.stack
+  pub unread : new.unread ≡ top old.stack
   pub faults : new.faults ≡ old.faults
 
--- The output: what was written, where that is told, and the count of faults.
+-- The output: the pieces that were written, in order, where that is told, and the count of faults.
 pub record Poured : Type 0 where
-  pub written : Option (List ℕ)
+  pub pieces : Option (List (List ℕ))
   pub faults : ℕ
 
--- a part of the piece was written
-abbrev pub WritesPart : List ℕ → Option (List ℕ) → Option (List ℕ) → Type 0
+-- the bytes that were written
+abbrev pub written : Poured → Option (List ℕ)
+written p = option_map concat p.pieces
+
+-- one more piece was written
+abbrev pub with_piece : List ℕ → Option (List (List ℕ)) → Option (List (List ℕ))
+with_piece piece pieces = option_map (λ before. before ++ piece ∷ []) pieces
+
+-- a first part of the piece was written
+abbrev pub WritesPart : List ℕ → Option (List (List ℕ)) → Option (List (List ℕ)) → Type 0
 WritesPart piece None after = Unit {0}
-WritesPart piece (Some before) after = (n : ℕ) × (n ≤ length piece) × (after ≡ Some (before ++ take n piece))
+WritesPart piece (Some before) after = (n : ℕ) × (n ≤ length piece) × (after ≡ Some (before ++ take n piece ∷ []))
 
 pub record Writes (piece : List ℕ) (old new : Poured) (result : Result (Unit {0}) OutFault) : Type 0 where
   pub cause : Tells old.faults new.faults result
-  pub ok : OnOk result (new.written ≡ option_map (λ before. before ++ piece) old.written)
-  pub failed : IsErrOf result Failed → WritesPart piece old.written new.written
-  pub no_memory : IsErrOf result NoMemory → new.written ≡ old.written
+  pub ok : OnOk result (new.pieces ≡ with_piece piece old.pieces)
+  pub failed : IsErrOf result Failed → WritesPart piece old.pieces new.pieces
+  pub no_memory : IsErrOf result NoMemory → new.pieces ≡ old.pieces

@@ -1,13 +1,14 @@
 // Bytes of a key or a value, seen as their list.
 ghost use Rattle.std.specs.Prelude.{◌≡◌, IfOk};
 
+use crate::compact::Compact;
 use std::alloc::{AllocError, Global};
 use std::marker::Model;
 
-/// Bytes of their own. Contracts see them as a list.
+/// Bytes of their own, few of them with no allocation. Contracts see them as a list.
 #[derive(Debug, Drop)]
 pub struct Bytes {
-    inner: Vec<u8>,
+    inner: Compact,
 }
 
 impl Model for Bytes {
@@ -15,7 +16,9 @@ impl Model for Bytes {
 
     ghost Value = { List ℕ };
 
-    ghost view = { λ b. b.inner.items };
+    ghost use Rattle.slon_base.specs.Compact.{bytes_at};
+
+    ghost view = { λ b. bytes_at b.inner };
 }
 
 impl Bytes {
@@ -24,7 +27,7 @@ impl Bytes {
         ensures { IfOk result (λ b. b ≡ bytes.now) }
     {
         Ok(Bytes {
-            inner: Vec::from_slice(alloc, bytes)?,
+            inner: Compact::from_slice(alloc, bytes)?,
         })
     }
 
@@ -32,7 +35,9 @@ impl Bytes {
     pub fn from_vec(bytes: Vec<u8>) -> Bytes
         ensures { result ≡ bytes.items }
     {
-        Bytes { inner: bytes }
+        Bytes {
+            inner: Compact::Heap(bytes),
+        }
     }
 
     /// The bytes.

@@ -61,6 +61,30 @@ pub enum Halt {
     NoMemory,
 }
 
+impl KeepFault {
+    ghost use Rattle.std.specs.Prelude.{◌≡◌};
+    ghost use Rattle.slon_base.specs.Faults.{number_of_keep};
+
+    /// Its number.
+    pub fn number(self) -> u8
+        ensures { result ≡ number_of_keep self }
+    {
+        self as u8
+    }
+}
+
+impl RowFault {
+    ghost use Rattle.std.specs.Prelude.{◌≡◌};
+    ghost use Rattle.slon_base.specs.Faults.{number_of_row};
+
+    /// Its number.
+    pub fn number(self) -> u8
+        ensures { result ≡ number_of_row self }
+    {
+        self as u8
+    }
+}
+
 impl From<AllocError> for KeepFault {
     ghost use Rattle.std.specs.Prelude.{◌≡◌};
     ghost use Rattle.slon_base.specs.declared.fault.KeepFault.TheVariants.{NoMemory};

@@ -6,7 +6,8 @@ use crate::OutFault;
 
 /// Named files. An entered file is read in pieces from its front.
 pub trait Files: Drop {
-    /// What each name holds where that is told, what is left of each entered file, and how often a call failed.
+    /// What each name holds where that is told, what is left of each file that is entered and of the one that was left
+    /// last, and how often a call failed.
     ghost filed: { Self → Filed };
 
     /// Enters the file of this name, or answers `false` where no file has it.

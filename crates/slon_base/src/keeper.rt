@@ -1,6 +1,8 @@
 // The store of one database, and the shelf that gives such stores.
 ghost use Rattle.std.specs.Prelude.{◌≡◌, true, false, is_some};
-ghost use Rattle.slon_base.specs.Keeper.{Kept, Begins, Gets, GetsNext, Counts, Changes, Commits, RollsBack, put_at, del_at};
+ghost use Rattle.slon_base.specs.Keeper.{Kept, Begins, Gets, GetsNext, Counts, Changes, Commits, RollsBack, put_at};
+ghost use Rattle.slon_base.specs.Keeper.{del_at};
+ghost use Rattle.std.specs.Option.{option_map};
 ghost use Rattle.slon_base.specs.Shelf.{Shelved, Gives};
 
 use crate::{Bytes, KeepFault, OutFault};
@@ -61,13 +63,14 @@ pub trait Shelf: Drop {
     /// The stores that it gives.
     type Store: Keeper;
 
-    /// What is told of the stores to come, how many were given, and how often a call failed.
+    /// What is told of the stores to come, for which stores it was asked, and how often a call failed.
     ghost shelved: { Self → Shelved };
 
     /// The store of a place, in the folder `store` where there is one. Places are 0, 1, 2, .. in the order of the
     /// calls.
     fn give(&mut self, store: Option<&[u8]>, place: u32) -> Result<Self::Store, OutFault>
-        ensures { Gives place Self.Store.kept (shelved self.old) (shelved self.new) result };
+        ensures { Gives (option_map (λ folder. folder.now) store.entry) place Self.Store.kept
+            (shelved self.old) (shelved self.new) result };
 
     /// How often a call failed, up to the last value of a `u64`.
     fn faults(&self) -> u64

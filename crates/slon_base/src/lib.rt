@@ -3,20 +3,26 @@
 
 mod byte_map;
 mod bytes;
+mod charge;
+mod compact;
 mod fault;
+mod few;
 mod files;
 mod keeper;
 mod many;
 mod row;
 mod sink;
 mod text;
+mod text_list;
 
 pub use byte_map::ByteMap;
 pub use bytes::Bytes;
+pub use charge::Charge;
 pub use fault::{Halt, KeepFault, OutFault, RowFault};
 pub use files::Files;
 pub use keeper::{Keeper, Shelf};
 pub use many::Many;
 pub use row::{RowIn, RowOut, STORED_LIMIT};
 pub use sink::Sink;
-pub use text::{Text, TextList};
+pub use text::Text;
+pub use text_list::TextList;

@@ -1,5 +1,5 @@
 // A list of values, seen as the list of what they are seen as.
-ghost use Rattle.std.specs.Prelude.{◌≡◌, ◌++◌, [], ◌∷◌, length, OnOk, OnErr};
+ghost use Rattle.std.specs.Prelude.{◌≡◌, ◌++◌, [], ◌∷◌, length, IfOk, OnOk, OnErr};
 
 use std::alloc::{AllocError, Global};
 use std::marker::Model;
@@ -26,6 +26,15 @@ impl<X: Drop> Many<X> {
         Many {
             inner: Vec::new(alloc),
         }
+    }
+
+    /// An empty list with room for this many values.
+    pub fn with_capacity(alloc: Global, capacity: usize) -> Result<Many<X>, AllocError>
+        ensures { IfOk result (λ l. l ≡ []) }
+    {
+        Ok(Many {
+            inner: Vec::with_capacity(alloc, capacity)?,
+        })
     }
 
     /// The values in order.

@@ -1,7 +1,9 @@
 // Rows are spelled part by part. What was written is read back, whatever follows, and nothing else is read.
-ghost use Rattle.std.specs.Prelude.{◌≡◌, ◌<◌, ◌≤◌, ◌^◌, ◌++◌, [], ◌∷◌, ℕ, List, length, IfOk, IfErr, OnOk, OnErr, IfSome, IfNone, IsOk, ◌↔◌, Ok, Err};
+ghost use Rattle.std.specs.Prelude.{◌≡◌, ◌<◌, ◌≤◌, ◌^◌, ◌++◌, [], ◌∷◌, ℕ, List, length, IfOk, IfErr, OnOk, OnErr};
+ghost use Rattle.std.specs.Prelude.{IfSome, IfNone, IsOk, ◌↔◌, Ok, Err};
 ghost use Rattle.std.specs.Str.{IsUtf8};
-ghost use Rattle.slon_base.specs.Codec.{number_bytes, count_bytes, text_bytes, IsNoByte, IsNoNumber, IsNoCount, IsNoText, IsShortText, MatchRead};
+ghost use Rattle.slon_base.specs.Codec.{number_bytes, count_bytes, text_bytes, IsNoByte, IsNoNumber, IsNoCount};
+ghost use Rattle.slon_base.specs.Codec.{IsNoText, IsShortText, MatchRead};
 ghost use Rattle.slon_base.specs.declared.fault.RowFault.TheVariants.{Trailing};
 
 use crate::{Bytes, RowFault, Text};
@@ -10,6 +12,9 @@ use std::marker::Model;
 
 /// The greatest number that a row holds.
 pub const STORED_LIMIT: u64 = 9_223_372_036_854_775_807;
+
+/// How many bytes a count has.
+const COUNT_LEN: usize = 4;
 
 /// A row that is being written. Contracts see its bytes so far.
 #[derive(Debug, Drop)]
@@ -62,6 +67,7 @@ impl RowOut {
         ensures err { OnErr result (self.new ≡ self.old) }
     {
         let start = self.inner.len();
+        self.inner.reserve(COUNT_LEN + text.len())?;
         self.count(text.len() as u32)?;
         if let Err(error) = self.inner.extend_from_slice(text) {
             self.inner.truncate(start);

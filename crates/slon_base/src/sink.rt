@@ -6,7 +6,7 @@ use crate::OutFault;
 
 /// The output of a session.
 pub trait Sink: Drop {
-    /// What was written where that is told, and how often a call failed.
+    /// The pieces that were written where that is told, and how often a call failed.
     ghost poured: { Self → Poured };
 
     /// Writes the piece. Where that fails, a prefix of it was written; without memory nothing was.

@@ -1,24 +1,29 @@
-// Texts are UTF-8 and seen as their bytes; a list of texts is seen as the list of these.
+// Texts are UTF-8 and seen as their bytes.
 ghost use Rattle.std.specs.Prelude.{◌≡◌, IfOk, MatchOption, string_bytes};
 ghost use Rattle.std.specs.Str.{IsUtf8};
 
-use crate::Many;
+use crate::compact::Compact;
 use std::alloc::{AllocError, Global};
 use std::marker::Model;
 use std::str;
 
-/// A text of its own. Contracts see it as its bytes.
+/// A text of its own, a short one with no allocation. Contracts see it as its bytes.
 #[derive(Debug, Drop)]
 pub struct Text {
-    inner: String,
+    inner: Compact,
 }
 
 impl Model for Text {
-    ghost use Rattle.std.specs.Prelude.{List, ℕ, string_bytes};
+    ghost use Rattle.std.specs.Prelude.{◌≡◌, List, ℕ, true};
+    ghost use Rattle.std.specs.Str.{is_utf8};
 
     ghost Value = { List ℕ };
 
-    ghost view = { λ t. string_bytes t.inner };
+    ghost use Rattle.slon_base.specs.Compact.{bytes_at};
+
+    ghost view = { λ t. bytes_at t.inner };
+
+    ghost invariant = { λ t. is_utf8 (bytes_at t.inner) ≡ true };
 }
 
 impl Text {
@@ -27,7 +32,7 @@ impl Text {
         ensures { IfOk result (λ t. t ≡ text.now) }
     {
         Ok(Text {
-            inner: String::from_str(alloc, text)?,
+            inner: Compact::from_slice(alloc, text.as_bytes())?,
         })
     }
 
@@ -35,7 +40,9 @@ impl Text {
     pub fn from_string(text: String) -> Text
         ensures { result ≡ string_bytes text }
     {
-        Text { inner: text }
+        Text {
+            inner: Compact::Heap(text.into_bytes()),
+        }
     }
 
     /// The text of these bytes, or `None` exactly where they are not UTF-8.
@@ -61,7 +68,7 @@ impl Text {
         ensures value { result.now ≡ self.now }
         ensures text { IsUtf8 self.now }
     {
-        self.inner.as_str()
+        unsafe { str::from_utf8_unchecked(self.inner.as_slice()) }
     }
 
     /// The bytes of the text.
@@ -69,9 +76,6 @@ impl Text {
         ensures value { result.now ≡ self.now }
         ensures text { IsUtf8 self.now }
     {
-        self.inner.as_str().as_bytes()
+        self.inner.as_slice()
     }
 }
-
-/// A list of texts. Contracts see it as the list of their bytes.
-pub type TextList = Many<Text>;

@@ -1,16 +1,18 @@
 -- What ended stays ended, so that later snapshots see it.
-use Rattle.std.proofs.Common.{◌≡◌, ℕ, ◌+◌, ◌<◌, ◌≤◌, true, false, cond, List, [], ◌∷◌, ◌++◌, Bool, Option, Some, is_some, refl, sym, ap, subst, ◌∙◌, arith, ◌⊎◌, inl, inr}
-use Rattle.std.specs.Prelude.{◌==◌, ◌||◌, ◌&&◌, not, nat_lt}
+use Rattle.std.proofs.Common.{◌≡◌, ℕ, ◌<◌, ◌≤◌, true, false, cond, List, [], ◌∷◌, Bool, Some}
+use Rattle.std.proofs.Common.{refl, sym, ap, subst, ◌∙◌, arith, inl, inr}
+use Rattle.std.specs.Prelude.{◌==◌, ◌||◌, not, nat_lt}
 use Rattle.std.specs.Str.{bytes_eq}
 use Rattle.std.proofs.lemmas.Bool.{false≢true, false_from_ne_true, lt-ltb, ltb-true, eqb-true, eq-eqb, or_cases}
 use Rattle.slon_model.specs.declared.numbering.Numbering.{Numbering}
 use Rattle.slon_model.specs.declared.numbering.Numbering.TheVariants.{Xids, Actions}
-use Rattle.slon_model.specs.Names.{Named, find_named, put_named, without}
+use Rattle.slon_model.specs.Names.{find_named, put_named}
 use Rattle.slon_model.specs.Rows.{member}
 use Rattle.slon_model.specs.Snapshots.{Covers, first_or, Rising}
 use Rattle.slon_model.specs.Tasks.{Task}
 use Rattle.slon_model.specs.Place.{Place, open_xids, taken, founded, raised}
-use Rattle.slon_model.specs.Moves.{Move, Stays, Founds, Tables, Begins, Writes, Commits, Aborts, Falls, Rises, prepared, moved, begun, done}
+use Rattle.slon_model.specs.Moves.{Move, Founds, Begins, Writes, Commits, Aborts, Falls, Rises, prepared}
+use Rattle.slon_model.specs.Moves.{moved, begun, done}
 use Rattle.slon_model.specs.Deciding.{Choice, place_by}
 use Rattle.slon_model.specs.World.{World, stand, Step, Grants, Denies, Misses, Asks, Happening, Leads}
 use Rattle.slon_model.proofs.Names.{bytes_same, found_behind, put_found, put_other, all_found, one_found}
@@ -52,7 +54,8 @@ raised_outlasts kind p =
     let same = raised_same kind p in
     let xid = same.xid in
     let number = same.number in
-    fewer_open p (raised kind p) (omega (arith, xid)) (omega (arith, number)) (λ x is. ap (λ os. member x (ids_of os)) (sym same.opens) ∙ is)
+    fewer_open p (raised kind p) (omega (arith, xid)) (omega (arith, number))
+    (λ x is. ap (λ os. member x (ids_of os)) (sym same.opens) ∙ is)
 
 begun_outlasts : (name : List ℕ) (p : Place) → Outlasts p (begun name p)
 begun_outlasts name p = record {
@@ -75,12 +78,15 @@ prepared_outlasts Rises p =
 prepared_outlasts others p = outlasts_itself p
 
 none_open : (p q : Place) → p.xids.next ≤ q.xids.next → p.numbers.next ≤ q.numbers.next → q.opens ≡ [] → Outlasts p q
-none_open p q later numbers none = fewer_open p q later numbers (λ x is. absurd (false≢true (ap (λ os. member x (ids_of os)) (sym none) ∙ is)))
+none_open p q later numbers none =
+    fewer_open p q later numbers (λ x is. absurd (false≢true (ap (λ os. member x (ids_of os)) (sym none) ∙ is)))
 
 moved_outlasts : (move : Move) (p : Place) → Sound p → Outlasts p (moved move p)
 moved_outlasts (Begins name) p s = begun_outlasts name p
-moved_outlasts (Commits name xid) p s = fewer_open p (moved (Commits name xid) p) (omega arith) (omega arith) (λ x. member_without x name p.opens)
-moved_outlasts (Aborts name) p s = fewer_open p (moved (Aborts name) p) (omega arith) (omega arith) (λ x. member_without x name p.opens)
+moved_outlasts (Commits name xid) p s =
+    fewer_open p (moved (Commits name xid) p) (omega arith) (omega arith) (λ x. member_without x name p.opens)
+moved_outlasts (Aborts name) p s =
+    fewer_open p (moved (Aborts name) p) (omega arith) (omega arith) (λ x. member_without x name p.opens)
 moved_outlasts Falls p s = none_open p (moved Falls p) (omega arith) (omega arith) refl
 moved_outlasts Rises p s = none_open p (moved Rises p) s.xids_below s.numbers_below refl
 moved_outlasts Founds p s =
@@ -89,7 +95,9 @@ moved_outlasts Founds p s =
 moved_outlasts others p s = fewer_open p (moved others p) (omega arith) (omega arith) (λ x is. is)
 
 done_outlasts : (move : Move) (p : Place) → Sound p → Outlasts p (done move p)
-done_outlasts move p s = outlasts_on p (prepared move p) (done move p) (prepared_outlasts move p) (moved_outlasts move (prepared move p) (sound_prepared move p s))
+done_outlasts move p s =
+    outlasts_on p (prepared move p) (done move p) (prepared_outlasts move p)
+    (moved_outlasts move (prepared move p) (sound_prepared move p s))
 
 keeps_outlasting : (first : Place) → Keeps (λ task. Unit {0}) (λ p. Sound p × Outlasts first p) (Outlasts first)
 keeps_outlasting first = record {
@@ -101,7 +109,7 @@ keeps_outlasting first = record {
 }
 
 pub outlasts_step : (task : Task) (p : Place) (choice : Choice) → Sound p → Outlasts p (place_by task p choice)
-outlasts_step task p choice s = kept (keeps_outlasting p) task p choice tt (s, outlasts_itself p)
+outlasts_step task p choice s = kept (keeps_outlasting p) task p choice (tt, (s, outlasts_itself p))
 
 -- ---- each history
 
@@ -109,47 +117,61 @@ outlasts_step task p choice s = kept (keeps_outlasting p) task p choice tt (s, o
 abbrev pub IsLater : List ℕ → Place → World → Type 0
 IsLater name p w = (q : Place) × (find_named name w.places ≡ Some q) × Outlasts p q
 
-later_step : (name : List ℕ) (p r : Place) (w v : World) (h : Happening) → Step w h v → AllPlaces Sound w → find_named name w.places ≡ Some r → Outlasts p r → IsLater name p v
-later_step name p r w v h (Grants other result about granted takes told is) all found lasts =
+later_step : (name : List ℕ) (p : Place) (w v : World) (h : Happening) → Step w h v → AllPlaces Sound w →
+    IsLater name p w → IsLater name p v
+later_step name p w v h (Grants other result about granted takes told is) all (r, found, lasts) =
     subst (IsLater name p) (sym is) (r, found_behind name other _ r w.places found, lasts)
-later_step name p r w v h (Denies other about denied sure told is) all found lasts = subst (IsLater name p) (sym is) (r, found, lasts)
-later_step name p r w v h (Misses other task about none sure told is) all found lasts = subst (IsLater name p) (sym is) (r, found, lasts)
-later_step name p r w v h (Asks other task old result about asked takes told is) all found lasts = subst (IsLater name p) (sym is) (by (bytes_eq name other) refl)
+later_step name p w v h (Denies other about denied sure told is) all later = subst (IsLater name p) (sym is) later
+later_step name p w v h (Misses other task about none sure told is) all later = subst (IsLater name p) (sym is) later
+later_step name p w v h (Asks t) all (r, found, lasts) =
+    subst (IsLater name p) (sym t.is) (by (bytes_eq name t.name) refl)
   where
     q : Place
-    q = place_by task old h.choice
+    q = place_by t.task t.place h.choice
 
-    by : (b : Bool) → bytes_eq name other ≡ b → IsLater name p (stand ((other, q) ∷ []) w)
+    by : (b : Bool) → bytes_eq name t.name ≡ b → IsLater name p (stand ((t.name, q) ∷ []) w)
     by true same =
-        let at : name ≡ other = bytes_same name other same in
-        let one : r ≡ old = one_found r old (sym found ∙ ap (λ k. find_named k w.places) at ∙ asked) in
-        let on : Outlasts old q = outlasts_step task old h.choice (all_found Sound other old w.places all asked) in
-        (q, ap (λ k. find_named k (put_named other q w.places)) at ∙ put_found other q old w.places asked, outlasts_on p r q lasts (subst (λ o. Outlasts o q) (sym one) on))
-    by false differ = (r, put_other name other q w.places differ ∙ found, lasts)
+        let at : name ≡ t.name = bytes_same name t.name same in
+        let one : r ≡ t.place = one_found r t.place (sym found ∙ ap (λ k. find_named k w.places) at ∙ t.found) in
+        let sound = all_found Sound t.name t.place w.places all t.found in
+        let on : Outlasts t.place q = outlasts_step t.task t.place h.choice sound in (
+          q,
+          ap (λ k. find_named k (put_named t.name q w.places)) at ∙ put_found t.name q t.place w.places t.found,
+          outlasts_on p r q lasts (subst (λ o. Outlasts o q) (sym one) on),
+        )
+    by false differ = (r, put_other name t.name q w.places differ ∙ found, lasts)
 
-pub later_place : (later : List Happening) (w v : World) → AllPlaces Sound w → Leads w later v → (name : List ℕ) (p : Place) → find_named name w.places ≡ Some p → AllPlaces Sound v × IsLater name p v
-later_place [] w v all is name p found = (subst (AllPlaces Sound) (sym is) all, subst (IsLater name p) (sym is) (p, found, outlasts_itself p))
+pub later_place : (later : List Happening) (w v : World) → AllPlaces Sound w → Leads w later v →
+    (name : List ℕ) (p : Place) → find_named name w.places ≡ Some p → AllPlaces Sound v × IsLater name p v
+later_place [] w v all is name p found =
+    (subst (AllPlaces Sound) (sym is) all, subst (IsLater name p) (sym is) (p, found, outlasts_itself p))
 later_place (h ∷ hs) w v all leads name p found =
     let before = later_place hs w leads.0 all leads.1 name p found in (
       sound_world_step leads.0 v h leads.2 before.0,
-      later_step name p before.1.0 leads.0 v h leads.2 before.0 before.1.1 before.1.2,
+      later_step name p leads.0 v h leads.2 before.0 before.1,
     )
 
 -- ---- snapshots
 
 -- an id that a snapshot sees was drawn, and is not open
-past : (x next : ℕ) (xids : List ℕ) → Rising xids → ((y : ℕ) → member y xids ≡ true → y < next) → cond (nat_lt x (first_or next xids)) true (cond (nat_lt x next) (not (member x xids)) false) ≡ true →
+past : (x next : ℕ) (xids : List ℕ) → Rising xids → ((y : ℕ) → member y xids ≡ true → y < next) →
+    cond (nat_lt x (first_or next xids)) true (cond (nat_lt x next) (not (member x xids)) false) ≡ true →
     (x < next) × (member x xids ≡ true → ⊥)
 past x next xids rising below is =
-    elim (nat_lt x (first_or next xids)) as (λ b. nat_lt x (first_or next xids) ≡ b → cond b true (cond (nat_lt x next) (not (member x xids)) false) ≡ true → (x < next) × (member x xids ≡ true → ⊥)) [
+    elim (nat_lt x (first_or next xids))
+    as (λ b. nat_lt x (first_or next xids) ≡ b → cond b true (cond (nat_lt x next) (not (member x xids)) false)
+    ≡ true → (x < next) × (member x xids ≡ true → ⊥)) [
       | true ↦ λ less seen. before_first xids rising below (ltb-true x (first_or next xids) less)
-      | false ↦ λ not_less seen. elim (nat_lt x next) as (λ b. nat_lt x next ≡ b → cond b (not (member x xids)) false ≡ true → (x < next) × (member x xids ≡ true → ⊥)) [
-        | true ↦ λ less ended. (ltb-true x next less, λ among. false≢true (sym (ap not among) ∙ ended))
-        | false ↦ λ more no_end. absurd (false≢true no_end)
-      ] refl seen
+      | false ↦
+          λ not_less seen. elim (nat_lt x next) as (λ b. nat_lt x next ≡ b → cond b (not (member x xids)) false ≡ true →
+          (x < next) × (member x xids ≡ true → ⊥)) [
+            | true ↦ λ less ended. (ltb-true x next less, λ among. false≢true (sym (ap not among) ∙ ended))
+            | false ↦ λ more no_end. absurd (false≢true no_end)
+          ] refl seen
     ] refl is
   where
-    before_first : (ys : List ℕ) → Rising ys → ((y : ℕ) → member y ys ≡ true → y < next) → x < first_or next ys → (x < next) × (member x ys ≡ true → ⊥)
+    before_first : (ys : List ℕ) → Rising ys → ((y : ℕ) → member y ys ≡ true → y < next) → x < first_or next ys →
+        (x < next) × (member x ys ≡ true → ⊥)
     before_first [] up under less = (less, λ among. false≢true among)
     before_first (y ∷ ys) up under less =
         let first : y < next = under y (ap (λ b. b || member y ys) (eq-eqb y y refl)) in (
@@ -161,11 +183,14 @@ past x next xids rising below is =
         )
 
 -- a drawn id that is not open is seen
-ended : (x next : ℕ) (xids : List ℕ) → x < next → (member x xids ≡ true → ⊥) → cond (nat_lt x (first_or next xids)) true (cond (nat_lt x next) (not (member x xids)) false) ≡ true
+ended : (x next : ℕ) (xids : List ℕ) → x < next → (member x xids ≡ true → ⊥) →
+    cond (nat_lt x (first_or next xids)) true (cond (nat_lt x next) (not (member x xids)) false) ≡ true
 ended x next xids below closed =
-    elim (nat_lt x (first_or next xids)) as (λ b. cond b true (cond (nat_lt x next) (not (member x xids)) false) ≡ true) [
+    elim (nat_lt x (first_or next xids))
+    as (λ b. cond b true (cond (nat_lt x next) (not (member x xids)) false) ≡ true) [
       | true ↦ refl
-      | false ↦ ap (λ b. cond b (not (member x xids)) false) (lt-ltb x next below) ∙ ap not (false_from_ne_true (member x xids) closed)
+      | false ↦ ap (λ b. cond b (not (member x xids)) false) (lt-ltb x next below)
+          ∙ ap not (false_from_ne_true (member x xids) closed)
     ]
 
 pub covers : (p q : Place) → Sound p → Outlasts p q → Covers (taken q) (taken p)
@@ -178,4 +203,5 @@ snapshots_cover limit history later w v leads goes_on name p q found found_later
     let sound = sound_world limit history w leads in
     let became = (later_place later w v sound goes_on name p found).1 in
     let same : became.0 ≡ q = one_found became.0 q (sym became.1 ∙ found_later) in
-    subst (λ r. Covers (taken r) (taken p)) same (covers p became.0 (all_found Sound name p w.places sound found) became.2)
+    subst (λ r. Covers (taken r) (taken p)) same
+    (covers p became.0 (all_found Sound name p w.places sound found) became.2)

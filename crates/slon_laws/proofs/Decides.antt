@@ -1,30 +1,37 @@
 -- Each decision has an allowed move, and an answer below the next numbers after it.
-use Rattle.std.proofs.Common.{◌≡◌, ℕ, ◌<◌, Bool, true, false, cond, List, Option, Some, None, is_some, refl, sym, ap, subst, ◌∙◌, arith}
+use Rattle.std.proofs.Common.{◌≡◌, ℕ, Bool, true, false, cond, Option, Some, None, is_some, refl}
+use Rattle.std.proofs.Common.{arith}
 use Rattle.std.specs.Prelude.{◌==◌, not}
-use Rattle.std.specs.FinMap.{get, entries}
+use Rattle.std.specs.FinMap.{get}
 use Rattle.std.proofs.lemmas.Bool.{true≢false, eqb-true}
-use Rattle.slon_model.specs.declared.command.Crash.{Crash as CrashKind}
 use Rattle.slon_model.specs.declared.command.Crash.TheVariants.{Now, After, AtCommit}
 use Rattle.slon_model.specs.declared.fault.DbFault.{DbFault}
 use Rattle.slon_model.specs.declared.fault.DbFault.TheVariants.{NoTable, NoTransaction, BadWidth, Locked}
 use Rattle.slon_model.specs.declared.reply.Answer.{Answer}
-use Rattle.slon_model.specs.declared.reply.Answer.TheVariants.{Acted, Unchanged, Kept, Lost, Done}
+use Rattle.slon_model.specs.declared.reply.Answer.TheVariants.{Acted}
 use Rattle.slon_model.specs.declared.numbering.Numbering.{Numbering}
 use Rattle.slon_model.specs.declared.numbering.Numbering.TheVariants.{Xids, Actions}
 use Rattle.slon_model.specs.Names.{find_named}
 use Rattle.slon_model.specs.Rows.{Row, Change, Put, Set, Remove, change_key}
-use Rattle.slon_model.specs.Tasks.{Write, Task, ToFound, ToMake, ToOpen, ToWrite, ToCommit, ToAbort, ToList, ToTell, ToCrash, ToRise}
-use Rattle.slon_model.specs.Place.{Place, Standing, IsRunning, IsFallen, IsDoubtful, counter, with_counter, lifted, stamped, raised, holder, seen_rows}
+use Rattle.slon_lemmas.proofs.Tests.{none_of}
+use Rattle.slon_model.specs.Tasks.{Write, Task, ToFound, ToMake, ToOpen, ToWrite, ToCommit, ToAbort, ToList, ToTell}
+use Rattle.slon_model.specs.Tasks.{ToCrash, ToRise}
+use Rattle.slon_model.specs.Place.{Place, Standing, IsRunning, IsFallen, IsDoubtful, counter, with_counter, lifted}
+use Rattle.slon_model.specs.Place.{stamped, raised, holder, seen_rows}
 use Rattle.slon_model.specs.Moves.{Move, Stays, Writes, done, is_beyond}
-use Rattle.slon_model.specs.Deciding.{Decision, Refuses, Accepts, Overflows, limited, refused_if, with_found, fits, unless_held, by_row, decide_row, decide_write, decide_up, decide_down, decide_by, decide, settled, result_of, move_of}
-use Rattle.slon_laws.specs.Allowed.{IsFree, MayWrite, Allows, MayMove, IsNext}
+use Rattle.slon_model.specs.Deciding.{Decision, Refuses, Accepts, Overflows, limited, refused_if, with_found, fits}
+use Rattle.slon_model.specs.Deciding.{unless_held, by_row, decide_row, decide_write, decide_up, decide_down, decide_by}
+use Rattle.slon_model.specs.Deciding.{decide, settled, move_of}
+use Rattle.slon_laws.specs.Allowed.{IsFree, Allows, MayMove, IsNext}
 
 -- ---- numbers that rise
 
 -- what holds with the ceiling as it is, and with it lifted, holds of what a draw finds
-pub either_raised : (P : Place → Type 0) (kind : Numbering) (p : Place) → P p → P (stamped (with_counter kind (lifted (counter kind p)) p)) → P (raised kind p)
+pub either_raised : (P : Place → Type 0) (kind : Numbering) (p : Place) → P p →
+    P (stamped (with_counter kind (lifted (counter kind p)) p)) → P (raised kind p)
 either_raised P kind p same up =
-    elim ((counter kind p).next == (counter kind p).ceiling) as (λ b. P (cond b (stamped (with_counter kind (lifted (counter kind p)) p)) p)) [
+    elim ((counter kind p).next == (counter kind p).ceiling)
+    as (λ b. P (cond b (stamped (with_counter kind (lifted (counter kind p)) p)) p)) [
       | true ↦ up
       | false ↦ same
     ]
@@ -40,11 +47,19 @@ pub record IsSame (p q : Place) : Type 0 where
 
 lifted_same : (kind : Numbering) (p : Place) → IsSame p (stamped (with_counter kind (lifted (counter kind p)) p))
 lifted_same Xids p = record { xid = refl; number = refl; tables = refl; actions = refl; commits = refl; opens = refl }
-lifted_same Actions p = record { xid = refl; number = refl; tables = refl; actions = refl; commits = refl; opens = refl }
+lifted_same Actions p =
+    record { xid = refl; number = refl; tables = refl; actions = refl; commits = refl; opens = refl }
 
 pub raised_same : (kind : Numbering) (p : Place) → IsSame p (raised kind p)
 raised_same kind p =
-    either_raised (IsSame p) kind p (record { xid = refl; number = refl; tables = refl; actions = refl; commits = refl; opens = refl }) (lifted_same kind p)
+    either_raised (IsSame p) kind p (record {
+      xid = refl;
+      number = refl;
+      tables = refl;
+      actions = refl;
+      commits = refl;
+      opens = refl;
+    }) (lifted_same kind p)
 
 -- ---- decisions
 
@@ -57,28 +72,29 @@ Decides task p (Refuses fault) = Unit {0}
 Decides task p (Accepts answer move) = Decided task p answer move
 Decides task p Overflows = Unit {0}
 
-unless : (task : Task) (p : Place) (b : Bool) (fault : DbFault) (d : Decision) → (b ≡ false → Decides task p d) → Decides task p (refused_if b fault d)
+unless : (task : Task) (p : Place) (b : Bool) (fault : DbFault) (d : Decision) → (b ≡ false → Decides task p d) →
+    Decides task p (refused_if b fault d)
 unless task p true fault d goes = tt
 unless task p false fault d goes = goes refl
 
-when_found : {X : Type 0} (task : Task) (p : Place) (o : Option X) (fault : DbFault) (go : X → Decision) → ((x : X) → o ≡ Some x → Decides task p (go x)) → Decides task p (with_found o fault go)
+when_found : {X : Type 0} (task : Task) (p : Place) (o : Option X) (fault : DbFault) (go : X → Decision) →
+    ((x : X) → o ≡ Some x → Decides task p (go x)) → Decides task p (with_found o fault go)
 when_found task p None fault go goes = tt
 when_found task p (Some x) fault go goes = goes x refl
-
-none_there : {X : Type 0} (o : Option X) → is_some o ≡ false → o ≡ None
-none_there None is = refl
-none_there (Some x) is = absurd (true≢false is)
 
 not_false : (b : Bool) → not b ≡ false → b ≡ true
 not_false true is = refl
 not_false false is = absurd (true≢false is)
 
-held : (task : Task) (p : Place) (xid : ℕ) (o : Option ℕ) (d : Decision) → (IsFree xid o → Decides task p d) → Decides task p (unless_held xid o d)
+held : (task : Task) (p : Place) (xid : ℕ) (o : Option ℕ) (d : Decision) → (IsFree xid o → Decides task p d) →
+    Decides task p (unless_held xid o d)
 held task p xid None d goes = goes tt
 held task p xid (Some other) d goes =
-    unless task p (not (other == xid)) (Locked other) d (λ same. goes (eqb-true other xid (not_false (other == xid) same)))
+    unless task p (not (other == xid)) (Locked other) d
+    (λ same. goes (eqb-true other xid (not_false (other == xid) same)))
 
-rowed : (task : Task) (p : Place) (change : Change) (d : Decision) (o : Option Row) → Decides task p d → Decides task p (by_row change d o)
+rowed : (task : Task) (p : Place) (change : Change) (d : Decision) (o : Option Row) → Decides task p d →
+    Decides task p (by_row change d o)
 rowed task p (Put key row) d None is = is
 rowed task p (Put key row) d (Some old) is = tt
 rowed task p (Set key columns) d None is = record { allowed = tt; next = tt }
@@ -92,7 +108,8 @@ decides_write w p =
     when_found (ToWrite w) p (find_named w.table p.tables) NoTable _ (λ width found.
     unless (ToWrite w) p (not (fits w.change width)) (BadWidth width) (decide_row xid w p) (λ fit.
     held (ToWrite w) p xid (holder w.table (change_key w.change) p) _ (λ free.
-    rowed (ToWrite w) p w.change (Accepts (Acted p.numbers.next) (Writes xid w.table w.change)) (get (seen_rows xid p w.table) (change_key w.change)) (record {
+    rowed (ToWrite w) p w.change (Accepts (Acted p.numbers.next) (Writes xid w.table w.change))
+    (get (seen_rows xid p w.table) (change_key w.change)) (record {
       allowed = record {
         name = w.name;
         opened = opened;
@@ -109,14 +126,23 @@ plain : (task : Task) (p : Place) (answer : Answer) → IsNext p answer → Deci
 plain task p answer next = record { allowed = tt; next = next }
 
 decides_up : (task : Task) (p : Place) → Decides task p (decide_up task p)
-decides_up (ToMake table columns) p = unless (ToMake table columns) p (is_some (find_named table p.tables)) _ _ (λ none. record { allowed = λ formed. formed; next = tt })
+decides_up (ToMake table columns) p =
+    unless (ToMake table columns) p (is_some (find_named table p.tables)) _ _
+    (λ none. record { allowed = λ formed. formed; next = tt })
 decides_up (ToOpen name) p =
     unless (ToOpen name) p (is_some (find_named name p.opens)) _ _
-    (λ none. record { allowed = none_there (find_named name p.opens) none; next = let same = (raised_same Xids p).xid in omega (arith, same) })
+    (λ none. record {
+      allowed = none_of (find_named name p.opens) none;
+      next = let same = (raised_same Xids p).xid in
+          omega (arith, same);
+    })
 decides_up (ToWrite w) p = decides_write w p
-decides_up (ToCommit name) p = when_found (ToCommit name) p (find_named name p.opens) _ _ (λ xid found. record { allowed = found; next = tt })
-decides_up (ToAbort name) p = when_found (ToAbort name) p (find_named name p.opens) _ _ (λ xid found. record { allowed = tt; next = tt })
-decides_up (ToList table) p = when_found (ToList table) p (find_named table p.tables) _ _ (λ width found. record { allowed = tt; next = tt })
+decides_up (ToCommit name) p =
+    when_found (ToCommit name) p (find_named name p.opens) _ _ (λ xid found. record { allowed = found; next = tt })
+decides_up (ToAbort name) p =
+    when_found (ToAbort name) p (find_named name p.opens) _ _ (λ xid found. record { allowed = tt; next = tt })
+decides_up (ToList table) p =
+    when_found (ToList table) p (find_named table p.tables) _ _ (λ width found. record { allowed = tt; next = tt })
 decides_up ToTell p = record { allowed = tt; next = tt }
 decides_up (ToCrash Now) p = record { allowed = tt; next = tt }
 decides_up (ToCrash (After calls keep)) p = record { allowed = tt; next = tt }

@@ -1,5 +1,6 @@
 -- What a reply gives was drawn, and the ceilings stay above it.
-use Rattle.std.proofs.Common.{◌≡◌, ℕ, ◌<◌, List, [], ◌∷◌, Some, Result, Ok, Err, refl, sym, ap, subst, ◌∙◌, arith, true, false}
+use Rattle.std.proofs.Common.{◌≡◌, ℕ, List, ◌∷◌, Some, sym, ap, subst, ◌∙◌, arith}
+use Rattle.std.proofs.Common.{false}
 use Rattle.std.proofs.lemmas.Bool.{true≢false}
 use Rattle.slon_base.specs.declared.fault.Halt.{Halt as HaltOf}
 use Rattle.slon_base.specs.declared.fault.Halt.TheVariants.{Doubt}
@@ -7,21 +8,22 @@ use Rattle.slon_model.specs.declared.fault.DbFault.{DbFault}
 use Rattle.slon_model.specs.declared.fault.DbFault.TheVariants.{Halt}
 use Rattle.slon_model.specs.declared.reply.Answer.{Answer}
 use Rattle.slon_model.specs.declared.reply.Answer.TheVariants.{Opened, Acted}
-use Rattle.slon_model.specs.declared.reply.Answered.{Answered}
 use Rattle.slon_model.specs.declared.reply.Reply.{Reply}
 use Rattle.slon_model.specs.declared.reply.Reply.TheVariants.{Accepted}
 use Rattle.slon_model.specs.Names.{find_named}
 use Rattle.slon_model.specs.Tasks.{Task, ToFound, OnNew, OnOne, subject_of, database_named, Words, words_of}
-use Rattle.slon_model.specs.Place.{Place, taken, bare_place}
-use Rattle.slon_model.specs.Moves.{Move, done}
-use Rattle.slon_model.specs.Deciding.{Decision, Refuses, Accepts, Overflows, Choice, AsDue, AtFault, Wavers, decide, result_of, move_of, sure, unsure, place_by, result_by, Takes}
-use Rattle.slon_model.specs.World.{World, halted, refusal_of, reply_of, is_accepted, database_due, stand, Step, Grants, Denies, Misses, Asks, Happening, Leads}
+use Rattle.slon_model.specs.Place.{Place, bare_place}
+use Rattle.slon_model.specs.Moves.{done}
+use Rattle.slon_model.specs.Deciding.{Decision, Refuses, Accepts, Overflows, Choice, AsDue, AtFault, Wavers, decide}
+use Rattle.slon_model.specs.Deciding.{result_of, move_of, sure, unsure, place_by, result_by}
+use Rattle.slon_model.specs.World.{World, halted, refusal_of, reply_of, is_accepted, Step, Grants}
+use Rattle.slon_model.specs.World.{Denies, Misses, Asks}
 use Rattle.slon_model.proofs.Names.{put_found, all_found, one_found}
 use Rattle.slon_laws.specs.Sound.{Sound}
 use Rattle.slon_laws.specs.Allowed.{IsNext}
 use Rattle.slon_laws.specs.Worlds.{AllPlaces}
 use Rattle.slon_laws.specs.Laws.{IsAnswerBelow, IsReplyBelow, RepliesStayBelow, SnapshotsStayBelow}
-use Rattle.slon_laws.proofs.Decides.{Known, Knows, decides}
+use Rattle.slon_laws.proofs.Decides.{Knows, decides}
 use Rattle.slon_laws.proofs.Worlds.{sound_world}
 use Rattle.slon_laws.proofs.Covering.{Outlasts, later_place}
 
@@ -45,7 +47,8 @@ refused_below : (p : Place) (reply : Reply) → is_accepted reply ≡ false → 
 refused_below p (Accepted answer) not = absurd (true≢false not)
 refused_below p others not = tt
 
-sure_below : (words : Words) (task : Task) (q p : Place) (d : Decision) → Knows task q d → Outlasts (done (move_of d) q) p → Sound p → IsReplyBelow p (reply_of words (sure (result_of d)))
+sure_below : (words : Words) (task : Task) (q p : Place) (d : Decision) → Knows task q d →
+    Outlasts (done (move_of d) q) p → Sound p → IsReplyBelow p (reply_of words (sure (result_of d)))
 sure_below words task q p (Refuses fault) is lasts s = refusal_below p words fault
 sure_below words task q p (Accepts answer move) is lasts s = answer_below (done move q) p answer is.next lasts s
 sure_below words task q p Overflows is lasts s = tt
@@ -54,13 +57,15 @@ unsure_below : (words : Words) (p : Place) (d : Decision) → IsReplyBelow p (re
 unsure_below words p (Refuses fault) = refusal_below p words fault
 unsure_below words p others = tt
 
-takes_below : (words : Words) (task : Task) (q p : Place) (choice : Choice) → Outlasts (place_by task q choice) p → Sound p → IsReplyBelow p (reply_of words (result_by task q choice))
+takes_below : (words : Words) (task : Task) (q p : Place) (choice : Choice) → Outlasts (place_by task q choice) p →
+    Sound p → IsReplyBelow p (reply_of words (result_by task q choice))
 takes_below words task q p AsDue lasts s = sure_below words task q p (decide task q) (decides task q) lasts s
 takes_below words task q p (AtFault count also) lasts s = tt
 takes_below words task q p (Wavers stands) lasts s = unsure_below words p (decide task q)
 
 -- how a new database begins gives no number
-founds_below : (words : Words) (p : Place) (choice : Choice) → IsReplyBelow p (reply_of words (result_by ToFound bare_place choice))
+founds_below : (words : Words) (p : Place) (choice : Choice) →
+    IsReplyBelow p (reply_of words (result_by ToFound bare_place choice))
 founds_below words p AsDue = tt
 founds_below words p (AtFault count also) = tt
 founds_below words p (Wavers stands) = tt
@@ -75,18 +80,22 @@ replies_stay_below limit history later h w v leads goes_on p found = by_step lea
 
     by_step : Step leads.0 h w → IsReplyBelow p h.reply
     by_step (Grants name result about granted takes told is) =
-        subst (IsReplyBelow p) (sym (told ∙ ap (reply_of (words_of (OnNew name))) takes.told)) (founds_below (words_of (OnNew name)) p h.choice)
+        subst (IsReplyBelow p) (sym (told ∙ ap (reply_of (words_of (OnNew name))) takes.told))
+        (founds_below (words_of (OnNew name)) p h.choice)
     by_step (Denies name about denied due told is) = refused_below p h.reply (ap is_accepted told ∙ denied)
     by_step (Misses name task about none due told is) = subst (IsReplyBelow p) (sym told) tt
-    by_step (Asks name task old result about asked takes told is) =
-        let q = place_by task old h.choice in
-        let now : find_named name w.places ≡ Some q = ap (λ (u : World). find_named name u.places) is ∙ put_found name q old leads.0.places asked in
-        let became = later_place later w v sound goes_on name q now in
-        let named : database_named (subject_of h.command) ≡ name = ap database_named about in
-        let same : became.1.0 ≡ p = one_found became.1.0 p (sym became.1.1 ∙ ap (λ k. find_named k v.places) (sym named) ∙ found) in
+    by_step (Asks t) =
+        let q = place_by t.task t.place h.choice in
+        let now : find_named t.name w.places ≡ Some q =
+        ap (λ (u : World). find_named t.name u.places) t.is ∙ put_found t.name q t.place leads.0.places t.found in
+        let became = later_place later w v sound goes_on t.name q now in
+        let named : database_named (subject_of h.command) ≡ t.name = ap database_named t.about in
+        let same : became.1.0 ≡ p =
+        one_found became.1.0 p (sym became.1.1 ∙ ap (λ k. find_named k v.places) (sym named) ∙ found) in
         let lasts : Outlasts q p = subst (Outlasts q) same became.1.2 in
-        subst (IsReplyBelow p) (sym (told ∙ ap (reply_of (words_of (OnOne name task))) takes.told))
-        (takes_below (words_of (OnOne name task)) task old p h.choice lasts (all_found Sound (database_named (subject_of h.command)) p v.places became.0 found))
+        subst (IsReplyBelow p) (sym (t.told ∙ ap (reply_of (words_of (OnOne t.name t.task))) t.takes.told))
+        (takes_below (words_of (OnOne t.name t.task)) t.task t.place p h.choice lasts
+        (all_found Sound (database_named (subject_of h.command)) p v.places became.0 found))
 
 pub snapshots_stay_below : SnapshotsStayBelow
 snapshots_stay_below limit history later w v leads goes_on name p q found found_later =

@@ -4,14 +4,15 @@ use Rattle.std.specs.Prelude.{◌==◌, ◌&&◌}
 use Rattle.std.specs.List.{AllByRecursion}
 use Rattle.std.specs.Str.{bytes_eq}
 use Rattle.std.proofs.lemmas.Bool.{false≢true, eqb-true, eq-eqb, or_cases, and_parts, and_from}
-use Rattle.slon_model.specs.Rows.{Action, Change, change_key, touches, is_on, member, holder_in}
+use Rattle.slon_model.specs.Rows.{Action, change_key, touches, is_on, member, holder_in}
 use Rattle.slon_laws.specs.Sound.{meets, conflicts, Pairs, IsLocked, before, IsOrdered}
 use Rattle.slon_laws.specs.Allowed.{IsFree}
 use Rattle.slon_model.proofs.Names.{bytes_same, bytes_itself, bytes_turned, all_map}
 
 -- ---- pairs
 
-pub pairs_map : (Q : Action → Type 0) (P R : Action → Action → Type 0) (f : (a b : Action) → Q a → P a b → R a b) (actions : List Action) → AllByRecursion Q actions → Pairs P actions → Pairs R actions
+pub pairs_map : (Q : Action → Type 0) (P R : Action → Action → Type 0) (f : (a b : Action) → Q a → P a b → R a b)
+    (actions : List Action) → AllByRecursion Q actions → Pairs P actions → Pairs R actions
 pairs_map Q P R f [] all pairs = tt
 pairs_map Q P R f (b ∷ rest) all pairs = (heads rest all.1 pairs.0, pairs_map Q P R f rest all.1 pairs.1)
   where
@@ -19,15 +20,18 @@ pairs_map Q P R f (b ∷ rest) all pairs = (heads rest all.1 pairs.0, pairs_map 
     heads [] qs ps = tt
     heads (a ∷ xs) qs ps = (f a b qs.0 ps.0, heads xs qs.1 ps.1)
 
-pub pairs_both : (P O R : Action → Action → Type 0) (f : (a b : Action) → P a b → O a b → R a b) (actions : List Action) → Pairs P actions → Pairs O actions → Pairs R actions
+pub pairs_both : (P O R : Action → Action → Type 0) (f : (a b : Action) → P a b → O a b → R a b)
+    (actions : List Action) → Pairs P actions → Pairs O actions → Pairs R actions
 pairs_both P O R f [] ps os = tt
 pairs_both P O R f (b ∷ rest) ps os = (heads rest ps.0 os.0, pairs_both P O R f rest ps.1 os.1)
   where
-    heads : (xs : List Action) → AllByRecursion (λ a. P a b) xs → AllByRecursion (λ a. O a b) xs → AllByRecursion (λ a. R a b) xs
+    heads : (xs : List Action) → AllByRecursion (λ a. P a b) xs → AllByRecursion (λ a. O a b) xs →
+        AllByRecursion (λ a. R a b) xs
     heads [] qs rs = tt
     heads (a ∷ xs) qs rs = (f a b qs.0 rs.0, heads xs qs.1 rs.1)
 
-pub pairs_each : (P R : Action → Action → Type 0) (f : (a b : Action) → P a b → R a b) (actions : List Action) → Pairs P actions → Pairs R actions
+pub pairs_each : (P R : Action → Action → Type 0) (f : (a b : Action) → P a b → R a b) (actions : List Action) →
+    Pairs P actions → Pairs R actions
 pairs_each P R f actions pairs = pairs_both P P R (λ a b one other. f a b one) actions pairs pairs
 
 -- ---- rows
@@ -40,12 +44,14 @@ one_row a b is =
 
 pub from_one_row : (a b : Action) → a.table ≡ b.table → change_key a.change ≡ change_key b.change → conflicts a b ≡ true
 from_one_row a b tables keys =
-    and_from (bytes_eq a.table b.table) (meets a.change b.change) (same a.table b.table tables) (same (change_key a.change) (change_key b.change) keys)
+    and_from (bytes_eq a.table b.table) (meets a.change b.change) (same a.table b.table tables)
+    (same (change_key a.change) (change_key b.change) keys)
   where
     same : (x y : List ℕ) → x ≡ y → bytes_eq x y ≡ true
     same x y is = subst (λ z. bytes_eq x z ≡ true) is (bytes_itself x)
 
-pub on_row : (table key : List ℕ) (a : Action) → is_on table key a ≡ true → (table ≡ a.table) × (key ≡ change_key a.change)
+pub on_row : (table key : List ℕ) (a : Action) → is_on table key a ≡ true → (table ≡ a.table)
+    × (key ≡ change_key a.change)
 on_row table key a is =
     let parts = and_parts (bytes_eq table a.table) (touches key a.change) is in
     (bytes_same table a.table parts.0, bytes_same key (change_key a.change) (parts.1))
@@ -59,25 +65,44 @@ conflict_on a b is =
 -- ---- the holder of a row
 
 -- a row that no other transaction holds can be written
-pub holder_frees : (new : Action) (xids : List ℕ) (actions : List Action) → IsFree new.xid (holder_in new.table (change_key new.change) xids actions) → Pairs (IsLocked xids) actions → AllByRecursion (λ a. IsLocked xids a new) actions
+pub holder_frees : (new : Action) (xids : List ℕ) (actions : List Action) →
+    IsFree new.xid (holder_in new.table (change_key new.change) xids actions) → Pairs (IsLocked xids) actions →
+    AllByRecursion (λ a. IsLocked xids a new) actions
 holder_frees new xids [] free pairs = tt
 holder_frees new xids (c ∷ rest) free pairs =
-    elim (is_on new.table (change_key new.change) c && member c.xid xids) as (λ b. (is_on new.table (change_key new.change) c && member c.xid xids) ≡ b →
-    IsFree new.xid (cond b (Some c.xid) (holder_in new.table (change_key new.change) xids rest)) → AllByRecursion (λ a. IsLocked xids a new) (c ∷ rest)) [
-      | true ↦ λ is own. ((λ conflict is_open. own), all_map (λ a. IsLocked xids a c) (λ a. IsLocked xids a new) (λ a locked. through a is own locked) rest pairs.0)
-      | false ↦ λ not free_behind. ((λ conflict is_open. absurd (false≢true (sym not ∙ and_from (is_on new.table (change_key new.change) c) (member c.xid xids) (conflict_on c new conflict) is_open))), holder_frees new xids rest free_behind pairs.1)
+    elim (is_on new.table (change_key new.change) c && member c.xid xids)
+    as (λ b. (is_on new.table (change_key new.change) c && member c.xid xids) ≡ b →
+    IsFree new.xid (cond b (Some c.xid) (holder_in new.table (change_key new.change) xids rest)) →
+    AllByRecursion (λ a. IsLocked xids a new) (c ∷ rest)) [
+      | true ↦
+          λ is own. (
+            (λ conflict is_open. own),
+            all_map (λ a. IsLocked xids a c) (λ a. IsLocked xids a new)
+                (λ a locked. through a is own locked) rest pairs.0,
+          )
+      | false ↦
+          λ not free_behind. (
+            (λ conflict is_open.
+                absurd (false≢true (sym not ∙ and_from (is_on new.table (change_key new.change) c) (member c.xid xids)
+                (conflict_on c new conflict) is_open))),
+            holder_frees new xids rest free_behind pairs.1,
+          )
     ] refl free
   where
-    through : (a : Action) → (is_on new.table (change_key new.change) c && member c.xid xids) ≡ true → c.xid ≡ new.xid → IsLocked xids a c → IsLocked xids a new
+    through : (a : Action) → (is_on new.table (change_key new.change) c && member c.xid xids) ≡ true → c.xid ≡ new.xid →
+        IsLocked xids a c → IsLocked xids a new
     through a is own locked conflict is_open =
         let row = one_row a new conflict in
-        let here = on_row new.table (change_key new.change) c (and_parts (is_on new.table (change_key new.change) c) (member c.xid xids) is).0 in
+        let here =
+        on_row new.table (change_key new.change) c
+        (and_parts (is_on new.table (change_key new.change) c) (member c.xid xids) is).0 in
         locked (from_one_row a c (row.0 ∙ here.0) (row.1 ∙ here.1)) is_open ∙ own
 
 -- ---- the order of commits
 
 -- a commit comes last: what it comes after is no open transaction of the same row
-pub order_committed : (x : ℕ) (xids commits : List ℕ) → member x xids ≡ true → (a b : Action) → IsLocked xids a b → IsOrdered commits a b → IsOrdered (x ∷ commits) a b
+pub order_committed : (x : ℕ) (xids commits : List ℕ) → member x xids ≡ true → (a b : Action) → IsLocked xids a b →
+    IsOrdered commits a b → IsOrdered (x ∷ commits) a b
 order_committed x xids commits is_open a b locked ordered conflict differ came_a came_b =
     elim (x == b.xid) as (λ c. (x == b.xid) ≡ c → cond c (member a.xid commits) (before a.xid b.xid commits) ≡ true) [
       | true ↦ λ is. earlier
@@ -89,6 +114,7 @@ order_committed x xids commits is_open a b locked ordered conflict differ came_a
   where
     earlier : member a.xid commits ≡ true
     earlier = elim (or_cases (a.xid == x) (member a.xid commits) came_a) [
-      | inl same ↦ absurd (differ (locked conflict (subst (λ y. member y xids ≡ true) (sym (eqb-true a.xid x same)) is_open)))
+      | inl same ↦
+          absurd (differ (locked conflict (subst (λ y. member y xids ≡ true) (sym (eqb-true a.xid x same)) is_open)))
       | inr came ↦ came
     ]

@@ -1,5 +1,6 @@
 -- Each change of a database keeps it sound.
-use Rattle.std.proofs.Common.{◌≡◌, ℕ, ◌+◌, ◌<◌, ◌≤◌, Bool, true, false, cond, List, [], ◌∷◌, Some, None, refl, sym, ap, subst, ◌∙◌, arith, inl, inr}
+use Rattle.std.proofs.Common.{◌≡◌, ℕ, ◌+◌, ◌<◌, ◌≤◌, true, false, cond, List, [], ◌∷◌, Some, None, refl, sym, ap}
+use Rattle.std.proofs.Common.{subst, ◌∙◌, arith, inl, inr}
 use Rattle.std.specs.Prelude.{◌==◌}
 use Rattle.std.proofs.lemmas.Bool.{false≢true, eqb-true, eqb-false, or_cases}
 use Rattle.slon_model.specs.declared.numbering.Numbering.{Numbering}
@@ -8,14 +9,17 @@ use Rattle.slon_model.specs.Names.{Named, find_named, without}
 use Rattle.slon_model.specs.Rows.{Action, Change, change_key, member}
 use Rattle.slon_model.specs.Snapshots.{Rising}
 use Rattle.slon_model.specs.Tasks.{Task}
-use Rattle.slon_model.specs.Place.{Place, Counter, bare_place, block, counter, with_counter, lifted, stamped, raised, founded, holder}
-use Rattle.slon_model.specs.Moves.{Move, Stays, Founds, Tables, Begins, Writes, Commits, Aborts, Falls, Rises, begun, written, committed, aborted, risen, first_rows, prepared, done}
+use Rattle.slon_model.specs.Place.{Place, Counter, bare_place, counter, with_counter, lifted, stamped, raised}
+use Rattle.slon_model.specs.Place.{founded, holder}
+use Rattle.slon_model.specs.Moves.{Move, Stays, Founds, Tables, Begins, Writes, Commits, Aborts, Falls, Rises, begun}
+use Rattle.slon_model.specs.Moves.{written, committed, aborted, risen, first_rows, prepared, done}
 use Rattle.slon_model.proofs.Names.{all_map}
 use Rattle.slon_laws.specs.Sound.{SoundOf, Sound, IsLocked, IsOrdered, AreNamedOnce, ids_of}
-use Rattle.slon_laws.specs.Allowed.{IsFree, Allows, MayMove}
+use Rattle.slon_laws.specs.Allowed.{IsFree, Allows}
 use Rattle.slon_laws.specs.Keeps.{Keeps}
 use Rattle.slon_laws.proofs.Decides.{either_raised, raised_same}
-use Rattle.slon_laws.proofs.Opens.{all_member, member_behind, rising_behind, named_behind, found_member, rising_without, named_without, member_without, member_taken}
+use Rattle.slon_laws.proofs.Opens.{all_member, member_behind, rising_behind, named_behind, found_member, rising_without}
+use Rattle.slon_laws.proofs.Opens.{named_without, member_without, member_taken}
 use Rattle.slon_laws.proofs.Locks.{pairs_map, pairs_both, pairs_each, holder_frees, order_committed}
 
 pub sound_bare : Sound bare_place
@@ -36,38 +40,41 @@ sound_bare = record {
 
 -- ---- ceilings that rise
 
--- what keeps the next numbers and lowers no ceiling
-record IsHigher (old new : Counter) : Type 0 where
+-- what keeps the next number and lowers no ceiling
+record Higher (old : Counter) : Type 0 where
+  new : Counter
   next : new.next ≡ old.next
   ceiling : old.ceiling ≤ new.ceiling
 
-lifted_higher : (c : Counter) → IsHigher c (lifted c)
-lifted_higher c = record { next = refl; ceiling = omega arith }
+abbrev lifted_higher : (c : Counter) → Higher c
+lifted_higher c = record { new = lifted c; next = refl; ceiling = omega arith }
 
-same_higher : (c : Counter) → IsHigher c c
-same_higher c = record { next = refl; ceiling = omega arith }
+abbrev same_higher : (c : Counter) → Higher c
+same_higher c = record { new = c; next = refl; ceiling = omega arith }
 
-sound_higher : {actions : List Action} {commits : List ℕ} {opens : Named ℕ} {xids numbers high_xids high_numbers : Counter} →
-    IsHigher xids high_xids → IsHigher numbers high_numbers → SoundOf actions commits opens xids numbers → SoundOf actions commits opens high_xids high_numbers
+sound_higher : {actions : List Action} {commits : List ℕ} {opens : Named ℕ} {xids numbers : Counter}
+    (x : Higher xids) (n : Higher numbers) → SoundOf actions commits opens xids numbers →
+    SoundOf actions commits opens x.new n.new
 sound_higher {actions} x n s = record {
   known = all_map _ _ (λ a below. omega (arith, below, x.next)) actions s.known;
-  opened = λ y is. let below = s.opened y is in omega (arith, below, x.next);
-  ended = λ y is. let below = s.ended y is in omega (arith, below, x.next);
-  numbered = all_map _ _ (λ a below. omega (arith, below, n.next)) actions s.numbered;
-  xids_below = omega (arith, s.xids_below, x.next, x.ceiling);
-  numbers_below = omega (arith, s.numbers_below, n.next, n.ceiling);
   apart = s.apart;
+  opened = λ y is. let below = s.opened y is in omega (arith, below, x.next);
   running = s.running;
+  ended = λ y is. let below = s.ended y is in omega (arith, below, x.next);
   named = s.named;
+  numbered = all_map _ _ (λ a below. omega (arith, below, n.next)) actions s.numbered;
   locked = s.locked;
+  xids_below = omega (arith, s.xids_below, x.next, x.ceiling);
   ordered = s.ordered;
+  numbers_below = omega (arith, s.numbers_below, n.next, n.ceiling);
   rising = s.rising;
 }
 
 sound_founded : (p : Place) → Sound p → Sound (founded p)
 sound_founded p s = sound_higher (lifted_higher p.xids) (lifted_higher p.numbers) s
 
-sound_lifted : (kind : Numbering) (p : Place) → Sound p → Sound (stamped (with_counter kind (lifted (counter kind p)) p))
+sound_lifted : (kind : Numbering) (p : Place) → Sound p →
+    Sound (stamped (with_counter kind (lifted (counter kind p)) p))
 sound_lifted Xids p s = sound_higher (lifted_higher p.xids) (same_higher p.numbers) s
 sound_lifted Actions p s = sound_higher (same_higher p.xids) (lifted_higher p.numbers) s
 
@@ -79,43 +86,53 @@ most Xids p s = s.xids_below
 most Actions p s = s.numbers_below
 
 lifted_room : (kind : Numbering) (p : Place) → (counter kind p).next ≡ (counter kind p).ceiling →
-    (counter kind (stamped (with_counter kind (lifted (counter kind p)) p))).next < (counter kind (stamped (with_counter kind (lifted (counter kind p)) p))).ceiling
+    (counter kind (stamped (with_counter kind (lifted (counter kind p)) p))).next < (counter kind
+    (stamped (with_counter kind (lifted (counter kind p)) p))).ceiling
 lifted_room Xids p at = omega (arith, at)
 lifted_room Actions p at = omega (arith, at)
 
 -- after that a number can be drawn
-pub raised_room : (kind : Numbering) (p : Place) → (counter kind p).next ≤ (counter kind p).ceiling → (counter kind (raised kind p)).next < (counter kind (raised kind p)).ceiling
+pub raised_room : (kind : Numbering) (p : Place) → (counter kind p).next ≤ (counter kind p).ceiling →
+    (counter kind (raised kind p)).next < (counter kind (raised kind p)).ceiling
 raised_room kind p below =
-    elim ((counter kind p).next == (counter kind p).ceiling) as (λ b. ((counter kind p).next == (counter kind p).ceiling) ≡ b →
-    (counter kind (cond b (stamped (with_counter kind (lifted (counter kind p)) p)) p)).next < (counter kind (cond b (stamped (with_counter kind (lifted (counter kind p)) p)) p)).ceiling) [
+    elim ((counter kind p).next == (counter kind p).ceiling)
+    as (λ b. ((counter kind p).next == (counter kind p).ceiling) ≡ b →
+    (counter kind (cond b (stamped (with_counter kind (lifted (counter kind p)) p)) p)).next < (counter kind
+    (cond b (stamped (with_counter kind (lifted (counter kind p)) p)) p)).ceiling) [
       | true ↦ λ at. lifted_room kind p (eqb-true (counter kind p).next (counter kind p).ceiling at)
-      | false ↦ λ not. let differ = eqb-false (counter kind p).next (counter kind p).ceiling not in omega (arith, below, differ)
+      | false ↦ λ not. let differ = eqb-false (counter kind p).next (counter kind p).ceiling not in
+          omega (arith, below, differ)
     ] refl
 
 -- ---- fewer open transactions, and none
 
 -- what numbers and open transactions are like that are left
-record IsLeft (opens fewer : Named ℕ) (old new : Counter) : Type 0 where
+record Left (opens : Named ℕ) (xids numbers : Counter) : Type 0 where
+  fewer : Named ℕ
+  new_xids : Counter
+  new_numbers : Counter
   less : (x : ℕ) → member x (ids_of fewer) ≡ true → member x (ids_of opens) ≡ true
   running : Rising (ids_of fewer)
   named : AreNamedOnce fewer
-  later : old.next ≤ new.next
-  below : new.next ≤ new.ceiling
+  later : (xids.next ≤ new_xids.next) × (new_xids.next ≤ new_xids.ceiling)
+  more : (numbers.next ≤ new_numbers.next) × (new_numbers.next ≤ new_numbers.ceiling)
 
-sound_left : {actions : List Action} {commits : List ℕ} {opens fewer : Named ℕ} {xids numbers new_xids new_numbers : Counter} →
-    IsLeft opens fewer xids new_xids → numbers.next ≤ new_numbers.next → new_numbers.next ≤ new_numbers.ceiling →
-    SoundOf actions commits opens xids numbers → SoundOf actions commits fewer new_xids new_numbers
-sound_left {actions} {opens = opens} {fewer = fewer} l more below s = record {
-  known = all_map _ _ (λ a known. omega (arith, known, l.later)) actions s.known;
-  opened = λ x is. let known = s.opened x (l.less x is) in omega (arith, known, l.later);
-  ended = λ x is. let known = s.ended x is in omega (arith, known, l.later);
-  numbered = all_map _ _ (λ a known. omega (arith, known, more)) actions s.numbered;
-  xids_below = l.below;
-  numbers_below = below;
+sound_left : {actions : List Action} {commits : List ℕ} {opens : Named ℕ} {xids numbers : Counter}
+    (l : Left opens xids numbers) → SoundOf actions commits opens xids numbers →
+    SoundOf actions commits l.fewer l.new_xids l.new_numbers
+sound_left {actions} {opens = opens} l s = record {
+  known = all_map _ _ (λ a known. omega (arith, known, l.later.0)) actions s.known;
+  opened = λ x is. let known = s.opened x (l.less x is) in omega (arith, known, l.later.0);
+  ended = λ x is. let known = s.ended x is in omega (arith, known, l.later.0);
+  numbered = all_map _ _ (λ a known. omega (arith, known, l.more.0)) actions s.numbered;
+  xids_below = l.later.1;
+  numbers_below = l.more.1;
   apart = λ x is_open came. s.apart x (l.less x is_open) came;
   running = l.running;
   named = l.named;
-  locked = pairs_each (IsLocked (ids_of opens)) (IsLocked (ids_of fewer)) (λ a b locked conflict is_open. locked conflict (l.less a.xid is_open)) actions s.locked;
+  locked =
+      pairs_each (IsLocked (ids_of opens)) (IsLocked (ids_of l.fewer))
+      (λ a b locked conflict is_open. locked conflict (l.less a.xid is_open)) actions s.locked;
   ordered = s.ordered;
   rising = s.rising;
 }
@@ -123,29 +140,49 @@ sound_left {actions} {opens = opens} {fewer = fewer} l more below s = record {
 sound_aborted : (name : List ℕ) (p : Place) → Sound p → Sound (aborted name p)
 sound_aborted name p s =
     sound_left (record {
+      fewer = without name p.opens;
+      new_xids = p.xids;
+      new_numbers = p.numbers;
       less = λ x. member_without x name p.opens;
       running = rising_without name p.opens s.running;
       named = named_without name p.opens s.named;
-      later = omega arith;
-      below = s.xids_below;
-    }) (omega arith) s.numbers_below s
+      later = (omega arith, s.xids_below);
+      more = (omega arith, s.numbers_below);
+    }) s
 
 -- no transaction is open any more
-none_left : (opens : Named ℕ) (old new : Counter) → old.next ≤ new.next → new.next ≤ new.ceiling → IsLeft opens [] old new
-none_left opens old new later below = record { less = λ x is. absurd (false≢true is); running = tt; named = tt; later = later; below = below }
+abbrev none_left : (opens : Named ℕ) (xids numbers new_xids new_numbers : Counter) →
+    (xids.next ≤ new_xids.next) × (new_xids.next ≤ new_xids.ceiling) →
+    (numbers.next ≤ new_numbers.next) × (new_numbers.next ≤ new_numbers.ceiling) → Left opens xids numbers
+none_left opens xids numbers new_xids new_numbers later more = record {
+  fewer = [];
+  new_xids = new_xids;
+  new_numbers = new_numbers;
+  less = λ x is. absurd (false≢true is);
+  running = tt;
+  named = tt;
+  later = later;
+  more = more;
+}
 
 pub sound_closed : {actions : List Action} {commits : List ℕ} {opens : Named ℕ} {xids numbers : Counter} →
     SoundOf actions commits opens xids numbers → SoundOf actions commits [] xids numbers
-sound_closed {opens = opens} {xids = xids} s = sound_left (none_left opens xids xids (omega arith) s.xids_below) (omega arith) s.numbers_below s
+sound_closed {opens = opens} {xids = xids} {numbers = numbers} s =
+    sound_left (none_left opens xids numbers xids numbers (omega arith, s.xids_below) (omega arith, s.numbers_below)) s
 
 sound_risen : (p : Place) → Sound p → Sound (risen p)
-sound_risen p s = sound_left (none_left p.opens p.xids (risen p).xids s.xids_below (omega arith)) s.numbers_below (omega arith) s
+sound_risen p s =
+    sound_left (none_left p.opens p.xids p.numbers (risen p).xids (risen p).numbers (s.xids_below, omega arith)
+    (s.numbers_below, omega arith)) s
 
 -- ---- a transaction begins
 
-sound_begun : (name : List ℕ) (p : Place) → find_named name p.opens ≡ None → p.xids.next < p.xids.ceiling → Sound p → Sound (begun name p)
+sound_begun : (name : List ℕ) (p : Place) → find_named name p.opens ≡ None → p.xids.next < p.xids.ceiling → Sound p →
+    Sound (begun name p)
 sound_begun name p none below s = record {
-  known = all_map (λ a. a.xid < p.xids.next) (λ a. a.xid < p.xids.next + 1) (λ a known. omega (arith, known)) p.actions s.known;
+  known =
+      all_map (λ a. a.xid < p.xids.next) (λ a. a.xid < p.xids.next + 1)
+      (λ a known. omega (arith, known)) p.actions s.known;
   opened = λ x is. elim (member_behind x p.xids.next name p.opens is) [
     | inl old ↦ let known = s.opened x old in omega (arith, known)
     | inr new ↦ omega (arith, new)
@@ -158,7 +195,8 @@ sound_begun name p none below s = record {
     | inl old ↦ s.apart x old came
     | inr new ↦ let known = s.ended x came in omega (arith, known, new)
   ];
-  running = rising_behind p.xids.next name p.opens (all_member (λ x. x < p.xids.next) (ids_of p.opens) s.opened) s.running;
+  running =
+      rising_behind p.xids.next name p.opens (all_member (λ x. x < p.xids.next) (ids_of p.opens) s.opened) s.running;
   named = named_behind name p.xids.next p.opens none s.named;
   locked = pairs_map (λ a. a.xid < p.xids.next) (IsLocked (ids_of p.opens)) (IsLocked (ids_of (begun name p).opens))
       (λ a b known locked conflict is_open. locked conflict (old a known is_open)) p.actions s.known s.locked;
@@ -166,7 +204,8 @@ sound_begun name p none below s = record {
   rising = s.rising;
 }
   where
-    old : (a : Action) → a.xid < p.xids.next → member a.xid (ids_of (begun name p).opens) ≡ true → member a.xid (ids_of p.opens) ≡ true
+    old : (a : Action) → a.xid < p.xids.next → member a.xid (ids_of (begun name p).opens) ≡ true →
+        member a.xid (ids_of p.opens) ≡ true
     old a known is_open = elim (member_behind a.xid p.xids.next name p.opens is_open) [
       | inl before ↦ before
       | inr new ↦ absurd (omega (arith, known, new))
@@ -175,19 +214,28 @@ sound_begun name p none below s = record {
 -- ---- a row is written
 
 sound_written : (xid : ℕ) (table : List ℕ) (change : Change) (p : Place) → member xid (ids_of p.opens) ≡ true →
-    IsFree xid (holder table (change_key change) p) → p.numbers.next < p.numbers.ceiling → Sound p → Sound (written xid table change p)
+    IsFree xid (holder table (change_key change) p) → p.numbers.next < p.numbers.ceiling → Sound p →
+    Sound (written xid table change p)
 sound_written xid table change p is_open free below s = record {
   known = (s.opened xid is_open, s.known);
   opened = s.opened;
   ended = s.ended;
-  numbered = (omega arith, all_map (λ a. a.number < p.numbers.next) (λ a. a.number < p.numbers.next + 1) (λ a before. omega (arith, before)) p.actions s.numbered);
+  numbered = (
+    omega arith,
+    all_map (λ a. a.number < p.numbers.next) (λ a. a.number < p.numbers.next + 1)
+        (λ a before. omega (arith, before)) p.actions s.numbered,
+  );
   xids_below = s.xids_below;
   numbers_below = omega (arith, below);
   apart = s.apart;
   running = s.running;
   named = s.named;
   locked = (holder_frees new (ids_of p.opens) p.actions free s.locked, s.locked);
-  ordered = (all_map (λ a. a.xid < p.xids.next) (λ a. IsOrdered p.commits a new) (λ a known conflict differ came_a came. absurd (s.apart xid is_open came)) p.actions s.known, s.ordered);
+  ordered = (
+    all_map (λ a. a.xid < p.xids.next) (λ a. IsOrdered p.commits a new)
+        (λ a known conflict differ came_a came. absurd (s.apart xid is_open came)) p.actions s.known,
+    s.ordered,
+  );
   rising = (s.numbered, s.rising);
 }
   where
@@ -196,26 +244,31 @@ sound_written xid table change p is_open free below s = record {
 
 -- ---- a transaction is committed
 
-sound_committed : (name : List ℕ) (xid : ℕ) (p : Place) → find_named name p.opens ≡ Some xid → Sound p → Sound (committed name xid p)
+sound_committed : (name : List ℕ) (xid : ℕ) (p : Place) → find_named name p.opens ≡ Some xid → Sound p →
+    Sound (committed name xid p)
 sound_committed name xid p found s = record {
   known = left.known;
   opened = left.opened;
   ended = λ x is. elim (or_cases (x == xid) (member x p.commits) is) [
-    | inl same ↦ subst (λ y. y < p.xids.next) (sym (eqb-true x xid same)) (s.opened xid (found_member name xid p.opens found))
+    | inl same ↦
+        subst (λ y. y < p.xids.next) (sym (eqb-true x xid same)) (s.opened xid (found_member name xid p.opens found))
     | inr came ↦ s.ended x came
   ];
   numbered = left.numbered;
   xids_below = left.xids_below;
   numbers_below = left.numbers_below;
   apart = λ x is_open came. elim (or_cases (x == xid) (member x p.commits) came) [
-    | inl same ↦ member_taken xid name p.opens s.named s.running found (ap (λ y. member y (ids_of (without name p.opens))) (sym (eqb-true x xid same)) ∙ is_open)
+    | inl same ↦
+        member_taken xid name p.opens s.named s.running found
+        (ap (λ y. member y (ids_of (without name p.opens))) (sym (eqb-true x xid same)) ∙ is_open)
     | inr before ↦ left.apart x is_open before
   ];
   running = left.running;
   named = left.named;
   locked = left.locked;
   ordered = pairs_both (IsLocked (ids_of p.opens)) (IsOrdered p.commits) (IsOrdered (xid ∷ p.commits))
-      (order_committed xid (ids_of p.opens) p.commits (found_member name xid p.opens found)) p.actions s.locked s.ordered;
+      (order_committed xid (ids_of p.opens) p.commits (found_member name xid p.opens found)) p.actions s.locked
+      s.ordered;
   rising = left.rising;
 }
   where
@@ -239,13 +292,17 @@ sound_done task Founds p allowed s = sound_first p s
 sound_done task (Tables table columns) p allowed s = s
 sound_done task (Begins name) p allowed s =
     let same = (raised_same Xids p).opens in
-    sound_begun name (raised Xids p) (ap (find_named name) same ∙ allowed) (raised_room Xids p s.xids_below) (sound_raised Xids p s)
-sound_done task (Writes xid table change) p allowed s = write (raised Actions p) (raised_same Actions p).opens (raised_same Actions p).actions
+    sound_begun name (raised Xids p) (ap (find_named name) same ∙ allowed) (raised_room Xids p s.xids_below)
+    (sound_raised Xids p s)
+sound_done task (Writes xid table change) p allowed s =
+    write (raised Actions p) (raised_same Actions p).opens (raised_same Actions p).actions
     (raised_room Actions p s.numbers_below) (sound_raised Actions p s)
   where
-    write : (q : Place) → q.opens ≡ p.opens → q.actions ≡ p.actions → q.numbers.next < q.numbers.ceiling → Sound q → Sound (written xid table change q)
+    write : (q : Place) → q.opens ≡ p.opens → q.actions ≡ p.actions → q.numbers.next < q.numbers.ceiling → Sound q →
+        Sound (written xid table change q)
     write q opens actions room sound =
-        sound_written xid table change q (ap (λ os. member xid (ids_of os)) opens ∙ found_member allowed.name xid p.opens allowed.opened)
+        sound_written xid table change q (ap (λ os. member xid (ids_of os)) opens
+        ∙ found_member allowed.name xid p.opens allowed.opened)
         (rw (opens, actions) allowed.free) room sound
 sound_done task (Commits name xid) p allowed s = sound_committed name xid p allowed s
 sound_done task (Aborts name) p allowed s = sound_aborted name p s

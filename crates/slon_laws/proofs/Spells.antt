@@ -1,18 +1,20 @@
 -- Each change of a database keeps what it holds spelled.
-use Rattle.std.proofs.Common.{◌≡◌, ℕ, ◌+◌, ◌<◌, ◌≤◌, ◌^◌, Bool, true, false, cond, List, [], ◌∷◌, length, refl, sym, subst, arith}
+use Rattle.std.proofs.Common.{◌≡◌, ℕ, ◌+◌, ◌<◌, ◌≤◌, Bool, true, false, cond, List, [], ◌∷◌, length, refl}
+use Rattle.std.proofs.Common.{arith}
 use Rattle.std.specs.Prelude.{◌==◌, ◌&&◌, ◌||◌, not, nat_le, map}
-use Rattle.std.specs.List.{AllByRecursion, list_all}
+use Rattle.std.specs.List.{list_all}
 use Rattle.std.proofs.lemmas.Bool.{eqb-true, and_parts, leb-false, true≢false}
 use Rattle.slon_base.specs.Codec.{AllTexts}
 use Rattle.slon_model.specs.declared.numbering.Numbering.{Numbering}
 use Rattle.slon_model.specs.declared.numbering.Numbering.TheVariants.{Xids, Actions}
 use Rattle.slon_model.specs.Forms.{is_value}
-use Rattle.slon_model.specs.Names.{Named}
 use Rattle.slon_model.specs.Rows.{Change, Put, Set, Remove}
 use Rattle.slon_model.specs.Spoken.{IsTask, IsTableName, IsChange, most_columns}
 use Rattle.slon_model.specs.Tasks.{Task}
-use Rattle.slon_model.specs.Place.{Place, bare_place, block, counter, with_counter, lifted, stamped, raised, founded, own_count}
-use Rattle.slon_model.specs.Moves.{Move, Stays, Founds, Tables, Begins, Writes, Commits, Aborts, Falls, Rises, first_rows, prepared, done, stored_limit, is_last_stamp, is_last, is_beyond}
+use Rattle.slon_model.specs.Place.{Place, bare_place, block, counter, with_counter, lifted, stamped, raised, founded}
+use Rattle.slon_model.specs.Place.{own_count}
+use Rattle.slon_model.specs.Moves.{Move, Stays, Founds, Tables, Begins, Writes, Commits, Aborts, Falls, Rises}
+use Rattle.slon_model.specs.Moves.{first_rows, prepared, done, stored_limit, is_last_stamp, is_last, is_beyond}
 use Rattle.slon_model.specs.Deciding.{fits}
 use Rattle.slon_model.proofs.Names.{all_found}
 use Rattle.slon_model.proofs.Spoken.{value_text, value_texts, table_name_text}
@@ -20,7 +22,6 @@ use Rattle.slon_laws.specs.Sound.{Sound}
 use Rattle.slon_laws.specs.Spelled.{IsSmall, IsSpelled, CanSpell}
 use Rattle.slon_laws.specs.Allowed.{MayWrite, MayMove}
 use Rattle.slon_laws.specs.Keeps.{Keeps}
-use Rattle.slon_laws.proofs.Decides.{either_raised, raised_same}
 use Rattle.slon_laws.proofs.Sounds.{sound_prepared, keeps_sound}
 
 or_parts : (a b : Bool) → (a || b) ≡ false → (a ≡ false) × (b ≡ false)
@@ -37,7 +38,8 @@ spelled_bare = record {
 }
 
 -- a transaction of the store stands
-spelled_stamped : (p q : Place) → q.actions ≡ p.actions → q.tables ≡ p.tables → q.numbers.next ≡ p.numbers.next → 0 < q.stamp → IsSmall q → IsSpelled p → IsSpelled q
+spelled_stamped : (p q : Place) → q.actions ≡ p.actions → q.tables ≡ p.tables → q.numbers.next ≡ p.numbers.next →
+    0 < q.stamp → IsSmall q → IsSpelled p → IsSpelled q
 spelled_stamped p q actions tables next some small s = record {
   small = small;
   written = rw actions s.written;
@@ -50,23 +52,34 @@ below_limit : (n : ℕ) → nat_le stored_limit n ≡ false → n < stored_limit
 below_limit n not = omega (arith, leb-false stored_limit n not)
 
 -- a ceiling that is lifted within the limit
-pub lifted_small : (kind : Numbering) (p : Place) → (is_last_stamp p || nat_le stored_limit ((counter kind p).ceiling + block)) ≡ false → IsSmall p →
+pub lifted_small : (kind : Numbering) (p : Place) →
+    (is_last_stamp p || nat_le stored_limit ((counter kind p).ceiling + block)) ≡ false → IsSmall p →
     IsSmall (stamped (with_counter kind (lifted (counter kind p)) p))
 lifted_small Xids p not s =
     let parts = or_parts (is_last_stamp p) (nat_le stored_limit (p.xids.ceiling + block)) not in
-    record { stamp = below_limit (p.stamp + 1) parts.0; xids = below_limit (p.xids.ceiling + block) parts.1; numbers = s.numbers }
+    record {
+      stamp = below_limit (p.stamp + 1) parts.0;
+      xids = below_limit (p.xids.ceiling + block) parts.1;
+      numbers = s.numbers;
+    }
 lifted_small Actions p not s =
     let parts = or_parts (is_last_stamp p) (nat_le stored_limit (p.numbers.ceiling + block)) not in
-    record { stamp = below_limit (p.stamp + 1) parts.0; xids = s.xids; numbers = below_limit (p.numbers.ceiling + block) parts.1 }
+    record {
+      stamp = below_limit (p.stamp + 1) parts.0;
+      xids = s.xids;
+      numbers = below_limit (p.numbers.ceiling + block) parts.1;
+    }
 
-spelled_lifted : (kind : Numbering) (p : Place) → (is_last_stamp p || nat_le stored_limit ((counter kind p).ceiling + block)) ≡ false → IsSpelled p →
+spelled_lifted : (kind : Numbering) (p : Place) →
+    (is_last_stamp p || nat_le stored_limit ((counter kind p).ceiling + block)) ≡ false → IsSpelled p →
     IsSpelled (stamped (with_counter kind (lifted (counter kind p)) p))
 spelled_lifted Xids p not s = spelled_stamped p _ refl refl refl (omega arith) (lifted_small Xids p not s.small) s
 spelled_lifted Actions p not s = spelled_stamped p _ refl refl refl (omega arith) (lifted_small Actions p not s.small) s
 
 spelled_raised : (kind : Numbering) (p : Place) → is_last kind p ≡ false → IsSpelled p → IsSpelled (raised kind p)
 spelled_raised kind p not s =
-    elim ((counter kind p).next == (counter kind p).ceiling) as (λ b. (b && (is_last_stamp p || nat_le stored_limit ((counter kind p).ceiling + block))) ≡ false →
+    elim ((counter kind p).next == (counter kind p).ceiling)
+    as (λ b. (b && (is_last_stamp p || nat_le stored_limit ((counter kind p).ceiling + block))) ≡ false →
     IsSpelled (cond b (stamped (with_counter kind (lifted (counter kind p)) p)) p)) [
       | true ↦ λ within. spelled_lifted kind p within s
       | false ↦ λ within. s
@@ -77,7 +90,8 @@ spelled_founded p none s =
     let bare = s.bare none in
     let xids = bare.0 in
     let numbers = bare.1 in
-    spelled_stamped p (founded p) refl refl refl (omega arith) (record { stamp = omega arith; xids = omega (arith, xids); numbers = omega (arith, numbers) }) s
+    spelled_stamped p (founded p) refl refl refl (omega arith)
+    (record { stamp = omega arith; xids = omega (arith, xids); numbers = omega (arith, numbers) }) s
 
 spelled_first : (p : Place) → IsSpelled p → IsSpelled (first_rows p)
 spelled_first p s =
@@ -87,9 +101,13 @@ spelled_first p s =
     ] refl
 
 -- what stays as it was, but for transactions and the standing
-spelled_same : (p q : Place) → q.actions ≡ p.actions → q.tables ≡ p.tables → p.numbers.next ≤ q.numbers.next → q.stamp ≡ p.stamp →
-    q.xids.ceiling ≡ p.xids.ceiling → q.numbers.ceiling ≡ p.numbers.ceiling → IsSpelled p → IsSpelled q
-spelled_same p q actions tables next stamps xids numbers s = record {
+abbrev StaysAs : Place → Place → Type 0
+StaysAs p q =
+    (q.actions ≡ p.actions) × (q.tables ≡ p.tables) × (p.numbers.next ≤ q.numbers.next) × (q.stamp ≡ p.stamp)
+    × (q.xids.ceiling ≡ p.xids.ceiling) × (q.numbers.ceiling ≡ p.numbers.ceiling)
+
+spelled_same : (p q : Place) → StaysAs p q → IsSpelled p → IsSpelled q
+spelled_same p q (actions, tables, next, stamps, xids, numbers) s = record {
   small = record { stamp = rw stamps s.small.stamp; xids = rw xids s.small.xids; numbers = rw numbers s.small.numbers };
   written = rw actions s.written;
   narrow = rw tables s.narrow;
@@ -99,27 +117,37 @@ spelled_same p q actions tables next stamps xids numbers s = record {
 
 -- ---- a row is written
 
-pub column_texts : (columns : List (ℕ × List ℕ)) → list_all (λ c. is_value c.1) columns ≡ true → AllTexts (map (λ c. c.1) columns)
+pub column_texts : (columns : List (ℕ × List ℕ)) → list_all (λ c. is_value c.1) columns ≡ true →
+    AllTexts (map (λ c. c.1) columns)
 column_texts [] all = tt
 column_texts (c ∷ cs) all =
     let parts = and_parts (is_value c.1) (list_all (λ c. is_value c.1) cs) all in
     (value_text c.1 parts.0, column_texts cs parts.1)
 
-change_spelled : (change : Change) (width : ℕ) → fits change width ≡ true → width ≤ most_columns → IsChange change → CanSpell change
+change_spelled : (change : Change) (width : ℕ) → fits change width ≡ true → width ≤ most_columns → IsChange change →
+    CanSpell change
 change_spelled (Put key row) width fit narrow formed =
     let same : length (key ∷ row) ≡ width = eqb-true (length (key ∷ row)) width fit in
     (value_text key formed.0, record { few = omega (arith, same, narrow); each = value_texts row formed.1 })
 change_spelled (Set key columns) width fit narrow formed = (value_text key formed.0, column_texts columns formed.1)
 change_spelled (Remove key) width fit narrow formed = value_text key formed
 
-spelled_written : (task : Task) (xid : ℕ) (table : List ℕ) (change : Change) (p : Place) → IsTask task → MayWrite task p xid table change →
-    is_last Actions p ≡ false → IsSpelled p → IsSpelled (done (Writes xid table change) p)
-spelled_written task xid table change p formed may within s = record {
-  small = record { stamp = raised_spelled.small.stamp; xids = raised_spelled.small.xids; numbers = raised_spelled.small.numbers };
+spelled_written : (task : Task) (xid : ℕ) (table : List ℕ) (change : Change) (p : Place) →
+    IsTask task × MayWrite task p xid table change → is_last Actions p ≡ false → IsSpelled p →
+    IsSpelled (done (Writes xid table change) p)
+spelled_written task xid table change p (formed, may) within s = record {
+  small =
+      record {
+        stamp = raised_spelled.small.stamp;
+        xids = raised_spelled.small.xids;
+        numbers = raised_spelled.small.numbers;
+      };
   written = (
     record {
       table = table_name_text table parts.0;
-      change = change_spelled change may.width may.fit (all_found (λ width. width ≤ most_columns) table may.width p.tables s.narrow may.found) parts.1;
+      change =
+          change_spelled change may.width may.fit
+          (all_found (λ width. width ≤ most_columns) table may.width p.tables s.narrow may.found) parts.1;
       named = parts.0;
       formed = parts.1;
     },
@@ -144,16 +172,23 @@ spelled_prepared (Writes xid table change) p within s = spelled_raised Actions p
 spelled_prepared Rises p within s = spelled_first p s
 spelled_prepared others p within s = s
 
-spelled_committed : (name : List ℕ) (xid : ℕ) (p : Place) → is_beyond (Commits name xid) p ≡ false → IsSpelled p → IsSpelled (done (Commits name xid) p)
+spelled_committed : (name : List ℕ) (xid : ℕ) (p : Place) → is_beyond (Commits name xid) p ≡ false → IsSpelled p →
+    IsSpelled (done (Commits name xid) p)
 spelled_committed name xid p within s =
-    elim (own_count xid p == 0) as (λ b. (not b && is_last_stamp p) ≡ false → IsSpelled (record (done (Commits name xid) p) { stamp = cond b p.stamp (p.stamp + 1) })) [
-      | true ↦ λ any. spelled_same p _ refl refl (omega arith) refl refl refl s
-      | false ↦ λ less. spelled_stamped p _ refl refl refl (omega arith) (record { stamp = below_limit (p.stamp + 1) less; xids = s.small.xids; numbers = s.small.numbers }) s
+    elim (own_count xid p == 0)
+    as (λ b. (not b && is_last_stamp p) ≡ false →
+    IsSpelled (record (done (Commits name xid) p) { stamp = cond b p.stamp (p.stamp + 1) })) [
+      | true ↦ λ any. spelled_same p _ (refl, refl, omega arith, refl, refl, refl) s
+      | false ↦
+          λ less. spelled_stamped p _ refl refl refl (omega arith)
+          (record { stamp = below_limit (p.stamp + 1) less; xids = s.small.xids; numbers = s.small.numbers }) s
     ] within
 
-spelled_done : (task : Task) (move : Move) (p : Place) → IsTask task → MayMove task p move → Sound p → IsSpelled p → IsSpelled (done move p)
+spelled_done : (task : Task) (move : Move) (p : Place) → IsTask task → MayMove task p move → Sound p → IsSpelled p →
+    IsSpelled (done move p)
 spelled_done task Stays p formed may sound s = s
-spelled_done task Founds p formed may sound s = spelled_same (first_rows p) (done Founds p) refl refl (omega arith) refl refl refl (spelled_first p s)
+spelled_done task Founds p formed may sound s =
+    spelled_same (first_rows p) (done Founds p) (refl, refl, omega arith, refl, refl, refl) (spelled_first p s)
 spelled_done task (Tables table columns) p formed may sound s = record {
   small = record { stamp = below_limit (p.stamp + 1) may.within; xids = s.small.xids; numbers = s.small.numbers };
   written = s.written;
@@ -162,20 +197,32 @@ spelled_done task (Tables table columns) p formed may sound s = record {
   bare = λ none. absurd (omega (arith, none));
 }
 spelled_done task (Begins name) p formed may sound s =
-    spelled_same (raised Xids p) (done (Begins name) p) refl refl (omega arith) refl refl refl (spelled_raised Xids p may.within s)
-spelled_done task (Writes xid table change) p formed may sound s = spelled_written task xid table change p formed may.allows may.within s
+    spelled_same (raised Xids p) (done (Begins name) p) (refl, refl, omega arith, refl, refl, refl)
+    (spelled_raised Xids p may.within s)
+spelled_done task (Writes xid table change) p formed may sound s =
+    spelled_written task xid table change p (formed, may.allows) may.within s
 spelled_done task (Commits name xid) p formed may sound s = spelled_committed name xid p may.within s
-spelled_done task (Aborts name) p formed may sound s = spelled_same p (done (Aborts name) p) refl refl (omega arith) refl refl refl s
-spelled_done task Falls p formed may sound s = spelled_same p (done Falls p) refl refl (omega arith) refl refl refl s
+spelled_done task (Aborts name) p formed may sound s =
+    spelled_same p (done (Aborts name) p) (refl, refl, omega arith, refl, refl, refl) s
+spelled_done task Falls p formed may sound s =
+    spelled_same p (done Falls p) (refl, refl, omega arith, refl, refl, refl) s
 spelled_done task Rises p formed may sound s =
-    spelled_same (prepared Rises p) (done Rises p) refl refl (sound_prepared Rises p sound).numbers_below refl refl refl (spelled_prepared Rises p may.within s)
+    spelled_same (prepared Rises p) (done Rises p)
+    (refl, refl, (sound_prepared Rises p sound).numbers_below, refl, refl, refl)
+    (spelled_prepared Rises p may.within s)
 
 -- a sound database stays spelled
 pub keeps_spelled : Keeps IsTask (λ p. Sound p × IsSpelled p) (λ p. Sound p × IsSpelled p)
 keeps_spelled = record {
   stays = λ p s. s;
   prepares = λ task move p may s. (sound_prepared move p s.0, spelled_prepared move p may.within s.1);
-  moves = λ task move p formed may s. (keeps_sound.moves task move p tt may s.0, spelled_done task move p formed may s.0 s.1);
-  falls = λ count p s. (keeps_sound.falls count p s.0, spelled_same p _ refl refl (omega arith) refl refl refl s.1);
-  wavers = λ stands p s. (keeps_sound.wavers stands p s.0, spelled_same p _ refl refl (omega arith) refl refl refl s.1);
+  moves =
+      λ task move p formed may s. (
+        keeps_sound.moves task move p tt may s.0,
+        spelled_done task move p formed may s.0 s.1,
+      );
+  falls =
+      λ count p s. (keeps_sound.falls count p s.0, spelled_same p _ (refl, refl, omega arith, refl, refl, refl) s.1);
+  wavers =
+      λ stands p s. (keeps_sound.wavers stands p s.0, spelled_same p _ (refl, refl, omega arith, refl, refl, refl) s.1);
 }

@@ -20,19 +20,37 @@ pub record Lasts (IsOne : Task → Type 0) (P Q : Place → Type 0) : Type 0 whe
   pub first : P bare_place
   pub founds : IsOne ToFound
 
+-- A step of a history.
+pub record Stepped : Type 0 where
+  pub old : World
+  pub new : World
+  pub happening : Happening
+  pub step : Step old happening new
+
+abbrev pub stepped : (w v : World) (h : Happening) → Step w h v → Stepped
+stepped w v h step = record { old = w; new = v; happening = h; step = step }
+
 -- it is kept of all databases of a session
-pub all_step : {IsOne : Task → Type 0} {P Q : Place → Type 0} → Lasts IsOne P Q → (w v : World) (h : Happening) →
-    ((name : List ℕ) (task : Task) → subject_of h.command ≡ OnOne name task → IsOne task) → Step w h v → AllPlaces P w → AllPlaces Q v
-all_step {P = P} {Q = Q} l w v h one (Grants name result about granted takes told is) all =
-    subst (AllPlaces Q) (sym is) (all_behind Q name _ w.places (kept l.keeps ToFound bare_place h.choice l.founds l.first)
-    (all_map (λ e. P e.1) (λ e. Q e.1) (λ e. l.keeps.stays e.1) w.places all))
-all_step {P = P} {Q = Q} l w v h one (Denies name about denied sure told is) all =
-    subst (AllPlaces Q) (sym is) (all_map (λ e. P e.1) (λ e. Q e.1) (λ e. l.keeps.stays e.1) w.places all)
-all_step {P = P} {Q = Q} l w v h one (Misses name task about none sure told is) all =
-    subst (AllPlaces Q) (sym is) (all_map (λ e. P e.1) (λ e. Q e.1) (λ e. l.keeps.stays e.1) w.places all)
-all_step {P = P} {Q = Q} l w v h one (Asks name task p result about found takes told is) all =
-    subst (AllPlaces Q) (sym is) (all_put Q name _ w.places (kept l.keeps task p h.choice (one name task about) (all_found P name p w.places all found))
-    (all_map (λ e. P e.1) (λ e. Q e.1) (λ e. l.keeps.stays e.1) w.places all))
+pub all_step : {IsOne : Task → Type 0} {P Q : Place → Type 0} → Lasts IsOne P Q → (s : Stepped) →
+    ((name : List ℕ) (task : Task) → subject_of s.happening.command ≡ OnOne name task → IsOne task) →
+    AllPlaces P s.old → AllPlaces Q s.new
+all_step {IsOne} {P} {Q} l s one all = by s.step
+  where
+    still : AllPlaces Q s.old
+    still = all_map (λ e. P e.1) (λ e. Q e.1) (λ e. l.keeps.stays e.1) s.old.places all
+
+    by : Step s.old s.happening s.new → AllPlaces Q s.new
+    by (Grants name result about granted takes told is) =
+        subst (AllPlaces Q) (sym is)
+        (all_behind Q name _ s.old.places (kept l.keeps ToFound bare_place s.happening.choice (l.founds, l.first))
+        still)
+    by (Denies name about denied sure told is) = subst (AllPlaces Q) (sym is) still
+    by (Misses name task about none sure told is) = subst (AllPlaces Q) (sym is) still
+    by (Asks t) =
+        subst (AllPlaces Q) (sym t.is)
+        (all_put Q t.name _ s.old.places
+        (kept l.keeps t.task t.place s.happening.choice
+        (one t.name t.task t.about, all_found P t.name t.place s.old.places all t.found)) still)
 
 -- ---- sound
 
@@ -40,7 +58,7 @@ lasts_sound : Lasts (λ task. Unit {0}) Sound Sound
 lasts_sound = record { keeps = keeps_sound; first = sound_bare; founds = tt }
 
 pub sound_world_step : (w v : World) (h : Happening) → Step w h v → AllPlaces Sound w → AllPlaces Sound v
-sound_world_step w v h step all = all_step lasts_sound w v h (λ name task about. tt) step all
+sound_world_step w v h step all = all_step lasts_sound (stepped w v h step) (λ name task about. tt) all
 
 pub sound_world : (limit : ℕ) (history : List Happening) (w : World) → Leads (start limit) history w → AllPlaces Sound w
 sound_world limit [] w is = subst (AllPlaces Sound) (sym is) tt
@@ -51,23 +69,33 @@ sound_world limit (h ∷ hs) w leads = sound_world_step leads.0 w h leads.2 (sou
 lasts_spelled : Lasts IsTask (λ p. Sound p × IsSpelled p) (λ p. Sound p × IsSpelled p)
 lasts_spelled = record { keeps = keeps_spelled; first = (sound_bare, spelled_bare); founds = tt }
 
-formed_task : (h : Happening) → IsSpoken h.command → (name : List ℕ) (task : Task) → subject_of h.command ≡ OnOne name task → IsTask task
+formed_task : (h : Happening) → IsSpoken h.command → (name : List ℕ) (task : Task) →
+    subject_of h.command ≡ OnOne name task → IsTask task
 formed_task h spoken name task about = (subst IsSubject about spoken).1
 
-fit_world_step : (w v : World) (h : Happening) → IsSpoken h.command → Step w h v → AllPlaces (λ p. Sound p × IsSpelled p) w → AllPlaces (λ p. Sound p × IsSpelled p) v
-fit_world_step w v h spoken step all = all_step lasts_spelled w v h (formed_task h spoken) step all
+fit_world_step : (w v : World) (h : Happening) → IsSpoken h.command → Step w h v →
+    AllPlaces (λ p. Sound p × IsSpelled p) w → AllPlaces (λ p. Sound p × IsSpelled p) v
+fit_world_step w v h spoken step all = all_step lasts_spelled (stepped w v h step) (formed_task h spoken) all
 
-pub fit_world : (limit : ℕ) (history : List Happening) (w : World) → AllSpoken history → Leads (start limit) history w → AllPlaces (λ p. Sound p × IsSpelled p) w
+pub fit_world : (limit : ℕ) (history : List Happening) (w : World) → AllSpoken history → Leads (start limit) history w →
+    AllPlaces (λ p. Sound p × IsSpelled p) w
 fit_world limit [] w spoken is = subst (AllPlaces (λ p. Sound p × IsSpelled p)) (sym is) tt
-fit_world limit (h ∷ hs) w spoken leads = fit_world_step leads.0 w h spoken.0 leads.2 (fit_world limit hs leads.0 spoken.1 leads.1)
+fit_world limit (h ∷ hs) w spoken leads =
+    fit_world_step leads.0 w h spoken.0 leads.2 (fit_world limit hs leads.0 spoken.1 leads.1)
 
-pub spelled_world_step : (w v : World) (h : Happening) → IsSpoken h.command → Step w h v → AllPlaces Sound w → AllPlaces IsSpelled w → AllPlaces IsSpelled v
+pub spelled_world_step : (w v : World) (h : Happening) → IsSpoken h.command → Step w h v → AllPlaces Sound w →
+    AllPlaces IsSpelled w → AllPlaces IsSpelled v
 spelled_world_step w v h spoken step sound all =
-    all_map (λ e. Sound e.1 × IsSpelled e.1) (λ e. IsSpelled e.1) (λ e s. s.1) v.places (fit_world_step w v h spoken step (both w.places sound all))
+    all_map (λ e. Sound e.1 × IsSpelled e.1) (λ e. IsSpelled e.1) (λ e s. s.1) v.places
+    (fit_world_step w v h spoken step (both w.places sound all))
   where
-    both : (es : List (List ℕ × Place)) → AllByRecursion (λ e. Sound e.1) es → AllByRecursion (λ e. IsSpelled e.1) es → AllByRecursion (λ e. Sound e.1 × IsSpelled e.1) es
+    both : (es : List (List ℕ × Place)) → AllByRecursion (λ e. Sound e.1) es → AllByRecursion (λ e. IsSpelled e.1) es →
+        AllByRecursion (λ e. Sound e.1 × IsSpelled e.1) es
     both [] ss ws = tt
     both (e ∷ es) ss ws = ((ss.0, ws.0), both es ss.1 ws.1)
 
-pub spelled_world : (limit : ℕ) (history : List Happening) (w : World) → AllSpoken history → Leads (start limit) history w → AllPlaces IsSpelled w
-spelled_world limit history w spoken leads = all_map (λ e. Sound e.1 × IsSpelled e.1) (λ e. IsSpelled e.1) (λ e s. s.1) w.places (fit_world limit history w spoken leads)
+pub spelled_world : (limit : ℕ) (history : List Happening) (w : World) → AllSpoken history →
+    Leads (start limit) history w → AllPlaces IsSpelled w
+spelled_world limit history w spoken leads =
+    all_map (λ e. Sound e.1 × IsSpelled e.1) (λ e. IsSpelled e.1) (λ e s. s.1) w.places
+    (fit_world limit history w spoken leads)

@@ -35,19 +35,22 @@ LocksOrder p =
 abbrev pub LocksOrderActions : Type 0
 LocksOrderActions = HoldsOfEach LocksOrder
 
--- The accepted writes stand in the order of their numbers, the newest first, so that a fold over them is one in that order.
+-- The accepted writes stand in the order of their numbers, the newest first, so that a fold over them is one in that
+-- order.
 abbrev pub AreNumbered : Place → Type 0
 AreNumbered p = Pairs (λ a b. a.number < b.number) p.actions
 
 abbrev pub NumbersRise : Type 0
 NumbersRise = HoldsOfEach AreNumbered
 
--- What a table holds is a fold over the committed actions. A commit leaves the same if it applies the actions of its own
--- transaction to what the table held.
+-- What a table holds is a fold over the committed actions. A commit leaves the same if it applies the actions of its
+-- own transaction to what the table held.
 abbrev pub OwnActionsApply : Place → Type 0
 OwnActionsApply p =
     (name : List ℕ) (xid : ℕ) → find_named name p.opens ≡ Some xid →
-    (table : List ℕ) → standing_rows (committed name xid p) table ≡ play_rows (λ a. a.xid == xid) table p.actions (standing_rows p table)
+    (table : List ℕ) →
+    standing_rows (committed name xid p) table ≡ play_rows (λ a. a.xid == xid) table p.actions
+    (standing_rows p table)
 
 abbrev pub CommitApplies : Type 0
 CommitApplies = HoldsOfEach OwnActionsApply
@@ -76,7 +79,8 @@ IsReplyBelow p others = Unit {0}
 -- Every id and every number that a database gave in a reply is below its ceilings ever after.
 abbrev pub RepliesStayBelow : Type 0
 RepliesStayBelow =
-    (limit : ℕ) (history later : List Happening) (h : Happening) (w v : World) → Leads (start limit) (h ∷ history) w → Leads w later v →
+    (limit : ℕ) (history later : List Happening) (h : Happening) (w v : World) → Leads (start limit) (h ∷ history) w →
+    Leads w later v →
     (p : Place) → find_named (database_named (subject_of h.command)) v.places ≡ Some p → IsReplyBelow p h.reply
 
 -- Every snapshot ends at most at the ceilings ever after.
@@ -86,7 +90,8 @@ SnapshotsStayBelow =
     (name : List ℕ) (p q : Place) → find_named name w.places ≡ Some p → find_named name v.places ≡ Some q →
     (taken p).xmax ≤ q.xids.ceiling
 
--- Of two snapshots that are taken in one database, one after the other, the later one sees all that the earlier one sees.
+-- Of two snapshots that are taken in one database, one after the other, the later one sees all that the earlier one
+-- sees.
 abbrev pub SnapshotsCover : Type 0
 SnapshotsCover =
     (limit : ℕ) (history later : List Happening) (w v : World) → Leads (start limit) history w → Leads w later v →

@@ -31,7 +31,9 @@ before x y (c ∷ cs) = if c == y then member x cs else before x y cs
 
 -- of two committed actions on one row the earlier one committed first
 abbrev pub IsOrdered : List ℕ → Action → Action → Type 0
-IsOrdered commits a b = conflicts a b ≡ true → (a.xid ≡ b.xid → ⊥) → member a.xid commits ≡ true → member b.xid commits ≡ true → before a.xid b.xid commits ≡ true
+IsOrdered commits a b =
+    conflicts a b ≡ true → (a.xid ≡ b.xid → ⊥) → member a.xid commits ≡ true → member b.xid commits ≡ true →
+    before a.xid b.xid commits ≡ true
 
 -- the ids under these names
 abbrev pub ids_of : Named ℕ → List ℕ

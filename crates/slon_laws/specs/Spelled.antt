@@ -1,5 +1,5 @@
 -- What holds of every database that is reached by commands whose parts have their forms.
-use Rattle.std.specs.Prelude.{◌≡◌, ℕ, ◌<◌, ◌≤◌, length, map}
+use Rattle.std.specs.Prelude.{◌≡◌, ◌<◌, ◌≤◌, length, map}
 use Rattle.std.specs.List.{AllByRecursion}
 use Rattle.slon_base.specs.Codec.{IsText, AllTexts, AreTexts}
 use Rattle.slon_model.specs.Rows.{Action, Change, Put, Set, Remove}

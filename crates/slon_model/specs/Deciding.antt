@@ -1,22 +1,27 @@
 -- What a database decides on a task: a refusal, or an answer with the move that is its effect.
-use Rattle.std.specs.Prelude.{◌≡◌, ℕ, ◌==◌, ◌&&◌, if◌then◌else◌, not, nat_le, is_some, Bool, true, false, List, [], ◌∷◌, length, Option, Some, None, Result, Ok, Err}
+use Rattle.std.specs.Prelude.{◌≡◌, ℕ, ◌==◌, ◌&&◌, if◌then◌else◌, not, nat_le, is_some, Bool, true, false, List, ◌∷◌}
+use Rattle.std.specs.Prelude.{length, Option, Some, None, Result, Ok, Err}
 use Rattle.std.specs.List.{list_all}
 use Rattle.std.specs.FinMap.{get, entries}
 use Rattle.slon_base.specs.Counts.{Rose}
 use Rattle.slon_base.specs.declared.fault.Halt.TheVariants.{Fault, TooBig}
 use Rattle.slon_model.specs.declared.fault.DbFault.{DbFault}
-use Rattle.slon_model.specs.declared.fault.DbFault.TheVariants.{Locked, Down, IsUp, TableExists, NameUsed, NoTable, NoTransaction, Duplicate, BadWidth, Halt}
-use Rattle.slon_model.specs.declared.command.Crash.{Crash as CrashKind}
+use Rattle.slon_model.specs.declared.fault.DbFault.TheVariants.{Locked, Down, IsUp, TableExists, NameUsed, NoTable}
+use Rattle.slon_model.specs.declared.fault.DbFault.TheVariants.{NoTransaction, Duplicate, BadWidth, Halt}
 use Rattle.slon_model.specs.declared.command.Crash.TheVariants.{Now}
 use Rattle.slon_model.specs.declared.reply.Answer.{Answer}
-use Rattle.slon_model.specs.declared.reply.Answer.TheVariants.{Done, Opened, Acted, Unchanged, Committed, Listed, Kept, Lost, Status as StatusIs}
+use Rattle.slon_model.specs.declared.reply.Answer.TheVariants.{Done, Opened, Acted, Unchanged, Committed, Listed, Kept}
+use Rattle.slon_model.specs.declared.reply.Answer.TheVariants.{Lost, Status as StatusIs}
 use Rattle.slon_model.specs.declared.reply.Answered.{Answered}
 use Rattle.slon_model.specs.declared.reply.Answered.TheVariants.{Sure, InDoubt}
 use Rattle.slon_model.specs.Names.{find_named}
 use Rattle.slon_model.specs.Rows.{Row, Change, Put, Set, Remove, change_key}
-use Rattle.slon_model.specs.Tasks.{Write, Task, ToFound, ToMake, ToOpen, ToWrite, ToCommit, ToAbort, ToList, ToTell, ToCrash, ToRise}
-use Rattle.slon_model.specs.Place.{Place, Standing, IsRunning, IsFallen, IsDoubtful, standing_rows, seen_rows, holder, own_count, fallen, doubted}
-use Rattle.slon_model.specs.Moves.{Move, Stays, Founds, Tables, Begins, Writes, Commits, Aborts, Falls, Rises, prepared, done, commits_at, is_beyond}
+use Rattle.slon_model.specs.Tasks.{Write, Task, ToFound, ToMake, ToOpen, ToWrite, ToCommit, ToAbort, ToList, ToTell}
+use Rattle.slon_model.specs.Tasks.{ToCrash, ToRise}
+use Rattle.slon_model.specs.Place.{Place, Standing, IsRunning, IsDoubtful, standing_rows, seen_rows, holder}
+use Rattle.slon_model.specs.Place.{own_count, fallen, doubted}
+use Rattle.slon_model.specs.Moves.{Move, Stays, Founds, Tables, Begins, Writes, Commits, Aborts, Falls, Rises, prepared}
+use Rattle.slon_model.specs.Moves.{done, commits_at, is_beyond}
 
 -- A task is refused; or it is answered, with the move that is its effect; or a number that it would store is too big.
 pub data Decision : Type 0 where
@@ -62,7 +67,8 @@ by_row others accepted (Some old) = accepted
 abbrev pub decide_row : ℕ → Write → Place → Decision
 decide_row xid w p =
     unless_held xid (holder w.table (change_key w.change) p)
-    (by_row w.change (Accepts (Acted p.numbers.next) (Writes xid w.table w.change)) (get (seen_rows xid p w.table) (change_key w.change)))
+    (by_row w.change (Accepts (Acted p.numbers.next) (Writes xid w.table w.change))
+    (get (seen_rows xid p w.table) (change_key w.change)))
 
 abbrev pub decide_write : Write → Place → Decision
 decide_write w p =
@@ -74,13 +80,16 @@ decide_write w p =
 
 -- while the database is up
 abbrev pub decide_up : Task → Place → Decision
-decide_up (ToMake table columns) p = refused_if (is_some (find_named table p.tables)) TableExists (Accepts Done (Tables table columns))
-decide_up (ToOpen name) p = refused_if (is_some (find_named name p.opens)) NameUsed (Accepts (Opened p.xids.next) (Begins name))
+decide_up (ToMake table columns) p =
+    refused_if (is_some (find_named table p.tables)) TableExists (Accepts Done (Tables table columns))
+decide_up (ToOpen name) p =
+    refused_if (is_some (find_named name p.opens)) NameUsed (Accepts (Opened p.xids.next) (Begins name))
 decide_up (ToWrite w) p = decide_write w p
 decide_up (ToCommit name) p =
     with_found (find_named name p.opens) NoTransaction (λ xid. Accepts (Committed (own_count xid p)) (Commits name xid))
 decide_up (ToAbort name) p = with_found (find_named name p.opens) NoTransaction (λ xid. Accepts Done (Aborts name))
-decide_up (ToList table) p = with_found (find_named table p.tables) NoTable (λ width. Accepts (Listed (entries (standing_rows p table))) Stays)
+decide_up (ToList table) p =
+    with_found (find_named table p.tables) NoTable (λ width. Accepts (Listed (entries (standing_rows p table))) Stays)
 decide_up ToTell p = Accepts (StatusIs 0 0) Stays
 decide_up (ToCrash Now) p = Accepts Done Falls
 decide_up (ToCrash later) p = Accepts Done Stays

@@ -1,10 +1,12 @@
 -- The few ways in which a command changes what the rules know of a database.
-use Rattle.std.specs.Prelude.{ℕ, ◌+◌, ◌^◌, ◌==◌, ◌&&◌, ◌||◌, nat_le, if◌then◌else◌, not, Bool, true, false, List, [], ◌∷◌, ◌++◌}
+use Rattle.std.specs.Prelude.{ℕ, ◌+◌, ◌^◌, ◌==◌, ◌&&◌, ◌||◌, nat_le, if◌then◌else◌, not, Bool, true, false, List, []}
+use Rattle.std.specs.Prelude.{◌∷◌, ◌++◌}
 use Rattle.slon_model.specs.declared.numbering.Numbering.{Numbering}
 use Rattle.slon_model.specs.declared.numbering.Numbering.TheVariants.{Xids, Actions}
 use Rattle.slon_model.specs.Names.{without}
 use Rattle.slon_model.specs.Rows.{Change}
-use Rattle.slon_model.specs.Place.{Place, IsRunning, IsFallen, block, counter, drawn, resumed, stamped, raised, founded, own_count}
+use Rattle.slon_model.specs.Place.{Place, IsRunning, IsFallen, block, counter, drawn, resumed, stamped, raised, founded}
+use Rattle.slon_model.specs.Place.{own_count}
 
 pub data Move : Type 0 where
   Stays : Move
@@ -39,12 +41,19 @@ begun name p = record p { opens = p.opens ++ (name, p.xids.next) ∷ []; xids = 
 
 abbrev pub written : ℕ → List ℕ → Change → Place → Place
 written xid table change p =
-    record p { actions = record { number = p.numbers.next; xid = xid; table = table; change = change } ∷ p.actions; numbers = drawn p.numbers }
+    record p {
+      actions = record { number = p.numbers.next; xid = xid; table = table; change = change } ∷ p.actions;
+      numbers = drawn p.numbers;
+    }
 
 -- without actions there is no transaction of the store
 abbrev pub committed : List ℕ → ℕ → Place → Place
 committed name xid p =
-    record p { commits = xid ∷ p.commits; opens = without name p.opens; stamp = if own_count xid p == 0 then p.stamp else p.stamp + 1 }
+    record p {
+      commits = xid ∷ p.commits;
+      opens = without name p.opens;
+      stamp = if own_count xid p == 0 then p.stamp else p.stamp + 1;
+    }
 
 abbrev pub aborted : List ℕ → Place → Place
 aborted name p = record p { opens = without name p.opens }
@@ -89,7 +98,8 @@ is_last_stamp p = nat_le stored_limit (p.stamp + 1)
 -- a draw lifts a ceiling, and this or the stamp would be too big
 abbrev pub is_last : Numbering → Place → Bool
 is_last kind p =
-    (counter kind p).next == (counter kind p).ceiling && (is_last_stamp p || nat_le stored_limit ((counter kind p).ceiling + block))
+    (counter kind p).next == (counter kind p).ceiling
+    && (is_last_stamp p || nat_le stored_limit ((counter kind p).ceiling + block))
 
 abbrev pub is_beyond : Move → Place → Bool
 is_beyond (Tables table columns) p = is_last_stamp p

@@ -1,5 +1,6 @@
 -- What the rules know of one database.
-use Rattle.std.specs.Prelude.{ℕ, ◌+◌, ◌==◌, if◌then◌else◌, Bool, true, false, List, [], ◌∷◌, length, filter, map, Option, Some, None}
+use Rattle.std.specs.Prelude.{ℕ, ◌+◌, ◌==◌, if◌then◌else◌, Bool, true, false, List, [], ◌∷◌, length, filter, map}
+use Rattle.std.specs.Prelude.{Option}
 use Rattle.slon_model.specs.declared.numbering.Numbering.{Numbering}
 use Rattle.slon_model.specs.declared.numbering.Numbering.TheVariants.{Xids, Actions}
 use Rattle.slon_model.specs.Names.{Named}
@@ -74,7 +75,9 @@ stamped p = record p { stamp = p.stamp + 1 }
 
 -- a draw at the ceiling lifts it, in a transaction of the store of its own
 abbrev pub raised : Numbering → Place → Place
-raised kind p = if (counter kind p).next == (counter kind p).ceiling then stamped (with_counter kind (lifted (counter kind p)) p) else p
+raised kind p =
+    if (counter kind p).next == (counter kind p).ceiling then stamped
+    (with_counter kind (lifted (counter kind p)) p) else p
 
 -- ---- what is known of rows and transactions
 
@@ -107,7 +110,17 @@ taken p = record { xmin = first_or p.xids.next (open_xids p); xmax = p.xids.next
 -- a database of whose first rows none stands
 abbrev pub bare_place : Place
 bare_place =
-    record { standing = IsFallen; tables = []; actions = []; commits = []; opens = []; xids = first_counter; numbers = first_counter; stamp = 0; told = 0 }
+    record {
+      standing = IsFallen;
+      tables = [];
+      actions = [];
+      commits = [];
+      opens = [];
+      xids = first_counter;
+      numbers = first_counter;
+      stamp = 0;
+      told = 0;
+    }
 
 -- a commit in doubt that stands after all
 abbrev pub surely : Standing → Standing

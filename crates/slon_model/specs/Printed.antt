@@ -2,9 +2,12 @@
 use Rattle.std.specs.Prelude.{ℕ, List, [], ◌∷◌, ◌++◌, length, codes}
 use Rattle.std.specs.Fmt.{decimal}
 use Rattle.slon_model.specs.declared.reply.Answer.{Answer}
-use Rattle.slon_model.specs.declared.reply.Answer.TheVariants.{Done, Opened, Acted, Unchanged, Committed, Listed, Kept, Lost, Status}
+use Rattle.slon_model.specs.declared.reply.Answer.TheVariants.{Done, Opened, Acted, Unchanged, Committed, Listed, Kept}
+use Rattle.slon_model.specs.declared.reply.Answer.TheVariants.{Lost, Status}
 use Rattle.slon_model.specs.declared.reply.Refusal.{Refusal}
-use Rattle.slon_model.specs.declared.reply.Refusal.TheVariants.{Fault, Locked, Full, BadRow, NotEmpty, Down, NoDatabase, IsUp, TooBig, TableExists, NameUsed, NoTable, NoTransaction, Duplicate, BadWidth}
+use Rattle.slon_model.specs.declared.reply.Refusal.TheVariants.{Fault, Locked, Full, BadRow, NotEmpty, Down, NoDatabase}
+use Rattle.slon_model.specs.declared.reply.Refusal.TheVariants.{IsUp, TooBig, TableExists, NameUsed, NoTable}
+use Rattle.slon_model.specs.declared.reply.Refusal.TheVariants.{NoTransaction, Duplicate, BadWidth}
 use Rattle.slon_model.specs.declared.reply.Reply.{Reply}
 use Rattle.slon_model.specs.declared.reply.Reply.TheVariants.{Accepted, Refused, InDoubt}
 

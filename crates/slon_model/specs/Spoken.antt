@@ -4,7 +4,8 @@ use Rattle.std.specs.List.{list_all}
 use Rattle.slon_model.specs.declared.command.Command.{Command}
 use Rattle.slon_model.specs.Forms.{is_name, is_table_name, is_value}
 use Rattle.slon_model.specs.Rows.{Change, Put, Set, Remove}
-use Rattle.slon_model.specs.Tasks.{Write, Task, ToMake, ToOpen, ToWrite, ToCommit, ToAbort, ToList, Subject, OnNew, OnOne, subject_of}
+use Rattle.slon_model.specs.Tasks.{Task, ToMake, ToOpen, ToWrite, ToCommit, ToAbort, ToList, Subject, OnNew}
+use Rattle.slon_model.specs.Tasks.{OnOne, subject_of}
 
 abbrev pub IsName : List ℕ → Type 0
 IsName word = is_name word ≡ true

@@ -2,7 +2,8 @@
 use Rattle.std.specs.Prelude.{ℕ, List, [], ◌∷◌, Option, Some, None}
 use Rattle.slon_model.specs.declared.command.Crash.{Crash as CrashKind}
 use Rattle.slon_model.specs.declared.command.Command.{Command}
-use Rattle.slon_model.specs.declared.command.Command.TheVariants.{Database, Table, Begin, Insert, Update, Delete, Commit, Abort, Rows, Status, Crash, Up}
+use Rattle.slon_model.specs.declared.command.Command.TheVariants.{Database, Table, Begin, Insert, Update, Delete}
+use Rattle.slon_model.specs.declared.command.Command.TheVariants.{Commit, Abort, Rows, Status, Crash, Up}
 use Rattle.slon_model.specs.Rows.{Row, Change, Put, Set, Remove}
 
 -- A write of the transaction of this name.
@@ -44,7 +45,8 @@ abbrev pub subject_of : Command → Subject
 subject_of (Database name) = OnNew name
 subject_of (Table database table columns) = OnOne database (ToMake table columns)
 subject_of (Begin database name) = OnOne database (ToOpen name)
-subject_of (Insert database name table values) = OnOne database (ToWrite (write_by name table (Put (key_of values) (row_of values))))
+subject_of (Insert database name table values) =
+    OnOne database (ToWrite (write_by name table (Put (key_of values) (row_of values))))
 subject_of (Update database name table key columns) = OnOne database (ToWrite (write_by name table (Set key columns)))
 subject_of (Delete database name table key) = OnOne database (ToWrite (write_by name table (Remove key)))
 subject_of (Commit database name) = OnOne database (ToCommit name)

@@ -1,11 +1,13 @@
 -- What the rules know after a history, the one reply that they give to a command, and the histories that they allow.
-use Rattle.std.specs.Prelude.{◌≡◌, ℕ, if◌then◌else◌, nat_lt, is_some, Bool, true, false, List, [], ◌∷◌, ◌++◌, length, Option, Some, None, Result, Ok, Err, unwrap_or}
+use Rattle.std.specs.Prelude.{◌≡◌, ℕ, if◌then◌else◌, nat_lt, is_some, Bool, true, false, List, [], ◌∷◌, ◌++◌, length}
+use Rattle.std.specs.Prelude.{Option, Some, None, Result, Ok, Err, unwrap_or}
 use Rattle.slon_base.specs.declared.fault.Halt.{Halt as HaltOf}
-use Rattle.slon_base.specs.declared.fault.Halt.TheVariants.{Doubt, NoMemory, Fault as HaltFault, BadRow as HaltBadRow, TooBig as HaltTooBig}
+use Rattle.slon_base.specs.declared.fault.Halt.TheVariants.{Doubt, NoMemory, Fault as HaltFault, BadRow as HaltBadRow}
+use Rattle.slon_base.specs.declared.fault.Halt.TheVariants.{TooBig as HaltTooBig}
 use Rattle.slon_model.specs.declared.fault.DbFault.{DbFault}
-use Rattle.slon_model.specs.declared.fault.DbFault.TheVariants.{Locked, NotEmpty, Down, IsUp, TableExists, NameUsed, NoTable, NoTransaction, Duplicate, BadWidth, Halt}
+use Rattle.slon_model.specs.declared.fault.DbFault.TheVariants.{Locked, NotEmpty, Down, IsUp, TableExists, NameUsed}
+use Rattle.slon_model.specs.declared.fault.DbFault.TheVariants.{NoTable, NoTransaction, Duplicate, BadWidth, Halt}
 use Rattle.slon_model.specs.declared.command.Command.{Command}
-use Rattle.slon_model.specs.declared.reply.Answer.{Answer}
 use Rattle.slon_model.specs.declared.reply.Answer.TheVariants.{Done}
 use Rattle.slon_model.specs.declared.reply.Answered.{Answered}
 use Rattle.slon_model.specs.declared.reply.Answered.TheVariants.{Sure, InDoubt as AnsweredInDoubt}
@@ -65,7 +67,8 @@ reply_of w (Err fault) = refusal_of w fault
 -- a new database: refused where the name is taken, and where the session has as many as it allows
 abbrev pub database_due : List ℕ → World → Reply
 database_due name w =
-    if is_some (find_named name w.places) then Refused (refused.NameUsed name) else (if nat_lt (length w.places) w.limit then Accepted Done else Refused (refused.Full w.limit))
+    if is_some (find_named name w.places) then Refused (refused.NameUsed name) else
+    (if nat_lt (length w.places) w.limit then Accepted Done else Refused (refused.Full w.limit))
 
 -- what a database replies, where the session has one of the name
 abbrev pub ask : Words → Task → Option Place → Reply
@@ -102,7 +105,8 @@ asked name task None w = w
 asked name task (Some p) w = stand ((name, place_by task p AsDue) ∷ []) w
 
 abbrev pub after_on : Subject → World → World
-after_on (OnNew name) w = if is_accepted (database_due name w) then adopted name (place_by ToFound bare_place AsDue) w else w
+after_on (OnNew name) w =
+    if is_accepted (database_due name w) then adopted name (place_by ToFound bare_place AsDue) w else w
 after_on (OnOne name task) w = asked name task (find_named name w.places) w
 
 -- What the rules know after a command that is answered with what is due.
@@ -117,19 +121,30 @@ pub record Happening : Type 0 where
   pub reply : Reply
   pub choice : Choice
 
--- How a history goes on: a new database is granted and begins, or is refused; a command finds no database of the name; or
--- that database goes on.
+-- The database of a name goes on, and answers.
+pub record Serving (w : World) (h : Happening) (v : World) : Type 0 where
+  pub name : List ℕ
+  pub task : Task
+  pub place : Place
+  pub result : Result Answered DbFault
+  pub about : subject_of h.command ≡ OnOne name task
+  pub found : find_named name w.places ≡ Some place
+  pub takes : Takes task place h.choice result
+  pub told : h.reply ≡ reply_of (words_of (OnOne name task)) result
+  pub is : v ≡ stand ((name, place_by task place h.choice) ∷ []) w
+
+-- How a history goes on: a new database is granted and begins, or is refused; a command finds no database of the name;
+-- or that database goes on.
 pub data Step (w : World) (h : Happening) (v : World) : Type 0 where
-  Grants : (name : List ℕ) (result : Result Answered DbFault) → subject_of h.command ≡ OnNew name → database_due name w ≡ Accepted Done →
+  Grants : (name : List ℕ) (result : Result Answered DbFault) → subject_of h.command ≡ OnNew name →
+      database_due name w ≡ Accepted Done →
       Takes ToFound bare_place h.choice result → h.reply ≡ reply_of (words_of (OnNew name)) result →
       v ≡ adopted name (place_by ToFound bare_place h.choice) w → Step w h v
   Denies : (name : List ℕ) → subject_of h.command ≡ OnNew name → is_accepted (database_due name w) ≡ false →
       h.choice ≡ AsDue → h.reply ≡ database_due name w → v ≡ w → Step w h v
   Misses : (name : List ℕ) (task : Task) → subject_of h.command ≡ OnOne name task → find_named name w.places ≡ None →
       h.choice ≡ AsDue → h.reply ≡ Refused (refused.NoDatabase name) → v ≡ w → Step w h v
-  Asks : (name : List ℕ) (task : Task) (p : Place) (result : Result Answered DbFault) → subject_of h.command ≡ OnOne name task →
-      find_named name w.places ≡ Some p → Takes task p h.choice result → h.reply ≡ reply_of (words_of (OnOne name task)) result →
-      v ≡ stand ((name, place_by task p h.choice) ∷ []) w → Step w h v
+  Asks : Serving w h v → Step w h v
 
 -- A history, the newest happening first, may have happened since the start and leads to this world.
 abbrev pub Leads : World → List Happening → World → Type 0
@@ -146,7 +161,12 @@ abbrev pub commands_of : List Happening → List Command
 commands_of [] = []
 commands_of (h ∷ hs) = commands_of hs ++ h.command ∷ []
 
--- its printed form
-abbrev pub output_of : List Happening → List ℕ
-output_of [] = []
-output_of (h ∷ hs) = output_of hs ++ reply_line h.reply
+-- its replies in order
+abbrev pub replies_of : List Happening → List Reply
+replies_of [] = []
+replies_of (h ∷ hs) = replies_of hs ++ h.reply ∷ []
+
+-- its printed form: a line a reply
+abbrev pub lines_of : List Happening → List (List ℕ)
+lines_of [] = []
+lines_of (h ∷ hs) = lines_of hs ++ reply_line h.reply ∷ []

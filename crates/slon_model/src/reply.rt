@@ -29,6 +29,13 @@ impl TableRows {
         }
     }
 
+    /// These rows, with no copy.
+    pub fn from_vec(rows: Vec<(Text, TextList)>) -> TableRows
+        ensures { result ≡ rows.items }
+    {
+        TableRows { inner: rows }
+    }
+
     /// The rows in order.
     pub fn as_slice(&self) -> &[(Text, TextList)]
         ensures { result.now ≡ self.now }

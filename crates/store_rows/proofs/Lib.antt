@@ -1,7 +1,6 @@
 pub mod Causes
 pub mod Listing
 pub mod Numbers
-pub mod Order
 pub mod Reading
 pub mod Scanning
 pub mod Spaces

@@ -1,5 +1,6 @@
 -- Which list a scan reads: the one that ascends, has the prefix, and is found where the space has it.
-use Rattle.std.proofs.Common.{◌≡◌, ℕ, Bool, true, false, cond, T, List, [], ◌∷◌, ◌++◌, length, drop, Some, None, refl, sym, ap, subst, ◌∙◌}
+use Rattle.std.proofs.Common.{◌≡◌, ℕ, Bool, true, false, cond, T, List, [], ◌∷◌, ◌++◌, length, drop, Some, None, refl}
+use Rattle.std.proofs.Common.{sym, ap, subst, ◌∙◌}
 use Rattle.std.specs.Prelude.{nat_eq, ◌&&◌}
 use Rattle.std.specs.List.{starts_with}
 use Rattle.std.specs.declared.cmp.Ordering.{Ordering}
@@ -11,7 +12,8 @@ use Rattle.std.specs.FinMap.Entries.{find, is_sorted, below_all}
 use Rattle.std.proofs.lemmas.Bool.{false≢true}
 use Rattle.slon_base.specs.Keeper.{Space, key_cmp, after}
 use Rattle.store_rows.specs.Scan.{ranged}
-use Rattle.store_rows.proofs.Order.{Entries, same_keys, apart, past, past_prefix, prefixed, find_before, front_of, back_of}
+use Rattle.slon_base.proofs.Order.{Entries, same_keys, apart, past, past_prefix, prefixed, find_before, front_of}
+use Rattle.slon_base.proofs.Order.{back_of}
 
 less_of : (o : Ordering) → T (is_lt o) → o ≡ Less
 less_of Less t = refl

@@ -1,5 +1,6 @@
 -- The order of spelled numbers is that of the numbers.
-use Rattle.std.proofs.Common.{◌≡◌, ℕ, ◌+◌, ◌*◌, ◌^◌, ◌<◌, Bool, true, false, cond, List, [], ◌∷◌, length, refl, sym, ap, subst, ◌∙◌, arith}
+use Rattle.std.proofs.Common.{◌≡◌, ℕ, ◌+◌, ◌*◌, ◌^◌, ◌<◌, Bool, true, false, cond, List, [], ◌∷◌, length, refl, sym, ap}
+use Rattle.std.proofs.Common.{subst, ◌∙◌, arith}
 use Rattle.std.specs.Prelude.{◌==◌, nat_lt}
 use Rattle.std.specs.declared.cmp.Ordering.TheVariants.{Less, Equal, Greater}
 use Rattle.std.specs.Ordering.{nat_cmp, ordering_then, ordering_reverse}
@@ -10,7 +11,7 @@ use borrow.Author.Tests.{ltb-true}
 use Rattle.slon_base.specs.Keeper.{key_cmp}
 use Rattle.slon_base.specs.Codec.{number_bytes}
 use Rattle.slon_base.proofs.Spelled.{number_bytes-same, length-number_bytes}
-use Rattle.store_rows.proofs.Order.{same_keys}
+use Rattle.slon_base.proofs.Order.{same_keys}
 
 -- the number that bytes spell, behind one
 worth : ℕ → List ℕ → ℕ

@@ -1,29 +1,38 @@
 -- A space in which one row is changed.
-use Rattle.std.proofs.Common.{◌≡◌, ℕ, Bool, true, false, cond, List, Option, Some, None, refl, sym, ap, subst, ◌∙◌, ◌≤◌, option_map, is_some, arith}
+use Rattle.std.proofs.Common.{◌≡◌, ℕ, Bool, true, false, cond, List, Option, Some, None, refl, sym, ap, subst, ◌∙◌, ◌≤◌}
+use Rattle.std.proofs.Common.{option_map, is_some, arith}
 use Rattle.std.proofs.lemmas.Bool.{false≢true}
 use Rattle.std.specs.Ordering.{is_eq}
 use Rattle.std.specs.Cmp.Lexicographic.{nat_list_cmp_total}
 use Rattle.std.specs.FinMap.{get, empty, get-empty, get-insert, get-remove}
 use Rattle.std.specs.Prelude.{Result, Ok, Err, OnOk, IfErr, unwrap_or}
+use Rattle.slon_base.specs.Charges.{KeepsTold}
 use Rattle.slon_base.specs.Keeper.{Space, Store, Kept, key_cmp, sight}
 use Rattle.store_rows.specs.declared.stop.Stop.{Stop}
 use Rattle.store_rows.specs.Steps.{IsOutside, Safe}
-use Rattle.store_rows.specs.Spending.{Stays}
+use Rattle.store_rows.specs.Spending.{Stays, Rests}
 use Rattle.store_rows.specs.Space.{IsSpace, Any, AllOf, Alters, written, IsPending, Becomes}
-use Rattle.store_rows.proofs.Order.{same_keys, equal_of, tied}
+use Rattle.slon_base.proofs.Order.{same_keys, equal_of, tied}
 
 get-written : (o : Option (List ℕ)) (key q : List ℕ) (space : Space) → get (written o key space) q ≡ cond
     (is_eq (key_cmp q key)) o (get space q)
 get-written None key q space = get-remove nat_list_cmp_total space key q
 get-written (Some v) key q space = get-insert nat_list_cmp_total space key v q
 
+-- at one key what stands is changed, to what can be spelled there
+pub record Turns {I X : Type 0} (key : I → List ℕ) (IsOne : I → Type 0) (Can : X → Type 0) (old new : I → Option X)
+    (i : I) (now : Option X) : Type 0 where
+  pub unique : (a b : I) → IsOne a → IsOne b → key a ≡ key b → a ≡ b
+  pub one : IsOne i
+  pub can : AllOf Can now
+  pub alters : Alters IsOne i now old new
+
 -- the one lemma of all kinds of rows
-pub altered : {I X : Type 0} (key : I → List ℕ) (IsOne : I → Type 0) (value : X → List ℕ) (Can : X → Type 0)
-    (old new : I → Option X) (space : Space) (i : I) (now : Option X) →
-    ((a b : I) → IsOne a → IsOne b → key a ≡ key b → a ≡ b) → IsOne i → AllOf Can now → Alters IsOne i now old new →
-    IsSpace key IsOne value Can old space → IsSpace key IsOne value Can new (written (option_map value now)
-    (key i) space)
-altered {I} {X} key IsOne value Can old new space i now unique one can alters is = record {
+pub altered : {I X : Type 0} {key : I → List ℕ} {IsOne : I → Type 0} {value : X → List ℕ} {Can : X → Type 0}
+    {old new : I → Option X} {space : Space} {i : I} {now : Option X} → Turns key IsOne Can old new i now →
+    IsSpace key IsOne value Can old space →
+    IsSpace key IsOne value Can new (written (option_map value now) (key i) space)
+altered {I} {X} {key} {IsOne} {value} {Can} {old} {new} {space} {i} {now} turns is = record {
   lookups = λ j other. get-written (option_map value now) (key i) (key j) space ∙ lookup j other
       (is_eq (key_cmp (key j) (key i))) refl;
   spelled = λ j other. spell j other (is_eq (key_cmp (key j) (key i))) refl;
@@ -32,7 +41,7 @@ altered {I} {X} key IsOne value Can old new space i now unique one can alters is
 }
   where
     same : (j : I) → IsOne j → is_eq (key_cmp (key j) (key i)) ≡ true → j ≡ i
-    same j other tie = unique j i other one (same_keys (key j) (key i) (equal_of _ tie))
+    same j other tie = turns.unique j i other turns.one (same_keys (key j) (key i) (equal_of _ tie))
 
     differ : (j : I) → is_eq (key_cmp (key j) (key i)) ≡ false → j ≡ i → ⊥
     differ j not_tie is_same = false≢true (sym not_tie ∙ ap (λ k. is_eq (key_cmp (key k) (key i))) is_same
@@ -40,17 +49,18 @@ altered {I} {X} key IsOne value Can old new space i now unique one can alters is
 
     lookup : (j : I) → IsOne j → (b : Bool) → is_eq (key_cmp (key j) (key i)) ≡ b → cond b (option_map value now)
         (get space (key j)) ≡ option_map value (new j)
-    lookup j other true tie = ap (option_map value) (sym alters.here ∙ ap new (sym (same j other tie)))
+    lookup j other true tie = ap (option_map value) (sym turns.alters.here ∙ ap new (sym (same j other tie)))
     lookup j other false not_tie = is.lookups j other ∙ ap (option_map value)
-        (sym (alters.there j other (differ j not_tie)))
+        (sym (turns.alters.there j other (differ j not_tie)))
 
     spell : (j : I) → IsOne j → (b : Bool) → is_eq (key_cmp (key j) (key i)) ≡ b → AllOf Can (new j)
-    spell j other true tie = subst (AllOf Can) (sym alters.here ∙ ap new (sym (same j other tie))) can
-    spell j other false not_tie = subst (AllOf Can) (sym (alters.there j other (differ j not_tie))) (is.spelled j other)
+    spell j other true tie = subst (AllOf Can) (sym turns.alters.here ∙ ap new (sym (same j other tie))) turns.can
+    spell j other false not_tie = subst (AllOf Can) (sym (turns.alters.there j other (differ j not_tie)))
+        (is.spelled j other)
 
     key_of : (q v : List ℕ) (b : Bool) → is_eq (key_cmp q (key i)) ≡ b → cond b (option_map value now)
         (get space q) ≡ Some v → (j : I) × IsOne j × (q ≡ key j)
-    key_of q v true tie there = (i, one, same_keys q (key i) (equal_of _ tie))
+    key_of q v true tie there = (i, turns.one, same_keys q (key i) (equal_of _ tie))
     key_of q v false not_tie there = is.keys q v there
 
 -- a pending store after a change
@@ -105,22 +115,34 @@ stop_outside stop result is only = subst (λ r. IfErr r IsOutside) is only
 pub record Looked (old mid : Kept) : Type 0 where
   pub still : Stays old.can_fail mid.can_fail
   pub later : old.faults ≤ mid.faults
+  pub rests : Rests old.faults mid.faults
+  pub told : KeepsTold old.told mid.told
   pub held : mid.held ≡ old.held
   pub doubts : mid.doubts ≡ old.doubts
   pub pending : mid.pending ≡ old.pending
 
-pub looked_on : {T : Type 0} {old mid new : Kept} {result : Result T Stop} → Looked old mid → Safe mid new result →
+pub looked_on : {T : Type 0} {old mid new : Kept} {x : T} → Looked old mid → Safe mid new (Ok x) →
     new.pending ≡ mid.pending → Looked old new
 looked_on l s same = record {
   still = λ n most. s.still n (l.still n most);
   later = omega (arith, l.later, s.later);
+  rests = λ n up. s.quiet refl n (l.rests n up);
+  told = λ c from. s.told c (l.told c from);
   held = s.held ∙ l.held;
   doubts = s.doubts ∙ l.doubts;
   pending = same ∙ l.pending;
 }
 
 pub looked_none : {old : Kept} → Looked old old
-looked_none = record { still = λ n most. most; later = omega arith; held = refl; doubts = refl; pending = refl }
+looked_none = record {
+  still = λ n most. most;
+  later = omega arith;
+  rests = λ n up. up;
+  told = λ c from. from;
+  held = refl;
+  doubts = refl;
+  pending = refl;
+}
 
 pub safe_on : {T : Type 0} {old mid new : Kept} {result : Result T Stop} → Looked old mid → Safe mid new result →
     Safe old new result
@@ -129,6 +151,8 @@ safe_on l s = record {
   spends = λ failed n most. s.spends failed n (l.still n most);
   later = omega (arith, l.later, s.later);
   rises = λ failed n le. s.rises failed n (omega (arith, le, l.later));
+  quiet = λ none n up. s.quiet none n (l.rests n up);
+  told = λ c from. s.told c (l.told c from);
   held = s.held ∙ l.held;
   doubts = s.doubts ∙ l.doubts;
   opened = s.opened ∙ ap is_some l.pending;
@@ -155,6 +179,8 @@ handed_safe {T} {U} old new {stop} result (y, is, same) s = subst (λ r. Safe {T
       spends = s.spends;
       later = s.later;
       rises = s.rises;
+      quiet = s.quiet;
+      told = s.told;
       held = s.held;
       doubts = s.doubts;
       opened = s.opened;

@@ -12,6 +12,11 @@ abbrev pub flag_byte : Bool → ℕ
 flag_byte false = 0
 flag_byte true = 1
 
+-- a value that is seen as this was read and the rest is left, or there was no memory
+abbrev pub ReadAs : {T L : Type 0} → (L → T) → T → List ℕ → Result L RowFault → List ℕ → Type 0
+ReadAs seen x rest (Ok found) left = (seen found ≡ x) × (left ≡ rest)
+ReadAs seen x rest (Err fault) left = fault ≡ NoMemory
+
 -- the value was read and the rest is left, or there was no memory
 abbrev pub Read : {T : Type 0} → T → List ℕ → Result T RowFault → List ℕ → Type 0
 Read x rest (Ok found) left = (found ≡ x) × (left ≡ rest)

@@ -9,7 +9,7 @@ use crate::Stop;
 use slon_base::{Bytes, KeepFault, Keeper};
 
 /// The value at a key.
-#[tactic(auto, using(crate::proofs::Causes::stays))]
+#[tactic(auto, using(crate::proofs::Causes::stays, crate::proofs::Causes::quiet, crate::proofs::Causes::quiet_short))]
 pub fn get_pair<K: Keeper>(keeper: &mut K, space: u8, key: &[u8]) -> Result<Option<Bytes>, Stop>
     ensures safe { Safe (K.kept keeper.old) (K.kept keeper.new) result }
     ensures same { OnOk result ((K.kept keeper.new).pending ≡ (K.kept keeper.old).pending) }
@@ -25,7 +25,7 @@ pub fn get_pair<K: Keeper>(keeper: &mut K, space: u8, key: &[u8]) -> Result<Opti
 }
 
 /// The pair with the least greater key.
-#[tactic(auto, using(crate::proofs::Causes::stays))]
+#[tactic(auto, using(crate::proofs::Causes::stays, crate::proofs::Causes::quiet, crate::proofs::Causes::quiet_short))]
 pub fn next_pair<K: Keeper>(
     keeper: &mut K,
     space: u8,
@@ -45,7 +45,7 @@ pub fn next_pair<K: Keeper>(
 }
 
 /// How many pairs the space has.
-#[tactic(auto, using(crate::proofs::Causes::stays))]
+#[tactic(auto, using(crate::proofs::Causes::stays, crate::proofs::Causes::quiet, crate::proofs::Causes::quiet_short))]
 pub fn count_pairs<K: Keeper>(keeper: &mut K, space: u8) -> Result<u64, Stop>
     ensures safe { Safe (K.kept keeper.old) (K.kept keeper.new) result }
     ensures same { OnOk result ((K.kept keeper.new).pending ≡ (K.kept keeper.old).pending) }
@@ -60,7 +60,7 @@ pub fn count_pairs<K: Keeper>(keeper: &mut K, space: u8) -> Result<u64, Stop>
 }
 
 /// Puts a value at a key into what is pending.
-#[tactic(auto, using(crate::proofs::Causes::stays))]
+#[tactic(auto, using(crate::proofs::Causes::stays, crate::proofs::Causes::quiet, crate::proofs::Causes::quiet_short))]
 pub fn put_pair<K: Keeper>(keeper: &mut K, space: u8, key: &[u8], value: &[u8]) -> Result<(), Stop>
     requires { is_some (K.kept keeper.old).pending ≡ true }
     ensures safe { Safe (K.kept keeper.old) (K.kept keeper.new) result }
@@ -76,7 +76,7 @@ pub fn put_pair<K: Keeper>(keeper: &mut K, space: u8, key: &[u8], value: &[u8]) 
 }
 
 /// Takes the pair of a key out of what is pending.
-#[tactic(auto, using(crate::proofs::Causes::stays))]
+#[tactic(auto, using(crate::proofs::Causes::stays, crate::proofs::Causes::quiet, crate::proofs::Causes::quiet_short))]
 pub fn del_pair<K: Keeper>(keeper: &mut K, space: u8, key: &[u8]) -> Result<(), Stop>
     requires { is_some (K.kept keeper.old).pending ≡ true }
     ensures safe { Safe (K.kept keeper.old) (K.kept keeper.new) result }

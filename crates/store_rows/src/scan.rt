@@ -3,7 +3,7 @@ ghost use Rattle.std.specs.Prelude.{◌≡◌, Some, List, OnOk, IfOk, IfErr, fa
 ghost use Rattle.std.specs.FinMap.{entries};
 ghost use Rattle.slon_base.specs.Keeper.{Store, sight, after};
 ghost use Rattle.slon_base.specs.Codec.{AllAre};
-ghost use Rattle.store_rows.specs.Steps.{Safe, IsWithinLimit, Gives, is_failed};
+ghost use Rattle.store_rows.specs.Steps.{Safe, IsWithinLimit, IsOfSpace, Gives, is_failed};
 ghost use Rattle.store_rows.specs.Scan.{ranged, spelled_rows};
 
 use crate::calls::{count_pairs, next_pair};
@@ -20,6 +20,9 @@ fn read_pair<I: Spelled, X: Spelled>(
 ) -> Result<(I, X), Stop>
     ensures never { is_failed result ≡ false }
     ensures within { IfErr result IsWithinLimit }
+    ensures space { IfErr result (IsOfSpace space) }
+    ensures can { IfOk result (λ row. I.Can row.0 × X.Can row.1) }
+    ensures found { IfOk result (λ row. (key.now ≡ I.bytes row.0) × (value.now ≡ X.bytes row.1)) }
     ensures gives { (i : I) (x : X) → I.Can i → X.Can x → key.now ≡ I.bytes i → value.now ≡ X.bytes x →
         Gives (λ found. found ≡ (i, x)) result }
 {
@@ -33,7 +36,7 @@ fn read_pair<I: Spelled, X: Spelled>(
 }
 
 /// The rows whose keys have the prefix and come after the key `from`, ascending, by what stands behind the prefix.
-#[tactic(auto, using(crate::proofs::Causes::outside_within))]
+#[tactic(auto, using(crate::proofs::Causes::outside_within, crate::proofs::Causes::outside_space))]
 pub fn scan_rows<K: Keeper, I: Spelled, X: Spelled>(
     alloc: Global,
     keeper: &mut K,
@@ -44,6 +47,10 @@ pub fn scan_rows<K: Keeper, I: Spelled, X: Spelled>(
     ensures safe { Safe (K.kept keeper.old) (K.kept keeper.new) result }
     ensures same { OnOk result ((K.kept keeper.new).pending ≡ (K.kept keeper.old).pending) }
     ensures within { IfErr result IsWithinLimit }
+    ensures space { IfErr result (IsOfSpace space) }
+    ensures found { (m : Store) → sight (K.kept keeper.old) ≡ Some m → IfOk result (λ rows.
+        AllAre (λ e. I.Can e.0 × X.Can e.1) rows
+        × (ranged prefix.now (after from.now (entries (m space))) ≡ spelled_rows prefix.now I.bytes X.bytes rows)) }
     ensures gives { (m : Store) (rows : List (I × X)) → sight (K.kept keeper.old) ≡ Some m →
         AllAre (λ e. I.Can e.0 × X.Can e.1) rows →
         ranged prefix.now (after from.now (entries (m space))) ≡ spelled_rows prefix.now I.bytes X.bytes rows →

@@ -3,7 +3,7 @@ ghost use Rattle.std.specs.Prelude.{◌≡◌, Bool, true, false, is_some, Optio
 ghost use Rattle.std.specs.Option.{option_map};
 ghost use Rattle.std.specs.FinMap.{get};
 ghost use Rattle.slon_base.specs.Keeper.{Store, sight, put_at, del_at};
-ghost use Rattle.store_rows.specs.Steps.{Safe, IsOutside, IsWithinLimit, Gives, is_failed, is_stop_failed};
+ghost use Rattle.store_rows.specs.Steps.{Safe, IsOutside, IsWithinLimit, IsOfSpace, Gives, is_failed, is_stop_failed};
 ghost use Rattle.store_rows.specs.Space.{AllOf};
 
 use crate::calls::{del_pair, get_pair, put_pair};
@@ -26,6 +26,7 @@ pub fn row_stop(space: u8, fault: RowFault) -> Stop
     ensures memory { fault ≡ RowFault.NoMemory → result ≡ Stop.NoMemory }
     ensures failed { is_stop_failed result ≡ false }
     ensures within { IsWithinLimit result }
+    ensures space { IsOfSpace space result }
 {
     match fault {
         RowFault::NoMemory => Stop::NoMemory,
@@ -37,6 +38,7 @@ pub fn row_stop(space: u8, fault: RowFault) -> Stop
 pub fn read_alone<X: Spelled>(alloc: Global, space: u8, bytes: &[u8]) -> Result<X, Stop>
     ensures never { is_failed result ≡ false }
     ensures within { IfErr result IsWithinLimit }
+    ensures space { IfErr result (IsOfSpace space) }
     ensures can { IfOk result X.Can }
     ensures found { IfOk result (λ x. bytes.now ≡ X.bytes x) }
     ensures gives { (x : X) → X.Can x → bytes.now ≡ X.bytes x → Gives (λ found. found ≡ x) result }
@@ -91,7 +93,7 @@ pub fn del_row<K: Keeper, I: Spelled>(
 }
 
 /// Reads the row at a key, if there is one.
-#[tactic(auto, using(crate::proofs::Causes::outside_within))]
+#[tactic(auto, using(crate::proofs::Causes::outside_within, crate::proofs::Causes::outside_space))]
 pub fn get_row<K: Keeper, I: Spelled, X: Spelled>(
     alloc: Global,
     keeper: &mut K,
@@ -102,6 +104,7 @@ pub fn get_row<K: Keeper, I: Spelled, X: Spelled>(
     ensures safe { Safe (K.kept keeper.old) (K.kept keeper.new) result }
     ensures same { OnOk result ((K.kept keeper.new).pending ≡ (K.kept keeper.old).pending) }
     ensures within { IfErr result IsWithinLimit }
+    ensures space { IfErr result (IsOfSpace space) }
     ensures can { IfOk result (AllOf X.Can) }
     ensures found { (m : Store) → sight (K.kept keeper.old) ≡ Some m →
         IfOk result (λ found. get (m space) (I.bytes key.now) ≡ option_map X.bytes found) }

@@ -1,5 +1,7 @@
 -- When one snapshot sees all that another sees.
-use Rattle.std.proofs.Common.{◌≡◌, ℕ, ◌+◌, ◌<◌, ◌≤◌, Bool, true, false, cond, not, ◌==◌, ◌||◌, ◌&&◌, ◌⊎◌, inl, inr, max, nat_lt, IsTrue, ◌↔◌, List, [], ◌∷◌, drop, get_or, length, refl, sym, ap, ◌∙◌, subst, arith, drop-cons, zero, suc, Result, Ok, Err}
+use Rattle.std.proofs.Common.{◌≡◌, ℕ, ◌+◌, ◌<◌, ◌≤◌, Bool, true, false, cond, not, ◌==◌, ◌||◌, ◌&&◌, ◌⊎◌, inl, inr, max}
+use Rattle.std.proofs.Common.{nat_lt, IsTrue, ◌↔◌, List, [], ◌∷◌, drop, get_or, length, refl, sym, ap, ◌∙◌, subst}
+use Rattle.std.proofs.Common.{arith, drop-cons, zero, suc, Result, Ok, Err}
 use Rattle.std.specs.Ordering.{nat_cmp}
 use Rattle.std.specs.Result.{is_ok}
 use Rattle.std.specs.List.Sorted.{IsBinarySearchResult}
@@ -110,8 +112,11 @@ one_ahead a b xs i within alike ahead x m s =
     by true e m = absurd (false≢true (sym alike ∙ ap (tells a b) (sym (eqb-true x (get_or xs i 0) e)) ∙ s))
     by false e m = m
 
-pub none_ahead : (a b : Snapshot) (xs : List ℕ) (i : ℕ) → length xs ≤ i → Ahead a b (drop i xs) →
-    (x : ℕ) → member x a.running ≡ true → tells a b x ≡ true → ⊥
+-- no running id tells the two apart
+abbrev pub TellsNone : Snapshot → Snapshot → Type 0
+TellsNone a b = (x : ℕ) → member x a.running ≡ true → tells a b x ≡ true → ⊥
+
+pub none_ahead : (a b : Snapshot) (xs : List ℕ) (i : ℕ) → length xs ≤ i → Ahead a b (drop i xs) → TellsNone a b
 none_ahead a b xs i end ahead x m s = false≢true (sym (ap (member x) (drop_all i xs end)) ∙ ahead x m s)
 
 -- from the first on, up to the last, the other sees none
@@ -129,7 +134,7 @@ one_unseen b first last e unseen x low high = by (nat_lt x last) refl
         subst (λ y. sees b y ≡ false) same e
 
 pub covered : (a b : Snapshot) (first last : ℕ) → first ≡ max a.xmin a.xmax → last ≡ max b.xmin b.xmax →
-    ((x : ℕ) → member x a.running ≡ true → tells a b x ≡ true → ⊥) → Unseen b first last → Covers a b
+    TellsNone a b → Unseen b first last → Covers a b
 covered a b first last first_is last_is running later x s = by (sees a x) refl
   where
     outside : (u v : Bool) → nat_lt x a.xmin ≡ u → nat_lt x a.xmax ≡ v → sees a x ≡ false → member x a.running ≡ true

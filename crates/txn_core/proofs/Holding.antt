@@ -1,5 +1,7 @@
 -- Who holds the lock of a row, after a change at one row.
-use Rattle.std.proofs.Common.{◌≡◌, ℕ, true, false, cond, eqb, ◌&&◌, List, Option, Some, None, bytes_eq, refl, sym, ◌∙◌, ap, subst}
+use Rattle.std.proofs.Common.{◌≡◌, ℕ, Bool, true, false, cond, eqb, ◌&&◌, List, Option, Some, None, bytes_eq, refl, sym}
+use Rattle.std.proofs.Common.{◌∙◌}
+use Rattle.std.proofs.Common.{ap, subst}
 use Rattle.std.proofs.lemmas.Bool.{and_parts, eq-eqb}
 use borrow.Author.Tests.{eqb-true}
 use Rattle.std.specs.Option.{option_eq}
@@ -25,22 +27,35 @@ not_held (Some x) xid e = ap (λ b. cond {A = Option ℕ} b None (Some x)) e
 pub without_own : (xid : ℕ) (o : Option ℕ) → o ≡ Some xid → without xid o ≡ None
 without_own xid o e = ap (without xid) e ∙ ap (λ b. cond {A = Option ℕ} b None (Some xid)) (eq-eqb xid xid refl)
 
+-- A lock of a row, of a transaction.
+pub record Lock : Type 0 where
+  pub xid : ℕ
+  pub table : List ℕ
+  pub key : List ℕ
+
+-- it is on this row
+abbrev pub is_on : Lock → List ℕ → List ℕ → Bool
+is_on l t k = bytes_eq l.table t && bytes_eq l.key k
+
 -- the lock of the row is taken from the transaction that holds it
-pub taken_back : (xid : ℕ) (table key t k : List ℕ) (m n : HolderMap) → holder_in table key m ≡ Some xid →
-    holder_in t k n ≡ cond (bytes_eq table t && bytes_eq key k) None (holder_in t k m)
-    → holder_in t k n ≡ cond (bytes_eq table t && bytes_eq key k) (without xid (holder_in t k m)) (holder_in t k m)
-taken_back xid table key t k m n held e = e ∙ elim (bytes_eq table t && bytes_eq key k) as (λ b. (bytes_eq table t
-    && bytes_eq key k) ≡ b → cond b None (holder_in t k m) ≡ cond b (without xid (holder_in t k m)) (holder_in t k m)) [
-      | true ↦ λ h. sym (without_own xid (holder_in t k m) (here (λ x y. holder_in x y m ≡ Some xid) table key t k held h))
+pub taken_back : (l : Lock) (t k : List ℕ) (m n : HolderMap) → holder_in l.table l.key m ≡ Some l.xid →
+    holder_in t k n ≡ cond (is_on l t k) None (holder_in t k m) →
+    holder_in t k n ≡ cond (is_on l t k) (without l.xid (holder_in t k m)) (holder_in t k m)
+taken_back l t k m n held e = e ∙ elim (is_on l t k) as (λ b. is_on l t k ≡ b →
+    cond b None (holder_in t k m) ≡ cond b (without l.xid (holder_in t k m)) (holder_in t k m)) [
+      | true ↦
+          λ h. sym (without_own l.xid (holder_in t k m)
+          (here (λ x y. holder_in x y m ≡ Some l.xid) l.table l.key t k held h))
       | false ↦ λ h. refl
     ] refl
 
 -- the transaction holds no lock of the row, and nothing is changed
-pub left_so : (xid : ℕ) (table key t k : List ℕ) (m n : HolderMap) →
-    without xid (holder_in table key m) ≡ holder_in table key m → holder_in t k n ≡ holder_in t k m
-    → holder_in t k n ≡ cond (bytes_eq table t && bytes_eq key k) (without xid (holder_in t k m)) (holder_in t k m)
-left_so xid table key t k m n other e = e ∙ elim (bytes_eq table t && bytes_eq key k) as (λ b. (bytes_eq table t
-    && bytes_eq key k) ≡ b → holder_in t k m ≡ cond b (without xid (holder_in t k m)) (holder_in t k m)) [
-      | true ↦ λ h. sym (here (λ x y. without xid (holder_in x y m) ≡ holder_in x y m) table key t k other h)
+pub left_so : (l : Lock) (t k : List ℕ) (m n : HolderMap) →
+    without l.xid (holder_in l.table l.key m) ≡ holder_in l.table l.key m → holder_in t k n ≡ holder_in t k m →
+    holder_in t k n ≡ cond (is_on l t k) (without l.xid (holder_in t k m)) (holder_in t k m)
+left_so l t k m n other e = e ∙ elim (is_on l t k) as (λ b. is_on l t k ≡ b →
+    holder_in t k m ≡ cond b (without l.xid (holder_in t k m)) (holder_in t k m)) [
+      | true ↦
+          λ h. sym (here (λ x y. without l.xid (holder_in x y m) ≡ holder_in x y m) l.table l.key t k other h)
       | false ↦ λ h. refl
     ] refl

@@ -1,5 +1,6 @@
 -- Maps with keys of bytes, by look-ups: what a change at one key leaves.
-use Rattle.std.proofs.Common.{◌≡◌, ℕ, Bool, true, false, cond, ◌&&◌, List, [], Option, Some, None, IsSome, Vec, Result, Ok, Err, OnErr, bytes_eq, refl, sym, ◌∙◌, ap, subst}
+use Rattle.std.proofs.Common.{◌≡◌, ℕ, Bool, true, false, cond, ◌&&◌, List, [], Option, Some, None, IsSome, Vec, Result}
+use Rattle.std.proofs.Common.{Ok, Err, OnErr, bytes_eq, refl, sym, ◌∙◌, ap, subst}
 use Rattle.std.specs.declared.alloc.Global.{Global}
 use Rattle.std.specs.declared.cmp.Ordering.{Ordering}
 use Rattle.std.specs.Ordering.{is_eq, nat_cmp}
@@ -38,6 +39,24 @@ turns_by key w m n u q =
           (λ x y. (eq_by_cmp_equiv nat_list_cmp_total).congr q x.items y.items) (λ k t. apart key q k.items e t)
     ] refl
 
+-- A map after the value at one key was put.
+pub record Turned (V : Type 0) : Type 0 where
+  pub key : List ℕ
+  pub value : V
+  pub old : Keyed V
+  pub new : Keyed V
+  pub turns : Turns key (Some value) old new
+
+abbrev pub turned : {V : Type 0} (key : List ℕ) (value : V) (old new : Keyed V) → Turns key (Some value) old new →
+    Turned V
+turned key value old new turns = record {
+  key = key;
+  value = value;
+  old = old;
+  new = new;
+  turns = turns;
+}
+
 -- the same, written through what `get_mut` lends
 pub written : {V : Type 0} (key : List ℕ) (old w : V) (m n : Keyed V) → Some old ≡ at_key key m →
     WritesThrough vec_cmp (λ k. key_cmp key k.items) m w n → Turns key (Some w) m n
@@ -50,22 +69,22 @@ pub at_empty : {V : Type 0} (q : List ℕ) (m : Keyed V) → m.entries ≡ [] �
 at_empty q m e = ap (lookup (λ k. is_eq (key_cmp q k.items))) e
 
 -- what is read of the value at each key, after a change within the value at one key
-pub within : {V W : Type 0} (f : Option V → W) (b : Bool) (w : W) (key q : List ℕ) (v : V) (m n : Keyed V) →
-    Turns key (Some v) m n → f (Some v) ≡ cond b w (f (at_key key m)) → f (at_key q n) ≡ cond (bytes_eq key q && b) w
-    (f (at_key q m))
-within f b w key q v m n u h =
-    ap f (u q) ∙ elim (bytes_eq key q) as (λ t. bytes_eq key q ≡ t → f (cond t (Some v) (at_key q m)) ≡ cond (t && b) w
-    (f (at_key q m))) [
-      | true ↦ λ e. h ∙ ap (λ x. cond b w (f (at_key x m))) ((bytes_decides key q).0 e)
+pub within : {V W : Type 0} (f : Option V → W) (b : Bool) (w : W) (t : Turned V) (q : List ℕ) →
+    f (Some t.value) ≡ cond b w (f (at_key t.key t.old)) →
+    f (at_key q t.new) ≡ cond (bytes_eq t.key q && b) w (f (at_key q t.old))
+within f b w t q h =
+    ap f (t.turns q) ∙ elim (bytes_eq t.key q) as (λ s. bytes_eq t.key q ≡ s →
+    f (cond s (Some t.value) (at_key q t.old)) ≡ cond (s && b) w (f (at_key q t.old))) [
+      | true ↦ λ e. h ∙ ap (λ x. cond b w (f (at_key x t.old))) ((bytes_decides t.key q).0 e)
       | false ↦ λ e. refl
     ] refl
 
 -- the same where the value at the key reads as before
-pub within_same : {V W : Type 0} (f : Option V → W) (key q : List ℕ) (v : V) (m n : Keyed V) → Turns key (Some v) m n →
-    f (Some v) ≡ f (at_key key m) → f (at_key q n) ≡ f (at_key q m)
-within_same f key q v m n u h =
-    ap f (u q) ∙ elim (bytes_eq key q) as (λ t. bytes_eq key q ≡ t → f (cond t (Some v) (at_key q m)) ≡ f
-    (at_key q m)) [
-      | true ↦ λ e. h ∙ ap (λ x. f (at_key x m)) ((bytes_decides key q).0 e)
+pub within_same : {V W : Type 0} (f : Option V → W) (t : Turned V) (q : List ℕ) →
+    f (Some t.value) ≡ f (at_key t.key t.old) → f (at_key q t.new) ≡ f (at_key q t.old)
+within_same f t q h =
+    ap f (t.turns q) ∙ elim (bytes_eq t.key q) as (λ s. bytes_eq t.key q ≡ s →
+    f (cond s (Some t.value) (at_key q t.old)) ≡ f (at_key q t.old)) [
+      | true ↦ λ e. h ∙ ap (λ x. f (at_key x t.old)) ((bytes_decides t.key q).0 e)
       | false ↦ λ e. refl
     ] refl

@@ -4,6 +4,5 @@ pub mod KeyedMaps
 pub mod OwnedRows
 pub mod SnapshotParts
 pub mod SnapshotTexts
-pub mod Splitting
 pub mod TableWriters
 pub mod Ties

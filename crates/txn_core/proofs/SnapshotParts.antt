@@ -1,5 +1,7 @@
 -- The parts of a text that is read as a snapshot.
-use Rattle.std.proofs.Common.{◌≡◌, ℕ, ◌+◌, ◌<◌, ◌≤◌, ◌^◌, eqb, List, [], ◌∷◌, ◌++◌, map, length, drop, get_or, Option, Some, None, Result, Ok, Err, Bor, refl, sym, ap, ◌∙◌, subst, arith, append_assoc, drop-cons, suc}
+use Rattle.std.proofs.Common.{◌≡◌, ℕ, ◌+◌, ◌<◌, ◌≤◌, ◌^◌, eqb, List, [], ◌∷◌, ◌++◌, map, length, drop, get_or, Option}
+use Rattle.std.proofs.Common.{Some, None, Result, Ok, Err, Bor, refl, sym, ap, ◌∙◌, subst, arith, append_assoc}
+use Rattle.std.proofs.Common.{drop-cons, suc}
 use Rattle.std.proofs.lemmas.List.{append-nil, drop_all}
 use Rattle.std.specs.Fmt.{decimal}
 use Rattle.std.specs.List.{slice_split}
@@ -45,10 +47,22 @@ next_of w ws (x ∷ more) e h = record {
 one_on : (i : ℕ) → suc i ≡ i + 1
 one_on i = omega arith
 
-next_word : (ws : List (Bor (List ℕ))) (i : ℕ) (d : Bor (List ℕ)) (rest : List ℕ) → i < length ws →
-    texts (drop i ws) ≡ map decimal rest → AllSmall rest → IsNext (get_or ws i d).now (drop (i + 1) ws) rest
-next_word ws i d rest within e h = next_of (get_or ws i d) (drop (i + 1) ws) rest
-    (ap texts (sym (drop-cons ws i d within ∙ ap (λ k. get_or ws i d ∷ drop k ws) (one_on i))) ∙ e) h
+-- A word among words.
+pub record Word : Type 0 where
+  pub words : List (Bor (List ℕ))
+  pub at : ℕ
+  pub default : Bor (List ℕ)
+  pub within : at < length words
+
+abbrev text_at : Word → List ℕ
+text_at w = (get_or w.words w.at w.default).now
+
+next_word : (w : Word) (rest : List ℕ) → texts (drop w.at w.words) ≡ map decimal rest → AllSmall rest →
+    IsNext (text_at w) (drop (w.at + 1) w.words) rest
+next_word w rest e h =
+    let here = get_or w.words w.at w.default in
+    next_of here (drop (w.at + 1) w.words) rest
+    (ap texts (sym (drop-cons w.words w.at w.default w.within ∙ ap (λ k. here ∷ drop k w.words) (one_on w.at))) ∙ e) h
 
 -- what is left to read
 abbrev pub Left : List (Bor (List ℕ)) → ℕ → List ℕ → List ℕ → Type 0
@@ -61,27 +75,23 @@ Reads word found = (n : ℕ) → n < 2 ^ 64 → word ≡ decimal n → found ≡
 some_one : (x y : ℕ) (found : Option ℕ) → found ≡ Some x → found ≡ Some y → x ≡ y
 some_one x y found e f = cc
 
-pub one_read : (ws : List (Bor (List ℕ))) (i : ℕ) (d : Bor (List ℕ)) (ids new xs : List ℕ) (found : Option ℕ)
-    (xid : ℕ) → i < length ws → Left ws i ids xs → Reads (get_or ws i d).now found → found ≡ Some xid →
-    new ≡ ids ++ xid ∷ [] → Left ws (i + 1) new xs
-one_read ws i d ids new xs found xid within left reads is e =
-    let n = next_word ws i d left.0 within left.2 left.3 in
+pub one_read : (w : Word) (ids xs : List ℕ) (found : Option ℕ) (xid : ℕ) → Left w.words w.at ids xs →
+    Reads (text_at w) found → found ≡ Some xid → Left w.words (w.at + 1) (ids ++ xid ∷ []) xs
+one_read w ids xs found xid left reads is =
+    let n = next_word w left.0 left.2 left.3 in
     let same = some_one n.x xid found (reads n.x n.small n.word) is in (
       n.more,
-      ap (λ l. l ++ n.more) e ∙ append_assoc ids (xid ∷ []) n.more ∙ ap (λ y. ids ++ y ∷ n.more) (sym same)
+      append_assoc ids (xid ∷ []) n.more ∙ ap (λ y. ids ++ y ∷ n.more) (sym same)
           ∙ ap (λ l. ids ++ l) (sym n.is) ∙ left.1,
       n.words,
       n.others,
     )
 
-pub none_read : (ws : List (Bor (List ℕ))) (i : ℕ) (d : Bor (List ℕ)) (ids xs : List ℕ) (found : Option ℕ) →
-    i < length ws → Left ws i ids xs → Reads (get_or ws i d).now found → found ≡ None → ⊥
-none_read ws i d ids xs found within left reads is =
-    let n = next_word ws i d left.0 within left.2 left.3 in
-    clash n.x (reads n.x n.small n.word)
-  where
-    clash : (x : ℕ) → found ≡ Some x → ⊥
-    clash x e = cc
+pub none_read : (w : Word) (ids xs : List ℕ) (found : Option ℕ) → Left w.words w.at ids xs →
+    Reads (text_at w) found → found ≡ None → ⊥
+none_read w ids xs found left reads is =
+    let n = next_word w left.0 left.2 left.3 in
+    let found_it = reads n.x n.small n.word in cc
 
 no_more : (rest : List ℕ) → [] ≡ map decimal rest → rest ≡ []
 no_more [] e = refl
@@ -96,10 +106,8 @@ all_read ws i ids xs past left =
 
 pub part_at : (ps : List (Bor (List ℕ))) (d : Bor (List ℕ)) (a b c : List ℕ) → texts ps ≡ a ∷ b ∷ c ∷ [] →
     ((get_or ps 0 d).now ≡ a) × ((get_or ps 1 d).now ≡ b) × ((get_or ps 2 d).now ≡ c)
-part_at [] d a b c e = cc
-part_at (p ∷ []) d a b c e = cc
-part_at (p ∷ q ∷ []) d a b c e = cc
 part_at (p ∷ q ∷ r ∷ more) d a b c e = (cc, cc, cc)
+part_at others d a b c e = cc
 
 pub same_snapshot : (s : Snapshot) (xmin xmax : ℕ) (running : List ℕ) → xmin ≡ s.xmin → xmax ≡ s.xmax →
     running ≡ s.running → seen_as (record { xmin = xmin; xmax = xmax; running = running }) ≡ s

@@ -1,5 +1,6 @@
 -- The printed form of a snapshot, printed and read.
-use Rattle.std.proofs.Common.{◌≡◌, ℕ, ◌<◌, ◌≤◌, ◌^◌, Bool, true, false, IsTrue, ◌↔◌, eqb, ◌==◌, nat_lt, List, [], ◌∷◌, ◌++◌, map, length, refl, sym, ap, ◌∙◌, arith, append_assoc, length-append}
+use Rattle.std.proofs.Common.{◌≡◌, ℕ, ◌<◌, ◌≤◌, ◌^◌, Bool, true, false, IsTrue, ◌↔◌, eqb, ◌==◌, nat_lt, List, [], ◌∷◌}
+use Rattle.std.proofs.Common.{◌++◌, map, length, refl, sym, ap, ◌∙◌, arith, append_assoc, length-append}
 use Rattle.std.proofs.lemmas.Bool.{and_parts, and_from, false≢true}
 use borrow.Author.Tests.{eqb-true, ltb-true, lt-ltb}
 use Rattle.std.proofs.lemmas.List.{append-nil}
@@ -9,7 +10,7 @@ use Rattle.std.specs.Option.{unwrap_or}
 use Rattle.std.specs.Fmt.{decimal}
 use Rattle.slon_model.specs.Snapshots.{Snapshot, ids_text, snapshot_text, first_or, Rising}
 use Rattle.txn_core.specs.Snapshots.{IsPrinted, behind_commas, rises_below}
-use Rattle.txn_core.proofs.Splitting.{lacks, lacks-append, lacks-decimal, split_first, split_last}
+use Rattle.slon_lemmas.proofs.Splitting.{lacks, lacks-append, lacks-decimal, split_first, split_last}
 
 pub ids_first : (x : ℕ) (xs : List ℕ) → ids_text (x ∷ xs) ≡ decimal x ++ behind_commas xs
 ids_first x [] = sym (append-nil (decimal x))

@@ -1,5 +1,7 @@
 -- The set of transactions of each table, after a change of one set.
-use Rattle.std.proofs.Common.{◌≡◌, ℕ, Bool, true, false, cond, ◌==◌, ◌&&◌, if◌then◌else◌, List, [], Option, Some, None, bytes_eq, ◌<◌, ◌≤◌, ◌↔◌, IsTrue, IsSome, IfSome, MatchOption, ◌∷◌, length, arith, refl, sym, ◌∙◌, ap}
+use Rattle.std.proofs.Common.{◌≡◌, ℕ, Bool, true, false, cond, ◌==◌, ◌&&◌, if◌then◌else◌, List, [], Option, Some, None}
+use Rattle.std.proofs.Common.{bytes_eq, ◌<◌, ◌≤◌, ◌↔◌, IsTrue, IsSome, IfSome, MatchOption, ◌∷◌, length, arith, refl}
+use Rattle.std.proofs.Common.{sym, ◌∙◌, ap}
 use Rattle.std.specs.Ordering.{is_eq, is_gt, nat_cmp, MatchOrdering}
 use Rattle.std.specs.declared.cmp.Ordering.{Ordering}
 use Rattle.std.specs.declared.cmp.Ordering.TheVariants.{Less, Equal, Greater}
@@ -9,7 +11,7 @@ use Rattle.std.specs.Cmp.Lexicographic.{bytes_decides}
 use Rattle.std.proofs.lemmas.Bool.{and_parts}
 use Rattle.std.specs.BTreeSet.{BTreeSet, UpdatesBy, contains, btree_set_len, IsLowerBound}
 use Rattle.txn_core.specs.LockMaps.{WriterMap, writes_in, at_key, xid_in, IsFirst}
-use Rattle.txn_core.proofs.KeyedMaps.{Turns, within, within_same}
+use Rattle.txn_core.proofs.KeyedMaps.{Turned, within, within_same}
 
 pub updated : (xid x : ℕ) (b : Bool) (s n : BTreeSet ℕ) → UpdatesBy nat_cmp (nat_cmp xid) s n b →
     contains nat_cmp n x ≡ cond (xid == x) b (contains nat_cmp s x)
@@ -22,16 +24,16 @@ pub no_keys : (x : ℕ) (s : BTreeSet ℕ) → s.keys ≡ [] → contains nat_cm
 no_keys x s e = ap (list_any (λ k. is_eq (nat_cmp x k))) e
 
 -- the transaction is put into the table's set, or taken out
-pub writers_changed : (xid x : ℕ) (table t : List ℕ) (b : Bool) (set : BTreeSet ℕ) (m n : WriterMap) →
-    Turns table (Some set) m n → contains nat_cmp set x ≡ cond (xid == x) b (xid_in x (at_key table m))
-    → writes_in t x n ≡ (if bytes_eq table t && xid == x then b else writes_in t x m)
+pub writers_changed : (xid x : ℕ) (t : List ℕ) (b : Bool) (s : Turned (BTreeSet ℕ)) →
+    contains nat_cmp s.value x ≡ cond (xid == x) b (xid_in x (at_key s.key s.old)) →
+    writes_in t x s.new ≡ (if bytes_eq s.key t && xid == x then b else writes_in t x s.old)
 unfolding writes_in
-writers_changed xid x table t b set m n u e = within (xid_in x) (xid == x) b table t set m n u e
+writers_changed xid x t b s e = within (xid_in x) (xid == x) b s t e
 
-pub writers_same : (x : ℕ) (table t : List ℕ) (set : BTreeSet ℕ) (m n : WriterMap) → Turns table (Some set) m n →
-    contains nat_cmp set x ≡ xid_in x (at_key table m) → writes_in t x n ≡ writes_in t x m
+pub writers_same : (x : ℕ) (t : List ℕ) (s : Turned (BTreeSet ℕ)) →
+    contains nat_cmp s.value x ≡ xid_in x (at_key s.key s.old) → writes_in t x s.new ≡ writes_in t x s.old
 unfolding writes_in
-writers_same x table t set m n u e = within_same (xid_in x) table t set m n u e
+writers_same x t s e = within_same (xid_in x) s t e
 
 -- the table has no set
 pub none_removed : (xid x : ℕ) (table t : List ℕ) (m n : WriterMap) → at_key table m ≡ None → n ≡ m →

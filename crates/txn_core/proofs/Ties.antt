@@ -1,5 +1,7 @@
 -- The ties between the maps of a lock table, kept by each change.
-use Rattle.std.proofs.Common.{◌≡◌, ℕ, Bool, true, false, cond, ◌==◌, ◌&&◌, ◌||◌, if◌then◌else◌, List, [], ◌∷◌, ◌++◌, map, Option, Some, None, Vec, Result, Ok, Err, OnOk, MatchOption, bytes_eq, refl, sym, ◌∙◌, ap, subst}
+use Rattle.std.proofs.Common.{◌≡◌, ℕ, Bool, true, false, cond, ◌==◌, ◌&&◌, ◌||◌, if◌then◌else◌, List, [], ◌∷◌, ◌++◌}
+use Rattle.std.proofs.Common.{map, Option, Some, None, Vec, Result, Ok, Err, OnOk, MatchOption, bytes_eq, refl, sym}
+use Rattle.std.proofs.Common.{◌∙◌, ap, subst}
 use Rattle.std.proofs.lemmas.Bool.{and_parts, and_from, eq-eqb, false≢true}
 use borrow.Author.Tests.{eqb-true}
 use Rattle.std.specs.declared.alloc.Global.{Global}
@@ -10,8 +12,9 @@ use Rattle.std.specs.Cmp.{nat_eq_equiv}
 use Rattle.std.specs.Cmp.Lexicographic.{bytes_decides}
 use Rattle.slon_base.specs.Keeper.{key_cmp}
 use Rattle.txn_core.specs.Locks.{Locks, holder_of, holder_at, without, IsFree, IsFirstWriter}
-use Rattle.txn_core.specs.LockMaps.{Keyed, HolderMap, WriterMap, OwnedMap, at_key, key_in, holder_in, locks_of, writes_in, IsFirst, owned_by, has_row, has_table, released, Tied}
-use Rattle.txn_core.proofs.Holding.{here, without_own}
+use Rattle.txn_core.specs.LockMaps.{Keyed, HolderMap, WriterMap, OwnedMap, at_key, key_in, holder_in, locks_of}
+use Rattle.txn_core.specs.LockMaps.{writes_in, IsFirst, owned_by, has_row, has_table, released, Tied}
+use Rattle.txn_core.proofs.Holding.{Lock, is_on, here, without_own}
 
 -- ---- the view
 
@@ -123,38 +126,64 @@ tied_empty h w o none nobody = record {
     none_some : (x : ℕ) → None ≡ Some x → ⊥
     none_some x e = cc
 
+-- The maps of a lock table.
+pub record Maps : Type 0 where
+  pub holders : HolderMap
+  pub writers : WriterMap
+  pub owned : OwnedMap
+
+abbrev pub IsTied : Maps → Type 0
+IsTied m = Tied m.holders m.writers m.owned
+
+-- every lock is held by whom it was held before
+abbrev pub SameHolders : HolderMap → HolderMap → Type 0
+SameHolders h h' = (t k : List ℕ) → holder_in t k h' ≡ holder_in t k h
+
+-- no transaction has a row less
+abbrev pub Grows : OwnedMap → OwnedMap → Type 0
+Grows o o' = (t k : List ℕ) (x : ℕ) → has_row t k (owned_by x o) ≡ true → has_row t k (owned_by x o') ≡ true
+
+-- the lock is held by its transaction afterwards, and all others as before
+abbrev pub Gives : Lock → HolderMap → HolderMap → Type 0
+Gives l h h' = (t k : List ℕ) → holder_in t k h' ≡ (if is_on l t k then Some l.xid else holder_in t k h)
+
+-- the row is among those of the transaction afterwards
+abbrev pub Owns : Lock → OwnedMap → OwnedMap → Type 0
+Owns l o o' =
+    (x : ℕ) → owned_by x o' ≡ (if l.xid == x then owned_by x o ++ (l.table, l.key) ∷ [] else owned_by x o)
+
+abbrev pub maps : HolderMap → WriterMap → OwnedMap → Maps
+maps h w o = record { holders = h; writers = w; owned = o }
+
 -- nothing is changed but that a transaction has more rows
-pub tied_still : (h h' : HolderMap) (w w' : WriterMap) (o o' : OwnedMap) → Tied h w o →
-    ((t k : List ℕ) → holder_in t k h' ≡ holder_in t k h) → ((t : List ℕ) (x : ℕ) → writes_in t x w' ≡ writes_in t x w)
-    → ((t k : List ℕ) (x : ℕ) → has_row t k (owned_by x o) ≡ true → has_row t k (owned_by x o') ≡ true) → Tied h' w' o'
-tied_still h h' w w' o o' tied hs ws os = record {
+pub tied_still : (m n : Maps) → IsTied m → SameHolders m.holders n.holders →
+    ((t : List ℕ) (x : ℕ) → writes_in t x n.writers ≡ writes_in t x m.writers) → Grows m.owned n.owned → IsTied n
+tied_still m n tied hs ws os = record {
   owns = λ t k x e. os t k x (tied.owns t k x (sym (hs t k) ∙ e));
   writes = λ t k x e. ws t x ∙ tied.writes t k x (sym (hs t k) ∙ e);
   wrote = λ t x e. let f = tied.wrote t x (sym (ws t x) ∙ e) in (f.0, hs t f.0 ∙ f.1);
 }
 
 -- the rows after one was added
-pub rows_grow : (xid : ℕ) (row : List ℕ × List ℕ) (o o' : OwnedMap) →
-    ((x : ℕ) → owned_by x o' ≡ (if xid == x then owned_by x o ++ row ∷ [] else owned_by x o))
-    → (t k : List ℕ) (x : ℕ) → has_row t k (owned_by x o) ≡ true → has_row t k (owned_by x o') ≡ true
-rows_grow xid row o o' os t k x h = ap (has_row t k) (os x)
-    ∙ elim (xid == x) as (λ b. has_row t k (cond b (owned_by x o ++ row ∷ []) (owned_by x o)) ≡ true) [
-      | true ↦ more_rows t k (owned_by x o) (row ∷ []) h
+pub rows_grow : (l : Lock) (o o' : OwnedMap) → Owns l o o' → Grows o o'
+rows_grow l o o' os t k x h = ap (has_row t k) (os x)
+    ∙ elim (l.xid == x) as (λ b. has_row t k (cond b (owned_by x o ++ (l.table, l.key) ∷ []) (owned_by x o)) ≡ true) [
+      | true ↦ more_rows t k (owned_by x o) ((l.table, l.key) ∷ []) h
       | false ↦ h
     ]
 
 -- a lock that was given and taken back at once
-pub put_back : (xid : ℕ) (table key : List ℕ) (h h' h'' : HolderMap) → holder_in table key h ≡ None
-    → ((t k : List ℕ) → holder_in t k h' ≡ (if bytes_eq table t && bytes_eq key k then Some xid else holder_in t k h))
-    → ((t k : List ℕ) → holder_in t k h'' ≡ (if bytes_eq table t
-    && bytes_eq key k then without xid (holder_in t k h') else holder_in t k h'))
-    → (t k : List ℕ) → holder_in t k h'' ≡ holder_in t k h
-put_back xid table key h h' h'' free given back t k =
-    back t k ∙ ap (λ o. cond (bytes_eq table t && bytes_eq key k) (without xid o) o) (given t k)
-    ∙ elim (bytes_eq table t && bytes_eq key k) as (λ b. (bytes_eq table t && bytes_eq key k) ≡ b →
-    cond b (without xid (cond b (Some xid) (holder_in t k h))) (cond b (Some xid) (holder_in t k h)) ≡ holder_in t k
-    h) [
-      | true ↦ λ e. without_own xid (Some xid) refl ∙ sym (here (λ a b. holder_in a b h ≡ None) table key t k free e)
+pub put_back : (l : Lock) (h h' h'' : HolderMap) → holder_in l.table l.key h ≡ None → Gives l h h' →
+    ((t k : List ℕ) →
+    holder_in t k h'' ≡ (if is_on l t k then without l.xid (holder_in t k h') else holder_in t k h')) →
+    SameHolders h h''
+put_back l h h' h'' free given back t k =
+    back t k ∙ ap (λ o. cond (is_on l t k) (without l.xid o) o) (given t k)
+    ∙ elim (is_on l t k) as (λ b. is_on l t k ≡ b →
+    cond b (without l.xid (cond b (Some l.xid) (holder_in t k h))) (cond b (Some l.xid) (holder_in t k h))
+    ≡ holder_in t k h) [
+      | true ↦ λ e. without_own l.xid (Some l.xid) refl
+          ∙ sym (here (λ a b. holder_in a b h ≡ None) l.table l.key t k free e)
       | false ↦ λ e. refl
     ] refl
 
@@ -165,33 +194,33 @@ none_held : (x : ℕ) (o : Option ℕ) → o ≡ None → o ≡ Some x → ⊥
 none_held x o e f = cc
 
 -- a lock that nobody held was given
-pub tied_taken : (xid : ℕ) (table key : List ℕ) (h h' : HolderMap) (w w' : WriterMap) (o o' : OwnedMap) → Tied h w o →
-    holder_in table key h ≡ None
-    → ((t k : List ℕ) → holder_in t k h' ≡ (if bytes_eq table t && bytes_eq key k then Some xid else holder_in t k h))
-    → ((t : List ℕ) (x : ℕ) → writes_in t x w' ≡ (if bytes_eq table t && xid == x then true else writes_in t x w))
-    → ((x : ℕ) → owned_by x o' ≡ (if xid == x then owned_by x o ++ (table, key) ∷ [] else owned_by x o))
-    → Tied h' w' o'
-tied_taken xid table key h h' w w' o o' tied free hs ws os = record {
-  owns = λ t k x e. elim (bytes_eq table t && bytes_eq key k) as (λ b. (bytes_eq table t && bytes_eq key k) ≡ b →
-      cond b (Some xid) (holder_in t k h) ≡ Some x → has_row t k (owned_by x o') ≡ true) [
-        | true ↦ λ at e. ap (has_row t k) (os x ∙ ap (λ b. cond b (owned_by x o ++ (table, key) ∷ []) (owned_by x o))
-            (eq-eqb xid x (some_one xid x e))) ∙ last_row t k (table, key) (owned_by x o) at
-        | false ↦ λ at e. rows_grow xid (table, key) o o' os t k x (tied.owns t k x e)
+pub tied_taken : (l : Lock) (m n : Maps) → IsTied m → holder_in l.table l.key m.holders ≡ None →
+    Gives l m.holders n.holders →
+    ((t : List ℕ) (x : ℕ) →
+    writes_in t x n.writers ≡ (if bytes_eq l.table t && l.xid == x then true else writes_in t x m.writers)) →
+    Owns l m.owned n.owned → IsTied n
+tied_taken l m n tied free hs ws os = record {
+  owns = λ t k x e. elim (is_on l t k) as (λ b. is_on l t k ≡ b →
+      cond b (Some l.xid) (holder_in t k m.holders) ≡ Some x → has_row t k (owned_by x n.owned) ≡ true) [
+        | true ↦ λ at e. ap (has_row t k) (os x
+            ∙ ap (λ b. cond b (owned_by x m.owned ++ (l.table, l.key) ∷ []) (owned_by x m.owned))
+            (eq-eqb l.xid x (some_one l.xid x e))) ∙ last_row t k (l.table, l.key) (owned_by x m.owned) at
+        | false ↦ λ at e. rows_grow l m.owned n.owned os t k x (tied.owns t k x e)
       ] refl (sym (hs t k) ∙ e);
-  writes = λ t k x e. ws t x ∙ elim (bytes_eq table t && bytes_eq key k) as (λ b. (bytes_eq table t
-      && bytes_eq key k) ≡ b → cond b (Some xid) (holder_in t k h) ≡ Some x → cond (bytes_eq table t && xid == x) true
-      (writes_in t x w) ≡ true) [
-        | true ↦ λ at e. ap (λ b. cond b true (writes_in t x w)) (and_from (bytes_eq table t) (xid == x)
-            (and_parts (bytes_eq table t) (bytes_eq key k) at).0 (eq-eqb xid x (some_one xid x e)))
-        | false ↦ λ at e. either (bytes_eq table t && xid == x) (writes_in t x w) (tied.writes t k x e)
+  writes = λ t k x e. ws t x ∙ elim (is_on l t k) as (λ b. is_on l t k ≡ b →
+      cond b (Some l.xid) (holder_in t k m.holders) ≡ Some x →
+      cond (bytes_eq l.table t && l.xid == x) true (writes_in t x m.writers) ≡ true) [
+        | true ↦ λ at e. ap (λ b. cond b true (writes_in t x m.writers)) (and_from (bytes_eq l.table t) (l.xid == x)
+            (and_parts (bytes_eq l.table t) (bytes_eq l.key k) at).0 (eq-eqb l.xid x (some_one l.xid x e)))
+        | false ↦ λ at e. either (bytes_eq l.table t && l.xid == x) (writes_in t x m.writers) (tied.writes t k x e)
       ] refl (sym (hs t k) ∙ e);
-  wrote = λ t x e. elim (bytes_eq table t && xid == x) as (λ b. (bytes_eq table t && xid == x) ≡ b →
-      cond b true (writes_in t x w) ≡ true → (k : List ℕ) × (holder_in t k h' ≡ Some x)) [
+  wrote = λ t x e. elim (bytes_eq l.table t && l.xid == x) as (λ b. (bytes_eq l.table t && l.xid == x) ≡ b →
+      cond b true (writes_in t x m.writers) ≡ true → (k : List ℕ) × (holder_in t k n.holders ≡ Some x)) [
         | true ↦ λ at e.
-            let p = and_parts (bytes_eq table t) (xid == x) at in (
-              key,
-              hs t key ∙ ap (λ b. cond b (Some xid) (holder_in t key h)) (and_from (bytes_eq table t)
-                  (bytes_eq key key) p.0 ((bytes_decides key key).1 refl)) ∙ ap Some (eqb-true xid x p.1),
+            let p = and_parts (bytes_eq l.table t) (l.xid == x) at in (
+              l.key,
+              hs t l.key ∙ ap (λ b. cond b (Some l.xid) (holder_in t l.key m.holders)) (and_from (bytes_eq l.table t)
+                  (bytes_eq l.key l.key) p.0 ((bytes_decides l.key l.key).1 refl)) ∙ ap Some (eqb-true l.xid x p.1),
             )
         | false ↦ λ at e. let f = tied.wrote t x e in (f.0, hs t f.0 ∙ kept t f.0 x f.1)
       ] refl (sym (ws t x) ∙ e);
@@ -201,24 +230,37 @@ tied_taken xid table key h h' w w' o o' tied free hs ws os = record {
     either true c e = refl
     either false c e = e
 
-    kept : (t k : List ℕ) (x : ℕ) → holder_in t k h ≡ Some x → cond (bytes_eq table t && bytes_eq key k) (Some xid)
-        (holder_in t k h) ≡ Some x
-    kept t k x e = elim (bytes_eq table t && bytes_eq key k) as (λ b. (bytes_eq table t && bytes_eq key k) ≡ b →
-        cond b (Some xid) (holder_in t k h) ≡ Some x) [
-          | true ↦ λ at. absurd (none_held x (holder_in t k h) (here (λ a b. holder_in a b h ≡ None) table key t k free at)
-              e)
+    kept : (t k : List ℕ) (x : ℕ) → holder_in t k m.holders ≡ Some x →
+        cond (is_on l t k) (Some l.xid) (holder_in t k m.holders) ≡ Some x
+    kept t k x e = elim (is_on l t k) as (λ b. is_on l t k ≡ b →
+        cond b (Some l.xid) (holder_in t k m.holders) ≡ Some x) [
+          | true ↦
+              λ at. absurd (none_held x (holder_in t k m.holders)
+              (here (λ a b. holder_in a b m.holders ≡ None) l.table l.key t k free at) e)
           | false ↦ λ at. e
         ] refl
 
+-- The rows of a transaction.
+pub record Own (xid : ℕ) (m : Maps) : Type 0 where
+  pub rows : List (List ℕ × List ℕ)
+  pub all : rows ≡ owned_by xid m.owned
+
+abbrev pub own_rows : (xid : ℕ) (m : Maps) (rows : List (List ℕ × List ℕ)) → rows ≡ owned_by xid m.owned → Own xid m
+own_rows xid m rows all = record { rows = rows; all = all }
+
+-- the transaction holds no lock afterwards, and all others are held as before
+abbrev pub GivesBack : ℕ → HolderMap → HolderMap → Type 0
+GivesBack xid h h' = (t k : List ℕ) → holder_in t k h' ≡ without xid (holder_in t k h)
+
 -- all locks of a transaction were given back
-pub all_released : (xid : ℕ) (rows : List (List ℕ × List ℕ)) (h h' : HolderMap) (w : WriterMap) (o : OwnedMap) →
-    Tied h w o → rows ≡ owned_by xid o
-    → ((t k : List ℕ) → holder_in t k h' ≡ released xid t k rows (holder_in t k h))
-    → (t k : List ℕ) → holder_in t k h' ≡ without xid (holder_in t k h)
-all_released xid rows h h' w o tied own hs t k = hs t k ∙ elim (has_row t k rows) as (λ b. has_row t k rows ≡ b →
-    cond b (without xid (holder_in t k h)) (holder_in t k h) ≡ without xid (holder_in t k h)) [
+pub all_released : (xid : ℕ) (m : Maps) (own : Own xid m) (h' : HolderMap) → IsTied m →
+    ((t k : List ℕ) → holder_in t k h' ≡ released xid t k own.rows (holder_in t k m.holders)) →
+    GivesBack xid m.holders h'
+all_released xid m own h' tied hs t k =
+    hs t k ∙ elim (has_row t k own.rows) as (λ b. has_row t k own.rows ≡ b →
+    cond b (without xid (holder_in t k m.holders)) (holder_in t k m.holders) ≡ without xid (holder_in t k m.holders)) [
       | true ↦ λ e. refl
-      | false ↦ λ e. other (holder_in t k h) (λ held. absurd (false≢true (sym e ∙ ap (has_row t k) own
+      | false ↦ λ e. other (holder_in t k m.holders) (λ held. absurd (false≢true (sym e ∙ ap (has_row t k) own.all
           ∙ tied.owns t k xid held)))
     ] refl
   where
@@ -238,25 +280,26 @@ still_held xid x (Some y) e = elim (y == xid) as (λ b. (y == xid) ≡ b → con
       | false ↦ λ at e. (e, nat_eq_equiv.symm xid x ∙ ap (λ z. z == xid) (sym (some_one y x e)) ∙ at)
     ] refl e
 
-pub tied_released : (xid : ℕ) (rows : List (List ℕ × List ℕ)) (h h' : HolderMap) (w w' : WriterMap) (o o' : OwnedMap) →
-    Tied h w o → rows ≡ owned_by xid o
-    → ((t k : List ℕ) → holder_in t k h' ≡ without xid (holder_in t k h))
-    → ((t : List ℕ) (x : ℕ) → writes_in t x w' ≡ (if has_table t rows && xid == x then false else writes_in t x w))
-    → ((x : ℕ) → owned_by x o' ≡ (if xid == x then [] else owned_by x o))
-    → Tied h' w' o'
-tied_released xid rows h h' w w' o o' tied own hs ws os = record {
-  owns = λ t k x e. let p = still_held xid x (holder_in t k h) (sym (hs t k) ∙ e) in ap (has_row t k) (os x
-      ∙ ap (λ b. cond b [] (owned_by x o)) p.1) ∙ tied.owns t k x p.0;
-  writes = λ t k x e. let p = still_held xid x (holder_in t k h) (sym (hs t k) ∙ e) in ws t x
-      ∙ unmoved (has_table t rows) (xid == x) (writes_in t x w) p.1 ∙ tied.writes t k x p.0;
+pub tied_released : (xid : ℕ) (m n : Maps) (own : Own xid m) → IsTied m → GivesBack xid m.holders n.holders →
+    ((t : List ℕ) (x : ℕ) →
+    writes_in t x n.writers ≡ (if has_table t own.rows && xid == x then false else writes_in t x m.writers)) →
+    ((x : ℕ) → owned_by x n.owned ≡ (if xid == x then [] else owned_by x m.owned)) → IsTied n
+tied_released xid m n own tied hs ws os = record {
+  owns = λ t k x e.
+      let p = still_held xid x (holder_in t k m.holders) (sym (hs t k) ∙ e) in
+      ap (has_row t k) (os x ∙ ap (λ b. cond b [] (owned_by x m.owned)) p.1) ∙ tied.owns t k x p.0;
+  writes = λ t k x e.
+      let p = still_held xid x (holder_in t k m.holders) (sym (hs t k) ∙ e) in
+      ws t x ∙ unmoved (has_table t own.rows) (xid == x) (writes_in t x m.writers) p.1 ∙ tied.writes t k x p.0;
   wrote = λ t x e. elim (xid == x) as (λ b. (xid == x) ≡ b →
-      cond (has_table t rows && b) false (writes_in t x w) ≡ true → (k : List ℕ) × (holder_in t k h' ≡ Some x)) [
+      cond (has_table t own.rows && b) false (writes_in t x m.writers) ≡ true →
+      (k : List ℕ) × (holder_in t k n.holders ≡ Some x)) [
         | true ↦ λ at e. absurd (gone t x at e)
         | false ↦ λ at e.
-            let f = tied.wrote t x (sym (unmoved (has_table t rows) false (writes_in t x w) refl) ∙ e) in (
+            let f = tied.wrote t x (sym (unmoved (has_table t own.rows) false (writes_in t x m.writers) refl) ∙ e) in (
               f.0,
-              hs t f.0 ∙ ap (without xid) f.1 ∙ ap (λ b. cond {A = Option ℕ} b None (Some x)) (nat_eq_equiv.symm x xid
-                  ∙ at),
+              hs t f.0 ∙ ap (without xid) f.1
+                  ∙ ap (λ b. cond {A = Option ℕ} b None (Some x)) (nat_eq_equiv.symm x xid ∙ at),
             )
       ] refl (sym (ws t x) ∙ e);
 }
@@ -269,27 +312,29 @@ tied_released xid rows h h' w w' o o' tied own hs ws os = record {
     both_out true c e = absurd (false≢true e)
     both_out false c e = (refl, e)
 
-    gone : (t : List ℕ) (x : ℕ) → (xid == x) ≡ true → cond (has_table t rows && true) false (writes_in t x w) ≡ true → ⊥
+    gone : (t : List ℕ) (x : ℕ) → (xid == x) ≡ true →
+        cond (has_table t own.rows && true) false (writes_in t x m.writers) ≡ true → ⊥
     gone t x at e =
-        let p = both_out (has_table t rows) (writes_in t x w) e in
+        let p = both_out (has_table t own.rows) (writes_in t x m.writers) e in
         let f = tied.wrote t x p.1 in
         let same = eqb-true xid x at in
-        let row : has_row t f.0 rows ≡ true = ap (has_row t f.0) own ∙ tied.owns t f.0 xid (f.1 ∙ ap Some (sym same)) in
-        false≢true (sym p.0 ∙ table_of_row t f.0 rows row)
+        let row : has_row t f.0 own.rows ≡ true =
+        ap (has_row t f.0) own.all ∙ tied.owns t f.0 xid (f.1 ∙ ap Some (sym same)) in
+        false≢true (sym p.0 ∙ table_of_row t f.0 own.rows row)
 
 -- the least transaction of the table's set is the first that holds a lock on it
-pub first_writer : (table : List ℕ) (r : Option ℕ) (locks : Locks) (h : HolderMap) (w : WriterMap) (o : OwnedMap) →
-    Tied h w o → ((t k : List ℕ) → holder_of t k locks ≡ holder_in t k h)
-    → MatchOption r ((x : ℕ) → writes_in table x w ≡ false) (λ x. IsFirst table x w) → MatchOption r ((k : List ℕ) →
-    holder_of table k locks ≡ None) (λ x. IsFirstWriter x table locks)
-first_writer table None locks h w o tied seen m = λ k. seen table k ∙ nobody k (holder_in table k h) refl
+pub first_writer : (table : List ℕ) (r : Option ℕ) (locks : Locks) (m : Maps) → IsTied m →
+    ((t k : List ℕ) → holder_of t k locks ≡ holder_in t k m.holders) →
+    MatchOption r ((x : ℕ) → writes_in table x m.writers ≡ false) (λ x. IsFirst table x m.writers) →
+    MatchOption r ((k : List ℕ) → holder_of table k locks ≡ None) (λ x. IsFirstWriter x table locks)
+first_writer table None locks m tied seen first = λ k. seen table k ∙ nobody k (holder_in table k m.holders) refl
   where
-    nobody : (k : List ℕ) (held : Option ℕ) → holder_in table k h ≡ held → held ≡ None
+    nobody : (k : List ℕ) (held : Option ℕ) → holder_in table k m.holders ≡ held → held ≡ None
     nobody k None e = refl
-    nobody k (Some x) e = absurd (false≢true (sym (m x) ∙ tied.writes table k x e))
-first_writer table (Some x) locks h w o tied seen m = record {
-  holds = let f = tied.wrote table x m.writes in (f.0, seen table f.0 ∙ f.1);
-  least = λ k y e. m.least y (tied.writes table k y (sym (seen table k) ∙ e));
+    nobody k (Some x) e = absurd (false≢true (sym (first x) ∙ tied.writes table k x e))
+first_writer table (Some x) locks m tied seen first = record {
+  holds = let f = tied.wrote table x first.writes in (f.0, seen table f.0 ∙ f.1);
+  least = λ k y e. first.least y (tied.writes table k y (sym (seen table k) ∙ e));
 }
 
 -- ---- a lock that is held

@@ -1,3 +1,4 @@
+pub mod Faults
 pub mod LockMaps
 pub mod Locks
 pub mod Snapshots

@@ -35,6 +35,18 @@ pub enum BadSnapshot {
     NoMemory = 11,
 }
 
+impl BadSnapshot {
+    ghost use Rattle.std.specs.Prelude.{◌≡◌};
+    ghost use Rattle.txn_core.specs.Faults.{number_of};
+
+    /// Its number.
+    pub fn number(self) -> u8
+        ensures { result ≡ number_of self }
+    {
+        self as u8
+    }
+}
+
 impl From<AllocError> for BadSnapshot {
     ghost use Rattle.std.specs.Prelude.{◌≡◌};
     ghost use Rattle.txn_core.specs.declared.fault.BadSnapshot.TheVariants.{NoMemory};

@@ -1,5 +1,6 @@
 // The locks on rows of the transactions that are open.
-ghost use Rattle.std.specs.Prelude.{◌≡◌, ◌&&◌, ◌==◌, if◌then◌else◌, false, ℕ, List, Some, None, OnOk, OnErr, IfErr, MatchOption, bytes_eq};
+ghost use Rattle.std.specs.Prelude.{◌≡◌, ◌&&◌, ◌==◌, if◌then◌else◌, false, ℕ, List, Some, None, OnOk, OnErr, IfErr};
+ghost use Rattle.std.specs.Prelude.{MatchOption, bytes_eq};
 ghost use Rattle.txn_core.specs.Locks.{holder_of, without, Refuses, IsFree, IsFirstWriter};
 ghost use Rattle.txn_core.specs.LockMaps.{holder_in, writes_in, has_table, released};
 

@@ -1,5 +1,6 @@
 // Which transactions hold a lock on each table.
-ghost use Rattle.std.specs.Prelude.{◌≡◌, ◌==◌, ◌&&◌, if◌then◌else◌, true, false, ℕ, List, OnOk, OnErr, MatchOption, IsSome, IfSome, IsTrue, ◌↔◌, ◌<◌, bytes_eq};
+ghost use Rattle.std.specs.Prelude.{◌≡◌, ◌==◌, ◌&&◌, if◌then◌else◌, true, false, ℕ, List, OnOk, OnErr, MatchOption};
+ghost use Rattle.std.specs.Prelude.{IsSome, IfSome, IsTrue, ◌↔◌, ◌<◌, bytes_eq};
 ghost use Rattle.std.specs.Ordering.{nat_cmp};
 ghost use Rattle.std.specs.BTreeSet.{btree_set_len, contains, IsLowerBound};
 ghost use Rattle.txn_core.specs.LockMaps.{writes_in, IsFirst};

@@ -1,6 +1,6 @@
 use Rattle.std.proofs.Common.{◌++◌, ap, sym, ◌∙◌}
 use Rattle.txn_core.proofs.SnapshotTexts.{no_ids, ids_words, nil_of_length, some_of_length}
-use Rattle.txn_core.proofs.SnapshotParts.{one_read, none_read, all_read, texts}
+use Rattle.txn_core.proofs.SnapshotParts.{Word, one_read, none_read, all_read, texts}
 use Rattle.txn_core.proofs.read.ids_of.Goals as goal
 
 pub returns-then-is_empty : goal.returns-then-is_empty
@@ -19,14 +19,23 @@ loop-word-init c xs small is =
 
 pub loop-word-preserved : goal.loop-word-preserved
 loop-word-preserved c xs small is =
-    one_read c.as_slice-word-items.result.now c.loop-word.word-index _ c.loop-word.ids c.push.new.self xs
-    c.number_of.result c.in-Some.xid c.loop-word-test.true (c.loop-word.invariant xs small is) c.number_of.ensures
-    c.in-Some.is c.in_ok-push-in-Some.ensures.ok
+    let at : Word = record {
+      words = c.as_slice-word-items.result.now;
+      at = c.loop-word.word-index;
+      default = _;
+      within = c.loop-word-test.true;
+    } in
+    rw c.in_ok-push-in-Some.ensures.ok (one_read at c.loop-word.ids xs c.number_of.result c.in-Some.xid
+    (c.loop-word.invariant xs small is) c.number_of.ensures c.in-Some.is)
 
 pub returns-in-None : goal.returns-in-None
 returns-in-None c xs small is =
-    none_read c.as_slice-word-items.result.now c.loop-word.word-index _ c.loop-word.ids xs c.number_of.result
-    c.loop-word-test.true (c.loop-word.invariant xs small is) c.number_of.ensures c.in-None.is
+    none_read (record {
+      words = c.as_slice-word-items.result.now;
+      at = c.loop-word.word-index;
+      default = _;
+      within = c.loop-word-test.true;
+    }) c.loop-word.ids xs c.number_of.result (c.loop-word.invariant xs small is) c.number_of.ensures c.in-None.is
 
 pub returns : goal.returns
 returns c xs small is = all_read c.as_slice-word-items.result.now c.loop-word.word-index c.loop-word.ids xs

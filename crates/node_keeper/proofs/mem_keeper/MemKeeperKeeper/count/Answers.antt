@@ -1,19 +1,13 @@
-use Rattle.std.proofs.Common.{get_or, List, ap, ◌∙◌, rules}
-use Rattle.std.specs.FinMap.{empty, len}
-use Rattle.slon_base.specs.Keeper.{Space}
-use Rattle.node_keeper.proofs.Kepts.{seen}
+use Rattle.std.proofs.Common.{◌≡◌, Some, ap, ◌∙◌, rules}
+use Rattle.std.specs.FinMap.{len}
+use Rattle.slon_base.specs.Keeper.{Store, sight}
+use Rattle.node_keeper.specs.Told.{kept_of}
+use Rattle.node_keeper.proofs.Kepts.{seen_in}
 use Rattle.node_keeper.proofs.mem_keeper.MemKeeperKeeper.count.Goals as goal
 
 pub returns-clause-counts : goal.returns-clause-counts
-returns-clause-counts c = record {
-  cause = search rules;
-  ok = search rules;
-  opened = search rules;
-  held = search rules;
-  doubts = search rules;
-  gives = λ m e. c.count.ensures
-      ∙ ap len (ap (λ p. p.1) (c.space.ensures
-      ∙ ap (λ (xs : List (Space × Space)). get_or xs c.args.space (empty, empty)) c.if-strikes.ensures.spaces)
-      ∙ seen c.args.self.now.spaces.items c.args.self.now.phase c.args.self.now.plan c.args.self.now.doubts m
-      c.args.self.now.settled e c.args.space);
-}
+returns-clause-counts c =
+    let gives : (m : Store) → sight (kept_of c.args.self.now) ≡ Some m → c.count.result ≡ len (m c.args.space) =
+    λ m e. c.count.ensures ∙ ap len (seen_in c.args.self.now c.strikes.new.self.spaces.items c.args.space
+    c.space.result.now c.space.ensures c.if-strikes.ensures.spaces m e) in
+    search (rules, gives)

@@ -16,19 +16,9 @@ returns-in_ok-new-in-Some c =
     (can_fail (slice_get c.args.self.now.keepers.items c.args.place)) = c.in_ok-new-in-Some.ensures.told
     ∙ ap fresh (ap (λ xs. left xs 0) (c.in_ok-fails-in-Some.ensures.items ∙ c.as_slice.ensures.value)
     ∙ ap can_fail found) in
-    record {
-      gives = record {
-        cause = search rules;
-        promise = search rules;
-        store =
-            as_promised c.args.self.now.keepers.items c.args.place (kept_of c.in_ok-new-in-Some.field-0) made;
-      };
-      made = made;
-      keep = c.in_ok-new-in-Some.ensures.keep ∙ ap keeps found;
-      fails = search rules;
-      plan = search rules;
-      keepers = search rules;
-    }
+    let store = as_promised c.args.self.now.keepers.items c.args.place (kept_of c.in_ok-new-in-Some.field-0) made in
+    let keep = c.in_ok-new-in-Some.ensures.keep ∙ ap keeps found in
+    search (rules, store, made, keep)
 
 pub returns-in_ok-new-in-None : goal.returns-in_ok-new-in-None
 returns-in_ok-new-in-None c =
@@ -38,16 +28,6 @@ returns-in_ok-new-in-None c =
     let made : kept_of c.in_ok-new-in-None.field-0 ≡ fresh
     (can_fail (slice_get c.args.self.now.keepers.items c.args.place)) = c.in_ok-new-in-None.ensures.told
     ∙ ap fresh (ap (λ xs. left xs 0) (c.new-in-None.ensures.items) ∙ ap can_fail found) in
-    record {
-      gives = record {
-        cause = search rules;
-        promise = search rules;
-        store =
-            as_promised c.args.self.now.keepers.items c.args.place (kept_of c.in_ok-new-in-None.field-0) made;
-      };
-      made = made;
-      keep = c.in_ok-new-in-None.ensures.keep ∙ ap keeps found;
-      fails = search rules;
-      plan = search rules;
-      keepers = search rules;
-    }
+    let store = as_promised c.args.self.now.keepers.items c.args.place (kept_of c.in_ok-new-in-None.field-0) made in
+    let keep = c.in_ok-new-in-None.ensures.keep ∙ ap keeps found in
+    search (rules, store, made, keep)

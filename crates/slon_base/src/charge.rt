@@ -1,8 +1,8 @@
-// What a fuse was told, and what calls make of it.
+// What a store was told to fail, and what calls make of it.
 ghost use Rattle.std.specs.Prelude.{◌≡◌};
-ghost use Rattle.node_keeper.specs.Charges.{burnt, burnt_by_commit, is_blown};
+ghost use Rattle.slon_base.specs.Charges.{burnt, burnt_by_commit, is_blown};
 
-/// What a fuse was told.
+/// What a store was told to fail on purpose.
 #[derive(Clone, Copy, Debug, PartialEq, Eq)]
 pub enum Charge {
     /// To fail no call.
@@ -11,13 +11,13 @@ pub enum Charge {
     After { calls: u64, keep: bool },
     /// To fail the next commit.
     AtCommit { keep: bool },
-    /// It is blown, and fails each call.
+    /// To fail each call, as one was failed.
     Blown { keep: bool },
 }
 
 impl Charge {
     /// What a call makes of it that is no commit.
-    pub(crate) fn burnt(self) -> Charge
+    pub fn burnt(self) -> Charge
         ensures { result ≡ burnt self }
     {
         match self {
@@ -31,7 +31,7 @@ impl Charge {
     }
 
     /// What a commit makes of it.
-    pub(crate) fn burnt_by_commit(self) -> Charge
+    pub fn burnt_by_commit(self) -> Charge
         ensures { result ≡ burnt_by_commit self }
     {
         match self {
@@ -40,8 +40,8 @@ impl Charge {
         }
     }
 
-    /// Whether a fuse fails the call that made this of its charge.
-    pub(crate) fn is_blown(self) -> bool
+    /// Whether the call fails that made this of the charge.
+    pub fn is_blown(self) -> bool
         ensures { result ≡ is_blown self }
     {
         matches!(self, Charge::Blown { .. })

@@ -1,8 +1,8 @@
--- How the charge of a fuse goes on.
+-- How what a store was told to fail goes on.
 use Rattle.std.proofs.Common.{◌≡◌, ℕ, ◌-◌, ◌==◌, Bool, true, false, cond, inl, inr, refl, sym, subst, arith}
-use Rattle.node_keeper.specs.declared.charge.Charge.{Charge}
-use Rattle.node_keeper.specs.declared.charge.Charge.TheVariants.{Off, After, AtCommit, Blown}
-use Rattle.node_keeper.specs.Charges.{burnt, burnt_by_commit, GoesOn}
+use Rattle.slon_base.specs.declared.charge.Charge.{Charge}
+use Rattle.slon_base.specs.declared.charge.Charge.TheVariants.{Off, After, AtCommit, Blown}
+use Rattle.slon_base.specs.Charges.{burnt, burnt_by_commit, GoesOn, IsFrom, KeepsTold}
 
 pub goes_on_same : (charge : Charge) → GoesOn charge charge
 goes_on_same Off = refl
@@ -48,3 +48,12 @@ goes_on_call old new is = subst (GoesOn old) (sym is) (goes_on_burnt old)
 
 pub goes_on_commit : (old new : Charge) → new ≡ burnt_by_commit old → GoesOn old new
 goes_on_commit old new is = subst (GoesOn old) (sym is) (goes_on_by_commit old)
+
+-- what goes on from what went on before
+pub keeps_told : (old new : Charge) → GoesOn old new → KeepsTold old new
+unfolding IsFrom
+keeps_told old new on told from = goes_on_after told old new from on
+
+pub told_on : (old new : Charge) → KeepsTold old new → GoesOn old new
+unfolding IsFrom
+told_on old new keeps = keeps old (goes_on_same old)

@@ -1,5 +1,6 @@
 -- The entries of a space in the order of their keys.
-use Rattle.std.proofs.Common.{◌≡◌, ℕ, ◌<◌, Bool, true, false, cond, T, List, [], ◌∷◌, ◌++◌, length, take, drop, Some, None, refl, sym, ap, subst, ◌∙◌, arith}
+use Rattle.std.proofs.Common.{◌≡◌, ℕ, ◌<◌, Bool, true, false, cond, T, List, [], ◌∷◌, ◌++◌, length, take, drop, Some}
+use Rattle.std.proofs.Common.{None, refl, sym, ap, subst, ◌∙◌, arith}
 use Rattle.std.proofs.lemmas.Bool.{false≢true, eq-eqb}
 use Rattle.std.proofs.lemmas.List.{take-append-drop}
 use Rattle.std.proofs.lemmas.Slice.Eq.{bytes_eq-Decides}
@@ -13,46 +14,15 @@ use Rattle.std.specs.FinMap.{nat_cmp-IsAntisymmetric, slice_cmp-IsAntisymmetric}
 use Rattle.std.specs.FinMap.Entries.{find, is_sorted, below_all}
 use Rattle.slon_base.specs.Keeper.{key_cmp, after}
 use lib.Pointwise.{pointwise}
+pub use Rattle.slon_lemmas.proofs.Keys.{same_keys, equal_of, less_of, apart, tied}
+pub use Rattle.slon_lemmas.proofs.Tests.{front_of, back_of}
 
 abbrev pub Entries : Type 0
 Entries = List (List ℕ × List ℕ)
 
-pub same_keys : (x y : List ℕ) → key_cmp x y ≡ Equal → x ≡ y
-same_keys = slice_cmp-IsAntisymmetric nat_cmp-IsAntisymmetric
-
 -- the test of a key against another, by their order
 not_eq_of_less : {o : Ordering} → o ≡ Less → is_eq o ≡ false
 not_eq_of_less is = ap is_eq is
-
-less_of : (o : Ordering) → T (is_lt o) → o ≡ Less
-less_of Less t = refl
-less_of Equal t = absurd t
-less_of Greater t = absurd t
-
-pub equal_of : (o : Ordering) → is_eq o ≡ true → o ≡ Equal
-equal_of Less t = absurd (false≢true t)
-equal_of Equal t = refl
-equal_of Greater t = absurd (false≢true t)
-
--- keys that differ do not tie
-pub apart : (x y : List ℕ) → (x ≡ y → ⊥) → is_eq (key_cmp x y) ≡ false
-apart x y differ = decide (is_eq (key_cmp x y)) (λ tied. differ (same_keys x y (equal_of _ tied)))
-  where
-    decide : (b : Bool) → (b ≡ true → ⊥) → b ≡ false
-    decide true unless = absurd (unless refl)
-    decide false unless = refl
-
--- a key ties with itself
-pub tied : (x : List ℕ) → is_eq (key_cmp x x) ≡ true
-tied x = ap is_eq (tied_itself nat_list_cmp_total x)
-
-pub front_of : (a b : Bool) → T (a && b) → T a
-front_of true b t = tt
-front_of false b t = absurd t
-
-pub back_of : (a b : Bool) → T (a && b) → T b
-back_of true b t = t
-back_of false b t = absurd t
 
 -- what follows a prefix is greater than the prefix
 pub behind : (p y : List ℕ) → 0 < length y → key_cmp p (p ++ y) ≡ Less

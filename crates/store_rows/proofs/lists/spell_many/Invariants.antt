@@ -1,6 +1,6 @@
 use Rattle.std.proofs.Common.{◌≡◌, ◌++◌, length, drop}
 use Rattle.slon_base.specs.Codec.{count_bytes, all_bytes, AllAre}
-use Rattle.store_rows.proofs.lists.ManySpelled.spell.Given as goal
+use Rattle.store_rows.proofs.lists.spell_many.Given as goal
 
 abbrev pub invariant-loop-value : goal.invariant-loop-value
 invariant-loop-value g l =

@@ -1,7 +1,7 @@
--- What calls make of the charge of a fuse.
+-- What a store is told to fail on purpose, and what calls make of that.
 use Rattle.std.specs.Prelude.{◌≡◌, ◌⊎◌, ℕ, ◌≤◌, ◌-◌, ◌==◌, Bool, true, false, if◌then◌else◌, Option, None}
-use Rattle.node_keeper.specs.declared.charge.Charge.{Charge}
-use Rattle.node_keeper.specs.declared.charge.Charge.TheVariants.{Off, After, AtCommit, Blown}
+use Rattle.slon_base.specs.declared.charge.Charge.{Charge}
+use Rattle.slon_base.specs.declared.charge.Charge.TheVariants.{Off, After, AtCommit, Blown}
 
 -- the charge after a call that is no commit
 abbrev pub burnt : Charge → Charge
@@ -52,3 +52,11 @@ GoesOn Off new = new ≡ Off
 GoesOn (After calls keep) new = ((left : ℕ) × (left ≤ calls) × (new ≡ After left keep)) ⊎ (new ≡ Blown keep)
 GoesOn (AtCommit keep) new = (new ≡ AtCommit keep) ⊎ (new ≡ Blown keep)
 GoesOn (Blown keep) new = new ≡ Blown keep
+
+-- it goes on from what was told
+unfoldable pub IsFrom : Charge → Charge → Type 0
+IsFrom told charge = GoesOn told charge
+
+-- whatever it went on from before, it goes on from still
+abbrev pub KeepsTold : Charge → Charge → Type 0
+KeepsTold old new = (told : Charge) → IsFrom told old → IsFrom told new

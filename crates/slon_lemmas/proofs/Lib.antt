@@ -1,0 +1,4 @@
+pub mod Keys
+pub mod Splitting
+pub mod Tests
+pub mod Texts
