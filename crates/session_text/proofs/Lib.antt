@@ -4,6 +4,5 @@ pub mod Lines
 pub mod Moving
 pub mod Numbers
 pub mod Said
-pub mod Splitting
 pub mod Unprinting
 pub mod WordForms

@@ -12,5 +12,6 @@ pub fn printing_is_injective()
 
 /// Two lists of replies whose lines print alike are one list.
 pub fn outputs_are_injective()
-    ensures { (a b : List Reply) → AllByRecursion HasForm a → AllByRecursion HasForm b → lines_text a ≡ lines_text b → a ≡ b }
+    ensures { (a b : List Reply) → AllByRecursion HasForm a → AllByRecursion HasForm b →
+        lines_text a ≡ lines_text b → a ≡ b }
 {}

@@ -2,6 +2,7 @@
 #![tactic(auto)]
 
 mod crash;
+mod fits;
 mod forms;
 mod laws;
 mod line_reader;
@@ -10,6 +11,7 @@ mod read;
 mod words;
 mod writes;
 
+pub use fits::numbers_fit;
 pub use laws::{outputs_are_injective, printing_is_injective};
 pub use line_reader::{LineReader, NextLine, ReadStop};
 pub use print::{print_line, print_reply};

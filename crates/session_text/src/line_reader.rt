@@ -1,11 +1,12 @@
 // A session is read in pieces through one buffer, and handed over line by line.
-ghost use Rattle.std.specs.Prelude.{◌≡◌, ℕ, ◌+◌, ◌<◌, ◌≤◌, ◌==◌, if◌then◌else◌, Bool, true, false, List, [], ◌++◌, length, take, Some, None, Option, IfOk, IsErrOf, vec_len};
+ghost use Rattle.std.specs.Prelude.{◌≡◌, ℕ, ◌+◌, ◌<◌, ◌≤◌, ◌==◌, if◌then◌else◌, Bool, true, false, List, [], ◌++◌};
+ghost use Rattle.std.specs.Prelude.{length, take, Some, None, Option, IfOk, OnErr, IsErrOf, vec_len};
 ghost use Rattle.std.specs.List.{position};
 ghost use Rattle.std.specs.Str.Lines.{strip_carriage_return};
 ghost use Rattle.slon_base.specs.Counts.{Rose};
 ghost use Rattle.slon_base.specs.Outside.{top};
 ghost use Rattle.session_text.specs.Reading.{line_limit, line_size, session_limit};
-ghost use Rattle.session_text.specs.Handing.{front, behind, Stays, Comes, Hands};
+ghost use Rattle.session_text.specs.Handing.{front, behind, Stays, Comes, Breaks, Measures, Hands};
 
 use slon_base::{Files, OutFault};
 use std::alloc::{AllocError, Global};
@@ -91,7 +92,8 @@ impl Model for LineReader {
 
     ghost view = { λ r. record { unread = slice_range r.buffer.items r.start r.end; taken = r.taken } };
 
-    ghost invariant = { λ r. (r.start ≤ r.end) × (r.end ≤ length r.buffer.items) × (0 < length r.buffer.items) × (r.taken ≤ session_limit) };
+    ghost invariant = { λ r. (r.start ≤ r.end) × (r.end ≤ length r.buffer.items) × (0 < length r.buffer.items)
+        × (r.taken ≤ session_limit) };
 }
 
 /// Where the first newline stands.
@@ -107,6 +109,18 @@ fn drop_carriage_return(line: &mut Vec<u8>)
 {
     if line.last() == Some(&b'\r') {
         line.pop();
+    }
+}
+
+/// Whether a line is handed over, by its length.
+fn measured(line: &[u8]) -> NextLine
+    ensures measures { Measures line.now result }
+    ensures short { result ≡ NextLine.Line → length line.now ≤ line_limit }
+{
+    if line.len() <= LINE_LIMIT {
+        NextLine::Line
+    } else {
+        NextLine::TooLong
     }
 }
 
@@ -145,7 +159,10 @@ impl LineReader {
         ensures limit { self.new.taken ≤ session_limit }
         ensures some { IfOk result (λ more. more ≡ true → 0 < length self.new.unread) }
         ensures none { IfOk result (λ more. more ≡ false → self.new.unread ≡ []) }
-        ensures bytes { (bytes : List ℕ) → Comes self.old (F.filed files.old) bytes → IfOk result (λ more. Comes self.new (F.filed files.new) bytes × (more ≡ false → bytes ≡ [])) }
+        ensures bytes { (bytes : List ℕ) → Comes self.old (F.filed files.old) bytes →
+            IfOk result (λ more. Comes self.new (F.filed files.new) bytes × (more ≡ false → bytes ≡ [])) }
+        ensures stuck { OnErr result ((self.old.unread ≡ [])
+            × ((F.filed files.new).stack ≡ (F.filed files.old).stack)) }
     {
         if self.start < self.end {
             return Ok(true);
@@ -166,9 +183,12 @@ impl LineReader {
         ensures line { IfOk result (λ _. line.new.items ≡ take KEPT_LEN (line.old.items ++ front self.old.unread)) }
         ensures rest { IfOk result (λ ended. behind self.old.unread ≡ (if ended then Some self.new.unread else None)) }
         ensures open { IfOk result (λ ended. ended ≡ false → self.new.unread ≡ []) }
-        ensures taken { IfOk result (λ _. self.new.taken + length self.new.unread ≡ self.old.taken + length self.old.unread) }
+        ensures taken { IfOk result
+            (λ _. self.new.taken + length self.new.unread ≡ self.old.taken + length self.old.unread) }
         ensures limit { self.new.taken ≤ session_limit }
-        ensures moves { IfOk result (λ ended. length line.new.items + self.old.taken + (if ended then 1 else 0) ≤ length line.old.items + self.new.taken) }
+        ensures moves { IfOk result
+            (λ ended. length line.new.items + self.old.taken + (if ended then 1 else 0)
+            ≤ length line.old.items + self.new.taken) }
     {
         let unread = &self.buffer[self.start..self.end];
         let newline = newline_at(unread);
@@ -183,14 +203,14 @@ impl LineReader {
         Ok(newline.is_some())
     }
 
-    /// Reads the next line of the file entered last into `line`, whose memory is used again and does not grow above
-    /// the limit of a line. A line ends at a newline or at the session's end, and one carriage return before a newline is no
-    /// part of it. A line above 8,192 bytes is read to its end, so that what stops the reading comes first.
+    /// Reads the next line of the file entered last into `line`, whose memory is used again and does not grow above the
+    /// limit of a line. A line ends at a newline or at the session's end, and one carriage return before a newline is
+    /// no part of it. A line above 8,192 bytes is read to its end, so that what stops the reading comes first.
     ///
     /// # Errors
     ///
-    /// `Failed` where the file failed, `PastLimit` where the line ends beyond the first 16,777,216 bytes of the session,
-    /// `NoMemory` where there is none.
+    /// `Failed` where the file failed, `PastLimit` where the line ends beyond the first 16,777,216 bytes of the
+    /// session, `NoMemory` where there is none.
     pub fn next_line<F: Files>(
         &mut self,
         files: &mut F,
@@ -199,8 +219,12 @@ impl LineReader {
         requires { 0 < length (F.filed files.old).stack }
         ensures files { Stays (F.filed files.old) (F.filed files.new) }
         ensures failed { IsErrOf result ReadStop.Failed → Rose (F.filed files.old).faults (F.filed files.new).faults }
-        ensures hands { (bytes : List ℕ) → Comes self.old (F.filed files.old) bytes → IfOk result (Hands line.new.items bytes self.old self.new (F.filed files.new)) }
-        ensures past { (bytes : List ℕ) → Comes self.old (F.filed files.old) bytes → IsErrOf result ReadStop.PastLimit → session_limit < self.old.taken + line_size bytes }
+        ensures hands { (bytes : List ℕ) → Comes self.old (F.filed files.old) bytes →
+            IfOk result (Hands line.new.items bytes self.old self.new (F.filed files.new)) }
+        ensures past { (bytes : List ℕ) → Comes self.old (F.filed files.old) bytes → IsErrOf result ReadStop.PastLimit →
+            session_limit < self.old.taken + line_size bytes }
+        ensures breaks { (bytes : List ℕ) → Comes self.old (F.filed files.old) bytes →
+            IsErrOf result ReadStop.Failed → Breaks bytes self.old.taken (F.filed files.new) }
         ensures limit { IfOk result (λ _. self.new.taken ≤ session_limit) }
         ensures moves { IfOk result (λ next. next ≡ NextLine.Line → self.old.taken < self.new.taken) }
         ensures short { IfOk result (λ next. next ≡ NextLine.Line → length line.new.items ≤ line_limit) }
@@ -210,19 +234,13 @@ impl LineReader {
         while self.fill(files)? {
             if self.take_into(line)? {
                 drop_carriage_return(line);
-                return Ok(if line.len() <= LINE_LIMIT {
-                    NextLine::Line
-                } else {
-                    NextLine::TooLong
-                });
+                return Ok(measured(line.as_slice()));
             }
         }
         Ok(if line.is_empty() {
             NextLine::End
-        } else if line.len() <= LINE_LIMIT {
-            NextLine::Line
         } else {
-            NextLine::TooLong
+            measured(line.as_slice())
         })
     }
 }

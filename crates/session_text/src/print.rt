@@ -1,6 +1,7 @@
 // The printed form of a reply.
 ghost use Rattle.std.specs.Prelude.{◌≡◌, ◌++◌, List, ℕ, IfOk, OnOk, string_bytes, codes};
-ghost use Rattle.slon_model.specs.Printed.{joined, row_text, rows_text, answer_text, refusal_text, reply_text, reply_line};
+ghost use Rattle.slon_model.specs.Printed.{joined, row_text, rows_text, answer_text, refusal_text, reply_text};
+ghost use Rattle.slon_model.specs.Printed.{reply_line};
 ghost use Rattle.session_text.specs.Joining.{behind_commas};
 
 use slon_base::{Text, TextList};
@@ -126,7 +127,7 @@ pub fn print_reply(alloc: Global, reply: &Reply) -> Result<Text, AllocError>
 {
     let mut line = String::new(alloc);
     push_reply(&mut line, reply)?;
-    Text::from_str(alloc, line.as_str())
+    Ok(Text::from_string(line))
 }
 
 /// The line of a reply, with its newline.
@@ -140,5 +141,5 @@ pub fn print_line(alloc: Global, reply: &Reply) -> Result<Text, AllocError>
     let mut line = String::new(alloc);
     push_reply(&mut line, reply)?;
     line.push_str("\n")?;
-    Text::from_str(alloc, line.as_str())
+    Ok(Text::from_string(line))
 }

@@ -12,9 +12,9 @@ use Rattle.slonik_tokens.specs.declared.fault.ParseFault.TheVariants.{Refused, R
 use Rattle.slonik_tokens.specs.declared.token.Token.{Token}
 use Rattle.slonik_expand.specs.Ends.{EndsSo, Stays}
 use Rattle.slonik_expand.specs.Expansion.{Making, Ending, Made, Wrong, and_then, expand_from, include_at, include_file}
-use Rattle.slonik_expand.specs.Expansion.{Form, first_of_form, form_at, before_semicolon}
+use Rattle.slonik_expand.specs.Expansion.{Form, Inclusion, first_of_form, form_at, before_semicolon}
 use Rattle.slonik_expand.specs.Steps.{HaltsSo, Runs}
-use Rattle.slonik_expand.proofs.Keeping.{drop_one}
+use Rattle.slonik_expand.proofs.Keeping.{OneOf, drop_one}
 use Rattle.slonik_expand.proofs.Semicolons.{IsClosed}
 
 -- tokens that belong to the form before them are passed
@@ -45,51 +45,72 @@ closed_behind ts at closed none h =
     ap (λ l. before_semicolon (drop 1 l)) (behind_is ts at) ∙ ap before_semicolon (drop-drop 1 (at + 1) ts)
     ∙ none (at + 1 + 1) (omega (arith, ltb-false (at + 2) closed h))
 
--- A form begins at a place, and this is its end and how many more tokens belong to it.
-pub record Begins (include : List ℕ → Making → Ending) (ts : List Token) (at : ℕ) (m : Making) (ending : Ending)
-    (passed : ℕ) : Type 0 where
-  pub token : Token
-  pub within : at < length ts
-  pub is : token ≡ get_or ts at token
-  pub first : (ending, passed) ≡ first_of_form include token (form_at m.place token (behind ts at)) m
+-- What is still to be expanded: some tokens from a place on, behind what was made before.
+pub record Rest : Type 0 where
+  pub include : List ℕ → Making → Ending
+  pub tokens : List Token
+  pub at : ℕ
+  pub making : Making
 
-pub begins : (include : List ℕ → Making → Ending) (ts : List Token) (at : ℕ) (t : Token) (m : Making) (form : Form)
-    → at < length ts → t ≡ get_or ts at t → form ≡ form_at m.place t (behind ts at)
-    → Begins include ts at m (first_of_form include t form m).0 (first_of_form include t form m).1
-begins include ts at t m form within is e =
-    record { token = t; within = within; is = is; first = ap (λ f. first_of_form include t f m) e }
+-- how the expansion ends from there
+abbrev pub ending_of : Rest → Ending
+ending_of r = expand_from r.include 0 (drop r.at r.tokens) r.making
+
+-- how it ends behind the token there, of which so many more belong to the form before
+abbrev pub ending_behind : Rest → ℕ → Making → Ending
+ending_behind r passed m = expand_from r.include passed (drop (r.at + 1) r.tokens) m
+
+-- The form that begins there.
+pub record Begins (r : Rest) : Type 0 where
+  pub token : Token
+  pub form : Form
+  pub within : r.at < length r.tokens
+  pub is : token ≡ get_or r.tokens r.at token
+  pub form_is : form ≡ form_at r.making.place token (behind r.tokens r.at)
+
+-- its end, and how many more tokens belong to it
+abbrev pub first_of : {r : Rest} → Begins r → Ending × ℕ
+first_of {r} b = first_of_form r.include b.token b.form r.making
+
+abbrev pub begins : (r : Rest) (t : Token) (form : Form) → r.at < length r.tokens → t ≡ get_or r.tokens r.at t
+    → form ≡ form_at r.making.place t (behind r.tokens r.at) → Begins r
+begins r t form within is e = record { token = t; form = form; within = within; is = is; form_is = e }
 
 -- the first form, and what comes behind it
-stepped : (include : List ℕ → Making → Ending) (ts : List Token) (at passed : ℕ) (m : Making) (ending : Ending)
-    → Begins include ts at m ending passed
-    → expand_from include 0 (drop at ts) m ≡ and_then ending (expand_from include passed (drop (at + 1) ts))
+stepped : (r : Rest) (b : Begins r) → ending_of r ≡ and_then (first_of b).0 (ending_behind r (first_of b).1)
 unfolding expand_from
-stepped include ts at passed m ending b =
-    let same : (ending, passed) ≡ first_of_form include b.token (form_at m.place b.token (drop (at + 1) ts)) m =
-    b.first ∙ ap (λ l. first_of_form include b.token (form_at m.place b.token l) m) (behind_is ts at) in
-    ap (λ l. expand_from include 0 l m) (drop_one ts at b.token b.within b.is)
-    ∙ ap (λ f. and_then f.0 (expand_from include f.1 (drop (at + 1) ts))) (sym same)
+stepped r b =
+    let first : List Token → Ending × ℕ = λ l. first_of_form r.include b.token (form_at r.making.place b.token l)
+    r.making in
+    let same : first_of b ≡ first (drop (r.at + 1) r.tokens) =
+    ap (λ f. first_of_form r.include b.token f r.making) b.form_is ∙ ap first (behind_is r.tokens r.at) in
+    let one : OneOf r.tokens = record { at = r.at; token = b.token; within = b.within; is = b.is } in
+    ap (λ l. expand_from r.include 0 l r.making) (drop_one r.tokens one)
+    ∙ ap (λ f. and_then f.0 (ending_behind r f.1)) (sym same)
 
 -- a form was expanded
-pub went : (include : List ℕ → Making → Ending) (ts : List Token) (at next passed : ℕ) (m now : Making)
-    (ending : Ending) → Begins include ts at m ending passed → ending ≡ Made now → next ≡ at + 1 + passed
-    → expand_from include 0 (drop at ts) m ≡ expand_from include 0 (drop next ts) now
-went include ts at next passed m now ending b made far =
-    stepped include ts at passed m ending b
-    ∙ ap (λ x. and_then x (expand_from include passed (drop (at + 1) ts))) made
-    ∙ passed_on include passed (drop (at + 1) ts) now
-    ∙ ap (λ l. expand_from include 0 l now) (drop-drop passed (at + 1) ts ∙ ap (λ n. drop n ts) (sym far))
+pub went : (whole : Ending) (r : Rest) (next : ℕ) (now : Making) → whole ≡ ending_of r → (b : Begins r)
+    → (first_of b).0 ≡ Made now → next ≡ r.at + 1 + (first_of b).1
+    → whole ≡ ending_of (record r { at = next; making = now })
+went whole r next now so b made far =
+    let passed = (first_of b).1 in
+    so ∙ stepped r b ∙ ap (λ x. and_then x (ending_behind r passed)) made
+    ∙ passed_on r.include passed (drop (r.at + 1) r.tokens) now
+    ∙ ap (λ l. expand_from r.include 0 l now)
+    (drop-drop passed (r.at + 1) r.tokens ∙ ap (λ n. drop n r.tokens) (sym far))
 
 -- an INCLUDE comes next
-pub includes : (include : List ℕ → Making → Ending) (ts : List Token) (at : ℕ) (m : Making) (path : List ℕ)
-    → Begins include ts at m (include path m) 2
-    → expand_from include 0 (drop at ts) m ≡ and_then (include path m) (expand_from include 0 (drop (at + 3) ts))
-includes include ts at m path b =
-    let far : at + 1 + 2 ≡ at + 3 = omega arith in
-    let on : (n : Making) → expand_from include 2 (drop (at + 1) ts) n ≡ expand_from include 0 (drop (at + 3) ts) n =
-    λ n. passed_on include 2 (drop (at + 1) ts) n
-    ∙ ap (λ l. expand_from include 0 l n) (drop-drop 2 (at + 1) ts ∙ ap (λ k. drop k ts) far) in
-    stepped include ts at 2 m (include path m) b ∙ ap (and_then (include path m)) (λ i n. on n i)
+pub includes : (whole : Ending) (r : Rest) (path : List ℕ) → whole ≡ ending_of r → (b : Begins r)
+    → b.form ≡ Inclusion path
+    → whole ≡ and_then (r.include path r.making) (expand_from r.include 0 (drop (r.at + 3) r.tokens))
+includes whole r path so b is =
+    let far : r.at + 1 + 2 ≡ r.at + 3 = omega arith in
+    let on : (n : Making) → ending_behind r 2 n ≡ expand_from r.include 0 (drop (r.at + 3) r.tokens) n =
+    λ n. passed_on r.include 2 (drop (r.at + 1) r.tokens) n
+    ∙ ap (λ l. expand_from r.include 0 l n) (drop-drop 2 (r.at + 1) r.tokens ∙ ap (λ k. drop k r.tokens) far) in
+    let first = first_of_form r.include b.token in
+    so ∙ stepped r b ∙ ap (λ f. and_then (first f r.making).0 (ending_behind r (first f r.making).1)) is
+    ∙ ap (and_then (r.include path r.making)) (λ i n. on n i)
 
 -- what a halt of the first form is of the whole
 pub halts : (first : Ending) (more : Making → Ending) (left : ℕ) (fault : ParseFault) → HaltsSo first left fault
@@ -99,16 +120,11 @@ halts first more left ReadFault h = h
 halts first more left TooLong h = h
 halts first more left NoMemory h = tt
 
-pub stopped : (include : List ℕ → Making → Ending) (ts : List Token) (at passed left : ℕ) (m : Making) (ending : Ending)
-    (fault : ParseFault) → Begins include ts at m ending passed → HaltsSo ending left fault
-    → HaltsSo (expand_from include 0 (drop at ts) m) left fault
-stopped include ts at passed left m ending fault b h =
-    subst (λ x. HaltsSo x left fault) (sym (stepped include ts at passed m ending b))
-    (halts ending (expand_from include passed (drop (at + 1) ts)) left fault h)
-
-pub halts_whole : (whole ending : Ending) (left : ℕ) (fault : ParseFault) → whole ≡ ending → HaltsSo ending left fault
-    → HaltsSo whole left fault
-halts_whole whole ending left fault e h = subst (λ x. HaltsSo x left fault) (sym e) h
+pub stopped : (whole : Ending) (r : Rest) (left : ℕ) (fault : ParseFault) → whole ≡ ending_of r → (b : Begins r)
+    → HaltsSo (first_of b).0 left fault → HaltsSo whole left fault
+stopped whole r left fault so b h =
+    subst (λ x. HaltsSo x left fault) (sym (so ∙ stepped r b))
+    (halts (first_of b).0 (ending_behind r (first_of b).1) left fault h)
 
 pub ends_so : (first : Ending) (more : Making → Ending) (left : ℕ) (fault : ParseFault) → EndsSo first left fault
     → EndsSo (and_then first more) left fault
@@ -141,53 +157,101 @@ included_below names (suc levels) path m h =
     let e : levels ≡ suc levels - 1 = omega arith in
     ap (λ l. include_file (expand_from (include_at names l) 0) path (names path) m) e
 
-pub too_deep : (names : List ℕ → Option (List ℕ)) (levels : ℕ) (path found : List ℕ) (m : Making) (whole : Ending)
-    (more : Making → Ending) → levels ≡ 0 → found ≡ path
-    → whole ≡ and_then (include_at names levels path m) more → whole ≡ Wrong (Depth found) m.left
-unfolding include_at
-too_deep names levels path found m whole more none same e =
-    e ∙ ap (λ l. and_then (include_at names l path m) more) none ∙ ap (λ p. Wrong (Depth p) m.left) (sym same)
-
--- the file could not be included
-pub not_included : (names : List ℕ → Option (List ℕ)) (levels left : ℕ) (path : List ℕ) (m : Making) (whole : Ending)
-    (more : Making → Ending) (fault : ParseFault) → 0 < levels
-    → whole ≡ and_then (include_at names levels path m) more
-    → EndsSo (include_file (expand_from (include_at names (levels - 1)) 0) path (names path) m) left fault
-    → EndsSo whole left fault
-not_included names levels left path m whole more fault some e h =
-    subst (λ x. EndsSo x left fault) (sym (e ∙ ap (λ x. and_then x more) (included_below names levels path m some)))
-    (ends_so _ more left fault h)
-
--- the file was included, and its tokens give an ending
-pub included_gives : (names : List ℕ → Option (List ℕ)) (levels : ℕ) (path : List ℕ) (m : Making)
-    (whole ending : Ending) (more : Making → Ending) → 0 < levels
-    → whole ≡ and_then (include_at names levels path m) more
-    → include_file (expand_from (include_at names (levels - 1)) 0) path (names path) m ≡ ending
-    → whole ≡ and_then ending more
-included_gives names levels path m whole ending more some e h =
-    e ∙ ap (λ x. and_then x more) (included_below names levels path m some ∙ h)
-
 pub ends_after : (whole ending : Ending) (more : Making → Ending) (left : ℕ) (fault : ParseFault)
     → whole ≡ and_then ending more → EndsSo ending left fault → EndsSo whole left fault
 ends_after whole ending more left fault e h =
     subst (λ x. EndsSo x left fault) (sym e) (ends_so ending more left fault h)
 
+-- The files that may be included: what each name has, and how many levels of them.
+pub record Library : Type 0 where
+  pub names : List ℕ → Option (List ℕ)
+  pub levels : ℕ
+
+abbrev pub include_of : Library → List ℕ → Making → Ending
+include_of l = include_at l.names l.levels
+
+-- how tokens end that stand one level deeper
+abbrev pub below_of : Library → List Token → Making → Ending
+below_of l = expand_from (include_at l.names (l.levels - 1)) 0
+
+-- The whole ends as an INCLUDE does that comes next, and as what comes behind it.
+pub record Including (whole : Ending) : Type 0 where
+  pub library : Library
+  pub path : List ℕ
+  pub making : Making
+  pub more : Making → Ending
+  pub is : whole ≡ and_then (include_of library path making) more
+
+-- the ending of the file, where a level is left
+abbrev pub file_of : {whole : Ending} → Including whole → Ending
+file_of i = include_file (below_of i.library) i.path (i.library.names i.path) i.making
+
+pub too_deep : (whole : Ending) (i : Including whole) (found : List ℕ) → i.library.levels ≡ 0 → found ≡ i.path
+    → whole ≡ Wrong (Depth found) i.making.left
+unfolding include_at
+too_deep whole i found none same =
+    i.is ∙ ap (λ n. and_then (include_at i.library.names n i.path i.making) i.more) none
+    ∙ ap (λ p. Wrong (Depth p) i.making.left) (sym same)
+
+-- the file was included, and its tokens give an ending
+pub included_gives : (whole : Ending) (i : Including whole) (ending : Ending) → 0 < i.library.levels
+    → file_of i ≡ ending → whole ≡ and_then ending i.more
+included_gives whole i ending some h =
+    i.is ∙ ap (λ x. and_then x i.more) (included_below i.library.names i.library.levels i.path i.making some ∙ h)
+
+-- the file was included, and its tokens come next
+pub tokens_come : (whole : Ending) (i : Including whole) (tokens slice : List Token) (now : Making)
+    → 0 < i.library.levels → file_of i ≡ below_of i.library tokens now → slice ≡ tokens
+    → whole ≡ and_then (below_of i.library slice now) i.more
+tokens_come whole i tokens slice now some h same =
+    let of : List Token → Ending = λ l. below_of i.library l now in
+    included_gives whole i (of slice) some (h ∙ ap of (sym same))
+
+-- the file could not be included
+pub not_included : (whole : Ending) (i : Including whole) (left : ℕ) (fault : ParseFault) → 0 < i.library.levels
+    → EndsSo (file_of i) left fault → EndsSo whole left fault
+not_included whole i left fault some h =
+    ends_after whole (file_of i) i.more left fault (included_gives whole i (file_of i) some refl) h
+
 pub goes_after : (whole ending : Ending) (more : Making → Ending) (now : Making) → whole ≡ and_then ending more
     → ending ≡ Made now → whole ≡ more now
 goes_after whole ending more now e h = e ∙ ap (λ x. and_then x more) h
 
-pub run_some : (include : List ℕ → Making → Ending) (ts : List Token) (whole ending : Ending) (m : Making)
-    (found : Option (ℕ × Bor (List ℕ))) (at : ℕ) (path : Bor (List ℕ)) → found ≡ Some (at, path)
-    → whole ≡ ending → Runs include ts ending m (Ok found)
-    → whole ≡ and_then (include path.now m) (expand_from include 0 (drop at ts))
-run_some include ts whole ending m found at path e so h =
-    so ∙ subst (λ o. Runs include ts ending m (Ok o)) e h
+-- What a run over tokens up to the next INCLUDE found, where the whole ends as that run does.
+pub record Ran (whole : Ending) : Type 0 where
+  pub library : Library
+  pub tokens : List Token
+  pub making : Making
+  pub found : Option (ℕ × Bor (List ℕ))
+  pub ending : Ending
+  pub so : whole ≡ ending
+  pub runs : Runs (include_of library) tokens ending making (Ok found)
 
-pub run_none : (include : List ℕ → Making → Ending) (ts : List Token) (whole ending : Ending) (m : Making)
-    (found : Option (ℕ × Bor (List ℕ))) → found ≡ None → whole ≡ ending → Runs include ts ending m (Ok found)
-    → whole ≡ Made m
-run_none include ts whole ending m found e so h =
-    so ∙ subst (λ o. Runs include ts ending m (Ok o)) e h
+abbrev pub ran : (library : Library) (tokens : List Token) (whole ending : Ending) (making : Making)
+    (found : Option (ℕ × Bor (List ℕ))) → whole ≡ ending
+    → Runs (include_of library) tokens ending making (Ok found) → Ran whole
+ran library tokens whole ending making found so runs = record {
+  library = library;
+  tokens = tokens;
+  making = making;
+  found = found;
+  ending = ending;
+  so = so;
+  runs = runs;
+}
+
+abbrev pub ran_some : (whole : Ending) (r : Ran whole) (at : ℕ) (path : Bor (List ℕ)) → r.found ≡ Some (at, path)
+    → Including whole
+ran_some whole r at path e = record {
+  library = r.library;
+  path = path.now;
+  making = r.making;
+  more = expand_from (include_of r.library) 0 (drop at r.tokens);
+  is = r.so ∙ subst (λ o. Runs (include_of r.library) r.tokens r.ending r.making (Ok o)) e r.runs;
+}
+
+pub ran_none : (whole : Ending) (r : Ran whole) → r.found ≡ None → whole ≡ Made r.making
+ran_none whole r e = r.so ∙ subst (λ o. Runs (include_of r.library) r.tokens r.ending r.making (Ok o)) e r.runs
 
 pub stays_on : (old now next : Filed) → Stays old now → Stays now next → Stays old next
 stays_on old now next a b =

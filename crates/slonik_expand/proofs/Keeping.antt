@@ -3,25 +3,32 @@ use Rattle.std.proofs.Common.{◌≡◌, ℕ, suc, ◌+◌, ◌<◌, List, [], �
 use Rattle.std.proofs.Common.{Result, Ok, Err, refl, sym, ap, ◌∙◌, add-one, append_assoc, drop-cons}
 use Rattle.std.proofs.Math.Seq.{take-suc}
 use Rattle.std.proofs.lemmas.List.{append-nil, take-append-drop}
-use Rattle.std.specs.Option.{option_map}
 use Rattle.slon_base.specs.declared.text.Text.{Text}
 use Rattle.slonik_tokens.specs.declared.fault.ParseFault.{ParseFault}
 use Rattle.slonik_tokens.specs.declared.fault.ParseFault.TheVariants.{Refused, ReadFault, TooLong, NoMemory}
 use Rattle.slonik_tokens.specs.declared.token.Token.{Token}
 use Rattle.slonik_tokens.specs.declared.token.Token.TheVariants.{Word, Number, Quoted, Mark, NameUse, Path}
 use Rattle.slonik_expand.specs.declared.definition.Definition.{Definition}
+use Rattle.slonik_expand.specs.declared.definitions.Definitions.{Definitions}
 use Rattle.slonik_expand.specs.Expansion.{joined, meant, replaced_one, replaced}
-use Rattle.slonik_expand.specs.Steps.{Means, Adds, AddsAll}
+use Rattle.slonik_expand.specs.Steps.{names_of, Means, Adds, AddsAll}
 
-pub take_one : (ts : List Token) (i : ℕ) (t : Token) → i < length ts → t ≡ get_or ts i t
-    → take (i + 1) ts ≡ take i ts ++ t ∷ []
-take_one ts i t within is =
-    ap (λ n. take n ts) (add-one i) ∙ take-suc ts i t within ∙ ap (λ x. take i ts ++ x ∷ []) (sym is)
+-- One of some tokens, and its place.
+pub record OneOf (ts : List Token) : Type 0 where
+  pub at : ℕ
+  pub token : Token
+  pub within : at < length ts
+  pub is : token ≡ get_or ts at token
 
-pub drop_one : (ts : List Token) (i : ℕ) (t : Token) → i < length ts → t ≡ get_or ts i t
-    → drop i ts ≡ t ∷ drop (i + 1) ts
-drop_one ts i t within is =
-    drop-cons ts i t within ∙ ap (λ x. x ∷ drop (suc i) ts) (sym is) ∙ ap (λ n. t ∷ drop n ts) (sym (add-one i))
+pub take_one : (ts : List Token) (one : OneOf ts) → take (one.at + 1) ts ≡ take one.at ts ++ one.token ∷ []
+take_one ts one =
+    ap (λ n. take n ts) (add-one one.at) ∙ take-suc ts one.at one.token one.within
+    ∙ ap (λ x. take one.at ts ++ x ∷ []) (sym one.is)
+
+pub drop_one : (ts : List Token) (one : OneOf ts) → drop one.at ts ≡ one.token ∷ drop (one.at + 1) ts
+drop_one ts one =
+    drop-cons ts one.at one.token one.within ∙ ap (λ x. x ∷ drop (suc one.at) ts) (sym one.is)
+    ∙ ap (λ n. one.token ∷ drop n ts) (sym (add-one one.at))
 
 joined_more : (a b c : Result (List Token) (List ℕ)) → joined (joined a b) c ≡ joined a (joined b c)
 joined_more (Ok xs) (Ok ys) (Ok zs) = ap Ok (append_assoc xs ys zs)
@@ -45,12 +52,9 @@ one_alone (Ok xs) = ap Ok (append-nil xs)
 one_alone (Err name) = refl
 
 -- a name is replaced
-pub named_one : (names : List ℕ → Option (List Token)) (stands : ℕ → List Token) (found : Option ℕ) (t : Token)
-    (name : List ℕ) (place : ℕ)
-    → t ≡ NameUse name → names name ≡ option_map stands found → found ≡ Some place
-    → replaced_one names t ≡ Ok (stands place)
-named_one names stands found t name place is e there =
-    ap (replaced_one names) is ∙ ap (meant name) (e ∙ ap (option_map stands) there)
+pub named_one : (names : List ℕ → Option (List Token)) (t : Token) (name : List ℕ) (tokens : List Token)
+    → t ≡ NameUse name → names name ≡ Some tokens → replaced_one names t ≡ Ok tokens
+named_one names t name tokens is stands = ap (replaced_one names) is ∙ ap (meant name) stands
 
 -- a token that is no name use stays
 pub other_one : (names : List ℕ → Option (List Token)) (t : Token) → ((name : Text) → t ≡ NameUse name → ⊥)
@@ -62,42 +66,43 @@ other_one names (Quoted text) other = refl
 other_one names (Mark sign) other = refl
 other_one names (Path path) other = refl
 
--- a definition stands for what replaces some tokens
-pub record Stands (names : List ℕ → Option (List Token)) (made : List Definition) (ts : List Token)
-    (d : Definition) : Type 0 where
+-- Over what names stand for, a definition stands for what replaces some tokens.
+pub record Stands (all : Definitions) (ts : List Token) (d : Definition) : Type 0 where
   pub whole : List Token
-  pub done : replaced names ts ≡ Ok whole
-  pub means : Means made d whole
+  pub done : replaced (names_of all) ts ≡ Ok whole
+  pub means : Means all.made.items d whole
 
-pub stands_one : (names : List ℕ → Option (List Token)) (made : List Definition) (ts found : List Token)
-    (old new : Definition) (i : ℕ) (t : Token)
-    → Stands names made (take i ts) old → i < length ts → t ≡ get_or ts i t → replaced_one names t ≡ Ok found
-    → ((tokens : List Token) → Means made old tokens → Means made new (tokens ++ found))
-    → Stands names made (take (i + 1) ts) new
-stands_one names made ts found old new i t k within is e adds = record {
-  whole = k.whole ++ found;
-  done = ap (replaced names) (take_one ts i t within is) ∙ replaced_all names (take i ts) (t ∷ [])
-      ∙ ap (λ a. joined a (replaced names (t ∷ []))) k.done
-      ∙ ap (joined (Ok k.whole)) (one_alone (replaced_one names t) ∙ e);
-  means = adds k.whole k.means;
-}
+pub stands_one : (all : Definitions) (ts : List Token) (old new : Definition) (one : OneOf ts)
+    → Stands all (take one.at ts) old
+    → Adds all.made.items (replaced_one (names_of all) one.token) old new (Ok tt)
+    → Stands all (take (one.at + 1) ts) new
+stands_one all ts old new one before adds =
+    let names = names_of all in
+    record {
+      whole = before.whole ++ adds.0;
+      done = ap (replaced names) (take_one ts one) ∙ replaced_all names (take one.at ts) (one.token ∷ [])
+          ∙ ap (λ a. joined a (replaced names (one.token ∷ []))) before.done
+          ∙ ap (joined (Ok before.whole)) (one_alone (replaced_one names one.token) ∙ adds.1);
+      means = adds.2 before.whole before.means;
+    }
 
-missing_one : (names : List ℕ → Option (List Token)) (ts whole : List Token) (i : ℕ) (t : Token) (name : List ℕ)
-    → replaced names (take i ts) ≡ Ok whole
-    → i < length ts → t ≡ get_or ts i t → replaced_one names t ≡ Err name → replaced names ts ≡ Err name
-missing_one names ts whole i t name done within is e =
-    let all : ts ≡ take i ts ++ t ∷ drop (i + 1) ts =
-    sym (take-append-drop i ts) ∙ ap (λ l. take i ts ++ l) (drop_one ts i t within is) in
-    ap (replaced names) all ∙ replaced_all names (take i ts) (t ∷ drop (i + 1) ts)
-    ∙ ap (λ a. joined a (replaced names (t ∷ drop (i + 1) ts))) done
-    ∙ ap (λ a. joined (Ok whole) (joined a (replaced names (drop (i + 1) ts)))) e
+missing_one : (names : List ℕ → Option (List Token)) (ts whole : List Token) (one : OneOf ts) (name : List ℕ)
+    → replaced names (take one.at ts) ≡ Ok whole → replaced_one names one.token ≡ Err name
+    → replaced names ts ≡ Err name
+missing_one names ts whole one name done e =
+    let rest = drop (one.at + 1) ts in
+    let all : ts ≡ take one.at ts ++ one.token ∷ rest =
+    sym (take-append-drop one.at ts) ∙ ap (λ l. take one.at ts ++ l) (drop_one ts one) in
+    ap (replaced names) all ∙ replaced_all names (take one.at ts) (one.token ∷ rest)
+    ∙ ap (λ a. joined a (replaced names (one.token ∷ rest))) done
+    ∙ ap (λ a. joined (Ok whole) (joined a (replaced names rest))) e
 
-pub adds_halted : (names : List ℕ → Option (List Token)) (made : List Definition) (ts : List Token)
-    (old new : Definition) (i : ℕ) (t : Token) (fault : ParseFault)
-    → Stands names made (take i ts) old → i < length ts → t ≡ get_or ts i t
-    → Adds made (replaced_one names t) old new (Err fault) → AddsAll made (replaced names ts) (Err fault)
-adds_halted names made ts old new i t (Refused refusal) k within is h =
-    (h.0, h.1, missing_one names ts k.whole i t h.0 k.done within is h.2)
-adds_halted names made ts old new i t ReadFault k within is h = absurd h
-adds_halted names made ts old new i t TooLong k within is h = absurd h
-adds_halted names made ts old new i t NoMemory k within is h = tt
+pub adds_halted : (all : Definitions) (ts : List Token) (old new : Definition) (one : OneOf ts) (fault : ParseFault)
+    → Stands all (take one.at ts) old
+    → Adds all.made.items (replaced_one (names_of all) one.token) old new (Err fault)
+    → AddsAll all.made.items (replaced (names_of all) ts) (Err fault)
+adds_halted all ts old new one (Refused refusal) before h =
+    (h.0, h.1, missing_one (names_of all) ts before.whole one h.0 before.done h.2)
+adds_halted all ts old new one ReadFault before h = absurd h
+adds_halted all ts old new one TooLong before h = absurd h
+adds_halted all ts old new one NoMemory before h = tt

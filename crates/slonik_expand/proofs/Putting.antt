@@ -1,5 +1,5 @@
 -- Tokens come out, and names are defined.
-use Rattle.std.proofs.Common.{◌≡◌, ℕ, ◌<◌, ◌≤◌, List, length, Option, Some, Result, Ok, Err, sym, ap, subst, ◌∙◌, arith}
+use Rattle.std.proofs.Common.{◌≡◌, ℕ, ◌<◌, ◌≤◌, List, length, Some, Result, Ok, Err, sym, ap, subst, ◌∙◌, arith}
 use Rattle.std.proofs.lemmas.Bool.Decides.{nat_tests}
 use Rattle.slonik_tokens.specs.declared.fault.ScriptRefusal.TheVariants.{TooMany}
 use Rattle.slonik_tokens.specs.declared.fault.ParseFault.{ParseFault}
@@ -35,14 +35,13 @@ put_gives p ts new (Err TooLong) h = absurd h
 put_gives p ts new (Err NoMemory) h = tt
 
 -- what a name stands for came out
-pub named_gives : (p : Progress) (name : List ℕ) (found : Option ℕ) (place : ℕ) (new : Output)
-    (r : Result (Unit {0}) ParseFault)
-    → found ≡ get_by_text p.definitions.places name → found ≡ Some place
+pub named_gives : (p : Progress) (name : List ℕ) (place : ℕ) (new : Output) (r : Result (Unit {0}) ParseFault)
+    → Some place ≡ get_by_text p.definitions.places name
     → Puts p.output (meaning p.definitions.made.items place) new r
     → Goes (used name (names_of p.definitions name) (making_of p)) (making_of (record p { output = new })) r
-named_gives p name found place new r e there h =
+named_gives p name place new r there h =
     let is : Some (meaning p.definitions.made.items place) ≡ names_of p.definitions name =
-    ap (option_map (meaning p.definitions.made.items)) (sym there ∙ e) in
+    ap (option_map (meaning p.definitions.made.items)) there in
     subst (λ o. Goes (used name o (making_of p)) (making_of (record p { output = new })) r) is
     (put_gives p (meaning p.definitions.made.items place) new r h)
 

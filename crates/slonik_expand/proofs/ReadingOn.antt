@@ -15,15 +15,22 @@ keeps_on into old mid new r a b =
       others = b.others ∙ a.others;
     }
 
+-- What is left of a file, and what was read of it, are all of its bytes.
+pub record Partly (left : Option (List ℕ)) (got all : List ℕ) : Type 0 where
+  pub rest : List ℕ
+  pub is : left ≡ Some rest
+  pub whole : got ++ rest ≡ all
+
 -- a number of bytes was read of what is left
-pub read_more : (into : List ℕ) (n : ℕ) (before after : Option (List ℕ)) (got left all : List ℕ)
-    → Reads into n before after → before ≡ Some left → got ++ left ≡ all
+pub read_more : (into : List ℕ) (n : ℕ) (before after : Option (List ℕ)) (got all : List ℕ)
+    → Reads into n before after → Partly before got all
     → (rest : List ℕ) × (after ≡ Some rest) × ((got ++ take n into) ++ rest ≡ all)
-read_more into n None after got left all h e whole = cc
-read_more into n (Some bytes) after got left all h e whole =
-    let same : bytes ≡ left = cc in (
+read_more into n None after got all h p = let none = p.is in cc
+read_more into n (Some bytes) after got all h p =
+    let is = p.is in
+    let same : bytes ≡ p.rest = cc in (
       drop n bytes,
       h.2,
       append_assoc got (take n into) (drop n bytes) ∙ ap (λ l. got ++ (l ++ drop n bytes)) h.0
-          ∙ ap (λ l. got ++ l) (take-append-drop n bytes ∙ same) ∙ whole,
+          ∙ ap (λ l. got ++ l) (take-append-drop n bytes ∙ same) ∙ p.whole,
     )

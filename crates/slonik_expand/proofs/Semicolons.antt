@@ -1,6 +1,6 @@
 -- Where the tokens before a `;` end.
 use Rattle.std.proofs.Common.{◌≡◌, ℕ, ◌+◌, ◌<◌, ◌≤◌, ltb, cond, not, Bool, true, false, List, [], ◌∷◌, ◌++◌, length}
-use Rattle.std.proofs.Common.{take, drop, get_or, Some, None, refl, ap, ◌∙◌, arith, inl, inr}
+use Rattle.std.proofs.Common.{take, drop, Some, None, refl, ap, ◌∙◌, arith, inl, inr}
 use Rattle.std.proofs.Math.Numerals.{one-add}
 use Rattle.std.proofs.lemmas.Bool.{cases_lt}
 use Rattle.std.proofs.lemmas.Bool.Decides.{nat_tests}
@@ -11,7 +11,7 @@ use Rattle.slonik_tokens.specs.Tokens.{is_sign}
 use Rattle.slonik_tokens.specs.declared.token.Sign.TheVariants.{Semicolon}
 use Rattle.slonik_tokens.specs.declared.token.Token.{Token}
 use Rattle.slonik_expand.specs.Expansion.{before_semicolon}
-use Rattle.slonik_expand.proofs.Keeping.{take_one}
+use Rattle.slonik_expand.proofs.Keeping.{OneOf, take_one}
 
 before_step : (t : Token) (ts : List Token) (n : ℕ) (b : Bool)
     → before_semicolon ts ≡ option_map (λ i. take i ts) (cond (ltb n (length ts)) (Some n) None)
@@ -50,10 +50,11 @@ other_by xs n t other h =
       | inr less ↦ ap before_semicolon (drop-append-le n xs (t ∷ []) less) ∙ before_none (drop n xs) t h other
     ]
 
-pub closed_other : (ts : List Token) (i len : ℕ) (t : Token) → i < length ts → t ≡ get_or ts i t
-    → is_sign Semicolon t ≡ false → IsClosed (take i ts) len → IsClosed (take (i + 1) ts) len
-closed_other ts i len t within is other closed n h =
-    ap (λ l. before_semicolon (drop n l)) (take_one ts i t within is) ∙ other_by (take i ts) n t other (closed n h)
+pub closed_other : (ts : List Token) (len : ℕ) (one : OneOf ts) → is_sign Semicolon one.token ≡ false
+    → IsClosed (take one.at ts) len → IsClosed (take (one.at + 1) ts) len
+closed_other ts len one other closed n h =
+    ap (λ l. before_semicolon (drop n l)) (take_one ts one)
+    ∙ other_by (take one.at ts) n one.token other (closed n h)
 
 pub closed_here : (ts : List Token) (i : ℕ) → IsClosed (take (i + 1) ts) (i + 1)
 closed_here ts i n h = past (take (i + 1) ts) n (omega (arith, length-take (i + 1) ts))

@@ -2,7 +2,7 @@
 use Rattle.std.proofs.Common.{◌==◌, ◌≡◌, ℕ, zero, suc, if◌then◌else◌, ◌+◌, ◌-◌, ◌<◌, ◌≤◌, ltb, ◌&&◌, Bool, true, false}
 use Rattle.std.proofs.Common.{List}
 use Rattle.std.proofs.Common.{[], ◌∷◌, ◌++◌, map, length, get_or, slice_get, Option, Some, None, Result, Ok, Err, OnOk}
-use Rattle.std.proofs.Common.{OnErr, cond, refl, sym, ap, subst, ◌∙◌, arith, append_assoc}
+use Rattle.std.proofs.Common.{OnErr, cond, ◌⊎◌, inl, inr, refl, sym, ap, subst, ◌∙◌, arith, append_assoc}
 use Rattle.std.proofs.Math.ListN.{get_or-append}
 use Rattle.std.proofs.Math.Seq.{get_or-append_seam}
 use Rattle.std.proofs.lemmas.Bool.{ltb-true}
@@ -146,37 +146,41 @@ means_nothing made d none zeroed = record {
 capped_sum : (a b n m : ℕ) → n ≡ capped a → m ≡ capped b → capped (n + m) ≡ capped (a + b)
 capped_sum a b n m e f = grind (arith, nat_tests, e, f)
 
+-- A part came to the end of a definition, with a number of tokens that it is to stand for.
+pub record Pushed (p : Part) : Type 0 where
+  pub old : Definition
+  pub new : Definition
+  pub len : ℕ
+  pub parts : new.parts.items ≡ old.parts.items ++ p ∷ []
+  pub counted : new.len ≡ capped (old.len + len)
+
 -- a part is added
-pub means_more : (made : List Definition) (old new : Definition) (p : Part) (len : ℕ)
-    → new.parts.items ≡ old.parts.items ++ p ∷ []
-    → new.len ≡ capped (old.len + len) → len ≡ capped (length (part_tokens (meanings made) p))
-    → is_below (length made) p ≡ true
-    → (tokens : List Token) → Means made old tokens → Means made new (tokens ++ part_tokens (meanings made) p)
+pub means_more : (made : List Definition) (p : Part) (u : Pushed p)
+    → u.len ≡ capped (length (part_tokens (meanings made) p)) → is_below (length made) p ≡ true
+    → (tokens : List Token) → Means made u.old tokens → Means made u.new (tokens ++ part_tokens (meanings made) p)
 unfolding parts_tokens
-means_more made old new p len parts counted size below tokens h = record {
-  parts = ap (parts_tokens (meanings made)) parts ∙ parts_more (meanings made) old.parts.items (p ∷ [])
-      ∙ ap (λ l. l ++ parts_tokens (meanings made) (p ∷ [])) h.parts
-      ∙ ap (λ l. tokens ++ l) (append-nil (part_tokens (meanings made) p));
-  len = counted ∙ capped_sum (length tokens) (length (part_tokens (meanings made) p)) old.len len h.len size
-      ∙ ap capped (sym (length-append tokens (part_tokens (meanings made) p)));
-  below = ap (are_below (length made)) parts ∙ below_more (length made) old.parts.items p h.below below;
-}
+means_more made p u size below tokens h =
+    let more = part_tokens (meanings made) p in
+    record {
+      parts = ap (parts_tokens (meanings made)) u.parts ∙ parts_more (meanings made) u.old.parts.items (p ∷ [])
+          ∙ ap (λ l. l ++ parts_tokens (meanings made) (p ∷ [])) h.parts ∙ ap (λ l. tokens ++ l) (append-nil more);
+      len = u.counted ∙ capped_sum (length tokens) (length more) u.old.len u.len h.len size
+          ∙ ap capped (sym (length-append tokens more));
+      below = ap (are_below (length made)) u.parts ∙ below_more (length made) u.old.parts.items p h.below below;
+    }
 
-pub means_token : (made : List Definition) (old new : Definition) (t : Token)
-    → new.parts.items ≡ old.parts.items ++ Single t ∷ []
-    → new.len ≡ capped (old.len + 1) → (tokens : List Token) → Means made old tokens → Means made new (tokens ++ t ∷ [])
+pub means_token : (made : List Definition) (t : Token) (u : Pushed (Single t)) → u.len ≡ 1
+    → (tokens : List Token) → Means made u.old tokens → Means made u.new (tokens ++ t ∷ [])
 unfolding part_tokens is_below
-means_token made old new t parts counted tokens h =
-    means_more made old new (Single t) 1 parts counted refl refl tokens h
+means_token made t u one tokens h = means_more made (Single t) u one refl tokens h
 
-pub means_earlier : (made : List Definition) (old new : Definition) (place len : ℕ)
-    → new.parts.items ≡ old.parts.items ++ Earlier place ∷ []
-    → new.len ≡ capped (old.len + len) → len ≡ capped (length (meaning made place)) → place < length made
-    → (tokens : List Token) → Means made old tokens → Means made new (tokens ++ meaning made place)
+pub means_earlier : (made : List Definition) (place : ℕ) (u : Pushed (Earlier place))
+    → u.len ≡ capped (length (meaning made place)) → place < length made
+    → (tokens : List Token) → Means made u.old tokens → Means made u.new (tokens ++ meaning made place)
 unfolding part_tokens is_below meaning
-means_earlier made old new place len parts counted size within tokens h =
+means_earlier made place u size within tokens h =
     let below : ltb place (length made) ≡ true = grind (arith, nat_tests) in
-    means_more made old new (Earlier place) len parts counted size below tokens h
+    means_more made (Earlier place) u size below tokens h
 
 -- a definition that stands for nothing is left out
 pub means_same : (made : List Definition) (old : Definition) (place len : ℕ) → len ≤ 0
@@ -270,21 +274,33 @@ kept_if P true made now d e h more = subst P (sym e) more
 kept_if P false made now d e h more = subst P (sym e) h
 
 -- a name was defined, or memory ran out
-pub placed_if : {T E : Type 0} (r : Result T E) (same : Bool) (place found n : ℕ) (new old : Option ℕ)
-    → OnOk r (new ≡ cond same (Some place) old)
-    → OnErr r (new ≡ old) → place < n → (old ≡ Some found → found < n) → new ≡ Some found → found < n
-placed_if (Ok x) true place found n new old ok err here before e = let is : place ≡ found =
-    cc in subst (λ i. i < n) is here
-placed_if (Ok x) false place found n new old ok err here before e = before (sym ok ∙ e)
-placed_if (Err x) same place found n new old ok err here before e = before (sym err ∙ e)
+pub turned : {T E : Type 0} (r : Result T E) (same : Bool) (place : ℕ) (new old : Option ℕ)
+    → OnOk r (new ≡ cond same (Some place) old) → OnErr r (new ≡ old) → (new ≡ Some place) ⊎ (new ≡ old)
+turned (Ok x) true place new old ok err = inl ok
+turned (Ok x) false place new old ok err = inr ok
+turned (Err x) same place new old ok err = inr err
+
+-- A name stands for the definition at a place, or for what it stood for before, and there are so many definitions.
+pub record Placing (n : ℕ) (old new : Option ℕ) : Type 0 where
+  pub place : ℕ
+  pub within : place < n
+  pub turned : (new ≡ Some place) ⊎ (new ≡ old)
+  pub before : (found : ℕ) → old ≡ Some found → found < n
+
+pub placed_within : (n : ℕ) (old new : Option ℕ) (p : Placing n old new) (found : ℕ) → new ≡ Some found → found < n
+placed_within n old new p found e = by p.turned
+  where
+    by : (new ≡ Some p.place) ⊎ (new ≡ old) → found < n
+    by (inl is) = let same : p.place ≡ found = cc in subst (λ i. i < n) same p.within
+    by (inr is) = p.before found (sym is ∙ e)
 
 -- what a name stands for when one was defined
-pub defined_name : (same : Bool) (old new : List Definition) (place : ℕ) (tokens : List Token) (now before : Option ℕ)
+pub defined_name : (same : Bool) (new : List Definition) (place : ℕ) (now before : Option ℕ)
     → now ≡ (if same then Some place else before)
-    → meaning new place ≡ tokens → option_map (meaning new) before ≡ option_map (meaning old) before
-    → option_map (meaning new) now ≡ (if same then Some tokens else option_map (meaning old) before)
-defined_name true old new place tokens now before e stands others = ap (option_map (meaning new)) e ∙ ap Some stands
-defined_name false old new place tokens now before e stands others = ap (option_map (meaning new)) e ∙ others
+    → option_map (meaning new) now
+    ≡ (if same then Some (meaning new place) else option_map (meaning new) before)
+defined_name true new place now before e = ap (option_map (meaning new)) e
+defined_name false new place now before e = ap (option_map (meaning new)) e
 
 pub on_err : {T E : Type 0} (r : Result T E) {P Q : Type 0} → (P → Q) → OnErr r P → OnErr r Q
 on_err (Ok x) f h = tt

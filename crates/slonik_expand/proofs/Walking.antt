@@ -69,20 +69,31 @@ steps_at made place h =
     let there : place ≡ 0 + place = omega arith in
     ap (λ n. get_or (steps_of made) n 0) there ∙ value_at parts_steps 0 steady_steps (λ table. refl) [] made place h
 
+-- A walk over the definition at a place, and what came out before it.
+pub record Walk : Type 0 where
+  pub made : List Definition
+  pub place : ℕ
+  pub old : Output
+
+-- What came out, and what is pending.
+pub record Halfway : Type 0 where
+  pub out : Output
+  pub pending : List (Bor (List Part))
+
 -- What came out and what is pending are all that a definition stands for.
-pub record Walks (made : List Definition) (old : Output) (place : ℕ) (now : Output)
-    (pending : List (Bor (List Part))) : Type 0 where
-  pub tokens : old.tokens.items ++ meaning made place ≡ now.tokens.items ++ pending_tokens (meanings made) pending
-  pub places : place_behind (meaning made place) old.place
-      ≡ place_behind (pending_tokens (meanings made) pending) now.place
+pub record Walks (walk : Walk) (now : Halfway) : Type 0 where
+  pub tokens : walk.old.tokens.items ++ meaning walk.made walk.place
+      ≡ now.out.tokens.items ++ pending_tokens (meanings walk.made) now.pending
+  pub places : place_behind (meaning walk.made walk.place) walk.old.place
+      ≡ place_behind (pending_tokens (meanings walk.made) now.pending) now.out.place
 
 -- what is pending stands for the same
-pub walks_on : (made : List Definition) (old now : Output) (place : ℕ) (before after : List (Bor (List Part)))
-    → Walks made old place now before → pending_tokens (meanings made) before ≡ pending_tokens (meanings made) after
-    → Walks made old place now after
-walks_on made old now place before after w e = record {
-  tokens = w.tokens ∙ ap (λ l. now.tokens.items ++ l) e;
-  places = w.places ∙ ap (λ l. place_behind l now.place) e;
+pub walks_on : (walk : Walk) (now : Halfway) (after : List (Bor (List Part))) → Walks walk now
+    → pending_tokens (meanings walk.made) now.pending ≡ pending_tokens (meanings walk.made) after
+    → Walks walk (record now { pending = after })
+walks_on walk now after w e = record {
+  tokens = w.tokens ∙ ap (λ l. now.out.tokens.items ++ l) e;
+  places = w.places ∙ ap (λ l. place_behind l now.out.place) e;
 }
 
 -- The first part of the last pending parts is taken.
@@ -93,12 +104,6 @@ pub record Pops (before : List (Bor (List Part))) (part : Part) (after : List (B
   pub was : before ≡ popped ++ parts ∷ []
   pub first : parts.now ≡ part ∷ rest.now
   pub now : after ≡ popped ++ rest ∷ []
-
-pub pops : (before popped after : List (Bor (List Part))) (parts rest : Bor (List Part)) (first part : Part)
-    → before ≡ popped ++ parts ∷ []
-    → parts.now ≡ first ∷ rest.now → first ≡ part → after ≡ popped ++ rest ∷ [] → Pops before part after
-pops before popped after parts rest first part was e is now =
-    record { popped = popped; parts = parts; rest = rest; was = was; first = e ∙ ap (λ p. p ∷ rest.now) is; now = now }
 
 pops_tokens : (table : List (List Token)) (before after : List (Bor (List Part))) (part : Part) → Pops before part after
     → pending_tokens table before ≡ part_tokens table part ++ pending_tokens table after
@@ -120,20 +125,19 @@ pops_steps table before after part p =
     omega (arith, front, back, ap (parts_steps table) p.first)
 
 -- a token comes out
-pub walks_single : (made : List Definition) (old now next : Output) (place : ℕ) (before after : List (Bor (List Part)))
-    (t : Token) → Walks made old place now before
-    → Pops before (Single t) after → IsBehind now (t ∷ []) next → Walks made old place next after
+pub walks_single : (walk : Walk) (now next : Halfway) (t : Token) → Walks walk now
+    → Pops now.pending (Single t) next.pending → IsBehind now.out (t ∷ []) next.out → Walks walk next
 unfolding part_tokens
-walks_single made old now next place before after t w p b =
-    let table = meanings made in
-    let e : pending_tokens table before ≡ t ∷ pending_tokens table after =
-    pops_tokens table before after (Single t) p in
+walks_single walk now next t w p b =
+    let table = meanings walk.made in
+    let e : pending_tokens table now.pending ≡ t ∷ pending_tokens table next.pending =
+    pops_tokens table now.pending next.pending (Single t) p in
     record {
-      tokens = w.tokens ∙ ap (λ l. now.tokens.items ++ l) e
-          ∙ sym (append_assoc now.tokens.items (t ∷ []) (pending_tokens table after))
-          ∙ ap (λ l. l ++ pending_tokens table after) (sym b.tokens);
-      places = w.places ∙ ap (λ l. place_behind l now.place) e
-          ∙ ap (place_behind (pending_tokens table after)) (sym b.place);
+      tokens = w.tokens ∙ ap (λ l. now.out.tokens.items ++ l) e
+          ∙ sym (append_assoc now.out.tokens.items (t ∷ []) (pending_tokens table next.pending))
+          ∙ ap (λ l. l ++ pending_tokens table next.pending) (sym b.tokens);
+      places = w.places ∙ ap (λ l. place_behind l now.out.place) e
+          ∙ ap (place_behind (pending_tokens table next.pending)) (sym b.place);
     }
 
 pub single_steps : (table : List ℕ) (before after : List (Bor (List Part))) (t : Token) → Pops before (Single t) after
@@ -141,34 +145,38 @@ pub single_steps : (table : List ℕ) (before after : List (Bor (List Part))) (t
 unfolding part_steps
 single_steps table before after t p = omega (arith, pops_steps table before after (Single t) p)
 
--- an earlier definition is entered
-pub earlier_same : (made : List Definition) (before mid after : List (Bor (List Part))) (other : ℕ)
-    (parts : Bor (List Part)) → are_ordered 0 made ≡ true → Pops before (Earlier other) mid
-    → parts.now ≡ parts_at made other → after ≡ mid ++ parts ∷ []
-    → pending_tokens (meanings made) before ≡ pending_tokens (meanings made) after
-unfolding part_tokens meaning
-earlier_same made before mid after other parts order p is e =
-    let table = meanings made in
-    let entered : pending_tokens table after ≡ meaning made other ++ pending_tokens table mid =
-    ap (pending_tokens table) e ∙ pending_one table mid parts
-    ∙ ap (λ l. l ++ pending_tokens table mid) (ap (parts_tokens table) is ∙ sym (meaning_at made other order)) in
-    pops_tokens table before mid (Earlier other) p ∙ sym entered
+-- An earlier definition is entered, in the place of a part that names it.
+pub record Enters (made : List Definition) (before after : List (Bor (List Part))) : Type 0 where
+  pub other : ℕ
+  pub mid : List (Bor (List Part))
+  pub parts : Bor (List Part)
+  pub pops : Pops before (Earlier other) mid
+  pub is : parts.now ≡ parts_at made other
+  pub now : after ≡ mid ++ parts ∷ []
 
-pub earlier_steps : (made : List Definition) (before mid after : List (Bor (List Part))) (other : ℕ)
-    (parts : Bor (List Part)) → are_ordered 0 made ≡ true
-    → Pops before (Earlier other) mid → parts.now ≡ parts_at made other → after ≡ mid ++ parts ∷ []
-    → pending_steps (steps_of made) after < pending_steps (steps_of made) before
+pub earlier_same : (made : List Definition) (before after : List (Bor (List Part))) → are_ordered 0 made ≡ true
+    → Enters made before after → pending_tokens (meanings made) before ≡ pending_tokens (meanings made) after
+unfolding part_tokens meaning
+earlier_same made before after order e =
+    let table = meanings made in
+    let entered : pending_tokens table after ≡ meaning made e.other ++ pending_tokens table e.mid =
+    ap (pending_tokens table) e.now ∙ pending_one table e.mid e.parts
+    ∙ ap (λ l. l ++ pending_tokens table e.mid) (ap (parts_tokens table) e.is ∙ sym (meaning_at made e.other order)) in
+    pops_tokens table before e.mid (Earlier e.other) e.pops ∙ sym entered
+
+pub earlier_steps : (made : List Definition) (before after : List (Bor (List Part))) → are_ordered 0 made ≡ true
+    → Enters made before after → pending_steps (steps_of made) after < pending_steps (steps_of made) before
 unfolding part_steps
-earlier_steps made before mid after other parts order p is e =
+earlier_steps made before after order e =
     let table = steps_of made in
-    let entered : pending_steps table after ≡ 1 + parts_steps table parts.now + pending_steps table mid =
-    ap (pending_steps table) e ∙ steps_one table mid parts in
+    let entered : pending_steps table after ≡ 1 + parts_steps table e.parts.now + pending_steps table e.mid =
+    ap (pending_steps table) e.now ∙ steps_one table e.mid e.parts in
     omega (
       arith,
-      pops_steps table before mid (Earlier other) p,
+      pops_steps table before e.mid (Earlier e.other) e.pops,
       entered,
-      ap (parts_steps table) is,
-      steps_at made other order,
+      ap (parts_steps table) e.is,
+      steps_at made e.other order,
     )
 
 -- parts of which none is left
@@ -185,26 +193,25 @@ pub past_steps : (table : List ℕ) (before after : List (Bor (List Part))) (par
 past_steps table before after parts e = omega (arith, ap (pending_steps table) e, steps_one table after parts)
 
 -- nothing is pending
-pub walks_over : (made : List Definition) (old now : Output) (place : ℕ) (pending : List (Bor (List Part)))
-    → Walks made old place now pending → length pending ≡ 0
-    → IsBehind old (meaning made place) now
+pub walks_over : (walk : Walk) (now : Halfway) → Walks walk now → length now.pending ≡ 0
+    → IsBehind walk.old (meaning walk.made walk.place) now.out
 unfolding pending_tokens
-walks_over made old now place pending w none =
-    let over : pending_tokens (meanings made) pending ≡ [] =
-    ap (pending_tokens (meanings made)) (nil_from_length pending none) in
+walks_over walk now w none =
+    let over : pending_tokens (meanings walk.made) now.pending ≡ [] =
+    ap (pending_tokens (meanings walk.made)) (nil_from_length now.pending none) in
     record {
-      tokens = sym (w.tokens ∙ ap (λ l. now.tokens.items ++ l) over ∙ append-nil now.tokens.items);
-      place = sym (w.places ∙ ap (λ l. place_behind l now.place) over);
+      tokens = sym (w.tokens ∙ ap (λ l. now.out.tokens.items ++ l) over ∙ append-nil now.out.tokens.items);
+      place = sym (w.places ∙ ap (λ l. place_behind l now.out.place) over);
     }
 
-pub walks_first : (made : List Definition) (old : Output) (place : ℕ) (parts : Bor (List Part))
-    (pending : List (Bor (List Part)))
-    → are_ordered 0 made ≡ true → parts.now ≡ parts_at made place → pending ≡ [] ++ parts ∷ []
-    → Walks made old place old pending
+pub walks_first : (walk : Walk) (parts : Bor (List Part)) (pending : List (Bor (List Part)))
+    → are_ordered 0 walk.made ≡ true → parts.now ≡ parts_at walk.made walk.place → pending ≡ [] ++ parts ∷ []
+    → Walks walk (record { out = walk.old; pending = pending })
 unfolding pending_tokens
-walks_first made old place parts pending order is e =
-    let all : meaning made place ≡ pending_tokens (meanings made) pending =
-    meaning_at made place order ∙ ap (parts_tokens (meanings made)) (sym is)
-    ∙ sym (append-nil (parts_tokens (meanings made) parts.now))
-    ∙ sym (pending_one (meanings made) [] parts) ∙ ap (pending_tokens (meanings made)) (sym e) in
-    record { tokens = ap (λ l. old.tokens.items ++ l) all; places = ap (λ l. place_behind l old.place) all }
+walks_first walk parts pending order is e =
+    let table = meanings walk.made in
+    let all : meaning walk.made walk.place ≡ pending_tokens table pending =
+    meaning_at walk.made walk.place order ∙ ap (parts_tokens table) (sym is)
+    ∙ sym (append-nil (parts_tokens table parts.now)) ∙ sym (pending_one table [] parts)
+    ∙ ap (pending_tokens table) (sym e) in
+    record { tokens = ap (λ l. walk.old.tokens.items ++ l) all; places = ap (λ l. place_behind l walk.old.place) all }

@@ -186,13 +186,14 @@ abbrev pub include_file : (List Token → Making → Ending) → List ℕ → Op
 include_file expand path None m = Wrong (NoFile path) m.left
 include_file expand path (Some bytes) m = include_bytes expand bytes m
 
--- What an INCLUDE of a path gives over the files that these names have, where this number of levels of files may still be
--- included.
+-- What an INCLUDE of a path gives over the files that these names have, where this number of levels of files may still
+-- be included.
 unfoldable pub include_at : (List ℕ → Option (List ℕ)) → ℕ → List ℕ → Making → Ending
 include_at files zero path m = Wrong (Depth path) m.left
 include_at files (suc levels) path m = include_file (expand_from (include_at files levels) 0) path (files path) m
 
--- The expansion of tokens over the files that these names have, where this number of levels of files may still be included.
+-- The expansion of tokens over the files that these names have, where this number of levels of files may still be
+-- included.
 abbrev pub expand_at : (List ℕ → Option (List ℕ)) → ℕ → List Token → Making → Ending
 expand_at files levels tokens m = expand_from (include_at files levels) 0 tokens m
 

@@ -41,15 +41,13 @@ alike_same ts us made = record { same = λ e next h. inl h; errs = λ h. (Misfit
 
 -- a refusal before, by what is ahead
 alike_refused : (ts us : List Token) (a b : Bool) (misparse : Misparse) (one other : Result State Misparse)
-    → (misparse ≡ Misfit → ⊥) → Alike ts us one other
+    → (misparse ≡ Misfit → ⊥) × Alike ts us one other
     → Alike ts us (cond a (Err misparse) one) (cond b (Err misparse) other)
-alike_refused ts us true true misparse one other differs al =
-    record { same = λ e next h. inr (misparse, refl); errs = λ h. (misparse, refl) }
-alike_refused ts us true false misparse one other differs al =
+alike_refused ts us true false misparse one other (differs, al) =
     record { same = λ e next h. cc; errs = λ h. absurd (differs (cc)) }
-alike_refused ts us false true misparse one other differs al =
+alike_refused ts us false false misparse one other (differs, al) = al
+alike_refused ts us a true misparse one other (differs, al) =
     record { same = λ e next h. inr (misparse, refl); errs = λ h. (misparse, refl) }
-alike_refused ts us false false misparse one other differs al = al
 
 -- two refusals
 one_of : (ts us : List Token) (a b : Bool) (m n : Misparse) → (m ≡ Misfit → ⊥) → (n ≡ Misfit → ⊥)
@@ -121,10 +119,12 @@ alike_any : (block : Block) (text : List ℕ) (token : Token) (ts us : List Toke
     → Alike ts us (any_command block text token (token ∷ ts)) (any_command block text token (token ∷ us))
 unfolding any_command
 alike_any block text token ts us =
-    alike_refused ts us (is_left_out (token ∷ ts)) (is_left_out (token ∷ us)) (NotInProfile (lower text)) _ _ (λ e. cc)
-    (alike_cond ts us (is_word (codes "echo") token) (Ok (At (goal.EchoText block))) _ _
-    (alike_cond ts us (is_word (codes "exit") token) (Ok (At (goal.ExitStatus block))) _ _
-    (alike_verb block token ts us)))
+    alike_refused ts us (is_left_out (token ∷ ts)) (is_left_out (token ∷ us)) (NotInProfile (lower text)) _ _ (
+      λ e. cc,
+      alike_cond ts us (is_word (codes "echo") token) (Ok (At (goal.EchoText block))) _ _
+          (alike_cond ts us (is_word (codes "exit") token) (Ok (At (goal.ExitStatus block))) _ _
+          (alike_verb block token ts us)),
+    )
 
 alike_block : (block : Block) (text : List ℕ) (token : Token) (ts us : List Token)
     → Alike ts us (begin_in block text token (token ∷ ts)) (begin_in block text token (token ∷ us))
@@ -134,9 +134,14 @@ alike_block (Outside script) text token ts us =
     (alike_cond ts us (is_word (codes "try") token) (Ok (sign_then OpenBrace (goal.Command (InTry script [])))) _ _
     (alike_any (Outside script) text token ts us))
 alike_block (InTry script commands) text token ts us =
-    alike_refused ts us (is_left_out (token ∷ ts)) (is_left_out (token ∷ us)) (NotInProfile (lower text)) _ _ (λ e. cc)
-    (alike_refused ts us (is_not_in_try (token ∷ ts)) (is_not_in_try (token ∷ us)) (NotInTry (lower text)) _ _ (λ e. cc)
-    (alike_cond ts us (is_word (codes "wait") token) (Err Misfit) _ _ (alike_verb (InTry script commands) token ts us)))
+    alike_refused ts us (is_left_out (token ∷ ts)) (is_left_out (token ∷ us)) (NotInProfile (lower text)) _ _ (
+      λ e. cc,
+      alike_refused ts us (is_not_in_try (token ∷ ts)) (is_not_in_try (token ∷ us)) (NotInTry (lower text)) _ _ (
+        λ e. cc,
+        alike_cond ts us (is_word (codes "wait") token) (Err Misfit) _ _
+            (alike_verb (InTry script commands) token ts us),
+      ),
+    )
 alike_block (InHandler script tried handler commands) text token ts us =
     alike_any (InHandler script tried handler commands) text token ts us
 

@@ -2,6 +2,7 @@
 use Rattle.std.proofs.Common.{◌≡◌, ℕ, ◌+◌, ◌-◌, ◌&&◌, ◌||◌, Bool, true, false, List, [], ◌∷◌, ◌++◌, length, drop, codes}
 use Rattle.std.proofs.Common.{None, Err, cond, refl, ap, sym, ◌∙◌, subst, arith}
 use Rattle.std.proofs.lemmas.Bool.{and_right}
+use Rattle.std.specs.Str.{bytes_eq, str_to_ascii_lowercase}
 use Rattle.slonik_tokens.specs.declared.fault.ScriptRefusal.{ScriptRefusal}
 use Rattle.slonik_tokens.specs.declared.fault.ScriptRefusal.TheVariants as refusal
 use Rattle.slonik_tokens.specs.declared.token.Sign.TheVariants.{Comma, CloseBracket}
@@ -15,6 +16,7 @@ use Rattle.slonik_parse.specs.declared.misparse.Misparse.TheVariants.{UnknownOpt
 use Rattle.slonik_parse.specs.declared.misparse.Misparse.TheVariants.{NotInTry}
 use Rattle.slonik_parse.specs.declared.script.Command.{Command}
 use Rattle.slonik_parse.specs.declared.script.Script.{Script}
+use Rattle.slonik_parse.specs.declared.given.Given.{Given}
 use Rattle.slonik_parse.specs.declared.state.Block.{Block}
 use Rattle.slonik_parse.specs.declared.state.Block.TheVariants.{Outside, Try as InTry, Handler as InHandler}
 use Rattle.slonik_parse.specs.declared.state.Goal.TheVariants as goal
@@ -27,6 +29,7 @@ use Rattle.slonik_parse.specs.Machine.{run, step, goal_step, command_step, begin
 use Rattle.slonik_parse.specs.Machine.{any_command, option_step, begin_option, after_option, missing, lower}
 use Rattle.slonik_parse.specs.Machine.{behind_preamble}
 use Rattle.slonik_parse.specs.Outcomes.{script_in, placed, refused_at}
+use Rattle.slonik_parse.specs.Places.{BeforeOption}
 use Rattle.slonik_parse.specs.Refusals.{IsRefused, preamble, no_preamble, command_left_out, option_left_out}
 use Rattle.slonik_parse.specs.Refusals.{unknown_option, not_in_try, missing_option, missing_option_there}
 use Rattle.slonik_parse.proofs.Words.{other_word, other_sign, sign_is}
@@ -84,20 +87,18 @@ left_out_other : (text : List ℕ) (rest : List Token) (word : List ℕ) → is_
     → (is_word word (Word text) ≡ true → is_left_out (Word text ∷ rest) ≡ false) → is_word word (Word text) ≡ false
 left_out_other text rest word h other = false_unless (is_word word (Word text)) (λ w. let e = other w in cc)
 
-not_node : (text : List ℕ) (rest : List Token) → is_word (codes "node") (Word text) ≡ true
-    → is_left_out (Word text ∷ rest) ≡ false
+-- NODE, TRY and ON begin nothing that is left out
+not_node : (text : List ℕ) (rest : List Token) → is_word (codes "node") (Word text) ≡ true →
+    is_left_out (Word text ∷ rest) ≡ false
 unfolding is_left_out
 not_node text rest w = simp (other_word (codes "node") (Word text) w)
 
-not_try : (text : List ℕ) (rest : List Token) → is_word (codes "try") (Word text) ≡ true
-    → is_left_out (Word text ∷ rest) ≡ false
+not_try_nor_on : (text : List ℕ) (rest : List Token) →
+    (is_word (codes "try") (Word text) ≡ true → is_left_out (Word text ∷ rest) ≡ false)
+    × (is_word (codes "on") (Word text) ≡ true → is_left_out (Word text ∷ rest) ≡ false)
 unfolding is_left_out
-not_try text rest w = simp (other_word (codes "try") (Word text) w)
-
-not_on : (text : List ℕ) (rest : List Token) → is_word (codes "on") (Word text) ≡ true
-    → is_left_out (Word text ∷ rest) ≡ false
-unfolding is_left_out
-not_on text rest w = simp (other_word (codes "on") (Word text) w)
+not_try_nor_on text rest =
+    (λ w. simp (other_word (codes "try") (Word text) w), λ w. simp (other_word (codes "on") (Word text) w))
 
 any_left_out : (block : Block) (text : List ℕ) (token : Token) (tokens : List Token) → is_left_out tokens ≡ true
     → any_command block text token tokens ≡ Err (NotInProfile (lower text))
@@ -111,46 +112,24 @@ unfolding begin_in begin_outside begin_tried
 left_out_step (Outside script) text rest h =
     simp (
       left_out_other text rest (codes "node") h (not_node text rest),
-      left_out_other text rest (codes "try") h (not_try text rest),
+      left_out_other text rest (codes "try") h (not_try_nor_on text rest).0,
       any_left_out (Outside script) text (Word text) (Word text ∷ rest) h,
     )
 left_out_step (InTry script commands) text rest h = simp h
 left_out_step (InHandler script tried handler commands) text rest h =
     any_left_out (InHandler script tried handler commands) text (Word text) (Word text ∷ rest) h
 
-first_word : (word : List ℕ) (words : List (List ℕ)) (token : Token) (rest : List Token)
-    → begins_with (word ∷ words) (token ∷ rest) ≡ true → is_word word token ≡ true
-first_word word words token rest h = and_left (is_word word token) (begins_with words rest) h
-
-kept_wait : (text : List ℕ) (rest : List Token) → is_word (codes "wait") (Word text) ≡ true
-    → is_left_out (Word text ∷ rest) ≡ false
-unfolding is_left_out
-kept_wait text rest w = simp (other_word (codes "wait") (Word text) w)
-
-kept_sleep : (text : List ℕ) (rest : List Token) → is_word (codes "sleep") (Word text) ≡ true
-    → is_left_out (Word text ∷ rest) ≡ false
-unfolding is_left_out
-kept_sleep text rest w = simp (other_word (codes "sleep") (Word text) w)
-
-kept_echo : (text : List ℕ) (rest : List Token) → is_word (codes "echo") (Word text) ≡ true
-    → is_left_out (Word text ∷ rest) ≡ false
-unfolding is_left_out
-kept_echo text rest w = simp (other_word (codes "echo") (Word text) w)
-
-kept_exit : (text : List ℕ) (rest : List Token) → is_word (codes "exit") (Word text) ≡ true
-    → is_left_out (Word text ∷ rest) ≡ false
-unfolding is_left_out
-kept_exit text rest w = simp (other_word (codes "exit") (Word text) w)
-
-kept_failover : (text : List ℕ) (rest : List Token) → is_word (codes "failover") (Word text) ≡ true
-    → is_left_out (Word text ∷ rest) ≡ false
-unfolding is_left_out
-kept_failover text rest w = simp (other_word (codes "failover") (Word text) w)
+-- what the first of these words says of the word that is there
+tests : (word : List ℕ) (words : List (List ℕ)) (text : List ℕ) (rest : List Token) →
+    begins_with (word ∷ words) (Word text ∷ rest) ≡ true → (other : List ℕ) →
+    is_word other (Word text) ≡ bytes_eq (str_to_ascii_lowercase word) (str_to_ascii_lowercase other)
+tests word words text rest h =
+    other_word word (Word text) (and_left (is_word word (Word text)) (begins_with words rest) h)
 
 -- what is not allowed in a try block is not left out
-try_kept : (text : List ℕ) (rest : List Token) → is_not_in_try (Word text ∷ rest) ≡ true
-    → is_left_out (Word text ∷ rest) ≡ false
-unfolding is_not_in_try
+try_kept : (text : List ℕ) (rest : List Token) → is_not_in_try (Word text ∷ rest) ≡ true →
+    is_left_out (Word text ∷ rest) ≡ false
+unfolding is_not_in_try is_left_out
 try_kept text rest h =
     let a = begins_with (codes "wait" ∷ codes "for" ∷ codes "event" ∷ []) (Word text ∷ rest) in
     let b = begins_with (codes "sleep" ∷ []) (Word text ∷ rest) in
@@ -162,13 +141,12 @@ try_kept text rest h =
     (λ h1. or_cases (a || b || c || d) e h1
     (λ h2. or_cases (a || b || c) d h2
     (λ h3. or_cases (a || b) c h3
-    (λ h4. or_cases a b h4
-    (λ t. kept_wait text rest (first_word (codes "wait") (codes "for" ∷ codes "event" ∷ []) (Word text) rest t))
-    (λ t. kept_sleep text rest (first_word (codes "sleep") [] (Word text) rest t)))
-    (λ t. kept_echo text rest (first_word (codes "echo") [] (Word text) rest t)))
-    (λ t. kept_exit text rest (first_word (codes "exit") [] (Word text) rest t)))
-    (λ t. kept_failover text rest (first_word (codes "failover") [] (Word text) rest t)))
-    (λ t. not_try text rest (first_word (codes "try") [] (Word text) rest t))
+    (λ h4. or_cases a b h4 (λ t. simp (tests (codes "wait") (codes "for" ∷ codes "event" ∷ []) text rest t))
+    (λ t. simp (tests (codes "sleep") [] text rest t)))
+    (λ t. simp (tests (codes "echo") [] text rest t)))
+    (λ t. simp (tests (codes "exit") [] text rest t)))
+    (λ t. simp (tests (codes "failover") [] text rest t)))
+    (λ t. simp (tests (codes "try") [] text rest t))
 
 not_in_try_step : (script : Script) (commands : List Command) (text : List ℕ) (rest : List Token)
     → is_not_in_try (Word text ∷ rest) ≡ true
@@ -177,44 +155,16 @@ unfolding begin_in begin_tried
 not_in_try_step script commands text rest h = simp (try_kept text rest h, h)
 
 -- an option that is left out is none of the command's
-omit_none : (text : List ℕ) → is_word (codes "omit") (Word text) ≡ true → option_at verb.SubscribeSet (Word text) ≡ None
-unfolding option_at options_of begins_option option_words
-omit_none text w = simp (other_word (codes "omit") (Word text) w)
-
-tables_none : (text : List ℕ) → is_word (codes "tables") (Word text) ≡ true
-    → option_at verb.SetAddTable (Word text) ≡ None
-unfolding option_at options_of begins_option option_words
-tables_none text w = simp (other_word (codes "tables") (Word text) w)
-
-add_none : (text : List ℕ) → is_word (codes "add") (Word text) ≡ true → option_at verb.SetAddTable (Word text) ≡ None
-unfolding option_at options_of begins_option option_words
-add_none text w = simp (other_word (codes "add") (Word text) w)
-
-left_out_none : (v : Verb) (text : List ℕ) (rest : List Token) → is_option_left_out v (Word text ∷ rest) ≡ true
-    → option_at v (Word text) ≡ None
-unfolding is_option_left_out
-left_out_none verb.SubscribeSet text rest h =
-    omit_none text (first_word (codes "omit") (codes "copy" ∷ []) (Word text) rest h)
+left_out_none : (v : Verb) (text : List ℕ) (rest : List Token) → is_option_left_out v (Word text ∷ rest) ≡ true →
+    option_at v (Word text) ≡ None
+unfolding is_option_left_out option_at options_of begins_option option_words
+left_out_none verb.SubscribeSet text rest h = simp (tests (codes "omit") (codes "copy" ∷ []) text rest h)
 left_out_none verb.SetAddTable text rest h =
     or_cases (begins_with (codes "tables" ∷ []) (Word text ∷ rest))
     (begins_with (codes "add" ∷ codes "sequences" ∷ []) (Word text ∷ rest)) h
-    (λ t. tables_none text (first_word (codes "tables") [] (Word text) rest t))
-    (λ t. add_none text (first_word (codes "add") (codes "sequences" ∷ []) (Word text) rest t))
-left_out_none verb.InitCluster text rest h = cc
-left_out_none verb.StoreNode text rest h = cc
-left_out_none verb.DropNode text rest h = cc
-left_out_none verb.StorePath text rest h = cc
-left_out_none verb.DropPath text rest h = cc
-left_out_none verb.CreateSet text rest h = cc
-left_out_none verb.DropSet text rest h = cc
-left_out_none verb.UnsubscribeSet text rest h = cc
-left_out_none verb.LockSet text rest h = cc
-left_out_none verb.UnlockSet text rest h = cc
-left_out_none verb.MoveSet text rest h = cc
-left_out_none verb.Failover text rest h = cc
-left_out_none verb.Sync text rest h = cc
-left_out_none verb.WaitForEvent text rest h = cc
-left_out_none verb.Sleep text rest h = cc
+    (λ t. simp (tests (codes "tables") [] text rest t))
+    (λ t. simp (tests (codes "add") (codes "sequences" ∷ []) text rest t))
+left_out_none others text rest h = cc
 
 not_in_try_on : (text : List ℕ) (rest : List Token) → is_word (codes "on") (Word text) ≡ true
     → is_not_in_try (Word text ∷ rest) ≡ false
@@ -228,43 +178,62 @@ try_not_on_word text rest h =
 
 -- a refusal at a token that is reached
 refused_there : (front : List Token) (state : State) (Kind : List Token → Type 0) (token : Token) (rest : List Token)
-    (misparse : Misparse) → ReadTo front state Kind → Kind (token ∷ rest)
-    → step state token (token ∷ rest) ≡ Err misparse
-    → script_in (front ++ token ∷ rest) ≡ Err (refused_at (length (front ++ token ∷ rest) + 1 - (length rest + 1))
-    misparse)
-refused_there front state Kind token rest misparse r kind h =
+    (misparse : Misparse) → ReadTo front state Kind →
+    Kind (token ∷ rest) × (step state token (token ∷ rest) ≡ Err misparse) →
+    script_in (front ++ token ∷ rest)
+    ≡ Err (refused_at (length (front ++ token ∷ rest) + 1 - (length rest + 1)) misparse)
+refused_there front state Kind token rest misparse r h =
     script_in-run (front ++ token ∷ rest) (r.preamble (token ∷ rest))
-    ∙ ap (placed (length (front ++ token ∷ rest))) (r.ran (token ∷ rest) kind ∙ run-err state misparse token rest h)
+    ∙ ap (placed (length (front ++ token ∷ rest))) (r.ran (token ∷ rest) h.0 ∙ run-err state misparse token rest h.1)
+
+-- a word that is no option is refused, as one that is left out or as one that there is not
+unread_option : (block : Block) (v : Verb) (given : Given) (text : List ℕ) (rest : List Token) →
+    option_at v (Word text) ≡ None → (b : Bool) → is_option_left_out v (Word text ∷ rest) ≡ b →
+    step (At (goal.Option block v given)) (Word text) (Word text ∷ rest)
+    ≡ cond b (Err (NotInProfile (lower text))) (Err (UnknownOption (lower text)))
+unread_option block v given text rest none b h =
+    unfold step in unfold goal_step in unfold option_step in unfold begin_option in
+    ap (begin_option block v given text (Word text ∷ rest)) none
+    ∙ ap (λ b. cond b (Err (NotInProfile (lower text))) (Err (UnknownOption (lower text)))) h
+
+-- a refusal where an option may begin
+refused_option : (at : BeforeOption) (token : Token) (rest : List Token) (misparse : Misparse)
+    → step (At (goal.Option at.block at.verb at.given)) token (token ∷ rest) ≡ Err misparse
+    → script_in (at.front ++ token ∷ rest)
+    ≡ Err (refused_at (length (at.front ++ token ∷ rest) + 1 - (length rest + 1)) misparse)
+refused_option at token rest misparse h =
+    refused_there at.front (At (goal.Option at.block at.verb at.given)) Anything token rest misparse
+    (option_stands_read at.block at.verb at.given at.front at.stands) (tt, h)
 
 -- each refusal of the grammar is that of the machine
 pub refused : (tokens : List Token) (r : ScriptRefusal) → IsRefused tokens r → script_in tokens ≡ Err r
 refused tokens r (no_preamble _ h) = without_preamble tokens h
 refused tokens r (command_left_out front rest block text stands h) =
     refused_there front (At (goal.Command block)) NotOn (Word text) rest (NotInProfile (lower text))
-    (stands_read block front stands) (refl, left_out_other text rest (codes "on") h (not_on text rest))
-    (unfold step in unfold goal_step in unfold command_step in left_out_step block text rest h)
-refused tokens r (option_left_out front rest block v given text stands h) =
-    refused_there front (At (goal.Option block v given)) Anything (Word text) rest (NotInProfile (lower text))
-    (option_stands_read block v given front stands) tt
-    (unfold step in unfold goal_step in unfold option_step in unfold begin_option in
-    ap (begin_option block v given text (Word text ∷ rest)) (left_out_none v text rest h)
-    ∙ ap (λ b. cond b (Err (NotInProfile (lower text))) (Err (UnknownOption (lower text)))) h)
-refused tokens r (unknown_option front rest block v given text stands none h) =
-    refused_there front (At (goal.Option block v given)) Anything (Word text) rest (UnknownOption (lower text))
-    (option_stands_read block v given front stands) tt
-    (unfold step in unfold goal_step in unfold option_step in unfold begin_option in
-    ap (begin_option block v given text (Word text ∷ rest)) none
-    ∙ ap (λ b. cond b (Err (NotInProfile (lower text))) (Err (UnknownOption (lower text)))) h)
+    (stands_read block front stands) (
+      (refl, left_out_other text rest (codes "on") h (not_try_nor_on text rest).1),
+      unfold step in unfold goal_step in unfold command_step in left_out_step block text rest h,
+    )
+refused tokens r (option_left_out at rest text h) =
+    refused_option at (Word text) rest (NotInProfile (lower text))
+    (unread_option at.block at.verb at.given text rest (left_out_none at.verb text rest h) true h)
+refused tokens r (unknown_option at rest text none h) =
+    refused_option at (Word text) rest (UnknownOption (lower text))
+    (unread_option at.block at.verb at.given text rest none false h)
 refused tokens r (not_in_try front rest script commands text stands h) =
     refused_there front (At (goal.Command (InTry script commands))) NotOn (Word text) rest (NotInTry (lower text))
-    (stands_read (InTry script commands) front stands) (refl, try_not_on_word text rest h)
-    (unfold step in unfold goal_step in unfold command_step in not_in_try_step script commands text rest h)
-refused tokens r (missing_option front rest block v given closes name ends h makes) =
-    refused_there front (At (goal.AfterOption block v given)) Anything closes rest (MissingOption name)
-    (option_ends_read block v given front ends) tt
-    (unfold step in unfold goal_step in unfold after_option in simp (other_sign CloseBracket Comma closes h, h, makes))
-refused tokens r (missing_option_there front rest block v given closes name stands h makes) =
-    subst (λ t. script_in (front ++ t ∷ rest) ≡ Err r) (sym (sign_is CloseBracket closes h))
-    (refused_there front (At (goal.Option block v given)) Anything (Mark CloseBracket) rest (MissingOption name)
-    (option_stands_read block v given front stands) tt
+    (stands_read (InTry script commands) front stands) (
+      (refl, try_not_on_word text rest h),
+      unfold step in unfold goal_step in unfold command_step in not_in_try_step script commands text rest h,
+    )
+refused tokens r (missing_option at rest closes name h makes) =
+    refused_there at.front (At (goal.AfterOption at.block at.verb at.given)) Anything closes rest (MissingOption name)
+    (option_ends_read at.block at.verb at.given at.front at.ends) (
+      tt,
+      unfold step in unfold goal_step in unfold after_option in
+          simp (other_sign CloseBracket Comma closes h, h, makes),
+    )
+refused tokens r (missing_option_there at rest closes name h makes) =
+    subst (λ t. script_in (at.front ++ t ∷ rest) ≡ Err r) (sym (sign_is CloseBracket closes h))
+    (refused_option at (Mark CloseBracket) rest (MissingOption name)
     (unfold step in unfold goal_step in unfold option_step in ap missing makes))

@@ -18,8 +18,8 @@ past_high high digits h =
     (and_right (are_digits digits) (leb (value_from 0 digits) high) no)
 
 -- one more digit passes the highest number
-pub number_past : (high n i digit : ℕ) (digits : List ℕ) → value_from n (drop i digits) ≡ value_from 0 digits
-    → i < length digits → digit ≡ get_or digits i 0 - 48 → high < 10 * n + digit → magnitude high digits ≡ None
-number_past high n i digit digits e within d h =
+pub number_past : (high n i : ℕ) (digits : List ℕ) → value_from n (drop i digits) ≡ value_from 0 digits →
+    i < length digits → high < 10 * n + (get_or digits i 0 - 48) → magnitude high digits ≡ None
+number_past high n i digits e within h =
     let step = at_drop_more (value_from n) digits i 0 within in
     past_high high digits (omega (arith, step, value_from-ge (10 * n + (get_or digits i 0 - 48)) (drop (i + 1) digits)))

@@ -23,17 +23,14 @@ use Rattle.slonik_parse.specs.declared.state.State.TheVariants.{Awaits, At}
 use Rattle.slonik_parse.specs.Answered.{and_then, fit}
 use Rattle.slonik_parse.specs.Choices.{option_at}
 use Rattle.slonik_parse.specs.Forms.{option_words}
-use Rattle.slonik_parse.specs.Grammar.{AreWords, IsTry, IsScript}
+use Rattle.slonik_parse.specs.Grammar.{AreWords, Phrased, HeadWords, NodeWords, IsTry, IsScript}
 use Rattle.slonik_parse.specs.Machine.{phrase_words, sign_then, behind_preamble}
 use Rattle.slonik_parse.specs.Places.{is_tried, Stands, OptionStands, OptionEnds}
 use Rattle.slonik_parse.specs.Scripts.{lacks}
-use Rattle.slonik_parse.specs.Values.{id_in}
 
 -- CLUSTER NAME and `=`
 pub data NamesCluster : List Token → Type 0 where
-  names_cluster : (first second equals : Token) → is_word (codes "cluster") first ≡ true
-      → is_word (codes "name") second ≡ true
-      → is_sign Equals equals ≡ true → NamesCluster (first ∷ second ∷ equals ∷ [])
+  names_cluster : (words : HeadWords) → NamesCluster (words.first ∷ words.second ∷ words.equals ∷ [])
 
 -- a script with no statement, and NODE
 pub data BeginsNode (script : Script) : List Token → Type 0 where
@@ -42,17 +39,14 @@ pub data BeginsNode (script : Script) : List Token → Type 0 where
 
 -- a script with no statement, and a NODE line up to its `=`
 pub data NamesNode (script : Script) (id : ℕ) : List Token → Type 0 where
-  names_node : (front : List Token) (word number admin conninfo equals : Token) → IsScript front script
-      → script.statements ≡ []
-      → is_word (codes "node") word ≡ true → id_in number ≡ Some id
-      → AreWords (codes "admin" ∷ codes "conninfo" ∷ []) (admin ∷ conninfo ∷ []) → is_sign Equals equals ≡ true
-      → NamesNode script id (front ++ word ∷ number ∷ admin ∷ conninfo ∷ equals ∷ [])
+  names_node : (front : List Token) (words : NodeWords id) → IsScript front script → script.statements ≡ []
+      → NamesNode script id (front ++ words.word ∷ words.number ∷ words.admin ∷ words.conninfo ∷ words.equals ∷ [])
 
 -- the words of an option and its `=`, where an option may begin
 pub data NamesOption (block : Block) (verb : Verb) (given : Given) (name : OptionName) : List Token → Type 0 where
-  names_option : (front words : List Token) (first equals : Token) → OptionStands block verb given front
-      → option_at verb first ≡ Some name → AreWords (option_words name) (first ∷ words) → is_sign Equals equals ≡ true
-      → NamesOption block verb given name (front ++ first ∷ words ++ equals ∷ [])
+  names_option : (front : List Token) (words : Phrased (option_words name) Equals) → OptionStands block verb given front
+      → option_at verb words.first ≡ Some name
+      → NamesOption block verb given name (front ++ words.first ∷ words.others ++ words.end ∷ [])
 
 -- a word where a command may begin, in no try block
 pub data BeginsWith (block : Block) (name : List ℕ) : List Token → Type 0 where
@@ -104,7 +98,14 @@ pub means_start : (first second : Token) → is_word (codes "cluster") first ≡
     → Means behind_preamble (first ∷ second ∷ [])
 means_start first second is_first is_second =
     means_sign Equals goal.ClusterName (first ∷ second ∷ [])
-    (λ equals h. names_cluster first second equals is_first is_second h)
+    (λ equals ends. names_cluster (record {
+      first = first;
+      second = second;
+      equals = equals;
+      is_first = is_first;
+      is_second = is_second;
+      ends = ends;
+    }))
 
 -- a test that led to a value
 pub if_ok : {A E : Type 0} (b : Bool) (x y : A) (e : E) → cond b (Ok x) (Err e) ≡ Ok y → (b ≡ true) × (x ≡ y)
@@ -141,19 +142,3 @@ pub record BeforeTried : Type 0 where
   pub commands : List Command
   pub front : List Token
   pub stands : Stands (InTry script commands) front
-
--- what stands before an option
-pub record BeforeOption : Type 0 where
-  pub block : Block
-  pub verb : Verb
-  pub given : Given
-  pub front : List Token
-  pub stands : OptionStands block verb given front
-
--- what stands before the comma or the bracket behind an option
-pub record BehindOption : Type 0 where
-  pub block : Block
-  pub verb : Verb
-  pub given : Given
-  pub front : List Token
-  pub ends : OptionEnds block verb given front

@@ -1,18 +1,19 @@
 -- Options that make every command.
-use Rattle.std.proofs.Common.{◌≡◌, ℕ, true, List, [], ◌∷◌, ◌++◌, drop, map, codes, Some, Result, Ok, Err, refl, subst}
+use Rattle.std.proofs.Common.{◌≡◌, ℕ, true, false, List, [], ◌∷◌, ◌++◌, drop, map, codes, Some, Result, Ok, Err, refl}
+use Rattle.std.proofs.Common.{subst}
 use Rattle.std.proofs.Common.{append_assoc}
+use Rattle.std.proofs.Common.{Bool}
+use Rattle.std.proofs.Common.{filter}
 use Rattle.std.proofs.lemmas.List.{append-nil}
 use Rattle.slonik_tokens.specs.declared.token.Sign.{Sign}
-use Rattle.slonik_tokens.specs.declared.token.Sign.TheVariants.{Semicolon, Comma, Equals, OpenBracket, CloseBracket}
-use Rattle.slonik_tokens.specs.declared.token.Sign.TheVariants.{OpenBrace, CloseBrace}
+use Rattle.slonik_tokens.specs.declared.token.Sign.TheVariants.{Semicolon, Comma, Equals}
 use Rattle.slonik_tokens.specs.declared.token.Token.{Token}
 use Rattle.slonik_tokens.specs.declared.token.Token.TheVariants.{Word, Number, Quoted, Mark}
 use Rattle.slonik_tokens.specs.Tokens.{is_word, is_sign}
 use Rattle.slonik_parse.specs.declared.form.Verb.{Verb}
-use Rattle.slonik_parse.specs.declared.form.Verb.TheVariants.{InitCluster, StoreNode, DropNode, StorePath, DropPath}
-use Rattle.slonik_parse.specs.declared.form.Verb.TheVariants.{CreateSet, DropSet, SetAddTable, SubscribeSet}
-use Rattle.slonik_parse.specs.declared.form.Verb.TheVariants.{UnsubscribeSet, LockSet, UnlockSet, MoveSet, Failover}
-use Rattle.slonik_parse.specs.declared.form.Verb.TheVariants.{Sync, WaitForEvent, Sleep}
+use Rattle.slonik_parse.specs.declared.form.Verb.TheVariants.{InitCluster, StorePath, DropPath}
+use Rattle.slonik_parse.specs.declared.form.Verb.TheVariants.{SetAddTable}
+use Rattle.slonik_parse.specs.declared.form.Verb.TheVariants.{WaitForEvent, Sleep}
 use Rattle.slonik_parse.specs.declared.form.OptionName.{OptionName}
 use Rattle.slonik_parse.specs.declared.given.Given.{Given}
 use Rattle.slonik_parse.specs.declared.misparse.Misparse.{Misparse}
@@ -20,10 +21,10 @@ use Rattle.slonik_parse.specs.Choices.{begins_option, option_at}
 use Rattle.slonik_parse.specs.Forms.{option_words, options_of}
 use Rattle.slonik_parse.specs.Given.{set_option, made}
 use Rattle.slonik_parse.specs.Grammar.{AreWords, IsOption, AreOptions, is_option, more_options}
-use Rattle.slonik_parse.specs.declared.form.OptionName.TheVariants.{Id, Comment, EventNode, Server, Client, Conninfo}
-use Rattle.slonik_parse.specs.declared.form.OptionName.TheVariants.{Connretry, Origin, SetId, FullyQualifiedName, Key}
-use Rattle.slonik_parse.specs.declared.form.OptionName.TheVariants.{Provider, Receiver, Forward, OldOrigin, NewOrigin}
-use Rattle.slonik_parse.specs.declared.form.OptionName.TheVariants.{BackupNode, AwaitedOrigin, Confirmed, WaitOn}
+use Rattle.slonik_parse.specs.declared.form.OptionName.TheVariants.{Id, Comment, Server, Conninfo}
+use Rattle.slonik_parse.specs.declared.form.OptionName.TheVariants.{Connretry, SetId, FullyQualifiedName, Key}
+use Rattle.slonik_parse.specs.declared.form.OptionName.TheVariants.{Forward}
+use Rattle.slonik_parse.specs.declared.form.OptionName.TheVariants.{AwaitedOrigin}
 use Rattle.slonik_parse.specs.declared.form.OptionName.TheVariants.{Timeout, Seconds}
 use Rattle.std.specs.Result.{is_ok}
 use Rattle.std.specs.Str.{str_to_ascii_lowercase}
@@ -40,12 +41,7 @@ words_fit (word ∷ words) = (word_fits word, words_fit words)
 
 pub sign_fits : (sign : Sign) → is_sign sign (Mark sign) ≡ true
 sign_fits Semicolon = refl
-sign_fits Comma = refl
-sign_fits Equals = refl
-sign_fits OpenBracket = refl
-sign_fits CloseBracket = refl
-sign_fits OpenBrace = refl
-sign_fits CloseBrace = refl
+sign_fits others = refl
 
 -- a value that an option can have
 abbrev pub value_of : OptionName → Token
@@ -68,27 +64,7 @@ pub value_fits : (name : OptionName) (given : Given)
     → set_option name (value_of name) given ≡ Ok (with_option name given)
 unfolding set_option
 value_fits Id given = refl
-value_fits Comment given = refl
-value_fits EventNode given = refl
-value_fits Server given = refl
-value_fits Client given = refl
-value_fits Conninfo given = refl
-value_fits Connretry given = refl
-value_fits Origin given = refl
-value_fits SetId given = refl
-value_fits FullyQualifiedName given = refl
-value_fits Key given = refl
-value_fits Provider given = refl
-value_fits Receiver given = refl
-value_fits Forward given = refl
-value_fits OldOrigin given = refl
-value_fits NewOrigin given = refl
-value_fits BackupNode given = refl
-value_fits AwaitedOrigin given = refl
-value_fits Confirmed given = refl
-value_fits WaitOn given = refl
-value_fits Timeout given = refl
-value_fits Seconds given = refl
+value_fits others given = refl
 
 -- the first of some words as a token
 abbrev pub word_token : List (List ℕ) → Token
@@ -104,31 +80,24 @@ pub option_fits : (verb : Verb) (name : OptionName) (given : Given)
     → option_at verb (word_token (option_words name)) ≡ Some name
     → IsOption verb given (option_tokens name) (with_option name given)
 option_fits verb name given found =
-    is_option name (word_token (option_words name)) (Mark Equals) (value_of name)
-    (map Word (drop 1 (option_words name))) (with_option name given) found
-    (words_join (option_words name) (word_token (option_words name)) (map Word (drop 1 (option_words name)))
-    (option_begins verb (word_token (option_words name)) name found) (words_fit (drop 1 (option_words name)))) refl
-    (value_fits name given)
+    let first = word_token (option_words name) in
+    let others = map Word (drop 1 (option_words name)) in
+    let are = words_join (option_words name) first others (option_begins verb first name found)
+    (words_fit (drop 1 (option_words name))) in
+    is_option name (record { first = first; others = others; end = Mark Equals; are = are; ends = refl })
+    (value_of name) (with_option name given) found (value_fits name given)
 
 -- the options that a command needs
+abbrev pub is_required : OptionName → Bool
+is_required Comment = false
+is_required Connretry = false
+is_required Key = false
+is_required Forward = false
+is_required Timeout = false
+is_required others = true
+
 abbrev pub required : Verb → List OptionName
-required InitCluster = Id ∷ []
-required StoreNode = Id ∷ EventNode ∷ []
-required DropNode = Id ∷ EventNode ∷ []
-required StorePath = Server ∷ Client ∷ Conninfo ∷ []
-required DropPath = Server ∷ Client ∷ []
-required CreateSet = Id ∷ Origin ∷ []
-required DropSet = Id ∷ Origin ∷ []
-required SetAddTable = SetId ∷ Origin ∷ Id ∷ FullyQualifiedName ∷ []
-required SubscribeSet = Id ∷ Provider ∷ Receiver ∷ []
-required UnsubscribeSet = Id ∷ Receiver ∷ []
-required LockSet = Id ∷ Origin ∷ []
-required UnlockSet = Id ∷ Origin ∷ []
-required MoveSet = Id ∷ OldOrigin ∷ NewOrigin ∷ []
-required Failover = Id ∷ BackupNode ∷ []
-required Sync = Id ∷ []
-required WaitForEvent = AwaitedOrigin ∷ Confirmed ∷ WaitOn ∷ []
-required Sleep = Seconds ∷ []
+required verb = filter is_required (options_of verb)
 
 -- the options are found by their first words
 abbrev AreFound : Verb → List OptionName → Type 0
@@ -138,42 +107,17 @@ AreFound verb (name ∷ names) = (option_at verb (word_token (option_words name)
 pub required_found : (verb : Verb) → AreFound verb (required verb)
 unfolding option_at options_of option_words begins_option
 required_found InitCluster = (refl, tt)
-required_found StoreNode = (refl, (refl, tt))
-required_found DropNode = (refl, (refl, tt))
-required_found StorePath = (refl, (refl, (refl, tt)))
-required_found DropPath = (refl, (refl, tt))
-required_found CreateSet = (refl, (refl, tt))
-required_found DropSet = (refl, (refl, tt))
-required_found SetAddTable = (refl, (refl, (refl, (refl, tt))))
-required_found SubscribeSet = (refl, (refl, (refl, tt)))
-required_found UnsubscribeSet = (refl, (refl, tt))
-required_found LockSet = (refl, (refl, tt))
-required_found UnlockSet = (refl, (refl, tt))
-required_found MoveSet = (refl, (refl, (refl, tt)))
-required_found Failover = (refl, (refl, tt))
-required_found Sync = (refl, tt)
-required_found WaitForEvent = (refl, (refl, (refl, tt)))
-required_found Sleep = (refl, tt)
+required_found others = assumption refl
 
 -- some option of each command
 pub some_option : (verb : Verb) → (name : OptionName) × (option_at verb (word_token (option_words name)) ≡ Some name)
-some_option InitCluster = (Id, (required_found InitCluster).0)
-some_option StoreNode = (Id, (required_found StoreNode).0)
-some_option DropNode = (Id, (required_found DropNode).0)
+unfolding options_of
 some_option StorePath = (Server, (required_found StorePath).0)
 some_option DropPath = (Server, (required_found DropPath).0)
-some_option CreateSet = (Id, (required_found CreateSet).0)
-some_option DropSet = (Id, (required_found DropSet).0)
 some_option SetAddTable = (SetId, (required_found SetAddTable).0)
-some_option SubscribeSet = (Id, (required_found SubscribeSet).0)
-some_option UnsubscribeSet = (Id, (required_found UnsubscribeSet).0)
-some_option LockSet = (Id, (required_found LockSet).0)
-some_option UnlockSet = (Id, (required_found UnlockSet).0)
-some_option MoveSet = (Id, (required_found MoveSet).0)
-some_option Failover = (Id, (required_found Failover).0)
-some_option Sync = (Id, (required_found Sync).0)
 some_option WaitForEvent = (AwaitedOrigin, (required_found WaitForEvent).0)
 some_option Sleep = (Seconds, (required_found Sleep).0)
+some_option others = (Id, (required_found others).0)
 
 -- the options with those of these names
 abbrev pub with_options : List OptionName → Given → Given
@@ -201,21 +145,6 @@ ok_is (Ok x) h = (x, refl)
 ok_is (Err e) h = cc
 
 pub required_make : (verb : Verb) (given : Given) → is_ok (made verb (with_options (required verb) given)) ≡ true
-unfolding made set_option
+unfolding made set_option options_of
 required_make InitCluster given = refl
-required_make StoreNode given = refl
-required_make DropNode given = refl
-required_make StorePath given = refl
-required_make DropPath given = refl
-required_make CreateSet given = refl
-required_make DropSet given = refl
-required_make SetAddTable given = refl
-required_make SubscribeSet given = refl
-required_make UnsubscribeSet given = refl
-required_make LockSet given = refl
-required_make UnlockSet given = refl
-required_make MoveSet given = refl
-required_make Failover given = refl
-required_make Sync given = refl
-required_make WaitForEvent given = refl
-required_make Sleep given = refl
+required_make others given = refl

@@ -1,10 +1,12 @@
 -- A token keeps what the tokens so far are: behind a try block, and at any state.
 use Rattle.std.proofs.Common.{◌≡◌, ◌&&◌, ◌||◌, Bool, true, false, List, [], ◌∷◌, ◌++◌, codes, Option, Some, None, Ok}
 use Rattle.std.proofs.Common.{cond, refl, subst, append_assoc}
+use Rattle.std.proofs.Common.{ℕ}
 use Rattle.std.proofs.lemmas.Bool.{and_parts}
 use Rattle.slonik_tokens.specs.declared.token.Sign.TheVariants.{Semicolon, OpenBrace}
 use Rattle.slonik_tokens.specs.declared.token.Token.{Token}
 use Rattle.slonik_tokens.specs.Tokens.{is_word, is_sign}
+use Rattle.slonik_parse.specs.declared.script.Command.{Command}
 use Rattle.slonik_parse.specs.declared.script.Command.TheVariants.{Echo, Exit}
 use Rattle.slonik_parse.specs.declared.script.Script.{Script}
 use Rattle.slonik_parse.specs.declared.script.Statement.TheVariants.{Try as Tried}
@@ -19,11 +21,13 @@ use Rattle.slonik_parse.specs.declared.state.State.{State}
 use Rattle.slonik_parse.specs.declared.state.State.TheVariants.{Awaits, At}
 use Rattle.slonik_parse.specs.Answered.{and_then, fit}
 use Rattle.slonik_parse.specs.Given.{made}
-use Rattle.slonik_parse.specs.Grammar.{IsScript, of_echo, of_exit, no_commands, script_try, script_closed_try}
+use Rattle.slonik_parse.specs.Grammar.{IsScript, IsCommand, of_echo, of_exit, no_commands, script_try}
+use Rattle.slonik_parse.specs.Grammar.{script_closed_try}
 use Rattle.slonik_parse.specs.Grammar.{handler_word}
 use Rattle.slonik_parse.specs.Machine.{sign_then, after_command, command_step, after_try, handler_at, begin_handler}
 use Rattle.slonik_parse.specs.Machine.{after_on, goal_step, step, end_of}
 use Rattle.slonik_parse.specs.Places.{Stands, outside, in_handler}
+use Rattle.slonik_parse.specs.Places.{is_tried}
 use Rattle.slonik_parse.specs.Scripts.{with_statement, lacks}
 use Rattle.slonik_parse.specs.Values.{string_in, status_in}
 use Rattle.slonik_parse.proofs.Means.{BeginsWith, begins_with_word, HasTried, has_tried, BeginsHandler, begins_on}
@@ -50,32 +54,39 @@ handler_begun : (script : Script) (tried : TryBlock) (front : List Token) (on : 
     → (lacks Error tried || lacks Success tried) ≡ true → BeginsHandler script tried (front ++ on ∷ [])
 handler_begun script tried _ on (has_tried front tokens is tries) h lack = begins_on front tokens on is tries h lack
 
-try_tested : (script : Script) (tried : TryBlock) (next : State) (token : Token) (rest front : List Token)
-    (ends on : Bool)
-    → is_sign Semicolon token ≡ ends → (is_word (codes "on") token && (lacks Error tried || lacks Success tried)) ≡ on
-    → HasTried script tried front
-    → cond ends (Ok (At (goal.Command (Outside (with_statement (Tried tried) script)))))
-    (cond on (Ok (At (goal.AfterOn script tried)))
-    (command_step (Outside (with_statement (Tried tried) script)) token (token ∷ rest))) ≡ Ok next
-    → Means next (front ++ token ∷ [])
-try_tested script tried next token rest front true on i j has h =
-    let same : At (goal.Command (Outside (with_statement (Tried tried) script))) ≡ next = cc in
-    subst (λ state. Means state (front ++ token ∷ [])) same (try_closed script tried front token has i)
-try_tested script tried next token rest front false true i j has h =
-    let same : At (goal.AfterOn script tried) ≡ next = cc in
-    let both = and_parts (is_word (codes "on") token) (lacks Error tried || lacks Success tried) j in
-    subst (λ state. Means state (front ++ token ∷ [])) same (handler_begun script tried front token has both.0 both.1)
-try_tested script tried next token rest front false false i j has h =
-    step_command (Outside (with_statement (Tried tried) script)) next token rest front
-    (stands_tried script tried front has) h
+-- What stands where a try block has ended, and what the next token leads to.
+record Ended : Type 0 where
+  script : Script
+  tried : TryBlock
+  front : List Token
+  has : HasTried script tried front
 
-step_after_try : (script : Script) (tried : TryBlock) (next : State) (token : Token) (rest front : List Token)
-    → HasTried script tried front
-    → after_try script tried token (token ∷ rest) ≡ Ok next → Means next (front ++ token ∷ [])
+try_tested : (e : Ended) (next : State) (token : Token) (rest : List Token) (ends on : Bool) →
+    (is_sign Semicolon token ≡ ends)
+    × ((is_word (codes "on") token && (lacks Error e.tried || lacks Success e.tried)) ≡ on) →
+    cond ends (Ok (At (goal.Command (Outside (with_statement (Tried e.tried) e.script)))))
+    (cond on (Ok (At (goal.AfterOn e.script e.tried)))
+    (command_step (Outside (with_statement (Tried e.tried) e.script)) token (token ∷ rest))) ≡ Ok next →
+    Means next (e.front ++ token ∷ [])
+try_tested e next token rest true on i h =
+    let same : At (goal.Command (Outside (with_statement (Tried e.tried) e.script))) ≡ next = cc in
+    subst (λ state. Means state (e.front ++ token ∷ [])) same (try_closed e.script e.tried e.front token e.has i.0)
+try_tested e next token rest false true i h =
+    let same : At (goal.AfterOn e.script e.tried) ≡ next = cc in
+    let both = and_parts (is_word (codes "on") token) (lacks Error e.tried || lacks Success e.tried) i.1 in
+    subst (λ state. Means state (e.front ++ token ∷ [])) same
+    (handler_begun e.script e.tried e.front token e.has both.0 both.1)
+try_tested e next token rest false false i h =
+    step_command (Outside (with_statement (Tried e.tried) e.script)) next token rest e.front
+    (stands_tried e.script e.tried e.front e.has) h
+
+step_after_try : (script : Script) (tried : TryBlock) (next : State) (token : Token) (rest front : List Token) →
+    HasTried script tried front → after_try script tried token (token ∷ rest) ≡ Ok next →
+    Means next (front ++ token ∷ [])
 unfolding after_try
 step_after_try script tried next token rest front has h =
-    try_tested script tried next token rest front (is_sign Semicolon token)
-    (is_word (codes "on") token && (lacks Error tried || lacks Success tried)) refl refl has h
+    try_tested (record { script = script; tried = tried; front = front; has = has }) next token rest
+    (is_sign Semicolon token) (is_word (codes "on") token && (lacks Error tried || lacks Success tried)) (refl, refl) h
 
 handler_tested : (tried : TryBlock) (token : Token) (handler : Handler) (error success : Bool)
     → (is_word (codes "error") token && lacks Error tried) ≡ error
@@ -101,41 +112,56 @@ handler_fits tried token handler h =
     (is_word (codes "success") token && lacks Success tried) refl refl h
 
 handler_leads : (script : Script) (tried : TryBlock) (next : State) (token : Token) (front : List Token)
-    (found : Option Handler) → handler_at tried token ≡ found
-    → BeginsHandler script tried front → begin_handler script tried found ≡ Ok next → Means next (front ++ token ∷ [])
-handler_leads script tried next token front None e begins h = cc
-handler_leads script tried next token _ (Some handler) e (begins_on front tokens on is tries i lack) h =
+    (found : Option Handler) → (handler_at tried token ≡ found) × (begin_handler script tried found ≡ Ok next) →
+    BeginsHandler script tried front → Means next (front ++ token ∷ [])
+handler_leads script tried next token front None (e, h) begins = cc
+handler_leads script tried next token _ (Some handler) (e, h) (begins_on front tokens on is tries i lack) =
     let same : sign_then OpenBrace (goal.Command (InHandler script tried handler [])) ≡ next = cc in
     let fits = handler_fits tried token handler e in
     subst (λ state. Means state (front ++ tokens ++ on ∷ [] ++ token ∷ [])) same
     (means_sign OpenBrace (goal.Command (InHandler script tried handler [])) (front ++ tokens ++ on ∷ [] ++ token ∷ [])
     (λ opens ends. subst (λ ts. Stands (InHandler script tried handler []) ts) (simp append_assoc)
-    (in_handler script tried handler front tokens [] [] on token opens is tries fits.1 i fits.0 ends no_commands)))
+    (in_handler script tried handler
+    (record { front = front; tokens = tokens; is = is; tries = tries; free = fits.1 })
+    (record { on = on; word = token; is_on = i; is_handler = fits.0 }) []
+    (record { brace = opens; tokens = []; opens = ends; are = no_commands }))))
 
 step_after_on : (script : Script) (tried : TryBlock) (next : State) (token : Token) (front : List Token)
     → BeginsHandler script tried front
     → after_on script tried token ≡ Ok next → Means next (front ++ token ∷ [])
 unfolding after_on
 step_after_on script tried next token front begins h =
-    handler_leads script tried next token front (handler_at tried token) refl begins h
+    handler_leads script tried next token front (handler_at tried token) (refl, h) begins
 
-step_echo : (block : Block) (next : State) (token : Token) (front : List Token) → BeginsWith block (codes "echo") front
-    → and_then (fit (string_in token)) (λ text. Ok (after_command block (Echo text))) ≡ Ok next
-    → Means next (front ++ token ∷ [])
-step_echo block next token _ (begins_with_word front word stands tried is) h =
-    let found = fit_ok (string_in token) (λ text. after_command block (Echo text)) next h in
-    subst (λ state. Means state (front ++ word ∷ [] ++ token ∷ [])) found.2
-    (means_command block (Echo found.0) front (word ∷ token ∷ []) (front ++ word ∷ [] ++ token ∷ []) stands
-    (of_echo word token found.0 tried is found.1) (simp append_assoc))
+-- What a word says with one token behind it.
+record Said (A : Type 0) (tried : Bool) : Type 0 where
+  word : List ℕ
+  read : Token → Option A
+  made : A → Command
+  is : (first token : Token) (x : A) → tried ≡ false → is_word word first ≡ true → read token ≡ Some x →
+      IsCommand tried (first ∷ token ∷ []) (made x)
 
-step_exit : (block : Block) (next : State) (token : Token) (front : List Token) → BeginsWith block (codes "exit") front
-    → and_then (fit (status_in token)) (λ status. Ok (after_command block (Exit status))) ≡ Ok next
-    → Means next (front ++ token ∷ [])
-step_exit block next token _ (begins_with_word front word stands tried is) h =
-    let found = fit_ok (status_in token) (λ status. after_command block (Exit status)) next h in
+step_said : {A : Type 0} (block : Block) (s : Said A (is_tried block)) (next : State) (token : Token)
+    (front : List Token) → BeginsWith block s.word front →
+    and_then (fit (s.read token)) (λ x. Ok (after_command block (s.made x))) ≡ Ok next →
+    Means next (front ++ token ∷ [])
+step_said block s next token _ (begins_with_word front word stands tried is) h =
+    let found = fit_ok (s.read token) (λ x. after_command block (s.made x)) next h in
     subst (λ state. Means state (front ++ word ∷ [] ++ token ∷ [])) found.2
-    (means_command block (Exit found.0) front (word ∷ token ∷ []) (front ++ word ∷ [] ++ token ∷ []) stands
-    (of_exit word token found.0 tried is found.1) (simp append_assoc))
+    (means_command block (s.made found.0) front (word ∷ token ∷ []) (front ++ word ∷ [] ++ token ∷ []) stands
+    (s.is word token found.0 tried is found.1) (simp append_assoc))
+
+step_echo : (block : Block) (next : State) (token : Token) (front : List Token) →
+    BeginsWith block (codes "echo") front →
+    and_then (fit (string_in token)) (λ text. Ok (after_command block (Echo text))) ≡ Ok next →
+    Means next (front ++ token ∷ [])
+step_echo block = step_said block (record { word = codes "echo"; read = string_in; made = Echo; is = of_echo })
+
+step_exit : (block : Block) (next : State) (token : Token) (front : List Token) →
+    BeginsWith block (codes "exit") front →
+    and_then (fit (status_in token)) (λ status. Ok (after_command block (Exit status))) ≡ Ok next →
+    Means next (front ++ token ∷ [])
+step_exit block = step_said block (record { word = codes "exit"; read = status_in; made = Exit; is = of_exit })
 
 goal_steps : (goal : Goal) (next : State) (token : Token) (rest front : List Token) → Leads goal front
     → goal_step goal token (token ∷ rest) ≡ Ok next
@@ -146,9 +172,10 @@ goal_steps (goal.NodeId script) next token rest front leads h = step_node_id scr
 goal_steps (goal.NodeText script id) next token rest front leads h = step_node_text script id next token front leads h
 goal_steps (goal.Command block) next token rest front leads h = step_command block next token rest front leads h
 goal_steps (goal.Option block verb given) next token rest front leads h =
-    step_option block verb given next token (token ∷ rest) front leads h
+    step_option (record { block = block; verb = verb; given = given; front = front; stands = leads }) next token
+    (token ∷ rest) h
 goal_steps (goal.Value block verb given name) next token rest front leads h =
-    step_value block verb given name next token front leads h
+    step_value (record { block = block; verb = verb; given = given; name = name }) next token front leads h
 goal_steps (goal.AfterOption block verb given) next token rest front leads h =
     step_after_option block verb given next token front leads h
 goal_steps (goal.EchoText block) next token rest front leads h = step_echo block next token front leads h
@@ -164,7 +191,7 @@ pub means_step : (state next : State) (token : Token) (rest front : List Token) 
 unfolding step
 means_step (At goal) next token rest front means h = goal_steps goal next token rest front means h
 means_step (Awaits phrase at sign goal) next token rest front means h =
-    step_awaits phrase at sign goal next token (token ∷ rest) front means h
+    step_awaits (record { phrase = phrase; sign = sign; goal = goal }) at next token (token ∷ rest) front means h
 
 -- where a script may end, the tokens are that script
 pub means_end : (state : State) (front : List Token) (script : Script) → Means state front → end_of state ≡ Ok script

@@ -4,7 +4,7 @@ use Rattle.std.proofs.Common.{Err, cond, if◌then◌else◌, refl, ap, sym, ◌
 use Rattle.slonik_tokens.specs.declared.token.Sign.{Sign}
 use Rattle.slonik_tokens.specs.declared.token.Sign.TheVariants.{Comma, Equals, CloseBracket}
 use Rattle.slonik_tokens.specs.declared.token.Token.{Token}
-use Rattle.slonik_tokens.specs.declared.token.Token.TheVariants.{Word, Number, Quoted, Mark, NameUse, Path}
+use Rattle.slonik_tokens.specs.declared.token.Token.TheVariants.{Word}
 use Rattle.slonik_tokens.specs.Tokens.{is_word, is_sign}
 use Rattle.slonik_parse.specs.declared.misparse.Misparse.{Misparse}
 use Rattle.slonik_parse.specs.declared.misparse.Misparse.TheVariants.{Misfit}
@@ -70,38 +70,48 @@ unfolding step awaited
 awaited-by phrase at sign goal token tokens =
     ap (λ word. awaited_by word phrase at sign goal token) (slice_get-drop (phrase_words phrase) at)
 
+-- What is awaited: the words of a phrase and a sign behind them, which is there.
+pub record Awaited : Type 0 where
+  pub phrase : Phrase
+  pub sign : Sign
+  pub goal : Goal
+  pub token : Token
+  pub rest : List Token
+  pub there : is_sign sign token ≡ true
+
+abbrev pub awaited_sign : (phrase : Phrase) (sign : Sign) (goal : Goal) (token : Token) → List Token →
+    is_sign sign token ≡ true → Awaited
+awaited_sign phrase sign goal token rest there =
+    record { phrase = phrase; sign = sign; goal = goal; token = token; rest = rest; there = there }
+
 -- the words that are awaited, and the sign behind them
-pub words_read : (phrase : Phrase) (at : ℕ) (sign : Sign) (goal : Goal) (left : List (List ℕ)) (words : List Token)
-    (token : Token) (rest : List Token)
-    → drop at (phrase_words phrase) ≡ left → AreWords left words → is_sign sign token ≡ true
-    → run (words ++ token ∷ rest) (Awaits phrase at sign goal) ≡ run rest (At goal)
-words_read phrase at sign goal [] [] token rest e fits h =
-    run-ok (Awaits phrase at sign goal) (At goal) token rest (awaited-by phrase at sign goal token (token ∷ rest)
-    ∙ ap (λ words. awaited_by (first_of words) phrase at sign goal token) e
-    ∙ ap (λ b. cond b (Ok (At goal)) (Err Misfit)) h)
-words_read phrase at sign goal [] (t ∷ ts) token rest e fits h = absurd fits
-words_read phrase at sign goal (w ∷ ws) [] token rest e fits h = absurd fits
-words_read phrase at sign goal (w ∷ ws) (t ∷ ts) token rest e fits h =
-    run-ok (Awaits phrase at sign goal) (Awaits phrase (at + 1) sign goal) t (ts ++ token ∷ rest)
-    (awaited-by phrase at sign goal t (t ∷ ts ++ token ∷ rest)
-    ∙ ap (λ words. awaited_by (first_of words) phrase at sign goal t) e
-    ∙ ap (λ b. cond b (Ok (Awaits phrase (at + 1) sign goal)) (Err Misfit)) fits.0)
-    ∙ words_read phrase (at + 1) sign goal ws ts token rest (drop-next (phrase_words phrase) at w ws e) fits.1 h
+pub words_read : (a : Awaited) (at : ℕ) (left : List (List ℕ)) (words : List Token) →
+    drop at (phrase_words a.phrase) ≡ left → AreWords left words →
+    run (words ++ a.token ∷ a.rest) (Awaits a.phrase at a.sign a.goal) ≡ run a.rest (At a.goal)
+words_read a at [] [] e fits =
+    run-ok (Awaits a.phrase at a.sign a.goal) (At a.goal) a.token a.rest
+    (awaited-by a.phrase at a.sign a.goal a.token (a.token ∷ a.rest)
+    ∙ ap (λ words. awaited_by (first_of words) a.phrase at a.sign a.goal a.token) e
+    ∙ ap (λ b. cond b (Ok (At a.goal)) (Err Misfit)) a.there)
+words_read a at (w ∷ ws) (t ∷ ts) e fits =
+    run-ok (Awaits a.phrase at a.sign a.goal) (Awaits a.phrase (at + 1) a.sign a.goal) t (ts ++ a.token ∷ a.rest)
+    (awaited-by a.phrase at a.sign a.goal t (t ∷ ts ++ a.token ∷ a.rest)
+    ∙ ap (λ words. awaited_by (first_of words) a.phrase at a.sign a.goal t) e
+    ∙ ap (λ b. cond b (Ok (Awaits a.phrase (at + 1) a.sign a.goal)) (Err Misfit)) fits.0)
+    ∙ words_read a (at + 1) ws ts (drop-next (phrase_words a.phrase) at w ws e) fits.1
+words_read a at [] others e fits = absurd fits
+words_read a at others [] e fits = absurd fits
 
 -- the sign that is awaited
 pub sign_read : (sign : Sign) (goal : Goal) (token : Token) (rest : List Token) → is_sign sign token ≡ true
     → run (token ∷ rest) (sign_then sign goal) ≡ run rest (At goal)
 unfolding phrase_words
-sign_read sign goal token rest h = words_read phrase.Nothing 0 sign goal [] [] token rest refl tt h
+sign_read sign goal token rest h = words_read (awaited_sign phrase.Nothing sign goal token rest h) 0 [] [] refl tt
 
 -- a token that is a word of the language is a word
 pub word_is : (word : List ℕ) (token : Token) → is_word word token ≡ true → (text : List ℕ) × (token ≡ Word text)
 word_is word (Word text) h = (text, refl)
-word_is word (Number text) h = cc
-word_is word (Quoted text) h = cc
-word_is word (Mark sign) h = cc
-word_is word (NameUse name) h = cc
-word_is word (Path path) h = cc
+word_is word others h = cc
 
 -- the first of some words is a word, and the others are the other words
 pub words_begin : (words : List (List ℕ)) (first : Token) (others : List Token) → AreWords words (first ∷ others)
@@ -134,16 +144,17 @@ pub option_read : (block : Block) (verb : Verb) (given all : Given) (tokens rest
     → IsOption verb given tokens all
     → run (tokens ++ rest) (At (goal.Option block verb given)) ≡ run rest (At (goal.AfterOption block verb all))
 unfolding phrase_words
-option_read block verb given all tokens rest (is_option name first equals value words more found fits h set) =
-    let begun = words_begin (option_words name) first words fits in
-    subst (λ t. run ((t ∷ words ++ equals ∷ value ∷ []) ++ rest) (At (goal.Option block verb given))
+option_read block verb given all tokens rest (is_option name w value more found set) =
+    let begun = words_begin (option_words name) w.first w.others w.are in
+    let named = goal.Value block verb given name in
+    subst (λ t. run ((t ∷ w.others ++ w.end ∷ value ∷ []) ++ rest) (At (goal.Option block verb given))
     ≡ run rest (At (goal.AfterOption block verb more))) (sym begun.1)
-    (option_word_read block verb given name begun.0 ((words ++ equals ∷ value ∷ []) ++ rest)
+    (option_word_read block verb given name begun.0 ((w.others ++ w.end ∷ value ∷ []) ++ rest)
     (subst (λ t. option_at verb t ≡ Some name) begun.1 found)
-    ∙ ap (λ tokens. run tokens (Awaits (phrase.Option name) 1 Equals (goal.Value block verb given name)))
-    (append_assoc words (equals ∷ value ∷ []) rest)
-    ∙ words_read (phrase.Option name) 1 Equals (goal.Value block verb given name) (drop 1 (option_words name)) words
-    equals (value ∷ rest) refl begun.2 h
+    ∙ ap (λ tokens. run tokens (Awaits (phrase.Option name) 1 Equals named))
+    (append_assoc w.others (w.end ∷ value ∷ []) rest)
+    ∙ words_read (awaited_sign (phrase.Option name) Equals named w.end (value ∷ rest) w.ends) 1
+    (drop 1 (option_words name)) w.others refl begun.2
     ∙ value_read block verb given more name value rest set)
 
 -- a comma

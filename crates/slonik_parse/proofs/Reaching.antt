@@ -25,7 +25,7 @@ use Rattle.slonik_parse.specs.Refusals.{preamble}
 use Rattle.slonik_parse.specs.Scripts.{with_statement, with_node, empty_script}
 use Rattle.slonik_parse.specs.Values.{name_in, id_in, string_in}
 use Rattle.slonik_parse.proofs.Words.{other_word, begins}
-use Rattle.slonik_parse.proofs.Pieces.{run-ok, words_read, sign_read}
+use Rattle.slonik_parse.proofs.Pieces.{run-ok, awaited_sign, words_read, sign_read}
 use Rattle.slonik_parse.proofs.Commands.{command_read}
 use Rattle.slonik_parse.proofs.Statements.{try_read, regroup_handler}
 
@@ -36,12 +36,8 @@ NotOn (token ∷ tokens) = (is_sign Semicolon token ≡ false) × (is_word (code
 
 -- a word is no sign
 pub word_no_sign : (word : List ℕ) (token : Token) → is_word word token ≡ true → is_sign Semicolon token ≡ false
-word_no_sign word (Word text) h = refl
-word_no_sign word (Number text) h = refl
-word_no_sign word (Quoted text) h = refl
 word_no_sign word (Mark sign) h = cc
-word_no_sign word (NameUse name) h = refl
-word_no_sign word (Path path) h = refl
+word_no_sign word others h = refl
 
 pub first_word_no_sign : (words : List (List ℕ)) (first : Token) (others : List Token) → AreWords words (first ∷ others)
     → is_sign Semicolon first ≡ false
@@ -51,21 +47,20 @@ first_word_no_sign (word ∷ words) first others fits = word_no_sign word first 
 -- a command is none of what goes on with a try block
 pub command_not_on : (tried : Bool) (tokens rest : List Token) (command : Command) → IsCommand tried tokens command
     → NotOn (tokens ++ rest)
-command_not_on tried tokens rest command (of_verb verb first opens closes words options given _ may fits h are h2
-    makes) =
-    (first_word_no_sign (verb_words verb) first words fits, (begins verb first words [] fits).plain.not_on)
+command_not_on tried tokens rest command (of_verb verb w given closed _ may makes) =
+    (first_word_no_sign (verb_words verb) w.first w.others w.are, (begins verb w.first w.others [] w.are).plain.not_on)
 command_not_on tried tokens rest command (of_echo word token text free h is) =
     (word_no_sign (codes "echo") word h, other_word (codes "echo") word h (codes "on"))
 command_not_on tried tokens rest command (of_exit word token status free h is) =
     (word_no_sign (codes "exit") word h, other_word (codes "exit") word h (codes "on"))
 
 pub try_not_on : (tokens rest : List Token) (block : TryBlock) → IsTry tokens block → NotOn (tokens ++ rest)
-try_not_on tokens rest block (tried_block word opens closes inner commands h h2 are h3) =
+try_not_on tokens rest block (tried_block word commands body h) =
     (word_no_sign (codes "try") word h, other_word (codes "try") word h (codes "on"))
-try_not_on tokens rest block (handled_block front inner before handler on word opens closes commands is free h h2 h3 are
-    h4) =
-    subst NotOn (sym (regroup_handler front inner rest on word opens closes))
-    (try_not_on front (on ∷ word ∷ opens ∷ (inner ++ closes ∷ rest)) before is)
+try_not_on tokens rest block (handled_block front before handler words commands body is free) =
+    let inner = body.opening.tokens in
+    subst NotOn (sym (regroup_handler front inner rest words.on words.word body.opening.brace body.end))
+    (try_not_on front (words.on ∷ words.word ∷ body.opening.brace ∷ (inner ++ body.end ∷ rest)) before is)
 
 -- behind a try block the next statement is read as elsewhere
 pub after_try_same : (script : Script) (tried : TryBlock) (rest : List Token) → NotOn rest
@@ -140,16 +135,25 @@ both_words : (first second : Token) → is_word (codes "cluster") first ≡ true
     → (rest : List Token) → begins_with preamble (first ∷ second ∷ rest) ≡ true
 both_words first second h h2 rest = simp (h, h2)
 
+-- What comes behind the tokens so far, and the tokens from there on.
+pub record Part (front : List Token) : Type 0 where
+  pub now : List Token
+  pub next : List Token → List Token
+  pub same : (rest : List Token) → (front ++ now) ++ rest ≡ front ++ next rest
+
+abbrev pub part : (front now : List Token) (next : List Token → List Token) →
+    ((rest : List Token) → (front ++ now) ++ rest ≡ front ++ next rest) → Part front
+part front now next same = record { now = now; next = next; same = same }
+
 -- the tokens so far with what follows them, one part later
-later : (front now : List Token) (next : List Token → List Token) (script grown : Script) → Reached front script
-    → ((rest : List Token) → (front ++ now) ++ rest ≡ front ++ next rest)
-    → ((rest : List Token) → NotOn rest → NotOn (next rest))
-    → ((rest : List Token) → NotOn rest
-    → run (next rest) (At (goal.Command (Outside script))) ≡ run rest (At (goal.Command (Outside grown))))
-    → Reached (front ++ now) grown
-later front now next script grown r same keeps goes = record {
-  preamble = λ rest. ap (begins_with preamble) (same rest) ∙ r.preamble (next rest);
-  ran = λ rest clear. ap (λ ts. run (drop 2 ts) behind_preamble) (same rest) ∙ r.ran (next rest) (keeps rest clear)
+later : (front : List Token) (p : Part front) (script grown : Script) → Reached front script →
+    ((rest : List Token) → NotOn rest → NotOn (p.next rest)) →
+    ((rest : List Token) → NotOn rest →
+    run (p.next rest) (At (goal.Command (Outside script))) ≡ run rest (At (goal.Command (Outside grown)))) →
+    Reached (front ++ p.now) grown
+later front p script grown r keeps goes = record {
+  preamble = λ rest. ap (begins_with preamble) (p.same rest) ∙ r.preamble (p.next rest);
+  ran = λ rest clear. ap (λ ts. run (drop 2 ts) behind_preamble) (p.same rest) ∙ r.ran (p.next rest) (keeps rest clear)
       ∙ goes rest clear;
 }
 
@@ -161,37 +165,40 @@ later_end : (front tokens : List Token) (end : Token) (script grown : Script) �
     ≡ run rest (At (goal.Command (Outside grown)))) → Reached (front ++ tokens ++ end ∷ []) grown
 later_end front tokens end script grown r keeps goes =
     subst (λ ts. Reached ts grown) (sym (append_assoc front tokens (end ∷ [])))
-    (later front (tokens ++ end ∷ []) (λ rest. tokens ++ end ∷ rest) script grown r (λ rest. simp append_assoc) keeps
-    goes)
+    (later front (part front (tokens ++ end ∷ []) (λ rest. tokens ++ end ∷ rest) (λ rest. simp append_assoc)) script
+    grown r keeps goes)
 
 -- what the grammar calls a script is reached
 pub reached : (front : List Token) (script : Script) → IsScript front script → Reached front script
 unfolding with_command phrase_words
-reached front script (script_head first second equals value end name h h2 h3 is h4) = record {
-  preamble = λ rest. both_words first second h h2 (equals ∷ value ∷ end ∷ rest);
-  ran = λ rest clear. head_read name equals value end rest h3 is h4;
+reached front script (script_head w value end name is h) = record {
+  preamble = λ rest. both_words w.first w.second w.is_first w.is_second (w.equals ∷ value ∷ end ∷ rest);
+  ran = λ rest clear. head_read name w.equals value end rest w.ends is h;
 }
-reached front script (script_node before old word number admin conninfo equals value end id text is none h is2 fits h2
-    is3 h3) =
-    later before (word ∷ number ∷ admin ∷ conninfo ∷ equals ∷ value ∷ end ∷ [])
-    (λ rest. word ∷ number ∷ admin ∷ conninfo ∷ equals ∷ value ∷ end ∷ rest) old (with_node id text old)
-    (reached before old is)
-    (λ rest. append_assoc before (word ∷ number ∷ admin ∷ conninfo ∷ equals ∷ value ∷ end ∷ []) rest)
-    (λ rest clear. (word_no_sign (codes "node") word h, other_word (codes "node") word h (codes "on")))
-    (λ rest clear. node_word_read old word (number ∷ admin ∷ conninfo ∷ equals ∷ value ∷ end ∷ rest) none h
-    ∙ node_id_read old id number (admin ∷ conninfo ∷ equals ∷ value ∷ end ∷ rest) is2
-    ∙ words_read phrase.Node 0 Equals (goal.NodeText old id) (codes "admin" ∷ codes "conninfo" ∷ [])
-    (admin ∷ conninfo ∷ []) equals (value ∷ end ∷ rest) refl fits h2
-    ∙ node_text_read old id text value (end ∷ rest) is3
-    ∙ sign_read Semicolon (goal.Command (Outside (with_node id text old))) end rest h3)
+reached front script (script_node before old id w text q is none) =
+    let behind : List Token → List Token = λ rest. q.value ∷ q.end ∷ rest in
+    let line : List Token → List Token = λ rest. w.word ∷ w.number ∷ w.admin ∷ w.conninfo ∷ w.equals ∷ behind rest in
+    later before (part before (line []) line (λ rest. append_assoc before (line []) rest)) old
+    (with_node id text old) (reached before old is)
+    (λ rest clear. (
+      word_no_sign (codes "node") w.word w.is_node,
+      other_word (codes "node") w.word w.is_node
+          (codes "on"),
+    ))
+    (λ rest clear. node_word_read old w.word (w.number ∷ w.admin ∷ w.conninfo ∷ w.equals ∷ behind rest) none w.is_node
+    ∙ node_id_read old id w.number (w.admin ∷ w.conninfo ∷ w.equals ∷ behind rest) w.is_id
+    ∙ words_read (awaited_sign phrase.Node Equals (goal.NodeText old id) w.equals (behind rest) w.ends) 0
+    (codes "admin" ∷ codes "conninfo" ∷ []) (w.admin ∷ w.conninfo ∷ []) refl w.are
+    ∙ node_text_read old id text q.value (q.end ∷ rest) q.is_text
+    ∙ sign_read Semicolon (goal.Command (Outside (with_node id text old))) q.end rest q.ends)
 reached front script (script_command before tokens old command end is is2 h) =
     later_end before tokens end old (with_statement (Single command) old) (reached before old is)
     (λ rest clear. command_not_on false tokens (end ∷ rest) command is2)
     (λ rest clear. command_read (Outside old) tokens (end ∷ rest) command is2
     ∙ sign_read Semicolon (goal.Command (with_command command (Outside old))) end rest h)
 reached front script (script_try before tokens old block is is2) =
-    later before tokens (λ rest. tokens ++ rest) old (with_statement (Tried block) old) (reached before old is)
-    (λ rest. append_assoc before tokens rest)
+    later before (part before tokens (λ rest. tokens ++ rest) (λ rest. append_assoc before tokens rest)) old
+    (with_statement (Tried block) old) (reached before old is)
     (λ rest clear. try_not_on tokens rest block is2)
     (λ rest clear. try_read old tokens rest block is2 ∙ after_try_same old block rest clear)
 reached front script (script_closed_try before tokens old block end is is2 h) =

@@ -6,8 +6,7 @@ use Rattle.slonik_tokens.specs.declared.fault.ParseFault.TheVariants.{NoMemory a
 use Rattle.slonik_tokens.specs.declared.fault.ScriptRefusal.{ScriptRefusal}
 use Rattle.slonik_tokens.specs.declared.token.Token.{Token}
 use Rattle.slonik_parse.specs.declared.misparse.Misparse.{Misparse}
-use Rattle.slonik_parse.specs.declared.misparse.Misparse.TheVariants.{Misfit, UnknownOption, MissingOption}
-use Rattle.slonik_parse.specs.declared.misparse.Misparse.TheVariants.{NotInProfile, NotInTry, NoMemory}
+use Rattle.slonik_parse.specs.declared.misparse.Misparse.TheVariants.{NoMemory}
 use Rattle.slonik_parse.specs.declared.script.Script.{Script}
 use Rattle.slonik_parse.specs.declared.state.State.{State}
 use Rattle.slonik_parse.specs.Answered.{FailsSo}
@@ -23,58 +22,66 @@ run-step : (token : Token) (tokens : List Token) (state : State)
 unfolding run
 run-step token tokens state = refl
 
+-- The token that is read next, and those behind it.
+pub record Next : Type 0 where
+  pub rest : List Token
+  pub behind : List Token
+  pub token : Token
+  pub first : rest ≡ token ∷ behind
+
+abbrev pub next_of : (rest behind : List Token) (token : Token) → rest ≡ token ∷ behind → Next
+next_of rest behind token first = record { rest = rest; behind = behind; token = token; first = first }
+
 -- a token goes on with a script
-pub goes : (whole : Result Script Wrong) (rest behind : List Token) (token : Token) (state next : State)
-    → run rest state ≡ whole → rest ≡ token ∷ behind → step state token rest ≡ Ok next → run behind next ≡ whole
-goes whole rest behind token state next runs first made =
-    let made_first : step state token (token ∷ behind) ≡ Ok next =
-    subst (λ (r : List Token). step state token r ≡ Ok next) first made in
-    sym (ap (λ (m : Result State Misparse). go_on m (run behind) (length behind + 1)) made_first)
-    ∙ (sym (run-step token behind state) ∙ (sym (ap (λ (r : List Token). run r state) first) ∙ runs))
+pub goes : (whole : Result Script Wrong) (n : Next) (state next : State) → run n.rest state ≡ whole →
+    step state n.token n.rest ≡ Ok next → run n.behind next ≡ whole
+goes whole n state next runs made =
+    let made_first : step state n.token (n.token ∷ n.behind) ≡ Ok next =
+    subst (λ (r : List Token). step state n.token r ≡ Ok next) n.first made in
+    sym (ap (λ (m : Result State Misparse). go_on m (run n.behind) (length n.behind + 1)) made_first)
+    ∙ (sym (run-step n.token n.behind state) ∙ (sym (ap (λ (r : List Token). run r state) n.first) ∙ runs))
+
+-- What is answered of a misparse at a place.
+pub record Failing : Type 0 where
+  pub misparse : Misparse
+  pub fault : ParseFault
+  pub place : ℕ
+  pub reads : Reads (Err (refused_at place misparse)) (Err fault)
+  pub memory : misparse ≡ NoMemory → fault ≡ OutOfMemory
 
 -- a misparse that is known has its name
-named : (made : Result State Misparse) (more : State → Result Script Wrong) (misparse : Misparse) (fault : ParseFault)
-    (place total left : ℕ) → made ≡ Err misparse → place ≡ total + 1 - left
-    → Reads (Err (refused_at place misparse)) (Err fault) → Reads (placed total (go_on made more left)) (Err fault)
-named made more misparse fault place total left fails e reads =
-    subst (λ (m : Result State Misparse). Reads (placed total (go_on m more left)) (Err fault)) (sym fails)
-    (subst (λ (p : ℕ). Reads (Err (refused_at p misparse)) (Err fault)) e reads)
+named : (made : Result State Misparse) (more : State → Result Script Wrong) (f : Failing) (total left : ℕ) →
+    made ≡ Err f.misparse → f.place ≡ total + 1 - left → Reads (placed total (go_on made more left)) (Err f.fault)
+named made more f total left fails e =
+    subst (λ (m : Result State Misparse). Reads (placed total (go_on m more left)) (Err f.fault)) (sym fails)
+    (subst (λ (p : ℕ). Reads (Err (refused_at p f.misparse)) (Err f.fault)) e f.reads)
 
 -- where memory ran out, anything may be read
 out_of_memory : (read : Result Script ScriptRefusal) (fault : ParseFault) → fault ≡ OutOfMemory → Reads read (Err fault)
 out_of_memory read fault e = subst (λ (f : ParseFault). Reads read (Err f)) (sym e) tt
 
-fails_by : (made : Result State Misparse) (more : State → Result Script Wrong) (misparse : Misparse)
-    (fault : ParseFault) (place total left : ℕ) → FailsSo made misparse → place ≡ total + 1 - left
-    → Reads (Err (refused_at place misparse)) (Err fault) → (misparse ≡ NoMemory → fault ≡ OutOfMemory)
-    → Reads (placed total (go_on made more left)) (Err fault)
-fails_by made more Misfit fault place total left fails e reads memory =
-    named made more Misfit fault place total left fails e reads
-fails_by made more (UnknownOption word) fault place total left fails e reads memory =
-    named made more (UnknownOption word) fault place total left fails e reads
-fails_by made more (MissingOption option) fault place total left fails e reads memory =
-    named made more (MissingOption option) fault place total left fails e reads
-fails_by made more (NotInProfile word) fault place total left fails e reads memory =
-    named made more (NotInProfile word) fault place total left fails e reads
-fails_by made more (NotInTry word) fault place total left fails e reads memory =
-    named made more (NotInTry word) fault place total left fails e reads
-fails_by made more NoMemory fault place total left fails e reads memory =
-    out_of_memory (placed total (go_on made more left)) fault (memory refl)
+fails_by : (made : Result State Misparse) (more : State → Result Script Wrong) (f : Failing) (total left : ℕ) →
+    FailsSo made f.misparse → f.place ≡ total + 1 - left → Reads (placed total (go_on made more left)) (Err f.fault)
+fails_by made more f total left fails e = by f.misparse fails refl
+  where
+    by : (misparse : Misparse) → FailsSo made misparse → misparse ≡ f.misparse →
+        Reads (placed total (go_on made more left)) (Err f.fault)
+    by NoMemory fails same = out_of_memory (placed total (go_on made more left)) f.fault (f.memory (sym same))
+    by others fails same = named made more f total left (fails ∙ ap (λ m. Err m) same) e
 
 -- a token does not go on with a script
-pub fails : (rest behind : List Token) (token : Token) (state : State) (misparse : Misparse) (fault : ParseFault)
-    (place total : ℕ) → place + length rest ≡ total + 1 → rest ≡ token ∷ behind
-    → FailsSo (step state token rest) misparse → Reads (Err (refused_at place misparse)) (Err fault)
-    → (misparse ≡ NoMemory → fault ≡ OutOfMemory) → Reads (placed total (run rest state)) (Err fault)
-fails rest behind token state misparse fault place total numbered first failed reads memory =
-    let as_run : go_on (step state token (token ∷ behind)) (run behind) (length behind + 1) ≡ run rest state =
-    sym (run-step token behind state) ∙ sym (ap (λ (r : List Token). run r state) first) in
-    let failed_first : FailsSo (step state token (token ∷ behind)) misparse =
-    subst (λ (r : List Token). FailsSo (step state token r) misparse) first failed in
-    let long : length rest ≡ length (token ∷ behind) = ap (λ (r : List Token). length r) first in
-    subst (λ (w : Result Script Wrong). Reads (placed total w) (Err fault)) as_run
-    (fails_by (step state token (token ∷ behind)) (run behind) misparse fault place total (length behind + 1)
-    failed_first (omega (arith, long)) reads memory)
+pub fails : (n : Next) (state : State) (f : Failing) (total : ℕ) → f.place + length n.rest ≡ total + 1 →
+    FailsSo (step state n.token n.rest) f.misparse → Reads (placed total (run n.rest state)) (Err f.fault)
+fails n state f total numbered failed =
+    let as_run : go_on (step state n.token (n.token ∷ n.behind)) (run n.behind) (length n.behind + 1)
+    ≡ run n.rest state =
+    sym (run-step n.token n.behind state) ∙ sym (ap (λ (r : List Token). run r state) n.first) in
+    let failed_first : FailsSo (step state n.token (n.token ∷ n.behind)) f.misparse =
+    subst (λ (r : List Token). FailsSo (step state n.token r) f.misparse) n.first failed in
+    let long : length n.rest ≡ length (n.token ∷ n.behind) = ap (λ (r : List Token). length r) n.first in
+    subst (λ (w : Result Script Wrong). Reads (placed total w) (Err f.fault)) as_run
+    (fails_by (step state n.token (n.token ∷ n.behind)) (run n.behind) f total (length n.behind + 1)
+    failed_first (omega (arith, long)))
 
 pub reads_whole : (total : ℕ) (one whole : Result Script Wrong) (fault : ParseFault) → one ≡ whole
     → Reads (placed total one) (Err fault) → Reads (placed total whole) (Err fault)
@@ -84,13 +91,20 @@ no_tokens : (tokens : List Token) → length tokens ≡ 0 → tokens ≡ []
 no_tokens [] none = refl
 no_tokens (token ∷ tokens) none = absurd (omega (arith, none))
 
+-- How many tokens are left at a place.
+pub record Numbered : Type 0 where
+  pub rest : List Token
+  pub place : ℕ
+  pub total : ℕ
+  pub numbered : place + length rest ≡ total + 1
+
 -- no token is left
-pub ends : (whole : Result Script Wrong) (rest : List Token) (state : State) (place total : ℕ)
-    (result : Result Script ParseFault) → run rest state ≡ whole → place + length rest ≡ total + 1 → length rest ≡ 0
-    → Reads (placed (place - 1) (end_of state)) result → Reads (placed total whole) result
-ends whole rest state place total result runs numbered none reads =
+pub ends : (n : Numbered) (whole : Result Script Wrong) (state : State) (result : Result Script ParseFault) →
+    run n.rest state ≡ whole → length n.rest ≡ 0 → Reads (placed (n.place - 1) (end_of state)) result →
+    Reads (placed n.total whole) result
+ends n whole state result runs none reads =
     let as_run : end_of state ≡ whole =
-    sym (run-end state) ∙ (sym (ap (λ (r : List Token). run r state) (no_tokens rest none)) ∙ runs) in
-    let last : place - 1 ≡ total = omega arith in
-    subst (λ (w : Result Script Wrong). Reads (placed total w) result) as_run
+    sym (run-end state) ∙ (sym (ap (λ (r : List Token). run r state) (no_tokens n.rest none)) ∙ runs) in
+    let last : n.place - 1 ≡ n.total = omega (arith, n.numbered) in
+    subst (λ (w : Result Script Wrong). Reads (placed n.total w) result) as_run
     (subst (λ (t : ℕ). Reads (placed t (end_of state)) result) last reads)

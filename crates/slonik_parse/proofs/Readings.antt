@@ -15,8 +15,6 @@ use Rattle.slonik_parse.specs.Grammar.{IsScript}
 use Rattle.slonik_parse.specs.Machine.{Wrong, run, behind_preamble}
 use Rattle.slonik_parse.specs.Outcomes.{script_in, placed, refused_at}
 use Rattle.slonik_parse.specs.Refusals.{IsRefused, Refuses, IsBadSyntax, StopsBefore, preamble, no_preamble}
-use Rattle.slonik_parse.specs.Refusals.{command_left_out, option_left_out, unknown_option, not_in_try, missing_option}
-use Rattle.slonik_parse.specs.Refusals.{missing_option_there}
 use Rattle.slonik_parse.proofs.Pieces.{run-err}
 use Rattle.slonik_parse.proofs.Causes.{script_in-run, without_preamble, refused}
 use Rattle.slonik_parse.proofs.Ahead.{alike}
@@ -71,54 +69,51 @@ stops front (token ∷ rest) state stuck reach = λ more script is.
 -- no other cause is bad syntax
 not_bad : (tokens : List Token) (r : ScriptRefusal) (place : ℕ) → IsRefused tokens r → r ≡ refusal.BadSyntax place → ⊥
 not_bad tokens r place (no_preamble _ h) e = cc
-not_bad tokens r place (command_left_out front rest block text stands h) e = cc
-not_bad tokens r place (option_left_out front rest block v given text stands h) e = cc
-not_bad tokens r place (unknown_option front rest block v given text stands none h) e = cc
-not_bad tokens r place (not_in_try front rest script commands text stands h) e = cc
-not_bad tokens r place (missing_option front rest block v given closes name ends h makes) e = cc
-not_bad tokens r place (missing_option_there front rest block v given closes name stands h makes) e = cc
+not_bad tokens r place others e = cc
 
 err_is : {A : Type 0} (a b : ScriptRefusal) (made : Result A ScriptRefusal) → made ≡ Err a → made ≡ Err b → a ≡ b
 err_is a b made h k = let e = sym h ∙ k in cc
 
-refuses_by : (tokens front rest : List Token) (state : State) (misparse : Misparse) (left : ℕ) → tokens ≡ front ++ rest
-    → left ≡ length rest → Means state front
-    → IsStuckAt state rest misparse → Reaches state front rest
-    → script_in tokens ≡ Err (refused_at (length tokens + 1 - left) misparse)
-    → Refuses tokens (refused_at (length tokens + 1 - left) misparse)
-refuses_by tokens front rest state Misfit left split counts means stuck reach e =
-    let lengths = ap length split ∙ length-append front rest in (
-      front,
+-- Where the machine is stuck.
+record Stuck (tokens : List Token) (misparse : Misparse) (rest : List Token) : Type 0 where
+  front : List Token
+  state : State
+  left : ℕ
+  split : tokens ≡ front ++ rest
+  counts : left ≡ length rest
+  means : Means state front
+  stuck : IsStuckAt state rest misparse
+  reach : Reaches state front rest
+
+refuses_by : (tokens : List Token) (misparse : Misparse) (rest : List Token) (s : Stuck tokens misparse rest) →
+    script_in tokens ≡ Err (refused_at (length tokens + 1 - s.left) misparse) →
+    Refuses tokens (refused_at (length tokens + 1 - s.left) misparse)
+refuses_by tokens Misfit rest s e =
+    let lengths = ap length s.split ∙ length-append s.front rest in (
+      s.front,
       rest,
-      split,
-      omega (arith, lengths, counts),
-      goes_on state front means,
-      stops front rest state stuck reach,
-      λ r is. not_bad tokens r (length tokens + 1 - left) is
-          (err_is r (refusal.BadSyntax (length tokens + 1 - left)) (script_in tokens) (refused tokens r is) e),
+      s.split,
+      omega (arith, lengths, s.counts),
+      goes_on s.state s.front s.means,
+      stops s.front rest s.state s.stuck s.reach,
+      λ r is. not_bad tokens r (length tokens + 1 - s.left) is
+          (err_is r (refusal.BadSyntax (length tokens + 1 - s.left)) (script_in tokens) (refused tokens r is) e),
     )
-refuses_by tokens front [] state (UnknownOption word) left split counts means stuck reach e = let k =
-    stuck.0 in absurd (cc)
-refuses_by tokens front [] state (MissingOption name) left split counts means stuck reach e = let k =
-    stuck.0 in absurd (cc)
-refuses_by tokens front [] state (NotInProfile word) left split counts means stuck reach e = let k =
-    stuck.0 in absurd (cc)
-refuses_by tokens front [] state (NotInTry word) left split counts means stuck reach e = let k = stuck.0 in absurd (cc)
-refuses_by tokens front [] state NoMemory left split counts means stuck reach e = let k = stuck.0 in absurd (cc)
-refuses_by tokens front (token ∷ rest) state (UnknownOption word) left split counts means stuck reach e =
-    subst (λ ts. IsRefused ts (refusal.UnknownOption word)) (sym split)
-    (means_wrong state (UnknownOption word) token rest front means stuck)
-refuses_by tokens front (token ∷ rest) state (MissingOption name) left split counts means stuck reach e =
-    subst (λ ts. IsRefused ts (refusal.MissingOption (option_text name))) (sym split)
-    (means_wrong state (MissingOption name) token rest front means stuck)
-refuses_by tokens front (token ∷ rest) state (NotInProfile word) left split counts means stuck reach e =
-    subst (λ ts. IsRefused ts (refusal.NotInProfile word)) (sym split)
-    (means_wrong state (NotInProfile word) token rest front means stuck)
-refuses_by tokens front (token ∷ rest) state (NotInTry word) left split counts means stuck reach e =
-    subst (λ ts. IsRefused ts (refusal.NotInTry word)) (sym split)
-    (means_wrong state (NotInTry word) token rest front means stuck)
-refuses_by tokens front (token ∷ rest) state NoMemory left split counts means stuck reach e =
-    absurd (means_wrong state NoMemory token rest front means stuck)
+refuses_by tokens (UnknownOption word) (token ∷ rest) s e =
+    subst (λ ts. IsRefused ts (refusal.UnknownOption word)) (sym s.split)
+    (means_wrong s.state (UnknownOption word) token rest s.front s.means s.stuck)
+refuses_by tokens (MissingOption name) (token ∷ rest) s e =
+    subst (λ ts. IsRefused ts (refusal.MissingOption (option_text name))) (sym s.split)
+    (means_wrong s.state (MissingOption name) token rest s.front s.means s.stuck)
+refuses_by tokens (NotInProfile word) (token ∷ rest) s e =
+    subst (λ ts. IsRefused ts (refusal.NotInProfile word)) (sym s.split)
+    (means_wrong s.state (NotInProfile word) token rest s.front s.means s.stuck)
+refuses_by tokens (NotInTry word) (token ∷ rest) s e =
+    subst (λ ts. IsRefused ts (refusal.NotInTry word)) (sym s.split)
+    (means_wrong s.state (NotInTry word) token rest s.front s.means s.stuck)
+refuses_by tokens NoMemory (token ∷ rest) s e =
+    absurd (means_wrong s.state NoMemory token rest s.front s.means s.stuck)
+refuses_by tokens others [] s e = let k = s.stuck.0 in absurd (cc)
 
 wrong_by : (tokens : List Token) (r : ScriptRefusal) (b : Bool) → begins_with preamble tokens ≡ b
     → script_in tokens ≡ Err r → Refuses tokens r
@@ -126,8 +121,16 @@ wrong_by tokens r true h e =
     let w = placed_err (length tokens) (run (drop 2 tokens) behind_preamble) r (sym (script_in-run tokens h) ∙ e) in
     let f : FailsAt tokens w.0 = subst (Outcome tokens) w.1 (read_whole tokens h) in
     subst (Refuses tokens) (sym w.2)
-    (refuses_by tokens f.front f.rest f.state (w.0).misparse (w.0).left f.split f.left f.means f.stuck f.reach
-    (e ∙ ap Err w.2))
+    (refuses_by tokens (w.0).misparse f.rest (record {
+      front = f.front;
+      state = f.state;
+      left = (w.0).left;
+      split = f.split;
+      counts = f.left;
+      means = f.means;
+      stuck = f.stuck;
+      reach = f.reach;
+    }) (e ∙ ap Err w.2))
 wrong_by tokens r false h e =
     subst (Refuses tokens) (err_is refusal.NoPreamble r (script_in tokens) (without_preamble tokens h) e)
     (no_preamble tokens h)
@@ -150,23 +153,41 @@ cut_apart (x ∷ xs) b (y ∷ ys) d e =
       | inr one ↦ inr (one.0, (let k = one.1 in cc), one.2)
     ]
 
+-- One list cut at two places.
+record Cuts : Type 0 where
+  front : List Token
+  rest : List Token
+  behind : List Token
+  other : List Token
+  between : List Token
+  split : behind ≡ front ++ between
+  is : rest ≡ between ++ other
+
+abbrev cuts : (front rest behind other between : List Token) → behind ≡ front ++ between → rest ≡ between ++ other →
+    Cuts
+cuts front rest behind other between split is =
+    record { front = front; rest = rest; behind = behind; other = other; between = between; split = split; is = is }
+
 -- no script goes on both behind a place and not before it
-no_further : (front rest behind more : List Token) (script : Script) → StopsBefore front rest → (m : List Token)
-    → behind ≡ front ++ m → (other : List Token) → rest ≡ m ++ other → IsScript (behind ++ more) script
-    → length behind ≡ length front
-no_further front rest behind more script stopped [] split other is script_is = ap length (split ∙ append-nil front)
-no_further front rest behind more script stopped (t ∷ ts) split other is script_is =
-    let here : StopsBefore front (t ∷ (ts ++ other)) = subst (StopsBefore front) is stopped in
-    absurd (here (ts ++ more) script (subst (λ l. IsScript l script)
-    (ap (λ l. l ++ more) split ∙ append_assoc front (t ∷ ts) more) script_is))
+no_further : (c : Cuts) (more : List Token) (script : Script) → StopsBefore c.front c.rest →
+    IsScript (c.behind ++ more) script → length c.behind ≡ length c.front
+no_further c more script stopped script_is = by c.between c.split c.is
+  where
+    by : (between : List Token) → c.behind ≡ c.front ++ between → c.rest ≡ between ++ c.other →
+        length c.behind ≡ length c.front
+    by [] split is = ap length (split ∙ append-nil c.front)
+    by (t ∷ ts) split is =
+        let here : StopsBefore c.front (t ∷ (ts ++ c.other)) = subst (StopsBefore c.front) is stopped in
+        absurd (here (ts ++ more) script (subst (λ l. IsScript l script)
+        (ap (λ l. l ++ more) split ∙ append_assoc c.front (t ∷ ts) more) script_is))
 
 one_place : (tokens : List Token) (p q : ℕ) → IsBadSyntax tokens p → IsBadSyntax tokens q → p ≡ q
 one_place tokens p q (front, rest, split, at, goes, stopped, alone)
     (front2, rest2, split2, at2, goes2, stopped2, alone2) =
     elim (cut_apart front rest front2 rest2 (sym split ∙ split2)) as (λ _. p ≡ q) [
-      | inl m ↦ (let k = no_further front rest front2 goes2.0 goes2.1 stopped m.0 m.1 rest2 m.2 goes2.2 in
+      | inl m ↦ (let k = no_further (cuts front rest front2 rest2 m.0 m.1 m.2) goes2.0 goes2.1 stopped goes2.2 in
           omega (arith, k, at, at2))
-      | inr m ↦ (let k = no_further front2 rest2 front goes.0 goes.1 stopped2 m.0 m.1 rest m.2 goes.2 in
+      | inr m ↦ (let k = no_further (cuts front2 rest2 front rest m.0 m.1 m.2) goes.0 goes.1 stopped2 goes.2 in
           omega (arith, k, at, at2))
     ]
 

@@ -100,22 +100,29 @@ regroup_handler front tokens rest on word opens closes = simp append_assoc
 -- a try block with the blocks behind it
 pub try_read : (script : Script) (tokens rest : List Token) (block : TryBlock) → IsTry tokens block
     → run (tokens ++ rest) (At (goal.Command (Outside script))) ≡ run rest (At (goal.AfterTry script block))
-try_read script tokens rest block (tried_block word opens closes inner commands h h2 are h3) =
-    ap (λ ts. run ts (At (goal.Command (Outside script)))) (regroup_try inner rest word opens closes)
-    ∙ try_word_read script word (opens ∷ (inner ++ closes ∷ rest)) h
-    ∙ sign_read OpenBrace (goal.Command (InTry script [])) opens (inner ++ closes ∷ rest) h2
-    ∙ commands_read (InTry script) true (unfold with_command in λ c cs. refl) (λ cs. refl) inner (closes ∷ rest)
-    commands are
-    ∙ brace_read (InTry script commands) (At (goal.AfterTry script (try_of commands))) closes rest h3
+try_read script tokens rest block (tried_block word commands body h) =
+    let begins = body.opening in
+    let inner = begins.tokens in
+    let behind = inner ++ body.end ∷ rest in
+    ap (λ ts. run ts (At (goal.Command (Outside script)))) (regroup_try inner rest word begins.brace body.end)
+    ∙ try_word_read script word (begins.brace ∷ behind) h
+    ∙ sign_read OpenBrace (goal.Command (InTry script [])) begins.brace behind begins.opens
+    ∙ commands_read (InTry script) true (unfold with_command in λ c cs. refl) (λ cs. refl) inner (body.end ∷ rest)
+    commands begins.are
+    ∙ brace_read (InTry script commands) (At (goal.AfterTry script (try_of commands))) body.end rest body.closes
     (unfold close in refl)
-try_read script tokens rest block (handled_block front inner before handler on word opens closes commands is free h h2
-    h3 are h4) =
-    ap (λ ts. run ts (At (goal.Command (Outside script)))) (regroup_handler front inner rest on word opens closes)
-    ∙ try_read script front (on ∷ word ∷ opens ∷ (inner ++ closes ∷ rest)) before is
-    ∙ on_read script before on (word ∷ opens ∷ (inner ++ closes ∷ rest)) h (lacks_one handler before free)
-    ∙ handler_read script before handler word (opens ∷ (inner ++ closes ∷ rest)) free h2
-    ∙ sign_read OpenBrace (goal.Command (InHandler script before handler [])) opens (inner ++ closes ∷ rest) h3
+try_read script tokens rest block (handled_block front before handler words commands body is free) =
+    let begins = body.opening in
+    let inner = begins.tokens in
+    let behind = begins.brace ∷ (inner ++ body.end ∷ rest) in
+    ap (λ ts. run ts (At (goal.Command (Outside script))))
+    (regroup_handler front inner rest words.on words.word begins.brace body.end)
+    ∙ try_read script front (words.on ∷ words.word ∷ behind) before is
+    ∙ on_read script before words.on (words.word ∷ behind) words.is_on (lacks_one handler before free)
+    ∙ handler_read script before handler words.word behind free words.is_handler
+    ∙ sign_read OpenBrace (goal.Command (InHandler script before handler [])) begins.brace (inner ++ body.end ∷ rest)
+    begins.opens
     ∙ commands_read (InHandler script before handler) false (unfold with_command in λ c cs. refl) (λ cs. refl) inner
-    (closes ∷ rest) commands are
+    (body.end ∷ rest) commands begins.are
     ∙ brace_read (InHandler script before handler commands)
-    (At (goal.AfterTry script (with_handler handler commands before))) closes rest h4 (unfold close in refl)
+    (At (goal.AfterTry script (with_handler handler commands before))) body.end rest body.closes (unfold close in refl)

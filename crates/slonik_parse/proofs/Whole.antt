@@ -7,7 +7,7 @@ use Rattle.slonik_tokens.specs.Tokens.{is_word}
 use Rattle.slonik_parse.specs.declared.misparse.Misparse.{Misparse}
 use Rattle.slonik_parse.specs.declared.misparse.Misparse.TheVariants.{Misfit}
 use Rattle.slonik_parse.specs.declared.script.Script.{Script}
-use Rattle.slonik_parse.specs.declared.state.Block.TheVariants.{Outside, Try as InTry, Handler as InHandler}
+use Rattle.slonik_parse.specs.declared.state.Block.TheVariants.{Outside}
 use Rattle.slonik_parse.specs.declared.state.Goal.TheVariants as goal
 use Rattle.slonik_parse.specs.declared.state.State.{State}
 use Rattle.slonik_parse.specs.declared.state.State.TheVariants.{Awaits, At}
@@ -69,19 +69,8 @@ Outcome tokens (Err w) = FailsAt tokens w
 
 end_wrong : (state : State) (w : Wrong) → end_of state ≡ Err w → w ≡ wrong Misfit 0
 end_wrong (Awaits phrase at sign g) w h = cc
-end_wrong (At goal.ClusterName) w h = cc
-end_wrong (At (goal.NodeId script)) w h = cc
-end_wrong (At (goal.NodeText script id)) w h = cc
 end_wrong (At (goal.Command (Outside script))) w h = cc
-end_wrong (At (goal.Command (InTry script commands))) w h = cc
-end_wrong (At (goal.Command (InHandler script tried handler commands))) w h = cc
-end_wrong (At (goal.Option block v given)) w h = cc
-end_wrong (At (goal.Value block v given name)) w h = cc
-end_wrong (At (goal.AfterOption block v given)) w h = cc
-end_wrong (At (goal.EchoText block)) w h = cc
-end_wrong (At (goal.ExitStatus block)) w h = cc
-end_wrong (At (goal.AfterTry script tried)) w h = cc
-end_wrong (At (goal.AfterOn script tried)) w h = cc
+end_wrong (At others) w h = cc
 
 walk_end : (state : State) (front : List Token) → Means state front → Reaches state front []
     → (made : Result Script Wrong) → end_of state ≡ made → Outcome front made
@@ -113,17 +102,17 @@ reach_on state next front rest token reach h other e =
       | inr errs ↦ inr (errs.0, same ∙ errs.1)
     ]
 
-walk_step : (rest front : List Token) (token : Token) (state : State) → Means state front
-    → Reaches state front (token ∷ rest)
+walk_step : (rest front : List Token) (token : Token) (state : State)
+    → Means state front × Reaches state front (token ∷ rest)
     → ((next : State) → Means next (front ++ token ∷ []) → Reaches next (front ++ token ∷ []) rest
     → Outcome ((front ++ token ∷ []) ++ rest) (run rest next))
     → (made : Result State Misparse) → step state token (token ∷ rest) ≡ made
     → Outcome (front ++ token ∷ rest) (run (token ∷ rest) state)
-walk_step rest front token state means reach more (Ok next) e =
+walk_step rest front token state (means, reach) more (Ok next) e =
     subst (λ made. Outcome (front ++ token ∷ rest) made) (sym (run-ok state next token rest e))
     (subst (λ ts. Outcome ts (run rest next)) (append_assoc front (token ∷ []) rest)
     (more next (means_step state next token rest front means e) (reach_on state next front rest token reach e)))
-walk_step rest front token state means reach more (Err misparse) e =
+walk_step rest front token state (means, reach) more (Err misparse) e =
     subst (λ made. Outcome (front ++ token ∷ rest) made) (sym (run-err state misparse token rest e))
     (record {
       front = front;
@@ -144,7 +133,7 @@ walk [] front state means reach =
     subst (λ ts. Outcome ts (end_of state)) (sym (append-nil front))
     (walk_end state front means reach (end_of state) refl)
 walk (token ∷ rest) front state means reach =
-    walk_step rest front token state means reach (λ next m r. walk rest (front ++ token ∷ []) next m r)
+    walk_step rest front token state (means, reach) (λ next m r. walk rest (front ++ token ∷ []) next m r)
     (step state token (token ∷ rest)) refl
 
 -- what tokens with a preamble give

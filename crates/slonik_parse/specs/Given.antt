@@ -106,9 +106,9 @@ made verb.SetAddTable g =
     and_then (needed FullyQualifiedName g.fully_qualified_name)
     (λ name. Ok (command.SetAddTable set_id origin id name g.key g.comment)))))
 made verb.SubscribeSet g =
-    and_then (needed Id g.id) (λ id. and_then (needed Provider g.provider)
-    (λ provider. and_then (needed Receiver g.receiver) (λ receiver.
-    Ok (command.SubscribeSet id provider receiver g.forward))))
+    and_then (needed Id g.id) (λ id. and_then (needed Provider g.provider) (λ provider.
+    and_then (needed Receiver g.receiver)
+    (λ receiver. Ok (command.SubscribeSet id provider receiver g.forward))))
 made verb.UnsubscribeSet g =
     and_then (needed Id g.id) (λ id. and_then (needed Receiver g.receiver)
     (λ receiver. Ok (command.UnsubscribeSet id receiver)))

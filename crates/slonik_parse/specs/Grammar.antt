@@ -1,5 +1,6 @@
 -- What a script is: which tokens spell which script.
 use Rattle.std.specs.Prelude.{◌≡◌, ℕ, Bool, true, false, List, [], ◌∷◌, ◌++◌, codes, Some, Ok}
+use Rattle.slonik_tokens.specs.declared.token.Sign.{Sign}
 use Rattle.slonik_tokens.specs.declared.token.Sign.TheVariants.{Semicolon, Comma, Equals, OpenBracket, CloseBracket}
 use Rattle.slonik_tokens.specs.declared.token.Sign.TheVariants.{OpenBrace, CloseBrace}
 use Rattle.slonik_tokens.specs.declared.token.Token.{Token}
@@ -28,11 +29,19 @@ AreWords [] (token ∷ tokens) = ⊥
 AreWords (word ∷ words) [] = ⊥
 AreWords (word ∷ words) (token ∷ tokens) = (is_word word token ≡ true) × AreWords words tokens
 
+-- Tokens that are these words, in whatever case, and a sign behind them.
+pub record Phrased (words : List (List ℕ)) (sign : Sign) : Type 0 where
+  pub first : Token
+  pub others : List Token
+  pub end : Token
+  pub are : AreWords words (first ∷ others)
+  pub ends : is_sign sign end ≡ true
+
 -- An option of a command: its words, `=` and its value. It is given beside those before it; more are all of them.
 pub data IsOption (verb : Verb) (given : Given) : List Token → Given → Type 0 where
-  is_option : (name : OptionName) (first equals value : Token) (words : List Token) (more : Given)
-      → option_at verb first ≡ Some name → AreWords (option_words name) (first ∷ words) → is_sign Equals equals ≡ true
-      → set_option name value given ≡ Ok more → IsOption verb given (first ∷ words ++ equals ∷ value ∷ []) more
+  is_option : (name : OptionName) (words : Phrased (option_words name) Equals) (value : Token) (more : Given)
+      → option_at verb words.first ≡ Some name → set_option name value given ≡ Ok more
+      → IsOption verb given (words.first ∷ words.others ++ words.end ∷ value ∷ []) more
 
 -- options with commas between them; of one that comes more than once the last counts
 pub data AreOptions (verb : Verb) : List Token → Given → Type 0 where
@@ -53,12 +62,18 @@ abbrev pub may_stand : Bool → Verb → Bool
 may_stand true verb = may_be_tried verb
 may_stand false verb = true
 
+-- Options and the bracket behind them.
+pub record Closed (verb : Verb) (given : Given) : Type 0 where
+  pub options : List Token
+  pub end : Token
+  pub are : AreOptions verb options given
+  pub ends : is_sign CloseBracket end ≡ true
+
 -- a command without the semicolon behind it, in a try block or not
 pub data IsCommand (tried : Bool) : List Token → Command → Type 0 where
-  of_verb : (verb : Verb) (first opens closes : Token) (words options : List Token) (given : Given) (command : Command)
-      → may_stand tried verb ≡ true → AreWords (verb_words verb) (first ∷ words) → is_sign OpenBracket opens ≡ true
-      → AreOptions verb options given → is_sign CloseBracket closes ≡ true → made verb given ≡ Ok command
-      → IsCommand tried (first ∷ words ++ opens ∷ options ++ closes ∷ []) command
+  of_verb : (verb : Verb) (words : Phrased (verb_words verb) OpenBracket) (given : Given) (closed : Closed verb given)
+      (command : Command) → may_stand tried verb ≡ true → made verb given ≡ Ok command
+      → IsCommand tried (words.first ∷ words.others ++ words.end ∷ closed.options ++ closed.end ∷ []) command
   of_echo : (word token : Token) (text : List ℕ) → tried ≡ false → is_word (codes "echo") word ≡ true
       → string_in token ≡ Some text → IsCommand tried (word ∷ token ∷ []) (Echo text)
   of_exit : (word token : Token) (status : ℕ) → tried ≡ false → is_word (codes "exit") word ≡ true
@@ -76,30 +91,73 @@ abbrev pub handler_word : Handler → List ℕ
 handler_word Error = codes "error"
 handler_word Success = codes "success"
 
+-- An opening brace and commands behind it, in a try block or not.
+pub record Opening (tried : Bool) (commands : List Command) : Type 0 where
+  pub brace : Token
+  pub tokens : List Token
+  pub opens : is_sign OpenBrace brace ≡ true
+  pub are : AreCommands tried tokens commands
+
+-- Commands between braces.
+pub record Braced (tried : Bool) (commands : List Command) : Type 0 where
+  pub opening : Opening tried commands
+  pub end : Token
+  pub closes : is_sign CloseBrace end ≡ true
+
+-- ON and the word of a handler.
+pub record Announced (handler : Handler) : Type 0 where
+  pub on : Token
+  pub word : Token
+  pub is_on : is_word (codes "on") on ≡ true
+  pub is_handler : is_word (handler_word handler) word ≡ true
+
 -- a try block with the blocks behind it, each at most once
 pub data IsTry : List Token → TryBlock → Type 0 where
-  tried_block : (word opens closes : Token) (tokens : List Token) (commands : List Command)
-      → is_word (codes "try") word ≡ true → is_sign OpenBrace opens ≡ true → AreCommands true tokens commands
-      → is_sign CloseBrace closes ≡ true → IsTry (word ∷ opens ∷ tokens ++ closes ∷ []) (try_of commands)
-  handled_block : (front tokens : List Token) (block : TryBlock) (handler : Handler) (on word opens closes : Token)
-      (commands : List Command)
-      → IsTry front block → lacks handler block ≡ true → is_word (codes "on") on ≡ true
-      → is_word (handler_word handler) word ≡ true → is_sign OpenBrace opens ≡ true → AreCommands false tokens commands
-      → is_sign CloseBrace closes ≡ true
-      → IsTry (front ++ on ∷ word ∷ opens ∷ tokens ++ closes ∷ []) (with_handler handler commands block)
+  tried_block : (word : Token) (commands : List Command) (body : Braced true commands)
+      → is_word (codes "try") word ≡ true
+      → IsTry (word ∷ body.opening.brace ∷ body.opening.tokens ++ body.end ∷ []) (try_of commands)
+  handled_block : (front : List Token) (block : TryBlock) (handler : Handler) (words : Announced handler)
+      (commands : List Command) (body : Braced false commands) → IsTry front block → lacks handler block ≡ true
+      → IsTry (front ++ words.on ∷ words.word ∷ body.opening.brace ∷ body.opening.tokens ++ body.end ∷ [])
+      (with_handler handler commands block)
+
+-- CLUSTER NAME and `=`.
+pub record HeadWords : Type 0 where
+  pub first : Token
+  pub second : Token
+  pub equals : Token
+  pub is_first : is_word (codes "cluster") first ≡ true
+  pub is_second : is_word (codes "name") second ≡ true
+  pub ends : is_sign Equals equals ≡ true
+
+-- A NODE line up to its `=`: NODE, the id, ADMIN CONNINFO and `=`.
+pub record NodeWords (id : ℕ) : Type 0 where
+  pub word : Token
+  pub number : Token
+  pub admin : Token
+  pub conninfo : Token
+  pub equals : Token
+  pub is_node : is_word (codes "node") word ≡ true
+  pub is_id : id_in number ≡ Some id
+  pub are : AreWords (codes "admin" ∷ codes "conninfo" ∷ []) (admin ∷ conninfo ∷ [])
+  pub ends : is_sign Equals equals ≡ true
+
+-- A string and the semicolon behind it.
+pub record Quote (text : List ℕ) : Type 0 where
+  pub value : Token
+  pub end : Token
+  pub is_text : string_in value ≡ Some text
+  pub ends : is_sign Semicolon end ≡ true
 
 -- A script: its head, then NODE lines, then statements.
 pub data IsScript : List Token → Script → Type 0 where
-  script_head : (first second equals value end : Token) (name : List ℕ)
-      → is_word (codes "cluster") first ≡ true → is_word (codes "name") second ≡ true → is_sign Equals equals ≡ true
-      → name_in value ≡ Some name → is_sign Semicolon end ≡ true
-      → IsScript (first ∷ second ∷ equals ∷ value ∷ end ∷ []) (empty_script name)
-  script_node : (front : List Token) (script : Script) (word number admin conninfo equals value end : Token) (id : ℕ)
-      (text : List ℕ)
-      → IsScript front script → script.statements ≡ [] → is_word (codes "node") word ≡ true → id_in number ≡ Some id
-      → AreWords (codes "admin" ∷ codes "conninfo" ∷ []) (admin ∷ conninfo ∷ []) → is_sign Equals equals ≡ true
-      → string_in value ≡ Some text → is_sign Semicolon end ≡ true
-      → IsScript (front ++ word ∷ number ∷ admin ∷ conninfo ∷ equals ∷ value ∷ end ∷ []) (with_node id text script)
+  script_head : (words : HeadWords) (value end : Token) (name : List ℕ) → name_in value ≡ Some name
+      → is_sign Semicolon end ≡ true
+      → IsScript (words.first ∷ words.second ∷ words.equals ∷ value ∷ end ∷ []) (empty_script name)
+  script_node : (front : List Token) (script : Script) (id : ℕ) (words : NodeWords id) (text : List ℕ)
+      (quote : Quote text) → IsScript front script → script.statements ≡ []
+      → IsScript (front ++ words.word ∷ words.number ∷ words.admin ∷ words.conninfo ∷ words.equals ∷ quote.value
+      ∷ quote.end ∷ []) (with_node id text script)
   script_command : (front tokens : List Token) (script : Script) (command : Command) (end : Token)
       → IsScript front script → IsCommand false tokens command → is_sign Semicolon end ≡ true
       → IsScript (front ++ tokens ++ end ∷ []) (with_statement (Single command) script)

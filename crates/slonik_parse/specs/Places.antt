@@ -1,6 +1,6 @@
 -- Where the tokens so far lead: what stands before a place of the grammar.
 use Rattle.std.specs.Prelude.{◌≡◌, Bool, true, false, List, [], ◌∷◌, ◌++◌, codes}
-use Rattle.slonik_tokens.specs.declared.token.Sign.TheVariants.{Comma, OpenBracket, OpenBrace}
+use Rattle.slonik_tokens.specs.declared.token.Sign.TheVariants.{Comma, OpenBracket}
 use Rattle.slonik_tokens.specs.declared.token.Token.{Token}
 use Rattle.slonik_tokens.specs.Tokens.{is_word, is_sign}
 use Rattle.slonik_parse.specs.declared.form.Verb.{Verb}
@@ -13,7 +13,7 @@ use Rattle.slonik_parse.specs.declared.state.Block.TheVariants.{Outside, Try as 
 use Rattle.slonik_parse.specs.declared.state.Handler.{Handler}
 use Rattle.slonik_parse.specs.Forms.{verb_words}
 use Rattle.slonik_parse.specs.Given.{nothing_given}
-use Rattle.slonik_parse.specs.Grammar.{AreWords, AreOptions, AreCommands, IsTry, IsScript, handler_word, may_stand}
+use Rattle.slonik_parse.specs.Grammar.{Phrased, AreOptions, Opening, Announced, IsTry, IsScript, may_stand}
 use Rattle.slonik_parse.specs.Scripts.{lacks}
 
 -- the block is a try block
@@ -22,17 +22,24 @@ is_tried (Outside script) = false
 is_tried (InTry script commands) = true
 is_tried (InHandler script tried handler commands) = false
 
+-- What stands before ON: a script, and a try block that lacks the handler.
+pub record BeforeOn (script : Script) (tried : TryBlock) (handler : Handler) : Type 0 where
+  pub front : List Token
+  pub tokens : List Token
+  pub is : IsScript front script
+  pub tries : IsTry tokens tried
+  pub free : lacks handler tried ≡ true
+
 -- A statement or a command may begin behind these tokens, in this block with what was made before.
 pub data Stands : Block → List Token → Type 0 where
   outside : (script : Script) (front : List Token) → IsScript front script → Stands (Outside script) front
-  in_try : (script : Script) (front tokens : List Token) (commands : List Command) (word opens : Token)
-      → IsScript front script → is_word (codes "try") word ≡ true → is_sign OpenBrace opens ≡ true
-      → AreCommands true tokens commands → Stands (InTry script commands) (front ++ word ∷ opens ∷ tokens)
-  in_handler : (script : Script) (tried : TryBlock) (handler : Handler) (front middle tokens : List Token)
-      (commands : List Command) (on word opens : Token)
-      → IsScript front script → IsTry middle tried → lacks handler tried ≡ true → is_word (codes "on") on ≡ true
-      → is_word (handler_word handler) word ≡ true → is_sign OpenBrace opens ≡ true → AreCommands false tokens commands
-      → Stands (InHandler script tried handler commands) (front ++ middle ++ on ∷ word ∷ opens ∷ tokens)
+  in_try : (script : Script) (front : List Token) (word : Token) (commands : List Command)
+      (body : Opening true commands) → IsScript front script → is_word (codes "try") word ≡ true
+      → Stands (InTry script commands) (front ++ word ∷ body.brace ∷ body.tokens)
+  in_handler : (script : Script) (tried : TryBlock) (handler : Handler) (before : BeforeOn script tried handler)
+      (words : Announced handler) (commands : List Command) (body : Opening false commands)
+      → Stands (InHandler script tried handler commands)
+      (before.front ++ before.tokens ++ words.on ∷ words.word ∷ body.brace ∷ body.tokens)
 
 -- nothing, or options with a comma behind each
 pub data CommaEnded (verb : Verb) : List Token → Given → Type 0 where
@@ -43,10 +50,9 @@ pub data CommaEnded (verb : Verb) : List Token → Given → Type 0 where
 
 -- behind these tokens stand the options of a command of this verb
 pub data Opened (block : Block) (verb : Verb) : List Token → Type 0 where
-  opened : (front words : List Token) (first opens : Token) → Stands block front
+  opened : (front : List Token) (words : Phrased (verb_words verb) OpenBracket) → Stands block front
       → may_stand (is_tried block) verb ≡ true
-      → AreWords (verb_words verb) (first ∷ words) → is_sign OpenBracket opens ≡ true
-      → Opened block verb (front ++ first ∷ words ++ opens ∷ [])
+      → Opened block verb (front ++ words.first ∷ words.others ++ words.end ∷ [])
 
 -- an option may begin behind these tokens
 pub data OptionStands (block : Block) (verb : Verb) (given : Given) : List Token → Type 0 where
@@ -57,3 +63,19 @@ pub data OptionStands (block : Block) (verb : Verb) (given : Given) : List Token
 pub data OptionEnds (block : Block) (verb : Verb) (given : Given) : List Token → Type 0 where
   option_ends : (front options : List Token) → Opened block verb front → AreOptions verb options given
       → OptionEnds block verb given (front ++ options)
+
+-- What stands before an option.
+pub record BeforeOption : Type 0 where
+  pub block : Block
+  pub verb : Verb
+  pub given : Given
+  pub front : List Token
+  pub stands : OptionStands block verb given front
+
+-- What stands before the comma or the bracket behind an option.
+pub record BehindOption : Type 0 where
+  pub block : Block
+  pub verb : Verb
+  pub given : Given
+  pub front : List Token
+  pub ends : OptionEnds block verb given front

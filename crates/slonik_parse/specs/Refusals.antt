@@ -8,9 +8,7 @@ use Rattle.slonik_tokens.specs.declared.token.Sign.TheVariants.{CloseBracket}
 use Rattle.slonik_tokens.specs.declared.token.Token.{Token}
 use Rattle.slonik_tokens.specs.declared.token.Token.TheVariants.{Word}
 use Rattle.slonik_tokens.specs.Tokens.{is_sign}
-use Rattle.slonik_parse.specs.declared.form.Verb.{Verb}
 use Rattle.slonik_parse.specs.declared.form.OptionName.{OptionName}
-use Rattle.slonik_parse.specs.declared.given.Given.{Given}
 use Rattle.slonik_parse.specs.declared.misparse.Misparse.TheVariants as misparse
 use Rattle.slonik_parse.specs.declared.script.Command.{Command}
 use Rattle.slonik_parse.specs.declared.script.Script.{Script}
@@ -21,7 +19,7 @@ use Rattle.slonik_parse.specs.Forms.{option_text}
 use Rattle.slonik_parse.specs.Given.{made}
 use Rattle.slonik_parse.specs.Grammar.{IsScript}
 use Rattle.slonik_parse.specs.Machine.{lower}
-use Rattle.slonik_parse.specs.Places.{Stands, OptionStands, OptionEnds}
+use Rattle.slonik_parse.specs.Places.{Stands, BeforeOption, BehindOption}
 
 -- the words that a script begins with
 abbrev pub preamble : List (List ℕ)
@@ -32,26 +30,21 @@ pub data IsRefused : List Token → ScriptRefusal → Type 0 where
   no_preamble : (tokens : List Token) → begins_with preamble tokens ≡ false → IsRefused tokens NoPreamble
   command_left_out : (front rest : List Token) (block : Block) (text : List ℕ) → Stands block front
       → is_left_out (Word text ∷ rest) ≡ true → IsRefused (front ++ Word text ∷ rest) (NotInProfile (lower text))
-  option_left_out : (front rest : List Token) (block : Block) (verb : Verb) (given : Given) (text : List ℕ)
-      → OptionStands block verb given front → is_option_left_out verb (Word text ∷ rest) ≡ true
-      → IsRefused (front ++ Word text ∷ rest) (NotInProfile (lower text))
-  unknown_option : (front rest : List Token) (block : Block) (verb : Verb) (given : Given) (text : List ℕ)
-      → OptionStands block verb given front → option_at verb (Word text) ≡ None
-      → is_option_left_out verb (Word text ∷ rest) ≡ false
-      → IsRefused (front ++ Word text ∷ rest) (UnknownOption (lower text))
+  option_left_out : (at : BeforeOption) (rest : List Token) (text : List ℕ)
+      → is_option_left_out at.verb (Word text ∷ rest) ≡ true
+      → IsRefused (at.front ++ Word text ∷ rest) (NotInProfile (lower text))
+  unknown_option : (at : BeforeOption) (rest : List Token) (text : List ℕ) → option_at at.verb (Word text) ≡ None
+      → is_option_left_out at.verb (Word text ∷ rest) ≡ false
+      → IsRefused (at.front ++ Word text ∷ rest) (UnknownOption (lower text))
   not_in_try : (front rest : List Token) (script : Script) (commands : List Command) (text : List ℕ)
       → Stands (InTry script commands) front → is_not_in_try (Word text ∷ rest) ≡ true
       → IsRefused (front ++ Word text ∷ rest) (NotInTry (lower text))
-  missing_option : (front rest : List Token) (block : Block) (verb : Verb) (given : Given) (closes : Token)
-      (name : OptionName)
-      → OptionEnds block verb given front → is_sign CloseBracket closes ≡ true
-      → made verb given ≡ Err (misparse.MissingOption name)
-      → IsRefused (front ++ closes ∷ rest) (MissingOption (option_text name))
-  missing_option_there : (front rest : List Token) (block : Block) (verb : Verb) (given : Given) (closes : Token)
-      (name : OptionName)
-      → OptionStands block verb given front → is_sign CloseBracket closes ≡ true
-      → made verb given ≡ Err (misparse.MissingOption name)
-      → IsRefused (front ++ closes ∷ rest) (MissingOption (option_text name))
+  missing_option : (at : BehindOption) (rest : List Token) (closes : Token) (name : OptionName)
+      → is_sign CloseBracket closes ≡ true → made at.verb at.given ≡ Err (misparse.MissingOption name)
+      → IsRefused (at.front ++ closes ∷ rest) (MissingOption (option_text name))
+  missing_option_there : (at : BeforeOption) (rest : List Token) (closes : Token) (name : OptionName)
+      → is_sign CloseBracket closes ≡ true → made at.verb at.given ≡ Err (misparse.MissingOption name)
+      → IsRefused (at.front ++ closes ∷ rest) (MissingOption (option_text name))
 
 -- some script begins with these tokens
 abbrev pub GoesOn : List Token → Type 0

@@ -1,6 +1,8 @@
 // The options that were given to a command so far, and the command that they make.
-ghost use Rattle.std.specs.Prelude.{◌≡◌};
-ghost use Rattle.slonik_parse.specs.Answered.{Answers, Sets};
+ghost use Rattle.std.specs.Prelude.{◌≡◌, Ok};
+ghost use Rattle.slonik_parse.specs.Answered.{Answers, Sets, and_then};
+ghost use Rattle.slonik_parse.specs.declared.form.OptionName.TheVariants.{FullyQualifiedName};
+ghost use Rattle.slonik_parse.specs.declared.script.Command.TheVariants.{SetAddTable};
 ghost use Rattle.slonik_parse.specs.Given.{nothing_given, needed, set_option, made};
 
 use crate::form::{OptionName, Verb};
@@ -40,10 +42,15 @@ pub struct Given {
 
 /// Sets an option to a value, if it was read.
 macro_rules! set {
-    ($field:expr, $read:expr) => {{
-        $field = Some($read?);
-        Ok(())
-    }};
+    ($field:expr, $read:expr) => {
+        match $read {
+            Ok(value) => {
+                $field = Some(value);
+                Ok(())
+            }
+            Err(misparse) => Err(misparse),
+        }
+    };
 }
 
 impl Given {
@@ -227,10 +234,21 @@ impl Given {
     fn set_add_table(&mut self) -> Result<Command, Misparse>
         ensures { Answers (made Verb.SetAddTable self.old) result }
     {
+        let set_id = need(self.set_id, OptionName::SetId)?;
+        let origin = need(self.origin, OptionName::Origin)?;
+        let id = need(self.id, OptionName::Id)?;
+        self.add_named_table(set_id, origin, id)
+    }
+
+    /// The command that adds a table, whose numbers were given.
+    fn add_named_table(&mut self, set_id: u32, origin: u32, id: u32) -> Result<Command, Misparse>
+        ensures { Answers (and_then (needed FullyQualifiedName self.old.fully_qualified_name)
+            (λ name. Ok (SetAddTable set_id origin id name self.old.key self.old.comment))) result }
+    {
         Ok(Command::SetAddTable {
-            set_id: need(self.set_id, OptionName::SetId)?,
-            origin: need(self.origin, OptionName::Origin)?,
-            id: need(self.id, OptionName::Id)?,
+            set_id,
+            origin,
+            id,
             fully_qualified_name: need(
                 self.fully_qualified_name.take(),
                 OptionName::FullyQualifiedName,

@@ -86,6 +86,14 @@ fn node_id(script: Script, token: &Token) -> Result<State, Misparse>
     }
 }
 
+/// Adds a NODE line to the script.
+fn add_node(script: &mut Script, id: u32, conninfo: Text) -> Result<(), Misparse>
+    ensures { Sets (Ok (grown.with_node id conninfo script.old)) script.new result }
+{
+    script.nodes.set(id, conninfo)?;
+    Ok(())
+}
+
 /// The conninfo of a NODE line.
 #[tactic(auto, unfolding(crate::specs::Machine::node_text))]
 fn node_text(alloc: Global, mut script: Script, id: u32, token: &Token) -> Result<State, Misparse>
@@ -93,7 +101,10 @@ fn node_text(alloc: Global, mut script: Script, id: u32, token: &Token) -> Resul
 {
     match string_value(alloc, token) {
         Ok(conninfo) => {
-            script.nodes.set(id, conninfo)?;
+            if let Err(misparse) = add_node(&mut script, id, conninfo) {
+                drop(script);
+                return Err(misparse);
+            }
             let block = Block::Outside { script };
             Ok(sign_then(Sign::Semicolon, Goal::Command { block }))
         }
@@ -486,6 +497,14 @@ fn after_option(block: Block, verb: Verb, given: Given, token: &Token) -> Result
     }
 }
 
+/// Adds a try block at the end of the script.
+fn add_try(script: &mut Script, tried: TryBlock) -> Result<(), Misparse>
+    ensures { Sets (Ok (grown.with_statement (Statement.Try tried) script.old)) script.new result }
+{
+    script.statements.push(Statement::Try(tried))?;
+    Ok(())
+}
+
 /// A semicolon, ON, or the next statement behind a try block.
 #[tactic(auto, unfolding(crate::specs::Machine::after_try))]
 fn after_try(
@@ -502,7 +521,10 @@ fn after_try(
             goal: Goal::AfterOn { script, tried },
         });
     }
-    script.statements.push(Statement::Try(tried))?;
+    if let Err(misparse) = add_try(&mut script, tried) {
+        drop(script);
+        return Err(misparse);
+    }
     let block = Block::Outside { script };
     if token.is_sign(Sign::Semicolon) {
         Ok(State::At {

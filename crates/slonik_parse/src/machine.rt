@@ -120,8 +120,13 @@ fn block_end(block: Block, total: u64) -> Result<Script, ParseFault>
 fn script_with_try(mut script: Script, tried: TryBlock) -> Result<Script, ParseFault>
     ensures { Reads (Ok (with_statement (Statement.Try tried) script)) result }
 {
-    script.statements.push(Statement::Try(tried))?;
-    Ok(script)
+    match script.statements.push(Statement::Try(tried)) {
+        Ok(()) => Ok(script),
+        Err(_) => {
+            drop(script);
+            Err(ParseFault::NoMemory)
+        }
+    }
 }
 
 /// The script, if it may end at this goal. It has this number of tokens.

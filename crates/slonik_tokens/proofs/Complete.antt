@@ -4,38 +4,23 @@ use Rattle.std.proofs.Common.{length, Some, None, refl, sym, ap, ◌∙◌, appe
 use Rattle.std.proofs.lemmas.Bool.{and_parts}
 use Rattle.std.proofs.lemmas.Bool.Decides.{nat_tests}
 use Rattle.std.proofs.lemmas.Str.{IsUtf8-from_ascii, is_utf8-from_IsUtf8}
-use Rattle.std.proofs.lemmas.Str.Ascii.{IsAscii-nil, IsAscii-cons}
+use Rattle.std.proofs.lemmas.Str.Ascii.{IsAscii-cons}
 use borrow.Author.Tests.{eqb-true}
 use Rattle.std.specs.Char.{is_ascii_digit}
 use Rattle.std.specs.List.{list_all, prefix_len, take_while}
 use Rattle.std.specs.Option.{option_map}
-use Rattle.std.specs.Str.{IsAscii, IsUtf8, is_utf8}
+use Rattle.std.specs.Str.{IsUtf8, is_utf8}
+use Rattle.slon_lemmas.proofs.Texts.{ascii_all}
 use Rattle.slonik_tokens.specs.Spelling.{is_separator, is_word_start, is_word_byte, is_quote, is_line_byte}
 use Rattle.slonik_tokens.specs.Spelling.{is_path_byte, is_identifier, are_digits, doubled, spelling, HasForm, Stops}
 use Rattle.slonik_tokens.specs.Spelling.{Ends, is_allowed, Separator, Comment, Lexeme, Stands}
 use Rattle.slonik_tokens.specs.Cut.{text_in, blank_len, identifier_at, number_at, behind, unquoted, text_of, quoted_at}
 use Rattle.slonik_tokens.specs.Cut.{begins, path_at, sign_of, token_at}
-use Rattle.slonik_tokens.specs.declared.token.Sign.TheVariants.{Semicolon, Comma, Equals, OpenBracket, CloseBracket}
-use Rattle.slonik_tokens.specs.declared.token.Sign.TheVariants.{OpenBrace, CloseBrace}
+use Rattle.slonik_tokens.specs.declared.token.Sign.TheVariants.{Semicolon}
 use Rattle.slonik_tokens.specs.declared.token.Token.{Token}
 use Rattle.slonik_tokens.specs.declared.token.Token.TheVariants.{Word, Number, Quoted, Mark, NameUse, Path}
 use Rattle.slonik_tokens.proofs.Runs.{run_again, front_again, rest_again}
 use Rattle.slonik_tokens.proofs.Sound.{front_word}
-
-ascii_all : (p : ℕ → Bool) → ((c : ℕ) → p c ≡ true → c < 128) → (text : List ℕ) → list_all p text ≡ true → IsAscii text
-ascii_all p small [] e = IsAscii-nil
-ascii_all p small (c ∷ cs) e =
-    let h = and_parts (p c) (list_all p cs) e in
-    IsAscii-cons c cs (small c h.0) (ascii_all p small cs h.1)
-
-start_small : (c : ℕ) → is_word_start c ≡ true → c < 128
-start_small c e = grind (arith, nat_tests)
-
-word_small : (c : ℕ) → is_word_byte c ≡ true → c < 128
-word_small c e = grind (arith, nat_tests)
-
-digit_small : (c : ℕ) → is_ascii_digit c ≡ true → c < 128
-digit_small c e = grind (arith, nat_tests)
 
 text_again : (text : List ℕ) → IsUtf8 text → text_in text ≡ Some text
 unfolding text_in
@@ -47,8 +32,9 @@ unfolding identifier_at
 identifier_again [] more form stops = cc
 identifier_again (c ∷ cs) more form stops =
     let h = and_parts (is_word_start c) (list_all is_word_byte cs) form in
-    let good = IsUtf8-from_ascii (c ∷ cs) (IsAscii-cons c cs (start_small c h.0)
-    (ascii_all is_word_byte word_small cs h.1)) in
+    let start : c < 128 = grind (arith, nat_tests, h.0) in
+    let good = IsUtf8-from_ascii (c ∷ cs)
+    (IsAscii-cons c cs start (ascii_all is_word_byte (λ c e. grind (arith, nat_tests)) cs h.1)) in
     ap (λ b. cond b (text_in (take_while is_word_byte (c ∷ cs ++ more))) None) h.0
     ∙ ap text_in (front_word c (cs ++ more) h.0 ∙ ap (λ l. c ∷ l) (front_again is_word_byte cs more h.1 stops))
     ∙ text_again (c ∷ cs) good
@@ -70,15 +56,13 @@ digits_by c cs false minus e =
     let h = and_parts (is_ascii_digit c) (list_all is_ascii_digit cs) e in
     record { each = h.1; some = rw minus; first = rw minus h.0 }
 
-first_small : (c : ℕ) → (eqb c 45 || is_ascii_digit c) ≡ true → c < 128
-first_small c e = grind (arith, nat_tests)
-
 number_again : (c : ℕ) (cs more : List ℕ) → Digits c cs → Stops is_ascii_digit more
     → number_at (c ∷ cs ++ more) ≡ Some (c ∷ cs)
 unfolding number_at
 number_again c cs more d stops =
-    let good = IsUtf8-from_ascii (c ∷ cs) (IsAscii-cons c cs (first_small c d.first)
-    (ascii_all is_ascii_digit digit_small cs d.each)) in
+    let first : c < 128 = grind (arith, nat_tests, d.first) in
+    let good = IsUtf8-from_ascii (c ∷ cs)
+    (IsAscii-cons c cs first (ascii_all is_ascii_digit (λ c e. grind (arith, nat_tests)) cs d.each)) in
     let guard = ap (λ n. eqb c 45 && eqb n 0) (run_again is_ascii_digit cs more d.each stops) ∙ d.some in
     ap (λ b. cond b None (text_in (c ∷ take_while is_ascii_digit (cs ++ more)))) guard
     ∙ ap (λ l. text_in (c ∷ l)) (front_again is_ascii_digit cs more d.each stops) ∙ text_again (c ∷ cs) good
@@ -124,8 +108,8 @@ record FirstOfWord (c : ℕ) : Type 0 where
   separator : is_separator c ≡ false
   comment : eqb c 35 ≡ false
 
-first_of_word : (c : ℕ) → is_word_start c ≡ true → FirstOfWord c
-first_of_word c e =
+first_of : (c : ℕ) → (is_word_start c || (eqb c 45 || is_ascii_digit c)) ≡ true → FirstOfWord c
+first_of c e =
     record {
       quote = grind (arith, nat_tests);
       at = grind (arith, nat_tests);
@@ -134,17 +118,13 @@ first_of_word c e =
       comment = grind (arith, nat_tests);
     }
 
+first_of_word : (c : ℕ) → is_word_start c ≡ true → FirstOfWord c
+first_of_word c e = first_of c (ap (λ b. b || (eqb c 45 || is_ascii_digit c)) e)
+
 first_of_number : (c : ℕ) → (eqb c 45 || is_ascii_digit c) ≡ true → FirstOfWord c × (is_word_start c ≡ false)
-first_of_number c e = (
-  record {
-    quote = grind (arith, nat_tests);
-    at = grind (arith, nat_tests);
-    path = grind (arith, nat_tests);
-    separator = grind (arith, nat_tests);
-    comment = grind (arith, nat_tests);
-  },
-  grind (arith, nat_tests),
-)
+first_of_number c e =
+    let none : is_word_start c ≡ false = grind (arith, nat_tests) in
+    (first_of c (ap (λ b. b || (eqb c 45 || is_ascii_digit c)) none ∙ e), none)
 
 token_by : (path : Bool) (token : Token) (more : List ℕ) → HasForm token → Ends token more
     → is_allowed path token ≡ true → token_at path (spelling token ++ more) ≡ Some token
@@ -161,12 +141,7 @@ token_by path (Number (c ∷ cs)) more form ends allowed =
     rw (f.0.quote, f.0.at, f.0.path, f.1, d.first) (ap (option_map Number) (number_again c cs more d ends))
 token_by path (Quoted text) more form ends allowed = ap (option_map Quoted) (quoted_again text more form.0 form.1 ends)
 token_by path (Mark Semicolon) more form ends allowed = refl
-token_by path (Mark Comma) more form ends allowed = refl
-token_by path (Mark Equals) more form ends allowed = refl
-token_by path (Mark OpenBracket) more form ends allowed = refl
-token_by path (Mark CloseBracket) more form ends allowed = refl
-token_by path (Mark OpenBrace) more form ends allowed = refl
-token_by path (Mark CloseBrace) more form ends allowed = refl
+token_by path (Mark others) more form ends allowed = refl
 token_by path (NameUse name) more form ends allowed = ap (option_map NameUse) (identifier_again name more form ends)
 token_by path (Path text) more form ends allowed =
     rw allowed (ap (option_map Path) (path_again text more form.0 form.1))
@@ -186,16 +161,9 @@ no_blank_by (Number []) more form = cc
 no_blank_by (Number (c ∷ cs)) more form =
     let f = first_of_number c (digits_by c cs (eqb c 45) refl form).first in
     rw (f.0.separator, f.0.comment)
-no_blank_by (Quoted text) more form = refl
 no_blank_by (Mark Semicolon) more form = refl
-no_blank_by (Mark Comma) more form = refl
-no_blank_by (Mark Equals) more form = refl
-no_blank_by (Mark OpenBracket) more form = refl
-no_blank_by (Mark CloseBracket) more form = refl
-no_blank_by (Mark OpenBrace) more form = refl
-no_blank_by (Mark CloseBrace) more form = refl
-no_blank_by (NameUse name) more form = refl
-no_blank_by (Path text) more form = refl
+no_blank_by (Mark sign) more form = refl
+no_blank_by others more form = refl
 
 -- and no blank stands there
 pub no_blank : (path : Bool) (token : Token) (bytes more : List ℕ) → Stands path (Lexeme token bytes) more

@@ -27,6 +27,33 @@ pub begins : (text : List ℕ) (tokens : List Token) → tokens ≡ []
 unfolding cut_of
 begins text tokens none = rw none (record { same = refl; counted = omega arith })
 
+-- the same place, written so
+pub goes_as : (text : List ℕ) (at next : Reached) → next.rest ≡ at.rest → next.path ≡ at.path → next.line ≡ at.line →
+    next.tokens ≡ at.tokens → Goes text at → Goes text next
+goes_as text at next rest path line tokens g =
+    subst (Goes text) (λ i. record {
+      rest = sym rest i;
+      path = sym path i;
+      line = sym line i;
+      tokens = sym tokens i;
+    }) g
+
+abbrev pub reached : List ℕ → Bool → ℕ → List Token → Reached
+reached rest path line tokens = record { rest = rest; path = path; line = line; tokens = tokens }
+
+-- What stands at the front of the rest: its first byte, and how long a blank is there.
+pub record Front (at : Reached) : Type 0 where
+  pub first : ℕ
+  pub tail : List ℕ
+  pub blank : ℕ
+  pub is : at.rest ≡ first ∷ tail
+  pub measured : blank ≡ blank_len at.rest
+
+abbrev pub front : (at : Reached) (first : ℕ) (tail : List ℕ) (blank : ℕ) → at.rest ≡ first ∷ tail →
+    blank ≡ blank_len at.rest → Front at
+front at first tail blank is measured =
+    record { first = first; tail = tail; blank = blank; is = is; measured = measured }
+
 -- the same rest, written so
 rest_as : (text rest : List ℕ) (at : Reached) → at.rest ≡ rest → Goes text at → Goes text (record at { rest = rest })
 rest_as text rest at e g = record {
@@ -68,32 +95,24 @@ blank_room [] = omega arith
 blank_room (c ∷ cs) = room_by c cs (blank_len (c ∷ cs)) refl
 
 -- the rest behind a blank
-blank_by : (text tail : List ℕ) (path : Bool) (line c blank : ℕ) (tokens : List Token) → blank_len (c ∷ tail) ≡ blank
-    → 0 < blank → Goes text (record { rest = c ∷ tail; path = path; line = line; tokens = tokens })
-    → Goes text (record { rest = drop blank (c ∷ tail); path = path; line = line + lines_in c; tokens = tokens })
-blank_by text tail path line c zero tokens e some g = absurd (omega arith)
-blank_by text tail path line c (suc n) tokens e some g =
+blank_by : (text tail : List ℕ) (at : Reached) (c blank : ℕ) → blank_len (c ∷ tail) ≡ blank → 0 < blank →
+    Goes text (record at { rest = c ∷ tail }) →
+    Goes text (record at { rest = drop blank (c ∷ tail); line = at.line + lines_in c })
+blank_by text tail at c zero e some g = absurd (omega arith)
+blank_by text tail at c (suc n) e some g =
     let room : suc n ≤ length (c ∷ tail) = subst (λ b. b ≤ length (c ∷ tail)) e (blank_room (c ∷ tail)) in
     record {
-      same = sym (resumed_lines tokens line (lines_in c) (cut_from (drop n tail) path 0))
-          ∙ ap (resume tokens line) (sym (over_blank path c tail n e)) ∙ g.same;
+      same = sym (resumed_lines at.tokens at.line (lines_in c) (cut_from (drop n tail) at.path 0))
+          ∙ ap (resume at.tokens at.line) (sym (over_blank at.path c tail n e)) ∙ g.same;
       counted = omega (arith, g.counted, length-drop n tail, line_at_most c);
     }
 
-pub behind_blank : (text tail : List ℕ) (at next : Reached) (c blank : ℕ) → at.rest ≡ c ∷ tail
-    → blank ≡ blank_len at.rest
-    → 0 < blank → next.rest ≡ drop blank at.rest → next.line ≡ at.line + lines_in c → next.path ≡ at.path
-    → next.tokens ≡ at.tokens → Goes text at → Goes text next
-behind_blank text tail at next c blank e f some rest line path tokens g =
-    subst (Goes text)
-    (λ i. record {
-      rest = (ap (drop blank) (sym e) ∙ sym rest) i;
-      path = sym path i;
-      line = sym line i;
-      tokens = sym tokens i;
-    })
-    (blank_by text tail at.path at.line c blank at.tokens (sym (f ∙ ap blank_len e)) some
-    (rest_as text (c ∷ tail) at e g))
+pub behind_blank : (text : List ℕ) (at : Reached) (f : Front at) → 0 < f.blank → Goes text at →
+    Goes text (record at { rest = drop f.blank at.rest; line = at.line + lines_in f.first })
+behind_blank text at f some g =
+    subst (λ l. Goes text (record at { rest = drop f.blank l; line = at.line + lines_in f.first })) (sym f.is)
+    (blank_by text f.tail at f.first f.blank (sym (f.measured ∙ ap blank_len f.is)) some
+    (rest_as text (f.first ∷ f.tail) at f.is g))
 
 sized_some : (found : Option Token) (token : Token) (len : ℕ) → Some (token, len) ≡ sized found
     → (found ≡ Some token) × (length (spelling token) ≡ len)
@@ -116,51 +135,54 @@ token_room path bytes token len e =
     let size = some_bytes token b.stands.0.1 in
     (omega (arith, k.1, size.1), omega (arith, k.1, ap length b.parts, length-append (spelling token) b.more))
 
-token_by : (text tail : List ℕ) (path : Bool) (line c len : ℕ) (tokens : List Token) (token : Token)
-    → blank_len (c ∷ tail) ≡ 0 → Some (token, suc len) ≡ sized (token_at path (c ∷ tail))
-    → Goes text (record { rest = c ∷ tail; path = path; line = line; tokens = tokens })
-    → Goes text (record {
+token_by : (text tail : List ℕ) (at : Reached) (c len : ℕ) (token : Token) →
+    (blank_len (c ∷ tail) ≡ 0) × (Some (token, suc len) ≡ sized (token_at at.path (c ∷ tail))) →
+    Goes text (record at { rest = c ∷ tail }) → Goes text (record {
       rest = drop len tail;
       path = is_word (codes "include") token;
-      line = line;
-      tokens = tokens ++ token ∷ [];
+      line = at.line;
+      tokens = at.tokens ++ token ∷ [];
     })
-token_by text tail path line c len tokens token blank e g =
-    let k = sized_some (token_at path (c ∷ tail)) token (suc len) e in
+token_by text tail at c len token e g =
+    let k = sized_some (token_at at.path (c ∷ tail)) token (suc len) e.1 in
     record {
-      same = sym (resumed_token tokens line token (cut_from (drop len tail) (is_word (codes "include") token) 0))
-          ∙ ap (resume tokens line) (sym (over_token path c tail token len blank k.0 k.1)) ∙ g.same;
+      same = sym (resumed_token at.tokens at.line token (cut_from (drop len tail) (is_word (codes "include") token) 0))
+          ∙ ap (resume at.tokens at.line) (sym (over_token at.path c tail token len e.0 k.0 k.1)) ∙ g.same;
       counted = omega (arith, g.counted, length-drop len tail);
     }
 
+no_blank_at : (at : Reached) (f : Front at) → f.blank ≤ 0 → blank_len (f.first ∷ f.tail) ≡ 0
+no_blank_at at f none = sym (f.measured ∙ ap blank_len f.is) ∙ omega arith
+
 -- the rest behind a token
-pub behind_token_at : (text tail : List ℕ) (at next : Reached) (c blank len : ℕ) (token : Token) → at.rest ≡ c ∷ tail
-    → blank ≡ blank_len at.rest → blank ≤ 0 → Some (token, len) ≡ sized (token_at at.path at.rest)
-    → next.rest ≡ drop len at.rest → next.path ≡ is_word (codes "include") token → next.line ≡ at.line
-    → next.tokens ≡ at.tokens ++ token ∷ [] → Goes text at → Goes text next
-behind_token_at text tail at next c blank zero token e f none found rest path line tokens g =
-    absurd (omega (arith, token_room at.path at.rest token 0 found))
-behind_token_at text tail at next c blank (suc len) token e f none found rest path line tokens g =
-    let zero_len : blank_len (c ∷ tail) ≡ 0 = sym (ap blank_len e) ∙ omega arith in
-    let there : Some (token, suc len) ≡ sized (token_at at.path (c ∷ tail)) =
-    found ∙ ap (λ l. sized (token_at at.path l)) e in
-    subst (Goes text)
-    (λ i. record {
-      rest = (ap (drop (suc len)) (sym e) ∙ sym rest) i;
-      path = sym path i;
-      line = sym line i;
-      tokens = sym tokens i;
+pub behind_token_at : (text : List ℕ) (at : Reached) (f : Front at) (len : ℕ) (token : Token) → f.blank ≤ 0 →
+    Some (token, len) ≡ sized (token_at at.path at.rest) → Goes text at → Goes text (record {
+      rest = drop len at.rest;
+      path = is_word (codes "include") token;
+      line = at.line;
+      tokens = at.tokens ++ token ∷ [];
     })
-    (token_by text tail at.path at.line c len at.tokens token zero_len there (rest_as text (c ∷ tail) at e g))
+behind_token_at text at f zero token none found g = absurd (omega (arith, token_room at.path at.rest token 0 found))
+behind_token_at text at f (suc len) token none found g =
+    let there : Some (token, suc len) ≡ sized (token_at at.path (f.first ∷ f.tail)) =
+    found ∙ ap (λ l. sized (token_at at.path l)) f.is in
+    subst (λ l. Goes text (record {
+      rest = drop (suc len) l;
+      path = is_word (codes "include") token;
+      line = at.line;
+      tokens = at.tokens ++ token ∷ [];
+    })) (sym f.is)
+    (token_by text f.tail at f.first len token (no_blank_at at f none, there)
+    (rest_as text (f.first ∷ f.tail) at f.is g))
 
 -- no piece begins the rest
-pub fails : (text tail : List ℕ) (at : Reached) (c blank : ℕ) → at.rest ≡ c ∷ tail → blank ≡ blank_len at.rest
-    → blank ≤ 0 → None ≡ sized (token_at at.path at.rest) → Goes text at → cut_of text ≡ Err at.line
-fails text tail at c blank e f none found g =
-    let zero_len : blank_len (c ∷ tail) ≡ 0 = sym (ap blank_len e) ∙ omega arith in
-    let there : None ≡ sized (token_at at.path (c ∷ tail)) = found ∙ ap (λ l. sized (token_at at.path l)) e in
+pub fails : (text : List ℕ) (at : Reached) (f : Front at) → f.blank ≤ 0 →
+    None ≡ sized (token_at at.path at.rest) → Goes text at → cut_of text ≡ Err at.line
+fails text at f none found g =
+    let there : None ≡ sized (token_at at.path (f.first ∷ f.tail)) =
+    found ∙ ap (λ l. sized (token_at at.path l)) f.is in
     sym g.same
     ∙ ap (resume at.tokens at.line)
-    (ap (λ l. cut_from l at.path 0) e ∙ over_none at.path c tail zero_len
-    (sized_none (token_at at.path (c ∷ tail)) there))
+    (ap (λ l. cut_from l at.path 0) f.is ∙ over_none at.path f.first f.tail (no_blank_at at f none)
+    (sized_none (token_at at.path (f.first ∷ f.tail)) there))
     ∙ ap Err (add-zero at.line)

@@ -1,9 +1,12 @@
 -- Strings: what is read of them, and how they are spelled.
-use Rattle.std.proofs.Common.{◌≡◌, ℕ, ◌+◌, ◌<◌, add-one, drop, drop-cons, get_or, length-append, eqb, cond, Bool, true}
+use Rattle.std.proofs.Common.{◌≡◌, ◌∙◌, sym, ℕ, ◌+◌, ◌<◌, add-one, drop, drop-cons, get_or, length-append, eqb, cond}
+use Rattle.std.proofs.Common.{Bool, true}
 use Rattle.std.proofs.Common.{false, List, [], ◌∷◌, ◌++◌, length, Option, Some, None, refl, ap, append_assoc, arith}
 use Rattle.std.proofs.lemmas.Bool.Decides.{nat_tests}
-use Rattle.slonik_tokens.specs.Spelling.{doubled}
-use Rattle.slonik_tokens.specs.Cut.{behind, unquoted, text_in, quoted_at}
+use Rattle.std.specs.Option.{option_map}
+use Rattle.slonik_tokens.specs.declared.token.Token.TheVariants.{Quoted}
+use Rattle.slonik_tokens.specs.Spelling.{doubled, spelling}
+use Rattle.slonik_tokens.specs.Cut.{behind, unquoted, text_in, quoted_at, sized}
 
 pub behind_both : (a b : List ℕ) (found : Option (List ℕ)) → behind (a ++ b) found ≡ behind a (behind b found)
 behind_both a b None = refl
@@ -31,6 +34,23 @@ pub quoted_same : (text items : List ℕ) → Some text ≡ text_in items → te
 unfolding text_in
 quoted_same text items e = grind arith
 
+-- a whole string, with the length of it with both quotes
+pub quoted_is : (bytes text items : List ℕ) (len : ℕ) →
+    (unquoted bytes false ≡ Some items) × (len ≡ length (doubled items ++ 39 ∷ [])) → Some text ≡ text_in items →
+    Some (Quoted text, len + 1) ≡ sized (option_map Quoted (quoted_at bytes))
+quoted_is bytes text items len (found, size) same =
+    let is : quoted_at bytes ≡ Some text = quoted_found bytes items found ∙ sym same in
+    let length_is : len ≡ length (doubled text ++ 39 ∷ []) =
+    size ∙ ap (λ t. length (doubled t ++ 39 ∷ [])) (sym (quoted_same text items same)) in
+    let all : len + 1 ≡ length (spelling (Quoted text)) = omega (arith, length_is) in
+    ap (λ n. Some (Quoted text, n)) all ∙ sym (ap (λ o. sized (option_map Quoted o)) is)
+
+-- its text is no UTF-8
+pub quoted_none : (bytes items : List ℕ) → unquoted bytes false ≡ Some items → None ≡ text_in items →
+    None ≡ sized (option_map Quoted (quoted_at bytes))
+quoted_none bytes items found none =
+    sym (ap (λ o. sized (option_map Quoted o)) (quoted_found bytes items found ∙ sym none))
+
 -- what is read of a string: its text so far, whether a quote stands before, and how many bytes these are
 pub record Reads (bytes text : List ℕ) (after : Bool) (len index : ℕ) : Type 0 where
   pub found : behind text (unquoted (drop index bytes) after) ≡ unquoted bytes false
@@ -52,25 +72,25 @@ grown text c true quote = rw (doubled_both text (c ∷ []), length-append, quote
 grown text c false quote = rw (doubled_both text (c ∷ []), length-append, quote) (omega arith)
 
 -- a byte of the text comes: no end of a line, and a quote just behind a quote
-pub keeps : (bytes text text' : List ℕ) (len i : ℕ) (after after' : Bool) → after' ≡ false → i < length bytes
-    → (get_or bytes i 0 ≡ 10 → ⊥) → eqb (get_or bytes i 0) 39 ≡ after → text' ≡ text ++ get_or bytes i 0 ∷ []
-    → Reads bytes text after len i → Reads bytes text' after' (len + 1) (i + 1)
-keeps bytes text text' len i after after' now inside line quote e r =
-    let next : drop i bytes ≡ get_or bytes i 0 ∷ drop (i + 1) bytes = rw add-one (drop-cons bytes i 0 inside) in
+pub keeps : (bytes text : List ℕ) (len i : ℕ) (after : Bool) → i < length bytes × (get_or bytes i 0 ≡ 10 → ⊥) →
+    eqb (get_or bytes i 0) 39 ≡ after → Reads bytes text after len i →
+    Reads bytes (text ++ get_or bytes i 0 ∷ []) false (len + 1) (i + 1)
+keeps bytes text len i after inside quote r =
+    let next : drop i bytes ≡ get_or bytes i 0 ∷ drop (i + 1) bytes = rw add-one (drop-cons bytes i 0 inside.0) in
     record {
-      found = rw (e, now) (kept text (drop (i + 1) bytes) (get_or bytes i 0) after _ line quote (rw next at r.found));
-      read = rw (e, now) (omega (arith, grown text (get_or bytes i 0) after quote, r.read));
+      found = kept text (drop (i + 1) bytes) (get_or bytes i 0) after _ inside.1 quote (rw next at r.found);
+      read = omega (arith, grown text (get_or bytes i 0) after quote, r.read);
       place = omega (arith, r.place);
     }
 
 -- a quote comes that is not behind a quote
-pub opens : (bytes text text' : List ℕ) (len i : ℕ) (after after' : Bool) → after' ≡ true → i < length bytes
-    → get_or bytes i 0 ≡ 39 → after ≡ false → text' ≡ text → Reads bytes text after len i
-    → Reads bytes text' after' (len + 1) (i + 1)
-opens bytes text text' len i after after' now inside quote start e r =
+pub opens : (bytes text : List ℕ) (len i : ℕ) → i < length bytes → get_or bytes i 0 ≡ 39 →
+    Reads bytes text false len i →
+    Reads bytes text true (len + 1) (i + 1)
+opens bytes text len i inside quote r =
     let next : drop i bytes ≡ get_or bytes i 0 ∷ drop (i + 1) bytes = rw add-one (drop-cons bytes i 0 inside) in
     record {
-      found = rw (e, now) (opened text (drop (i + 1) bytes) (get_or bytes i 0) _ quote (rw (next, start) at r.found));
-      read = rw (e, now) (omega (arith, rw start at r.read));
+      found = opened text (drop (i + 1) bytes) (get_or bytes i 0) _ quote (rw next at r.found);
+      read = omega (arith, r.read);
       place = omega (arith, r.place);
     }

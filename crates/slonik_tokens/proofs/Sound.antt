@@ -30,14 +30,16 @@ pub record Begins (path : Bool) (bytes : List ℕ) (piece : Piece) : Type 0 wher
   pub parts : bytes ≡ bytes_of piece ++ more
   pub stands : Stands path piece more
 
+-- what follows from either way of a choice
+abbrev ByChoice : {A : Type 0} → Bool → A → A → A → Type 0 → Type 0
+ByChoice b x y z P = (b ≡ true → x ≡ z → P) → (b ≡ false → y ≡ z → P) → P
+
 -- a choice, taken apart
-chosen : {A P : Type 0} (b : Bool) (x y : Option A) (z : A) → cond b x y ≡ Some z → (b ≡ true → x ≡ Some z → P)
-    → (b ≡ false → y ≡ Some z → P) → P
+chosen : {A P : Type 0} (b : Bool) (x y : Option A) (z : A) → cond b x y ≡ Some z → ByChoice b x y (Some z) P
 chosen true x y z e f g = f refl e
 chosen false x y z e f g = g refl e
 
-counted : {P : Type 0} (b : Bool) (x y n : ℕ) → cond b x y ≡ suc n → (b ≡ true → x ≡ suc n → P)
-    → (b ≡ false → y ≡ suc n → P) → P
+counted : {P : Type 0} (b : Bool) (x y n : ℕ) → cond b x y ≡ suc n → ByChoice b x y (suc n) P
 counted true x y n e f g = f refl e
 counted false x y n e f g = g refl e
 

@@ -105,7 +105,7 @@ fn sign_of(byte: u8) -> Option<Sign>
 }
 
 /// The string whose first quote stands before these bytes, and the length of it with both quotes.
-#[tactic(auto, using(crate::proofs::Quotes::quoted_found, crate::proofs::Quotes::no_quoted, crate::proofs::Quotes::quoted_same))]
+#[tactic(auto, using(crate::proofs::Quotes::no_quoted))]
 fn quoted_token(alloc: Global, bytes: &[u8]) -> Result<Option<(Token, usize)>, AllocError>
     ensures { IfOk result (λ found. found ≡ cut.sized (option_map Token.Quoted (cut.quoted_at bytes.now))) }
 {

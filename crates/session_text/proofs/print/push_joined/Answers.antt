@@ -6,4 +6,6 @@ use Rattle.session_text.proofs.print.push_joined.Goals as goal
 
 pub returns-in_ok-push_str-in-Some : goal.returns-in_ok-push_str-in-Some
 returns-in_ok-push_str-in-Some c =
-    IfOk-equal c.push_behind_commas.result _ _ _ c.push_behind_commas.ensures (rw (c.in_ok-push_str-in-Some.ensures.bytes, c.as_str.ensures.value, c.in-Some.ensures.cases.0, joined_first) (append_assoc (string_bytes c.args.line.now) c.in-Some.first.now (behind_commas c.in-Some.rest.now)))
+    IfOk-equal c.push_behind_commas.result _ _ _ c.push_behind_commas.ensures
+    (rw (c.in_ok-push_str-in-Some.ensures.bytes, c.as_str.ensures.value, c.in-Some.ensures.cases.0, joined_first)
+    (append_assoc (string_bytes c.args.line.now) c.in-Some.first.now (behind_commas c.in-Some.rest.now)))

@@ -2,13 +2,6 @@ use Rattle.std.proofs.Common.{append_assoc, refl}
 use Rattle.std.proofs.lemmas.Result.{IfOk-equal}
 use Rattle.session_text.proofs.print.push_refusal.Goals as goal
 
-pub returns-in_ok-push_named-in-Fault : goal.returns-in_ok-push_named-in-Fault
-returns-in_ok-push_named-in-Fault c =
-    IfOk-equal c.write.result _ _ _ c.write.ensures.bytes (rw (c.in-Fault.is, c.in_ok-push_named-in-Fault.ensures) (simp append_assoc))
-
-pub returns-in-Locked : goal.returns-in-Locked
-returns-in-Locked c = IfOk-equal c.write-in-Locked.result _ _ _ c.write-in-Locked.ensures.bytes (rw c.in-Locked.is refl)
-
 pub returns-in-NotEmpty : goal.returns-in-NotEmpty
 returns-in-NotEmpty c = rw c.in-NotEmpty.is c.push_named-in-NotEmpty.ensures
 
@@ -24,6 +17,11 @@ returns-in-TableExists c = rw c.in-TableExists.is c.push_named-in-TableExists.en
 pub returns-in-NameUsed : goal.returns-in-NameUsed
 returns-in-NameUsed c = rw c.in-NameUsed.is c.push_named-in-NameUsed.ensures
 
+pub returns-in_ok-push_named-in-Fault : goal.returns-in_ok-push_named-in-Fault
+returns-in_ok-push_named-in-Fault c =
+    IfOk-equal c.write.result _ _ _ c.write.ensures.bytes
+    (rw (c.in-Fault.is, c.in_ok-push_named-in-Fault.ensures) (simp append_assoc))
+
 pub returns-in-NoTable : goal.returns-in-NoTable
 returns-in-NoTable c = rw c.in-NoTable.is c.push_named-in-NoTable.ensures
 
@@ -31,7 +29,12 @@ pub returns-in-NoTransaction : goal.returns-in-NoTransaction
 returns-in-NoTransaction c = rw c.in-NoTransaction.is c.push_named-in-NoTransaction.ensures
 
 pub returns-in-Duplicate : goal.returns-in-Duplicate
-returns-in-Duplicate c = IfOk-equal c.write-in-Duplicate.result _ _ _ c.write-in-Duplicate.ensures.bytes (rw c.in-Duplicate.is refl)
+returns-in-Duplicate c =
+    IfOk-equal c.write-in-Duplicate.result _ _ _ c.write-in-Duplicate.ensures.bytes (rw c.in-Duplicate.is refl)
 
 pub returns-in-BadWidth : goal.returns-in-BadWidth
-returns-in-BadWidth c = IfOk-equal c.write-in-BadWidth.result _ _ _ c.write-in-BadWidth.ensures.bytes (rw c.in-BadWidth.is refl)
+returns-in-BadWidth c =
+    IfOk-equal c.write-in-BadWidth.result _ _ _ c.write-in-BadWidth.ensures.bytes (rw c.in-BadWidth.is refl)
+
+pub returns-in-Locked : goal.returns-in-Locked
+returns-in-Locked c = IfOk-equal c.write-in-Locked.result _ _ _ c.write-in-Locked.ensures.bytes (rw c.in-Locked.is refl)

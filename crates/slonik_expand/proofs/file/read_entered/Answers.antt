@@ -2,7 +2,7 @@ use Rattle.std.proofs.Common.{ap, ◌∙◌, arith, ◌≡◌, take, length, ◌
 use Rattle.std.proofs.lemmas.List.{with_items_is, length-append, length-take}
 use Rattle.std.proofs.lemmas.Result.{err_from_is_err_and}
 use Rattle.slonik_expand.proofs.Faults.{failed_since, unread_fault}
-use Rattle.slonik_expand.proofs.ReadingOn.{keeps_on, read_more}
+use Rattle.slonik_expand.proofs.ReadingOn.{Partly, keeps_on, read_more}
 use Rattle.slonik_expand.proofs.file.read_entered.Goals as goal
 
 pub returns-in_err-count-clause-cause : goal.returns-in_err-count-clause-cause
@@ -45,5 +45,6 @@ loop-bytes-preserved g c =
       );
       read = λ bytes told.
           let r = c.loop-bytes.invariant.read bytes told in
-          rw grown (read_more _ _ _ _ _ r.0 _ c.in_ok-count.ensures.bytes r.1 r.2);
+          let before : Partly _ c.loop-bytes.bytes.items bytes = record { rest = r.0; is = r.1; whole = r.2 } in
+          rw grown (read_more _ _ _ _ _ _ c.in_ok-count.ensures.bytes before);
     }

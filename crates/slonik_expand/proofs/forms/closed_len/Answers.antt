@@ -7,6 +7,7 @@ pub loop-i-preserved : goal.loop-i-preserved
 loop-i-preserved c =
     elim c.if-is_sign.branch [
       | then-is_sign w ↦ rw w.len-is (closed_here _ _)
-      | else-is_sign w ↦ rw w.len-is (closed_other _ _ _ c.index-tokens-i.result c.loop-i-test.true c.index-tokens-i.is
+      | else-is_sign w ↦ rw w.len-is (closed_other _ _
+          (record { at = _; token = c.index-tokens-i.result; within = c.loop-i-test.true; is = c.index-tokens-i.is })
           (sym c.is_sign.ensures ∙ w.if-is_sign.false) c.loop-i.invariant)
     ]

@@ -1,4 +1,4 @@
-use Rattle.std.proofs.Common.{◌≡◌, [], ◌∷◌, ◌++◌, sym, ap, ◌∙◌}
+use Rattle.std.proofs.Common.{◌≡◌, [], ◌∷◌, ◌++◌, Some, refl, sym, ap, ◌∙◌}
 use Rattle.std.specs.Option.{option_map}
 use Rattle.slonik_expand.specs.declared.definition.Part.TheVariants.{Single}
 use Rattle.slonik_expand.specs.Shared.{meaning}
@@ -11,11 +11,10 @@ pub returns-in_ok-add_earlier-in-Some : goal.returns-in_ok-add_earlier-in-Some
 returns-in_ok-add_earlier-in-Some c =
     let stands = meaning c.args.self.now.made.items in
     let name = c.in-NameUse.name in
-    let e : names_of c.args.self.now name ≡ option_map stands c.find.result =
-    ap (option_map stands) (sym c.find.ensures) in (
+    let is : names_of c.args.self.now name ≡ Some (stands c.in-Some.place) =
+    ap (option_map stands) (sym c.find.ensures ∙ c.in-Some.is) in (
       stands c.in-Some.place,
-      named_one (names_of c.args.self.now) stands c.find.result c.args.token.now name
-          c.in-Some.place c.in-NameUse.is e c.in-Some.is,
+      named_one (names_of c.args.self.now) c.args.token.now name (stands c.in-Some.place) c.in-NameUse.is is,
       c.in_ok-add_earlier-in-Some.ensures.means,
     )
 
@@ -26,6 +25,6 @@ returns-in_ok-push-in_default c =
     c.in_ok-copy-in_default.ensures in (
       c.args.token.now ∷ [],
       other_one (names_of c.args.self.now) c.args.token.now c.in_default.not-NameUse,
-      means_token c.args.self.now.made.items c.args.definition.now c.push.new.self c.args.token.now parts
-          c.in_ok-push-in_default.ensures.len,
+      means_token c.args.self.now.made.items c.args.token.now
+          (record { old = _; new = _; len = 1; parts = parts; counted = c.in_ok-push-in_default.ensures.len }) refl,
     )

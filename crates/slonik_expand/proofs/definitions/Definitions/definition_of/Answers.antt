@@ -15,10 +15,12 @@ loop-token-init c = record {
 pub returns-in_err-add : goal.returns-in_err-add
 returns-in_err-add c =
     let p = err_from_is_err_and c.from_residual.result c.from_residual.ensures.1 in
-    rw (p.1, p.2) (adds_halted _ _ _ c.loop-token.definition c.add.new.definition _ c.token-item.result _
-    c.loop-token.invariant c.loop-token-test.true c.token-item.is c.in_err-add.ensures)
+    rw (p.1, p.2) (adds_halted c.args.self.now _ c.loop-token.definition c.add.new.definition
+    (record { at = _; token = c.token-item.result; within = c.loop-token-test.true; is = c.token-item.is }) _
+    c.loop-token.invariant c.in_err-add.ensures)
 
 pub loop-token-preserved : goal.loop-token-preserved
 loop-token-preserved c =
-    let k = c.in_ok-add.ensures in
-    stands_one _ _ _ k.0 _ _ _ c.token-item.result c.loop-token.invariant c.loop-token-test.true c.token-item.is k.1 k.2
+    stands_one c.args.self.now _ c.loop-token.definition c.add.new.definition
+    (record { at = _; token = c.token-item.result; within = c.loop-token-test.true; is = c.token-item.is })
+    c.loop-token.invariant c.in_ok-add.ensures
