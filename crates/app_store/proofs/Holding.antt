@@ -1,5 +1,6 @@
 -- What a store holds after each transaction.
-use Rattle.std.proofs.Common.{◌≡◌, ℕ, ◌+◌, ◌<◌, ◌≤◌, Bool, true, false, cond, T, List, [], ◌∷◌, Option, Some, None, refl, sym, ap, subst, ◌∙◌, arith}
+use Rattle.std.proofs.Common.{◌≡◌, ℕ, ◌+◌, ◌<◌, ◌≤◌, Bool, true, false, cond, T, List, [], ◌∷◌, Option, Some, None}
+use Rattle.std.proofs.Common.{refl, sym, ap, subst, ◌∙◌, arith}
 use Rattle.std.specs.Prelude.{◌==◌}
 use Rattle.std.specs.Option.{option_map}
 use Rattle.std.specs.Str.{bytes_eq}
@@ -14,15 +15,19 @@ use Rattle.slon_base.specs.Keeper.{Space, Store, key_cmp, put_at}
 use Rattle.slon_base.specs.Codec.{number_bytes, text_bytes}
 use Rattle.slon_base.proofs.Spelled.{text_bytes-same}
 use Rattle.store_rows.specs.Space.{IsSpace, Any, Alters}
-use Rattle.store_rows.proofs.Spaces.{altered, same_space}
-use Rattle.store_rows.proofs.Order.{same_keys, equal_of, find_none, front_of, back_of}
-use Rattle.slon_model.specs.Names.{find_named}
+use Rattle.store_rows.proofs.Spaces.{Turns, altered, same_space}
+use Rattle.slon_base.proofs.Order.{same_keys, equal_of, find_none, front_of, back_of}
+use Rattle.slon_model.specs.Names.{Named, find_named}
+use Rattle.slon_model.specs.Rows.{Rows}
 use Rattle.slon_model.specs.declared.numbering.Numbering.{Numbering}
 use Rattle.slon_model.specs.declared.numbering.Numbering.TheVariants.{Xids, Actions}
 use Rattle.slon_model.specs.Place.{Place, counter, with_counter, lifted, stamped, standing_rows}
 use Rattle.slon_model.specs.Moves.{tabled}
 use Rattle.app_store.specs.declared.look.Numbers.{Numbers}
-use Rattle.app_store.specs.Spelled.{Holds, AreRows, AreTables, IsMeta, IsSmall, Writes, over, meta, tables, rows, meta_key, stamp_key, xid_ceiling_key, action_ceiling_key, log_status_key, numbers_at, meta_at, write_at, write_all, first_rows, new_table, new_ceiling, new_rows, is_unused}
+use Rattle.app_store.specs.Spelled.{Holds, AreRows, AreTables, IsMeta, IsSmall, Writes, over, meta, tables, rows}
+use Rattle.app_store.specs.Spelled.{meta_key, stamp_key, xid_ceiling_key, action_ceiling_key, log_status_key}
+use Rattle.app_store.specs.Spelled.{numbers_at, meta_at, write_at, write_all, first_rows, new_table, new_ceiling}
+use Rattle.app_store.specs.Spelled.{new_rows, is_unused}
 
 -- a test that fails, and one that is passed by
 refuted : (b : Bool) → (b ≡ true → ⊥) → b ≡ false
@@ -53,14 +58,21 @@ columns_of p m name holds = holds.table_rows.lookups name tt
 
 table_put : (name : List ℕ) (columns : ℕ) (ts : List (List ℕ × ℕ)) (space : Space) → AreTables ts space →
     AreTables ((name, columns) ∷ ts) (insert space (text_bytes name) (number_bytes columns))
-table_put name columns ts space =
-    altered text_bytes Any number_bytes Any (λ q. find_named q ts) (λ q. find_named q ((name, columns) ∷ ts)) space name
-    (Some columns) (λ a b one two same. text_bytes-same a b same) tt tt
-    (record {
-      here = ap (λ b. cond b (Some columns) (find_named name ts)) ((bytes_eq-Decides name name).1 refl);
-      there = λ j one differ. ap (λ b. cond b (Some columns) (find_named j ts))
-          (refuted (bytes_eq j name) (λ same. differ ((bytes_eq-Decides j name).0 same)));
-    })
+table_put name columns ts space is =
+    altered {key = text_bytes} {value = number_bytes} {space = space} {i = name} {now = Some columns} turned is
+  where
+    turned : Turns text_bytes Any Any (λ q. find_named q ts) (λ q. find_named q ((name, columns) ∷ ts)) name
+        (Some columns)
+    turned = record {
+      unique = λ a b one two same. text_bytes-same a b same;
+      one = tt;
+      can = tt;
+      alters = record {
+        here = ap (λ b. cond b (Some columns) (find_named name ts)) ((bytes_eq-Decides name name).1 refl);
+        there = λ j one differ. ap (λ b. cond b (Some columns) (find_named j ts))
+            (refuted (bytes_eq j name) (λ same. differ ((bytes_eq-Decides j name).0 same)));
+      };
+    }
 
 -- ---- the meta numbers
 
@@ -73,8 +85,11 @@ Numbered entry = IsSpace meta_key Any (λ value. value) Any entry
 
 numbered : (key : ℕ) (value : List ℕ) (old new : ℕ → Option (List ℕ)) (space : Space) → Alters Any key
     (Some value) old new → Numbered old space → Numbered new (insert space (meta_key key) value)
-numbered key value old new space = altered meta_key Any (λ v. v) Any old new space key (Some value)
-    (λ a b one two same. cc) tt tt
+numbered key value old new space alters is =
+    altered {key = meta_key} {value = λ v. v} {space = space} {i = key} {now = Some value} turned is
+  where
+    turned : Turns meta_key Any Any old new key (Some value)
+    turned = record { unique = λ a b one two same. cc; one = tt; can = tt; alters = alters }
 
 -- one more number
 added : (key : ℕ) (value : List ℕ) (old : ℕ → Option (List ℕ)) (space : Space) → Numbered old space →
@@ -153,14 +168,33 @@ put_other used key value m space is_used unused = ap (λ b. cond b (insert (m us
 abbrev numbers_in : Place → Numbers
 numbers_in p = record { stamp = p.stamp; xid_ceiling = p.xids.ceiling; number_ceiling = p.numbers.ceiling }
 
--- what is stored of a place is the same where its stored parts are
-pub holds_same : (p q : Place) (m : Store) → q.stamp ≡ p.stamp → q.xids.ceiling ≡ p.xids.ceiling →
-    q.numbers.ceiling ≡ p.numbers.ceiling → q.tables ≡ p.tables →
-    ((table : List ℕ) → standing_rows q table ≡ standing_rows p table) → Holds p m → Holds q m
-holds_same p q m stamp xids numbers ts same holds = record {
-  meta_numbers = same_space holds.meta_numbers (λ key one. λ i. meta_at (stamp i) (xids i) (numbers i) key);
-  table_rows = same_space holds.table_rows (λ name one. ap (find_named name) ts);
-  rows_held = same_space holds.rows_held (λ i one. ap (λ r. get r i.1) (same i.0));
+-- What is stored of a place.
+pub record Stored : Type 0 where
+  pub stamp : ℕ
+  pub xid_ceiling : ℕ
+  pub number_ceiling : ℕ
+  pub tables : Named ℕ
+  pub standing : List ℕ → Rows
+
+abbrev pub stored_of : Place → Stored
+stored_of p = record {
+  stamp = p.stamp;
+  xid_ceiling = p.xids.ceiling;
+  number_ceiling = p.numbers.ceiling;
+  tables = p.tables;
+  standing = standing_rows p;
+}
+
+-- the meta numbers among it, by the numbers of their keys
+abbrev meta_in : Stored → ℕ → Option (List ℕ)
+meta_in s = meta_at s.stamp s.xid_ceiling s.number_ceiling
+
+-- a store holds a place where it holds another one of which the same is stored
+pub holds_same : (p q : Place) (m : Store) → stored_of q ≡ stored_of p → Holds p m → Holds q m
+holds_same p q m same holds = record {
+  meta_numbers = same_space holds.meta_numbers (λ key one. ap (λ s. meta_in s key) same);
+  table_rows = same_space holds.table_rows (λ name one. ap (λ s. find_named name s.tables) same);
+  rows_held = same_space holds.rows_held (λ i one. ap (λ s. get (s.standing i.0) i.1) same);
   others = holds.others;
 }
 
@@ -210,22 +244,21 @@ ceiling_key Xids = xid_ceiling_key
 ceiling_key Actions = action_ceiling_key
 
 pub holds_lifted : (kind : Numbering) (p : Place) (m : Store) → 0 < p.stamp → Holds p m →
-    Holds (stamped (with_counter kind (lifted (counter kind p)) p)) (new_ceiling (ceiling_key kind) (number_bytes ((counter kind p).ceiling + 64)) (number_bytes (p.stamp + 1)) m)
+    Holds (stamped (with_counter kind (lifted (counter kind p)) p))
+    (new_ceiling (ceiling_key kind) (number_bytes ((counter kind p).ceiling + 64)) (number_bytes (p.stamp + 1)) m)
 holds_lifted Xids p m some holds = holds_xids p m some holds
 holds_lifted Actions p m some holds = holds_numbers p m some holds
 
 -- the first rows are written where there was none
-pub holds_first : (p q : Place) (m : Store) → p.stamp ≡ 0 → q.stamp ≡ 1 → q.xids.ceiling ≡ 65 → q.numbers.ceiling ≡ 65 →
-    q.tables ≡ p.tables → q.commits ≡ p.commits → q.actions ≡ p.actions → Holds p m →
+pub holds_first : (p q : Place) (m : Store) → p.stamp ≡ 0 →
+    stored_of q ≡ record (stored_of p) { stamp = 1; xid_ceiling = 65; number_ceiling = 65 } → Holds p m →
     Holds q (first_rows (number_bytes 1) (number_bytes 65) m)
-holds_first p q m none stamp xids numbers ts commits actions holds = record {
+holds_first p q m none same holds = record {
   meta_numbers = same_space (founded_meta p.xids.ceiling p.numbers.ceiling (m meta)
       (subst (λ s. IsMeta s p.xids.ceiling p.numbers.ceiling (m meta)) none holds.meta_numbers))
-      (λ key one. λ i. meta_at (stamp i) (xids i) (numbers i) key);
-  table_rows = same_space holds.table_rows (λ name one. ap (find_named name) ts);
-  rows_held = same_space holds.rows_held
-      (λ i one. ap (λ c. get (standing_rows (record q { commits = c }) i.0) i.1) commits
-      ∙ ap (λ a. get (standing_rows (record p { actions = a }) i.0) i.1) actions);
+      (λ key one. ap (λ s. meta_in s key) same);
+  table_rows = same_space holds.table_rows (λ name one. ap (λ s. find_named name s.tables) same);
+  rows_held = same_space holds.rows_held (λ i one. ap (λ s. get (s.standing i.0) i.1) same);
   others = λ space unused.
       put_other meta stamp_key (number_bytes 1) (put_at meta xid_ceiling_key (number_bytes 65)
       (put_at meta action_ceiling_key (number_bytes 65) (put_at meta log_status_key (0 ∷ []) m))) space refl unused
@@ -268,17 +301,17 @@ write_all-other (e ∷ es) m space other = write_all-other es (write_at e.0 e.1 
     ∙ write_other e.0 e.1 m space other
 
 -- the rows of a transaction are put over those that stood
-pub holds_rows : (p q : Place) (m : Store) (writes : Writes) → 0 < p.stamp → q.stamp ≡ p.stamp + 1 →
-    q.xids.ceiling ≡ p.xids.ceiling → q.numbers.ceiling ≡ p.numbers.ceiling → q.tables ≡ p.tables
-    → AreRows (standing_rows q) (write_all (entries writes) m rows) → Holds p m →
+pub holds_rows : (p q : Place) (m : Store) (writes : Writes) → 0 < p.stamp →
+    stored_of q ≡ record (stored_of p) { stamp = p.stamp + 1; standing = standing_rows q } →
+    AreRows (standing_rows q) (write_all (entries writes) m rows) → Holds p m →
     Holds q (new_rows writes (number_bytes (p.stamp + 1)) m)
-holds_rows p q m writes some stamp xids numbers ts are holds = record {
+holds_rows p q m writes some same are holds = record {
   meta_numbers = same_space (restamped (numbers_in p) (p.stamp + 1) _ some (omega arith)
       (subst (IsMeta p.stamp p.xids.ceiling p.numbers.ceiling)
       (sym (write_all-other (entries writes) m meta refl)) holds.meta_numbers))
-      (λ key one. λ i. meta_at (stamp i) (xids i) (numbers i) key);
+      (λ key one. ap (λ s. meta_in s key) same);
   table_rows = subst (AreTables q.tables) (sym (write_all-other (entries writes) m tables refl))
-      (same_space holds.table_rows (λ name one. ap (find_named name) ts));
+      (same_space holds.table_rows (λ name one. ap (λ s. find_named name s.tables) same));
   rows_held = are;
   others = λ space unused. put_other meta stamp_key (number_bytes (p.stamp + 1))
       (write_all (entries writes) m) space refl unused

@@ -1,3 +1,7 @@
+pub mod Arranging
+pub mod Formed
+pub mod Halting
+pub mod Handing
 pub mod Holding
 pub mod Lifting
 pub mod Listing
@@ -12,4 +16,6 @@ pub mod Serving
 pub mod Standing
 pub mod Taking
 pub mod Transacting
+pub mod Upright
 pub mod Writing
+pub mod Written

@@ -1,5 +1,6 @@
 -- Open transactions in the code and by the rules, after each change of a place.
-use Rattle.std.proofs.Common.{◌≡◌, ℕ, ◌+◌, ◌-◌, ◌^◌, ◌<◌, ◌≤◌, Bool, true, false, cond, List, [], ◌∷◌, length, Option, Some, None, refl, sym, ap, subst, ◌∙◌, arith, is_some, min}
+use Rattle.std.proofs.Common.{◌≡◌, ℕ, ◌+◌, ◌-◌, ◌^◌, ◌<◌, ◌≤◌, Bool, true, false, cond, List, [], ◌∷◌, length, Option}
+use Rattle.std.proofs.Common.{Some, None, refl, sym, ap, subst, ◌∙◌, arith, is_some, min}
 use Rattle.std.specs.Prelude.{◌==◌, ◌&&◌, ◌||◌, filter}
 use Rattle.std.specs.List.{AllByRecursion}
 use Rattle.std.specs.Option.{option_map}
@@ -22,102 +23,172 @@ use Rattle.slon_laws.proofs.Keys.{get-played, key_test}
 use Rattle.app_store.specs.declared.opens.Transaction.{Transaction}
 use Rattle.app_store.specs.Fits.{IsOpened, has_written}
 use Rattle.app_store.specs.Spelled.{IsRowKey, row_key, over}
+use Rattle.app_store.specs.Targets.{Spot}
 use Rattle.app_store.specs.Written.{with_write}
-use Rattle.store_rows.proofs.Order.{same_keys, equal_of, apart, tied}
-use Rattle.app_store.proofs.Places.{NoneOf, none_written, none_counted, none_later, counted_at_most, unwritten, seen_unwritten, written_by_one}
+use Rattle.slon_base.proofs.Order.{same_keys, equal_of, apart, tied}
+use Rattle.app_store.proofs.Places.{NoneOf, none_written, none_counted, none_later, counted_at_most, unwritten}
+use Rattle.app_store.proofs.Places.{seen_unwritten, TwoOpen, written_by_one}
 
 -- ---- keys of rows
 
 row_key-same : (t u k l : List ℕ) → IsText t → IsText u → row_key t k ≡ row_key u l → (t ≡ u) × (k ≡ l)
 row_key-same t u k l a b same =
-    let parts = text_front t u (Rattle.slon_base.specs.Codec.text_bytes k) (Rattle.slon_base.specs.Codec.text_bytes l) a.short b.short same in
+    let parts =
+    text_front t u (Rattle.slon_base.specs.Codec.text_bytes k)
+    (Rattle.slon_base.specs.Codec.text_bytes l) a.short b.short same in
     (parts.0, text_bytes-same k l parts.1)
 
-pub row_key-test : (t u k l : List ℕ) → IsText t → IsText u → is_eq (key_cmp (row_key t k) (row_key u l)) ≡ (bytes_eq t u && bytes_eq k l)
+pub row_key-test : (t u k l : List ℕ) → IsText t → IsText u →
+    is_eq (key_cmp (row_key t k) (row_key u l)) ≡ (bytes_eq t u && bytes_eq k l)
 row_key-test t u k l a b =
-    elim (bytes_eq t u && bytes_eq k l) as (λ same. (bytes_eq t u && bytes_eq k l) ≡ same → is_eq (key_cmp (row_key t k) (row_key u l)) ≡ same) [
+    elim (bytes_eq t u && bytes_eq k l) as (λ same. (bytes_eq t u && bytes_eq k l) ≡ same →
+    is_eq (key_cmp (row_key t k) (row_key u l)) ≡ same) [
       | true ↦ λ is. let parts = and_parts (bytes_eq t u) (bytes_eq k l) is in
-          ap (λ x. is_eq (key_cmp (row_key t k) x)) (sym (ap (λ x. row_key x k) (bytes_same t u parts.0) ∙ ap (row_key u) (bytes_same k l parts.1))) ∙ tied (row_key t k)
+          ap (λ x. is_eq (key_cmp (row_key t k) x))
+          (sym (ap (λ x. row_key x k) (bytes_same t u parts.0) ∙ ap (row_key u) (bytes_same k l parts.1)))
+          ∙ tied (row_key t k)
       | false ↦ λ is. apart _ _ (λ same. let parts = row_key-same t u k l a b same in
-          false≢true (sym is ∙ ap (λ x. x && bytes_eq k l) ((bytes_eq-Decides t u).1 parts.0) ∙ (bytes_eq-Decides k l).1 parts.1))
+          false≢true (sym is ∙ ap (λ x. x && bytes_eq k l) ((bytes_eq-Decides t u).1 parts.0)
+          ∙ (bytes_eq-Decides k l).1 parts.1))
     ] refl
 
 -- ---- a transaction that begins
 
 -- nothing of an open transaction changes where actions and commits stay
-pub opened_same : (p q : Place) (x : ℕ) (t : Transaction) → q.actions ≡ p.actions → q.commits ≡ p.commits → IsOpened p x t → IsOpened q x t
-opened_same p q x t actions commits o = subst (λ c. IsOpened (record q { commits = c }) x t) (sym commits) (subst (λ a. IsOpened (record q { commits = p.commits; actions = a }) x t) (sym actions)
+pub opened_same : (p q : Place) (x : ℕ) (t : Transaction) → q.actions ≡ p.actions → q.commits ≡ p.commits →
+    IsOpened p x t → IsOpened q x t
+opened_same p q x t actions commits o =
+    subst (λ c. IsOpened (record q { commits = c }) x t) (sym commits)
+    (subst (λ a. IsOpened (record q { commits = p.commits; actions = a }) x t) (sym actions)
     (record { xid_is = o.xid_is; count = o.count; sees = o.sees; wrote = o.wrote; keys = o.keys }))
 
-pub opened_new : (p q : Place) (x y : ℕ) → Sound p → q.actions ≡ p.actions → q.commits ≡ p.commits → p.xids.next ≡ x → y ≡ x → IsOpened q x (record { xid = y; actions = 0; writes = empty })
-opened_new p q x y sound actions commits next is =
-    let none : NoneOf x p.actions = none_later p.xids.next x p.actions sound.known (omega (arith, next)) in
+-- the transaction that takes the next id
+pub opened_new : (p q : Place) (y : ℕ) → Sound p → q.actions ≡ p.actions → q.commits ≡ p.commits → y ≡ p.xids.next →
+    IsOpened q p.xids.next (record { xid = y; actions = 0; writes = empty })
+opened_new p q y sound actions commits is =
+    let x = p.xids.next in
+    let none : NoneOf x p.actions = none_later x x p.actions sound.known (omega arith) in
     opened_same p q x _ actions commits (record {
       xid_is = is;
       count = sym (none_counted x p.actions none);
-      sees = λ table key text. ap (option_map list_bytes) (seen_unwritten x p.commits table key p.actions (unwritten x table key p.actions (none_written x table key p.actions none)))
-          ∙ ap (λ o. over o (option_map list_bytes (get (standing_rows p table) key))) (sym (get-empty key_cmp (row_key table key)));
-      wrote = λ table key text. ap is_some (get-empty key_cmp (row_key table key)) ∙ sym (none_written x table key p.actions none);
+      sees =
+          λ table key text. ap (option_map list_bytes)
+          (seen_unwritten x p.commits table key p.actions
+          (unwritten x table key p.actions (none_written x table key p.actions none)))
+          ∙ ap (λ o. over o (option_map list_bytes (get (standing_rows p table) key)))
+          (sym (get-empty key_cmp (row_key table key)));
+      wrote =
+          λ table key text. ap is_some (get-empty key_cmp (row_key table key))
+          ∙ sym (none_written x table key p.actions none);
       keys = λ q has. absurd (false≢true (sym (ap is_some (get-empty key_cmp q)) ∙ has));
     })
 
 -- ---- a write
 
 -- an action that a test does not pass
-skipped : (test : Bool) (table : List ℕ) (a : Action) (key : List ℕ) (rows : Rows) → test ≡ false → option_map list_bytes (get (cond (test && bytes_eq table a.table) (apply a.change rows) rows) key) ≡ option_map list_bytes (get rows key)
-skipped test table a key rows is = ap (λ b. option_map list_bytes (get (cond (b && bytes_eq table a.table) (apply a.change rows) rows) key)) is
+skipped : (test : Bool) (table : List ℕ) (a : Action) (key : List ℕ) (rows : Rows) → test ≡ false →
+    option_map list_bytes (get (cond (test && bytes_eq table a.table) (apply a.change rows) rows) key)
+    ≡ option_map list_bytes (get rows key)
+skipped test table a key rows is =
+    ap (λ b. option_map list_bytes (get (cond (b && bytes_eq table a.table) (apply a.change rows) rows) key)) is
 
 -- of another transaction
-pub opened_other : (p : Place) (x y : ℕ) (table : List ℕ) (change : Change) (t : Transaction) → (x == y) ≡ false → member x p.commits ≡ false → IsOpened p y t → IsOpened (written x table change p) y t
-opened_other p x y table change t differ open_still o =
+pub opened_other : {p : Place} {y : ℕ} {t : Transaction} (x : ℕ) (table : List ℕ) (change : Change) →
+    (x == y) ≡ false → member x p.commits ≡ false → IsOpened p y t → IsOpened (written x table change p) y t
+opened_other {p} {y} {t} x table change differ open_still o =
     let a : Action = record { number = p.numbers.next; xid = x; table = table; change = change } in
     record {
       xid_is = o.xid_is;
-      count = o.count ∙ ap (λ b. length (cond b (a ∷ filter (λ a. a.xid == y) p.actions) (filter (λ a. a.xid == y) p.actions))) (sym differ);
-      sees = λ other key text. skipped ((x == y) || member x p.commits) other a key (seen_rows y p other) (ap (λ b. b || member x p.commits) differ ∙ open_still)
-          ∙ o.sees other key text ∙ ap (over (get t.writes (row_key other key))) (sym (skipped (member x p.commits) other a key (standing_rows p other) open_still));
-      wrote = λ other key text. o.wrote other key text ∙ ap (λ b. (b && is_on other key a) || has_written y other key p.actions) (sym differ);
+      count =
+          o.count
+          ∙ ap (λ b. length (cond b (a ∷ filter (λ a. a.xid == y) p.actions) (filter (λ a. a.xid == y) p.actions)))
+          (sym differ);
+      sees =
+          λ other key text. skipped ((x == y) || member x p.commits) other a key (seen_rows y p other)
+          (ap (λ b. b || member x p.commits) differ ∙ open_still)
+          ∙ o.sees other key text
+          ∙ ap (over (get t.writes (row_key other key)))
+          (sym (skipped (member x p.commits) other a key (standing_rows p other) open_still));
+      wrote =
+          λ other key text. o.wrote other key text
+          ∙ ap (λ b. (b && is_on other key a) || has_written y other key p.actions) (sym differ);
       keys = o.keys;
     }
 
 -- where the key is the one of the change, it is what the change makes of it
-at_change : (b : Bool) (s w : Option (List ℕ)) (old there : Option (Option (List ℕ))) (z : Option (List ℕ)) → (b ≡ true → s ≡ w) → (b ≡ false → s ≡ over old z) → s ≡ over (cond b (Some w) old) z
+at_change : (b : Bool) (s w : Option (List ℕ)) (old there : Option (Option (List ℕ))) (z : Option (List ℕ)) →
+    (b ≡ true → s ≡ w) → (b ≡ false → s ≡ over old z) → s ≡ over (cond b (Some w) old) z
 at_change true s w old there z one other = one refl
 at_change false s w old there z one other = other refl
 
-pub opened_own : (p : Place) (x : ℕ) (table key : List ℕ) (change : Change) (value : Option (List ℕ)) (t : Transaction) → Sound p → IsText table → IsText key → change_key change ≡ key → member x p.commits ≡ false → length p.actions + 1 < 2 ^ 64 →
-    value ≡ option_map list_bytes (change_at change (get (seen_rows x p table) key)) → IsOpened p x t → IsOpened (written x table change p) x (with_write (row_key table key) value t)
-opened_own p x table key change value t sound text key_text is_key open_still room value_is o =
+-- A write of a transaction that is not committed, with what it makes of the row that the transaction sees.
+pub record IsWrite (s : Spot) (change : Change) (value : Option (List ℕ)) (p : Place) : Type 0 where
+  pub open_still : member s.xid p.commits ≡ false
+  pub table_text : IsText s.table
+  pub key_text : IsText s.key
+  pub is_key : change_key change ≡ s.key
+  pub room : length p.actions + 1 < 2 ^ 64
+  pub value_is : value ≡ option_map list_bytes (change_at change (get (seen_rows s.xid p s.table) s.key))
+
+pub opened_own : {s : Spot} {change : Change} {value : Option (List ℕ)} {p : Place} (t : Transaction) →
+    IsWrite s change value p → IsOpened p s.xid t →
+    IsOpened (written s.xid s.table change p) s.xid (with_write (row_key s.table s.key) value t)
+opened_own {s} {change} {value} {p} t is o =
+    let x = s.xid in
+    let table = s.table in
+    let key = s.key in
+    let open_still = is.open_still in
+    let text = is.table_text in
     let a : Action = record { number = p.numbers.next; xid = x; table = table; change = change } in
     let own : (x == x) ≡ true = eq-eqb x x refl in
-    let on : (other k : List ℕ) → (bytes_eq other table && bytes_eq k key) ≡ is_on other k a = λ other k. ap (λ b. bytes_eq other table && b) (ap (bytes_eq k) (sym is_key)) in
+    let on : (other k : List ℕ) → (bytes_eq other table && bytes_eq k key) ≡ is_on other k a =
+    λ other k. ap (λ b. bytes_eq other table && b) (ap (bytes_eq k) (sym is.is_key)) in
     record {
       xid_is = o.xid_is;
-      count = counted (own_count x p) t.actions o.count (omega (arith, counted_at_most x p.actions, room))
+      count = counted (own_count x p) t.actions o.count (omega (arith, counted_at_most x p.actions, is.room))
           ∙ one_more a (filter (λ a. a.xid == x) p.actions)
-          ∙ ap (λ b. length (cond b (a ∷ filter (λ a. a.xid == x) p.actions) (filter (λ a. a.xid == x) p.actions))) (sym own);
+          ∙ ap (λ b. length (cond b (a ∷ filter (λ a. a.xid == x) p.actions) (filter (λ a. a.xid == x) p.actions)))
+          (sym own);
       sees = λ other k text_other.
           let rows = seen_rows x p other in
-          let standing_same : option_map list_bytes (get (standing_rows (written x table change p) other) k) ≡ option_map list_bytes (get (standing_rows p other) k) = skipped (member x p.commits) other a k (standing_rows p other) open_still in
+          let standing_same : option_map list_bytes (get (standing_rows (written x table change p) other) k)
+          ≡ option_map list_bytes (get (standing_rows p other) k) =
+          skipped (member x p.commits) other a k (standing_rows p other) open_still in
           let step = get-played (λ b. member b.xid (x ∷ p.commits)) other k a p.actions empty in
-          let first : (((x == x) || member x p.commits) && bytes_eq other table) ≡ bytes_eq other table = ap (λ b. (b || member x p.commits) && bytes_eq other table) own in
-          let seen : option_map list_bytes (get (seen_rows x (written x table change p) other) k) ≡ option_map list_bytes (cond (bytes_eq other table && touches k change) (change_at change (get rows k)) (get rows k)) =
-          ap (option_map list_bytes) (step ∙ ap (λ b. cond (b && touches k change) (change_at change (get rows k)) (get rows k)) first) in
+          let first : (((x == x) || member x p.commits) && bytes_eq other table) ≡ bytes_eq other table =
+          ap (λ b. (b || member x p.commits) && bytes_eq other table) own in
+          let seen : option_map list_bytes (get (seen_rows x (written x table change p) other) k)
+          ≡ option_map list_bytes (cond (bytes_eq other table && touches k change) (change_at change (get rows k))
+          (get rows k)) =
+          ap (option_map list_bytes)
+          (step ∙ ap (λ b. cond (b && touches k change) (change_at change (get rows k)) (get rows k)) first) in
           let test = on other k in
           seen ∙ ap (λ b. option_map list_bytes (cond b (change_at change (get rows k)) (get rows k))) (sym test)
-          ∙ at_change (bytes_eq other table && bytes_eq k key) _ value (get t.writes (row_key other k)) None (option_map list_bytes (get (standing_rows p other) k))
+          ∙ at_change (bytes_eq other table && bytes_eq k key) _ value (get t.writes (row_key other k)) None
+          (option_map list_bytes (get (standing_rows p other) k))
           (λ both. let parts = and_parts (bytes_eq other table) (bytes_eq k key) both in
           ap (λ b. option_map list_bytes (cond b (change_at change (get rows k)) (get rows k))) both
-          ∙ ap (λ u. option_map list_bytes (change_at change (get (seen_rows x p u) k))) (bytes_same other table parts.0) ∙ ap (λ u. option_map list_bytes (change_at change (get (seen_rows x p table) u))) (bytes_same k key parts.1) ∙ sym value_is)
-          (λ none. ap (λ b. option_map list_bytes (cond b (change_at change (get rows k)) (get rows k))) none ∙ o.sees other k text_other)
-          ∙ ap (λ w. over w (option_map list_bytes (get (standing_rows p other) k))) (sym (get-insert nat_list_cmp_total t.writes (row_key table key) value (row_key other k)
-          ∙ ap (λ b. cond b (Some value) (get t.writes (row_key other k))) (row_key-test other table k key text_other text)))
+          ∙ ap (λ u. option_map list_bytes (change_at change (get (seen_rows x p u) k)))
+          (bytes_same other table parts.0)
+          ∙ ap (λ u. option_map list_bytes (change_at change (get (seen_rows x p table) u)))
+          (bytes_same k key parts.1) ∙ sym is.value_is)
+          (λ none. ap (λ b. option_map list_bytes (cond b (change_at change (get rows k)) (get rows k))) none
+          ∙ o.sees other k text_other)
+          ∙ ap (λ w. over w (option_map list_bytes (get (standing_rows p other) k)))
+          (sym (get-insert nat_list_cmp_total t.writes (row_key table key) value (row_key other k)
+          ∙ ap (λ b. cond b (Some value) (get t.writes (row_key other k)))
+          (row_key-test other table k key text_other text)))
           ∙ ap (over (get (insert t.writes (row_key table key) value) (row_key other k))) (sym standing_same);
       wrote = λ other k text_other.
-          ap is_some (get-insert nat_list_cmp_total t.writes (row_key table key) value (row_key other k) ∙ ap (λ b. cond b (Some value) (get t.writes (row_key other k))) (row_key-test other table k key text_other text ∙ on other k))
-          ∙ either (is_on other k a) value (get t.writes (row_key other k)) (has_written x other k p.actions) (o.wrote other k text_other)
+          ap is_some (get-insert nat_list_cmp_total t.writes (row_key table key) value (row_key other k)
+          ∙ ap (λ b. cond b (Some value) (get t.writes (row_key other k)))
+          (row_key-test other table k key text_other text ∙ on other k))
+          ∙ either (is_on other k a) value (get t.writes (row_key other k)) (has_written x other k p.actions)
+          (o.wrote other k text_other)
           ∙ ap (λ b. (b && is_on other k a) || has_written x other k p.actions) (sym own);
-      keys = λ q has. key_of q (is_eq (key_cmp q (row_key table key))) refl (sym (ap is_some (get-insert nat_list_cmp_total t.writes (row_key table key) value q)) ∙ has);
+      keys =
+          λ q has. key_of q (is_eq (key_cmp q (row_key table key))) refl
+          (sym (ap is_some (get-insert nat_list_cmp_total t.writes (row_key table key) value q)) ∙ has);
     }
   where
     counted : (n m : ℕ) → m ≡ n → n + 1 ≤ 2 ^ 64 - 1 → min (2 ^ 64 - 1) (m + 1) ≡ n + 1
@@ -126,26 +197,37 @@ opened_own p x table key change value t sound text key_text is_key open_still ro
     one_more : (a : Action) (xs : List Action) → length xs + 1 ≡ length (a ∷ xs)
     one_more a xs = omega arith
 
-    either : (b : Bool) (v : Option (List ℕ)) (w : Option (Option (List ℕ))) (h : Bool) → is_some w ≡ h → is_some (cond b (Some v) w) ≡ (b || h)
+    either : (b : Bool) (v : Option (List ℕ)) (w : Option (Option (List ℕ))) (h : Bool) → is_some w ≡ h →
+        is_some (cond b (Some v) w) ≡ (b || h)
     either true v w h same = refl
     either false v w h same = same
 
-    key_of : (q : List ℕ) (b : Bool) → is_eq (key_cmp q (row_key table key)) ≡ b → is_some (cond b (Some value) (get t.writes q)) ≡ true → IsRowKey q
-    key_of q true same has = (table, key, same_keys q (row_key table key) (equal_of _ same), text, key_text)
+    key_of : (q : List ℕ) (b : Bool) → is_eq (key_cmp q (row_key s.table s.key)) ≡ b →
+        is_some (cond b (Some value) (get t.writes q)) ≡ true → IsRowKey q
+    key_of q true same has =
+        (s.table, s.key, same_keys q (row_key s.table s.key) (equal_of _ same), is.table_text, is.key_text)
     key_of q false differ has = o.keys q has
 
 -- ---- a commit of another transaction
 
-pub opened_committed : (p : Place) (name : List ℕ) (x y : ℕ) (t : Transaction) → Sound p → member x (open_xids p) ≡ true → member y (open_xids p) ≡ true → (y == x) ≡ false → IsOpened p y t → IsOpened (committed name x p) y t
-opened_committed p name x y t sound opened also differ o = record {
+pub opened_committed : (p : Place) (name : List ℕ) (two : TwoOpen (open_xids p)) (t : Transaction) → Sound p →
+    IsOpened p two.other t → IsOpened (committed name two.one p) two.other t
+opened_committed p name two t sound o = record {
   xid_is = o.xid_is;
   count = o.count;
-  sees = λ table key text. by_row table key text (has_written y table key p.actions) refl;
+  sees = λ table key text. by_row table key text (has_written two.other table key p.actions) refl;
   wrote = o.wrote;
   keys = o.keys;
 }
   where
-    some_over : (w : Option (Option (List ℕ))) (one other : Option (List ℕ)) → is_some w ≡ true → over w one ≡ over w other
+    x : ℕ
+    x = two.one
+
+    y : ℕ
+    y = two.other
+
+    some_over : (w : Option (Option (List ℕ))) (one other : Option (List ℕ)) → is_some w ≡ true →
+        over w one ≡ over w other
     some_over None one other has = absurd (false≢true has)
     some_over (Some v) one other has = refl
 
@@ -153,16 +235,25 @@ opened_committed p name x y t sound opened also differ o = record {
     none_over None one has = refl
     none_over (Some v) one has = absurd (false≢true (sym has))
 
-    swap : (as_is : List Action) (table key : List ℕ) → AllByRecursion (λ a. is_on table key a ≡ true → (a.xid == x) ≡ false) as_is → AllByRecursion (λ a. is_on table key a ≡ true → member a.xid (y ∷ x ∷ p.commits) ≡ member a.xid (y ∷ p.commits)) as_is
+    swap : (as_is : List Action) (table key : List ℕ) →
+        AllByRecursion (λ a. is_on table key a ≡ true → (a.xid == x) ≡ false) as_is →
+        AllByRecursion (λ a. is_on table key a ≡ true →
+        member a.xid (y ∷ x ∷ p.commits) ≡ member a.xid (y ∷ p.commits)) as_is
     swap [] table key all = tt
-    swap (a ∷ rest) table key all = ((λ on. ap (λ b. (a.xid == y) || (b || member a.xid p.commits)) (all.0 on)), swap rest table key all.1)
+    swap (a ∷ rest) table key all =
+        ((λ on. ap (λ b. (a.xid == y) || (b || member a.xid p.commits)) (all.0 on)), swap rest table key all.1)
 
     by_row : (table key : List ℕ) → IsText table → (b : Bool) → has_written y table key p.actions ≡ b →
-        option_map list_bytes (get (rows_by (λ a. member a.xid (y ∷ x ∷ p.commits)) table p.actions) key) ≡ over (get t.writes (row_key table key)) (option_map list_bytes (get (rows_by (λ a. member a.xid (x ∷ p.commits)) table p.actions) key))
+        option_map list_bytes (get (rows_by (λ a. member a.xid (y ∷ x ∷ p.commits)) table p.actions) key)
+        ≡ over (get t.writes (row_key table key))
+        (option_map list_bytes (get (rows_by (λ a. member a.xid (x ∷ p.commits)) table p.actions) key))
     by_row table key text true wrote =
-        let others = written_by_one x y (open_xids p) table key p.actions sound.locked opened also differ wrote in
-        ap (option_map list_bytes) (Rattle.slon_laws.proofs.Keys.agree_at (λ a. member a.xid (y ∷ x ∷ p.commits)) (λ a. member a.xid (y ∷ p.commits)) table key p.actions (swap p.actions table key others))
+        let others = written_by_one two table key p.actions sound.locked wrote in
+        ap (option_map list_bytes)
+        (Rattle.slon_laws.proofs.Keys.agree_at (λ a. member a.xid (y ∷ x ∷ p.commits))
+        (λ a. member a.xid (y ∷ p.commits)) table key p.actions (swap p.actions table key others))
         ∙ o.sees table key text ∙ some_over (get t.writes (row_key table key)) _ _ (o.wrote table key text ∙ wrote)
     by_row table key text false wrote =
-        ap (option_map list_bytes) (seen_unwritten y (x ∷ p.commits) table key p.actions (unwritten y table key p.actions wrote))
+        ap (option_map list_bytes)
+        (seen_unwritten y (x ∷ p.commits) table key p.actions (unwritten y table key p.actions wrote))
         ∙ none_over (get t.writes (row_key table key)) _ (o.wrote table key text ∙ wrote)

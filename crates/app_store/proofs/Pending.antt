@@ -1,13 +1,14 @@
 -- What the calls of a transaction and the reads of a step come to.
-use Rattle.std.proofs.Common.{◌≡◌, ℕ, ◌≤◌, suc, Bool, false, Option, Some, None, Result, Ok, Err, List, [], ◌∷◌, length, refl, sym, ap, subst, ◌∙◌, inl, inr, arith, is_some}
+use Rattle.std.proofs.Common.{◌≡◌, ℕ, ◌≤◌, Bool, true, false, Option, Some, None, Result, Ok, Err, List, [], ◌∷◌}
+use Rattle.std.proofs.Common.{length, refl, sym, ap, subst, ◌∙◌, inl, inr, arith, is_some}
 use Rattle.std.specs.Prelude.{IfOk, IfErr}
-use Rattle.std.proofs.lemmas.Bool.{false≢true}
+use Rattle.std.proofs.lemmas.Bool.{false≢true, true≢false}
 use Rattle.std.specs.Option.{option_map, unwrap_or}
 use Rattle.std.specs.FinMap.{empty, entries, len, len-entries, len-empty}
 use Rattle.slon_base.specs.Counts.{Rose}
-use Rattle.slon_base.specs.Keeper.{Kept, Store, Begins, Commits, sight, key_cmp}
+use Rattle.slon_base.specs.Keeper.{Kept, Store, HasCause, Begins, Commits, sight, key_cmp}
 use Rattle.slon_base.specs.declared.fault.KeepFault.TheVariants.{Failed}
-use Rattle.store_rows.specs.Spending.{IsAtMost, Stays, Spends}
+use Rattle.store_rows.specs.Spending.{IsAtMost, Stays}
 use Rattle.store_rows.specs.Steps.{Safe, IsOutside, IsWithinLimit, is_failed}
 use Rattle.store_rows.specs.declared.stop.Stop.{Stop}
 use Rattle.store_rows.specs.declared.stop.Stop.TheVariants.{Failed as StopFailed}
@@ -15,7 +16,39 @@ use Rattle.store_rows.proofs.Causes.{stays, spends, rose, outside_within}
 use Rattle.app_store.specs.declared.transact.Made.{Made}
 use Rattle.app_store.specs.declared.transact.Made.TheVariants.{Done, InDoubt}
 use Rattle.app_store.specs.Spelled.{Writes}
-use Rattle.app_store.specs.Steps.{Starts, Transacts, Finishes, EndsAs, Leaves, Doubts, Looks, Says}
+use Rattle.app_store.specs.Steps.{Knows, Starts, Transacts, Finishes, EndsAs, Leaves, Doubts, Looks, Says}
+
+-- ---- what is known of the failures of a store
+
+pub knows_none : (k : Kept) → Knows false k k
+knows_none k = record {
+  still = λ n most. most;
+  spends = λ failed. absurd (false≢true failed);
+  quiet = λ none n up. up;
+  told = λ c from. from;
+}
+
+-- one step after another
+pub knows_on : {old mid new : Kept} {failed : Bool} → Knows false old mid → Knows failed mid new → Knows failed old new
+knows_on one two = record {
+  still = λ n most. two.still n (one.still n most);
+  spends = λ failed n most. two.spends failed n (one.still n most);
+  quiet = λ none n up. two.quiet none n (one.quiet refl n up);
+  told = λ c from. two.told c (one.told c from);
+}
+
+pub knows_safe : {T : Type 0} {old new : Kept} {result : Result T Stop} → Safe old new result →
+    Knows (is_failed result) old new
+knows_safe s = record { still = s.still; spends = s.spends; quiet = s.quiet; told = s.told }
+
+-- a call that failed
+knows_cause : {T : Type 0} {old new : Kept} → HasCause {T = T} old new (Err Failed) → Knows true old new
+knows_cause cause = record {
+  still = stays cause;
+  spends = λ failed. spends cause;
+  quiet = λ none. absurd (true≢false none);
+  told = cause.told;
+}
 
 pub rose_later : {a b c : ℕ} → a ≤ b → Rose b c → Rose a c
 rose_later le (inl lt) = inl (omega arith)
@@ -26,22 +59,12 @@ pub untold : (new : Option ℕ) → Stays None new
 unfolding IsAtMost
 untold new n most = absurd most
 
--- one step after another, up to the same store
-pub stays_on : (a b : Option ℕ) {c : Option ℕ} (k : Kept) → k.can_fail ≡ c → Stays a b → Stays b c → Stays a k.can_fail
-stays_on a b k same one two = λ n most. subst (IsAtMost n) (sym same) (two n (one n most))
-
-pub spends_on : (a b : Option ℕ) {c : Option ℕ} (failed : Bool) (k : Kept) → k.can_fail ≡ c → Stays a b →
-    Spends failed b c → Spends failed a k.can_fail
-spends_on a b failed k same one two = λ fails n most. subst (λ left. IsAtMost n (option_map suc left)) (sym same)
-    (two fails n (one n most))
-
 -- ---- a transaction
 
 -- a transaction that did not begin, and a commit that failed
 pub start_failed : {T : Type 0} {old new : Kept} → Begins {T = T} old new (Err Failed) → Starts old new (Err StopFailed)
 start_failed b = record {
-  still = stays b.cause;
-  spends = λ failed. spends b.cause;
+  sure = knows_cause b.cause;
   later = b.cause.later;
   rises = λ failed. rose b.cause;
   held = b.held;
@@ -52,8 +75,7 @@ start_failed b = record {
 
 pub doubted : {T : Type 0} {old new : Kept} → Commits {T = T} old new (Err Failed) → Finishes old new (Ok InDoubt)
 doubted c = record {
-  still = stays c.cause;
-  spends = λ failed. spends c.cause;
+  sure = knows_cause c.cause;
   counted = record { later = c.cause.later; failed = λ failed. absurd (false≢true failed); within = tt };
   closed = tt;
   doubts = (c.cause.failed refl, c.doubted refl);
@@ -62,7 +84,7 @@ doubted c = record {
 
 -- what stands between the calls of a transaction
 pub record Pends (change : Store → Store) (old mid : Kept) : Type 0 where
-  pub still : Stays old.can_fail mid.can_fail
+  pub sure : Knows false old mid
   pub later : old.faults ≤ mid.faults
   pub held : mid.held ≡ old.held
   pub doubts : mid.doubts ≡ old.doubts
@@ -71,7 +93,7 @@ pub record Pends (change : Store → Store) (old mid : Kept) : Type 0 where
 pub begun : {old new : Kept} {u : Unit {0}} → Starts old new (Ok u) → Pends (λ m. m) old new
 begun {old} {new} b =
     record {
-      still = b.still;
+      sure = b.sure;
       later = b.later;
       held = b.held;
       doubts = b.doubts;
@@ -87,7 +109,7 @@ pub changed : {change : Store → Store} (more : Store → Store) {old mid new :
     Pends change old mid → Safe mid new (Ok u) →
     new.pending ≡ option_map (option_map more) mid.pending → Pends (λ m. more (change m)) old new
 changed {change} more {old} p s put = record {
-  still = λ n most. s.still n (p.still n most);
+  sure = knows_on p.sure (knows_safe s);
   later = omega (arith, p.later, s.later);
   held = s.held ∙ p.held;
   doubts = s.doubts ∙ p.doubts;
@@ -124,8 +146,7 @@ doubts_since old mid new (Err stop) later same d = d ∙ same
 pub ended : {change : Store → Store} {old mid new : Kept} (result : Result Made Stop) → Pends change old mid →
     Finishes mid new result → Transacts change old new result
 ended {old = old} {mid = mid} {new = new} result p f = record {
-  still = λ n most. f.still n (p.still n most);
-  spends = λ failed n most. f.spends failed n (p.still n most);
+  sure = knows_on p.sure f.sure;
   counted = record {
     later = omega (arith, p.later, f.counted.later);
     failed = λ failed. rose_later p.later (f.counted.failed failed);
@@ -145,8 +166,7 @@ exit_as P result (y, is, same) holds = subst P (sym is) (subst (λ s. P (Err s))
 pub not_begun : {change : Store → Store} {old new : Kept} {stop : Stop} → Starts old new (Err stop) →
     Transacts change old new (Err stop)
 not_begun {stop = stop} b = record {
-  still = b.still;
-  spends = b.spends;
+  sure = b.sure;
   counted = record {
     later = b.later;
     failed = λ failed. b.rises failed _ (omega arith);
@@ -161,8 +181,7 @@ not_begun {stop = stop} b = record {
 pub not_changed : {change all : Store → Store} {old mid new : Kept} {stop : Stop} → Pends change old mid →
     Safe {T = Unit {0}} mid new (Err stop) → IsOutside stop → Transacts all old new (Err stop)
 not_changed {stop = stop} p s outside = record {
-  still = λ n most. s.still n (p.still n most);
-  spends = λ failed n most. s.spends failed n (p.still n most);
+  sure = knows_on p.sure (knows_safe s);
   counted = record {
     later = omega (arith, p.later, s.later);
     failed = λ failed. s.rises failed _ p.later;
@@ -194,7 +213,7 @@ pub looks : {T : Type 0} {says : Store → Result T Stop → Type 0} {old new : 
     Safe old new result →
     IfErr result IsWithinLimit → ((m : Store) → sight old ≡ Some m → says m result) → Looks says old new result
 looks result s within gives = record {
-  sure = record { still = s.still; spends = s.spends };
+  sure = knows_safe s;
   counted = record { later = s.later; failed = λ failed. s.rises failed _ (omega arith); within = within };
   held = s.held;
   doubts = s.doubts;
@@ -231,38 +250,12 @@ pub looks_then : {T U V : Type 0} {says : Store → Result T Stop → Type 0} {a
     {old mid new : Kept} (result : Result V Stop) → is_failed result ≡ false → IfErr result IsWithinLimit →
     Looks says old mid (Ok x) →
     Safe mid new (Ok y) → ((m : Store) → sight old ≡ Some m → all m result) → Looks all old new result
-looks_then result never within l s gives = record {
-  sure = record {
-    still = λ n most. s.still n (l.sure.still n most);
-    spends = λ failed. absurd
-        (false≢true (sym never ∙ failed));
-  };
+looks_then {old = old} {new = new} result never within l s gives = record {
+  sure = subst (λ failed. Knows failed old new) (sym never) (knows_on l.sure (knows_safe s));
   counted = record {
     later = omega (arith, l.counted.later, s.later);
     failed = λ failed. absurd
         (false≢true (sym never ∙ failed));
-    within = within;
-  };
-  held = s.held ∙ l.held;
-  doubts = s.doubts ∙ l.doubts;
-  opened = s.opened ∙ l.opened;
-  gives = gives;
-}
-
-pub looks_stopped : {T V : Type 0} {says : Store → Result T Stop → Type 0} {all : Store → Result V Stop →
-    Type 0} {x : T} {old mid new : Kept}
-    {stop : Stop} → Looks says old mid (Ok x) → Safe {T = T} mid new (Err stop) → IsWithinLimit stop →
-    ((m : Store) → sight old ≡ Some m → all m (Err stop)) → Looks all old new (Err stop)
-looks_stopped l s within gives = record {
-  sure = record {
-    still = λ n most. s.still n (l.sure.still n most);
-    spends = λ failed n most. s.spends failed n
-        (l.sure.still n most);
-  };
-  counted = record {
-    later = omega (arith, l.counted.later, s.later);
-    failed =
-        λ failed. s.rises failed _ l.counted.later;
     within = within;
   };
   held = s.held ∙ l.held;

@@ -1,5 +1,6 @@
 -- Texts of rows that can be spelled.
-use Rattle.std.proofs.Common.{true, false, cond, map, ◌≡◌, ℕ, zero, suc, ◌+◌, ◌^◌, get_or, drop, ◌<◌, List, [], ◌∷◌, length, refl, ap, arith}
+use Rattle.std.proofs.Common.{true, false, cond, map, ◌≡◌, ℕ, zero, suc, ◌+◌, ◌^◌, get_or, drop, ◌<◌, List, [], ◌∷◌}
+use Rattle.std.proofs.Common.{length, refl, ap, arith}
 use Rattle.std.specs.Prelude.{◌==◌}
 use Rattle.slon_base.specs.Codec.{IsText, AllTexts, AreTexts}
 use Rattle.slon_model.specs.Rows.{column_value, with_columns, updated}

@@ -1,5 +1,6 @@
 -- The tasks on tables and transactions: each way out leads by a step of the rules to a place that fits.
-use Rattle.std.proofs.Common.{◌≡◌, ℕ, ◌+◌, ◌<◌, ◌≤◌, Bool, true, false, cond, List, [], ◌∷◌, Option, Some, None, Ok, Err, refl, sym, ap, subst, ◌∙◌, ◌⊎◌, arith, is_some}
+use Rattle.std.proofs.Common.{◌≡◌, ℕ, ◌+◌, ◌<◌, ◌≤◌, Bool, true, false, cond, List, [], ◌∷◌, Option, Some, None, Ok}
+use Rattle.std.proofs.Common.{Err, refl, sym, ap, subst, ◌∙◌, arith, is_some}
 use Rattle.std.specs.Prelude.{◌==◌, ◌||◌, ◌&&◌, not}
 use Rattle.std.specs.List.{AllByRecursion}
 use Rattle.std.specs.Str.{bytes_eq}
@@ -18,8 +19,9 @@ use Rattle.slon_model.specs.declared.reply.Answered.TheVariants.{Sure, InDoubt}
 use Rattle.slon_model.specs.Names.{find_named, without as without_name}
 use Rattle.slon_model.specs.Rows.{Action, member, holder_in}
 use Rattle.slon_model.specs.Tasks.{Task, ToMake, ToOpen, ToCommit, ToAbort, ToList}
-use Rattle.slon_model.specs.Place.{Place, Counter, open_xids, holder, standing_rows, own_count, raised, drawn}
-use Rattle.slon_model.specs.Moves.{Move, Stays, Tables, Begins, Commits, Aborts, tabled, begun, committed, aborted, is_beyond, is_last_stamp, stored_limit}
+use Rattle.slon_model.specs.Place.{Place, open_xids, holder, standing_rows, own_count, raised, drawn}
+use Rattle.slon_model.specs.Moves.{Move, Stays, Tables, Begins, Commits, Aborts, tabled, begun, committed, aborted}
+use Rattle.slon_model.specs.Moves.{is_beyond, is_last_stamp, stored_limit}
 use Rattle.slon_model.specs.Deciding.{Decision, Refuses, Accepts, Overflows, refused_if, with_found, limited, decide}
 use Rattle.slon_model.proofs.Names.{bytes_same, find-without, find-behind}
 use Rattle.slon_laws.specs.Sound.{Sound, ids_of}
@@ -29,22 +31,27 @@ use Rattle.slon_laws.proofs.Opens.{found_member, member_taken}
 use Rattle.slon_laws.proofs.Sounds.{sound_raised}
 use Rattle.txn_core.specs.Locks.{holder_of, Locks, without as without_xid}
 use Rattle.app_store.specs.declared.opens.Transaction.{Transaction}
-use Rattle.app_store.specs.Base.{Memory, Base, GoesDown}
-use Rattle.app_store.specs.Fits.{Fits, Runs, OpensAs, IsOpened, Ready}
+use Rattle.app_store.specs.Base.{Memory, Base}
+use Rattle.app_store.specs.Fits.{Fits, Runs, OpensAs, IsOpened}
 use Rattle.app_store.specs.Serves.{Comes}
 use Rattle.app_store.specs.Parts.{FellTo, RaisedTo, Raises, Bursts, StopsRaise}
 use Rattle.app_store.specs.Spelled.{Holds, AreRows, row_key, over, new_table, new_rows, write_all, rows}
 use Rattle.store_rows.proofs.Spaces.{any_of}
-use Rattle.app_store.proofs.Holding.{holds_same, holds_table, holds_rows, get-written}
+use Rattle.app_store.proofs.Holding.{holds_same, holds_table, holds_rows, get-written, stored_of}
 use Rattle.app_store.proofs.Openings.{opened_same, opened_new, opened_committed}
-use Rattle.app_store.proofs.Places.{member_snoc, holders_agree, counted_none, rows_agree, all_or, released, freed, ended_names}
-use Rattle.app_store.proofs.Standing.{up_running, fits_running, carried, fell, wavers, IsInDoubt, looked, opens_same, crashed_fits}
+use Rattle.app_store.proofs.Places.{member_snoc, holders_agree, counted_none, rows_agree, all_or, released, freed}
+use Rattle.app_store.proofs.Places.{ended_names}
+use Rattle.app_store.proofs.Standing.{up_running, fits_running, carried, fell, wavers, IsInDoubt, looked, opens_same}
+use Rattle.app_store.proofs.Standing.{crashed_fits}
+use Rattle.app_store.proofs.Upright.{UpAt, running, IsLooked, WentDown, IsChanged, LeftInDoubt, is_up}
 
 -- what the decision on a task is, of a database that is up
-pub decided : (task : Task) (p : Place) (b : Base) (d e : Decision) → Fits p b → b.memory.up ≡ true → Rattle.slon_model.specs.Deciding.decide_up task p ≡ d → limited p d ≡ e → decide task p ≡ e
-decided task p b d e fits up is within = Rattle.app_store.proofs.Standing.decided_up task p d (up_running p b fits up).0 is ∙ within
+pub decided : {p : Place} {b : Base} (task : Task) (d e : Decision) → UpAt p b →
+    Rattle.slon_model.specs.Deciding.decide_up task p ≡ d → limited p d ≡ e → decide task p ≡ e
+decided {p} task d e at is limit = Rattle.app_store.proofs.Standing.decided_up task p d (running at).0 is ∙ limit
 
-within : (move : Move) (p : Place) (answer : Answer) → is_beyond move p ≡ false → limited p (Accepts answer move) ≡ Accepts answer move
+within : (move : Move) (p : Place) (answer : Answer) → is_beyond move p ≡ false →
+    limited p (Accepts answer move) ≡ Accepts answer move
 within move p answer is = ap (λ b. cond b Overflows (Accepts answer move)) is
 
 -- ---- the limit
@@ -56,24 +63,37 @@ last_stamp : (p : Place) (stamp : ℕ) → stamp ≡ p.stamp → stored_limit �
 last_stamp p stamp is most = le-leb stored_limit (p.stamp + 1) (omega (arith, is, most))
 
 -- a number that would be too big takes the database down
-pub overflows : (task : Task) (p : Place) (answer : Answer) (move : Move) (old new : Base) (fits : Fits p old) → old.memory.up ≡ true → Rattle.slon_model.specs.Deciding.decide_up task p ≡ Accepts answer move →
-    is_beyond move p ≡ true → GoesDown old.memory new.memory → new.kept.held ≡ old.kept.held → old.kept.faults ≤ new.kept.faults → Comes task p (Err (Halt (TooBig 1))) new
-overflows task p answer move old new fits up is beyond down held later =
-    carried task p Overflows new (decided task p old (Accepts answer move) Overflows fits up is (ap (λ b. cond b Overflows (Accepts answer move)) beyond)) (crashed_fits p old new fits up down.up down.doubt held later)
+pub overflows : {p : Place} {old : Base} (task : Task) (answer : Answer) (move : Move) (new : Base) → UpAt p old →
+    Rattle.slon_model.specs.Deciding.decide_up task p ≡ Accepts answer move → is_beyond move p ≡ true →
+    WentDown old new → Comes task p (Err (Halt (TooBig 1))) new
+overflows {p} {old} task answer move new at is beyond went =
+    carried task p Overflows new
+    (decided task (Accepts answer move) Overflows at is
+    (ap (λ b. cond b Overflows (Accepts answer move)) beyond))
+    (crashed_fits p old new (is_up at) (record {
+      down = went.down.up;
+      doubt = went.down.doubt;
+      held = went.looked.held;
+      later = went.looked.later;
+    }))
 
 -- ---- tables
 
 table_decision : (table : List ℕ) (columns : ℕ) (p : Place) (b : Bool) → is_some (find_named table p.tables) ≡ b →
-    refused_if (is_some (find_named table p.tables)) TableExists (Accepts Done (Tables table columns)) ≡ refused_if b TableExists (Accepts Done (Tables table columns))
+    refused_if (is_some (find_named table p.tables)) TableExists (Accepts Done (Tables table columns))
+    ≡ refused_if b TableExists (Accepts Done (Tables table columns))
 table_decision table columns p b is = ap (λ t. refused_if t TableExists (Accepts Done (Tables table columns))) is
 
-pub table_refused : (table : List ℕ) (columns : ℕ) (p : Place) (b : Base) (kept : Kept) (fits : Fits p b) → b.memory.up ≡ true → is_some (find_named table p.tables) ≡ true →
-    kept.held ≡ Some fits.held.0 → b.kept.faults ≤ kept.faults → Comes (ToMake table columns) p (Err TableExists) (record b { kept = kept })
-table_refused table columns p b kept fits up there held later =
-    carried (ToMake table columns) p (Refuses TableExists) _ (decided _ p b (Refuses TableExists) (Refuses TableExists) fits up (table_decision table columns p true there) refl)
-    (looked p b kept fits (held ∙ sym fits.held.1) later)
+pub table_refused : {p : Place} {b : Base} (table : List ℕ) (columns : ℕ) (kept : Kept) → UpAt p b →
+    is_some (find_named table p.tables) ≡ true → IsLooked b.kept kept →
+    Comes (ToMake table columns) p (Err TableExists) (record b { kept = kept })
+table_refused {p} {b} table columns kept at there left =
+    carried (ToMake table columns) p (Refuses TableExists) _
+    (decided _ (Refuses TableExists) (Refuses TableExists) at (table_decision table columns p true there) refl)
+    (looked p b kept at.ready.fits left.held left.later)
 
-table_runs : (table : List ℕ) (columns stamp : ℕ) (p : Place) (m : Memory) → Runs p m → stamp ≡ m.stamp + 1 → Runs (tabled table columns p) (record m { stamp = stamp })
+table_runs : (table : List ℕ) (columns stamp : ℕ) (p : Place) (m : Memory) → Runs p m → stamp ≡ m.stamp + 1 →
+    Runs (tabled table columns p) (record m { stamp = stamp })
 table_runs table columns stamp p m runs is = record {
   up = runs.up;
   stamp = is ∙ ap (λ n. n + 1) runs.stamp;
@@ -85,45 +105,78 @@ table_runs table columns stamp p m runs is = record {
   locked = runs.locked;
 }
 
-table_holds : (table : List ℕ) (columns : ℕ) (p : Place) (b : Base) (fits : Fits p b) → Runs p b.memory →
-    Holds (tabled table columns p) (new_table (text_bytes table) (number_bytes columns) (number_bytes (b.memory.stamp + 1)) fits.held.0)
-table_holds table columns p b fits runs =
-    subst (λ n. Holds (tabled table columns p) (new_table (text_bytes table) (number_bytes columns) (number_bytes (n + 1)) fits.held.0)) (sym runs.stamp)
-    (holds_table p fits.held.0 table columns runs.founded fits.held.2)
+-- A table that is not there, and a stamp for the transaction that makes it.
+pub record HasRoom (table : List ℕ) (p : Place) (b : Base) : Type 0 where
+  pub absent : is_some (find_named table p.tables) ≡ false
+  pub less : b.memory.stamp + 1 < stored_limit
 
-table_accepted : (table : List ℕ) (columns : ℕ) (p : Place) (b : Base) (fits : Fits p b) → b.memory.up ≡ true → is_some (find_named table p.tables) ≡ false → b.memory.stamp + 1 < stored_limit →
+-- the store with the table, and with the next stamp
+abbrev pub with_table : List ℕ → ℕ → Base → Store → Store
+with_table table columns b m =
+    new_table (text_bytes table) (number_bytes columns) (number_bytes (b.memory.stamp + 1)) m
+
+table_holds : {p : Place} {b : Base} (table : List ℕ) (columns : ℕ) (at : UpAt p b) →
+    Holds (tabled table columns p) (with_table table columns b at.ready.fits.held.0)
+table_holds {p} table columns at =
+    let runs = (running at).1 in
+    subst
+    (λ n. Holds (tabled table columns p)
+    (new_table (text_bytes table) (number_bytes columns) (number_bytes (n + 1)) at.ready.fits.held.0)) (sym runs.stamp)
+    (holds_table p at.ready.fits.held.0 table columns runs.founded at.ready.fits.held.2)
+
+table_accepted : {p : Place} {b : Base} (table : List ℕ) (columns : ℕ) → UpAt p b → HasRoom table p b →
     decide (ToMake table columns) p ≡ Accepts Done (Tables table columns)
-table_accepted table columns p b fits up absent less =
-    decided _ p b (Accepts Done (Tables table columns)) _ fits up (table_decision table columns p false absent)
-    (within (Tables table columns) p Done (small_stamp p b.memory.stamp (up_running p b fits up).1.stamp less))
+table_accepted {p} {b} table columns at room =
+    decided _ (Accepts Done (Tables table columns)) _ at (table_decision table columns p false room.absent)
+    (within (Tables table columns) p Done (small_stamp p b.memory.stamp (running at).1.stamp room.less))
 
-pub table_made : (table : List ℕ) (columns : ℕ) (p : Place) (b : Base) (kept : Kept) (fits : Fits p b) → b.memory.up ≡ true → is_some (find_named table p.tables) ≡ false → b.memory.stamp + 1 < stored_limit →
-    kept.held ≡ Some (new_table (text_bytes table) (number_bytes columns) (number_bytes (b.memory.stamp + 1)) fits.held.0) → b.kept.faults ≤ kept.faults →
-    Comes (ToMake table columns) p (Ok (Sure Done)) (record { kept = kept; memory = record b.memory { stamp = b.memory.stamp + 1 } })
-table_made table columns p b kept fits up absent less held later =
-    let runs = up_running p b fits up in
-    carried (ToMake table columns) p (Accepts Done (Tables table columns)) _ (table_accepted table columns p b fits up absent less)
-    (fits_running (tabled table columns p) _ _ runs.0 (table_runs table columns (b.memory.stamp + 1) p b.memory runs.1 refl) (omega (arith, fits.told, later)) held (table_holds table columns p b fits runs.1))
+pub table_made : {p : Place} {b : Base} (table : List ℕ) (columns : ℕ) (kept : Kept) (at : UpAt p b) →
+    HasRoom table p b → IsChanged (with_table table columns b at.ready.fits.held.0) b.kept kept →
+    Comes (ToMake table columns) p (Ok (Sure Done))
+    (record { kept = kept; memory = record b.memory { stamp = b.memory.stamp + 1 } })
+table_made {p} {b} table columns kept at room changed =
+    let runs = running at in
+    carried (ToMake table columns) p (Accepts Done (Tables table columns)) _
+    (table_accepted table columns at room)
+    (fits_running (tabled table columns p) _ _ runs.0
+    (table_runs table columns (b.memory.stamp + 1) p b.memory runs.1 refl)
+    (omega (arith, at.ready.fits.told, changed.later)) changed.held (table_holds table columns at))
 
-pub table_doubted : (table : List ℕ) (columns : ℕ) (p : Place) (b new : Base) (fits : Fits p b) → b.memory.up ≡ true → is_some (find_named table p.tables) ≡ false → b.memory.stamp + 1 < stored_limit →
-    new.memory.up ≡ false → new.memory.doubt ≡ Some (b.memory.stamp + 1) → b.kept.faults ≤ new.kept.faults →
-    (new.kept.held ≡ Some fits.held.0) ⊎ (new.kept.held ≡ Some (new_table (text_bytes table) (number_bytes columns) (number_bytes (b.memory.stamp + 1)) fits.held.0)) → Comes (ToMake table columns) p (Ok (InDoubt Done)) new
-table_doubted table columns p b new fits up absent less down doubt later either =
-    let runs = up_running p b fits up in
-    wavers (ToMake table columns) p Done (Tables table columns) new fits.held.0 _ (table_accepted table columns p b fits up absent less) refl
-    (record { stamp = refl; told = refl; up = down; doubt = doubt ∙ ap (λ n. Some (n + 1)) runs.1.stamp }) (omega (arith, fits.told, later)) fits.held.2 (table_holds table columns p b fits runs.1) either
+pub table_doubted : {p : Place} {b : Base} (table : List ℕ) (columns : ℕ) (new : Base) (at : UpAt p b) →
+    HasRoom table p b →
+    LeftInDoubt at.ready.fits.held.0 (with_table table columns b at.ready.fits.held.0) b new →
+    Comes (ToMake table columns) p (Ok (InDoubt Done)) new
+table_doubted {p} table columns new at room waver =
+    wavers (ToMake table columns) p Done (Tables table columns) new (table_accepted table columns at room) refl
+    (record {
+      before = at.ready.fits.held.0;
+      after = _;
+      memory = record {
+        stamp = refl;
+        told = refl;
+        up = waver.up;
+        doubt = waver.doubt ∙ ap (λ n. Some (n + 1)) (running at).1.stamp;
+      };
+      told = omega (arith, at.ready.fits.told, waver.later);
+      holds = at.ready.fits.held.2;
+      holds_after = table_holds table columns at;
+      either = waver.either;
+    })
 
-pub table_at_limit : (table : List ℕ) (columns : ℕ) (p : Place) (b new : Base) (fits : Fits p b) → b.memory.up ≡ true → is_some (find_named table p.tables) ≡ false → stored_limit ≤ b.memory.stamp + 1 →
-    GoesDown b.memory new.memory → new.kept.held ≡ b.kept.held → b.kept.faults ≤ new.kept.faults → Comes (ToMake table columns) p (Err (Halt (TooBig 1))) new
-table_at_limit table columns p b new fits up absent most down held later =
-    overflows (ToMake table columns) p Done (Tables table columns) b new fits up (table_decision table columns p false absent)
-    (last_stamp p b.memory.stamp (up_running p b fits up).1.stamp most) down held later
+pub table_at_limit : {p : Place} {b : Base} (table : List ℕ) (columns : ℕ) (new : Base) → UpAt p b →
+    is_some (find_named table p.tables) ≡ false → stored_limit ≤ b.memory.stamp + 1 → WentDown b new →
+    Comes (ToMake table columns) p (Err (Halt (TooBig 1))) new
+table_at_limit {p} {b} table columns new at absent most went =
+    overflows (ToMake table columns) Done (Tables table columns) new at (table_decision table columns p false absent)
+    (last_stamp p b.memory.stamp (running at).1.stamp most) went
 
 -- ---- rows
 
 rows_decision : (table : List ℕ) (p : Place) (o : Option ℕ) → find_named table p.tables ≡ o →
-    with_found (find_named table p.tables) NoTable (λ width. Accepts (Listed (entries (standing_rows p table))) Stays) ≡ with_found o NoTable (λ width. Accepts (Listed (entries (standing_rows p table))) Stays)
-rows_decision table p o is = ap (λ o. with_found o NoTable (λ width. Accepts (Listed (entries (standing_rows p table))) Stays)) is
+    with_found (find_named table p.tables) NoTable (λ width. Accepts (Listed (entries (standing_rows p table))) Stays)
+    ≡ with_found o NoTable (λ width. Accepts (Listed (entries (standing_rows p table))) Stays)
+rows_decision table p o is =
+    ap (λ o. with_found o NoTable (λ width. Accepts (Listed (entries (standing_rows p table))) Stays)) is
 
 some_at : {X : Type 0} (o : Option X) → is_some o ≡ true → (x : X) × (o ≡ Some x)
 some_at None is = absurd (false≢true is)
@@ -133,63 +186,88 @@ pub none_at : {X : Type 0} (o : Option X) → is_some o ≡ false → o ≡ None
 none_at None is = refl
 none_at (Some x) is = absurd (false≢true (sym is))
 
-pub rows_refused : (table : List ℕ) (p : Place) (b : Base) (kept : Kept) (fits : Fits p b) → b.memory.up ≡ true → is_some (find_named table p.tables) ≡ false →
-    kept.held ≡ b.kept.held → b.kept.faults ≤ kept.faults → Comes (ToList table) p (Err NoTable) (record b { kept = kept })
-rows_refused table p b kept fits up absent held later =
-    carried (ToList table) p (Refuses NoTable) _ (decided _ p b _ (Refuses NoTable) fits up (rows_decision table p None (none_at _ absent)) refl) (looked p b kept fits held later)
+pub rows_refused : {p : Place} {b : Base} (table : List ℕ) (kept : Kept) → UpAt p b →
+    is_some (find_named table p.tables) ≡ false → IsLooked b.kept kept →
+    Comes (ToList table) p (Err NoTable) (record b { kept = kept })
+rows_refused {p} {b} table kept at absent left =
+    carried (ToList table) p (Refuses NoTable) _
+    (decided _ _ (Refuses NoTable) at (rows_decision table p None (none_at _ absent)) refl)
+    (looked p b kept at.ready.fits left.held left.later)
 
-pub rows_listed : (table : List ℕ) (p : Place) (b : Base) (kept : Kept) (listed : List (List ℕ × List (List ℕ))) (fits : Fits p b) → b.memory.up ≡ true → is_some (find_named table p.tables) ≡ true →
-    listed ≡ entries (standing_rows p table) → kept.held ≡ b.kept.held → b.kept.faults ≤ kept.faults → Comes (ToList table) p (Ok (Sure (Listed listed))) (record b { kept = kept })
-rows_listed table p b kept listed fits up there same held later =
+pub rows_listed : {p : Place} {b : Base} (table : List ℕ) (kept : Kept) (listed : List (List ℕ × List (List ℕ))) →
+    UpAt p b → is_some (find_named table p.tables) ≡ true → listed ≡ entries (standing_rows p table) →
+    IsLooked b.kept kept → Comes (ToList table) p (Ok (Sure (Listed listed))) (record b { kept = kept })
+rows_listed {p} {b} table kept listed at there same left =
     let found = some_at (find_named table p.tables) there in
     subst (λ l. Comes (ToList table) p (Ok (Sure (Listed l))) (record b { kept = kept })) (sym same)
-    (carried (ToList table) p (Accepts (Listed (entries (standing_rows p table))) Stays) _ (decided _ p b _ _ fits up (rows_decision table p (Some found.0) found.1) refl) (looked p b kept fits held later))
+    (carried (ToList table) p (Accepts (Listed (entries (standing_rows p table))) Stays) _
+    (decided _ _ _ at (rows_decision table p (Some found.0) found.1) refl)
+    (looked p b kept at.ready.fits left.held left.later))
 
 -- ---- begin
 
 -- no transaction of a name is open
-pub not_named : (p : Place) (m : Memory) (name : List ℕ) → Runs p m → get m.opens name ≡ None → find_named name p.opens ≡ None
+pub not_named : (p : Place) (m : Memory) (name : List ℕ) → Runs p m → get m.opens name ≡ None →
+    find_named name p.opens ≡ None
 not_named p m name runs none = by (find_named name p.opens) (get m.opens name) refl none (runs.opened name)
   where
-    by : (x : Option ℕ) (t : Option Transaction) → find_named name p.opens ≡ x → t ≡ None → OpensAs p x t → find_named name p.opens ≡ None
+    by : (x : Option ℕ) (t : Option Transaction) → find_named name p.opens ≡ x → t ≡ None → OpensAs p x t →
+        find_named name p.opens ≡ None
     by None t x_is t_is o = x_is
     by (Some x) None x_is t_is o = absurd o
     by (Some x) (Some t) x_is t_is o = absurd cc
 
-pub is_named : (p : Place) (m : Memory) (name : List ℕ) (t : Transaction) → Runs p m → get m.opens name ≡ Some t → (x : ℕ) × (find_named name p.opens ≡ Some x) × IsOpened p x t
+pub is_named : (p : Place) (m : Memory) (name : List ℕ) (t : Transaction) → Runs p m → get m.opens name ≡ Some t →
+    (x : ℕ) × (find_named name p.opens ≡ Some x) × IsOpened p x t
 is_named p m name t runs is = by (find_named name p.opens) (get m.opens name) refl is (runs.opened name)
   where
-    by : (x : Option ℕ) (o : Option Transaction) → find_named name p.opens ≡ x → o ≡ Some t → OpensAs p x o → (x : ℕ) × (find_named name p.opens ≡ Some x) × IsOpened p x t
+    by : (x : Option ℕ) (o : Option Transaction) → find_named name p.opens ≡ x → o ≡ Some t → OpensAs p x o → (x : ℕ)
+        × (find_named name p.opens ≡ Some x) × IsOpened p x t
     by None None x_is o_is opened = absurd cc
     by None (Some u) x_is o_is opened = absurd opened
     by (Some x) None x_is o_is opened = absurd cc
     by (Some x) (Some u) x_is o_is opened = let same : u ≡ t = cc in (x, x_is, subst (IsOpened p x) same opened)
 
 begin_decision : (name : List ℕ) (p : Place) (b : Bool) → is_some (find_named name p.opens) ≡ b →
-    refused_if (is_some (find_named name p.opens)) NameUsed (Accepts (Opened p.xids.next) (Begins name)) ≡ refused_if b NameUsed (Accepts (Opened p.xids.next) (Begins name))
+    refused_if (is_some (find_named name p.opens)) NameUsed (Accepts (Opened p.xids.next) (Begins name))
+    ≡ refused_if b NameUsed (Accepts (Opened p.xids.next) (Begins name))
 begin_decision name p b is = ap (λ t. refused_if t NameUsed (Accepts (Opened p.xids.next) (Begins name))) is
 
-pub name_used : (name : List ℕ) (p : Place) (b : Base) (fits : Fits p b) → b.memory.up ≡ true → is_some (get b.memory.opens name) ≡ true → Comes (ToOpen name) p (Err NameUsed) b
-name_used name p b fits up there =
-    let runs = up_running p b fits up in
+pub name_used : {p : Place} {b : Base} (name : List ℕ) → UpAt p b → is_some (get b.memory.opens name) ≡ true →
+    Comes (ToOpen name) p (Err NameUsed) b
+name_used {p} {b} name at there =
     let t = some_at (get b.memory.opens name) there in
-    let named = is_named p b.memory name t.0 runs.1 t.1 in
-    carried (ToOpen name) p (Refuses NameUsed) b (decided _ p b _ (Refuses NameUsed) fits up (begin_decision name p true (ap is_some named.1)) refl) fits
+    let named = is_named p b.memory name t.0 (running at).1 t.1 in
+    carried (ToOpen name) p (Refuses NameUsed) b
+    (decided _ _ (Refuses NameUsed) at (begin_decision name p true (ap is_some named.1)) refl) at.ready.fits
 
--- a transaction more
-begun_runs : (name : List ℕ) (p : Place) (m : Memory) (xids : Counter) (xid : ℕ) → Sound p → Runs p m → find_named name p.opens ≡ None → xid ≡ m.xids.next → xids ≡ drawn m.xids →
-    Runs (begun name p) (record m { xids = xids; opens = insert m.opens name (record { xid = xid; actions = 0; writes = empty }) })
-begun_runs name p m xids xid sound runs none xid_is xids_is = record {
+-- the memory with a transaction more
+abbrev pub with_opened : List ℕ → ℕ → Memory → Memory
+with_opened name xid m =
+    record m {
+      xids = drawn m.xids;
+      opens = insert m.opens name (record { xid = xid; actions = 0; writes = empty });
+    }
+
+begun_runs : {p : Place} {m : Memory} (name : List ℕ) (xid : ℕ) → Sound p → Runs p m →
+    find_named name p.opens ≡ None → xid ≡ m.xids.next → Runs (begun name p) (with_opened name xid m)
+begun_runs {p} {m} name xid sound runs none xid_is = record {
   up = runs.up;
   stamp = runs.stamp;
   settled = runs.settled;
   founded = runs.founded;
-  xids = xids_is ∙ ap drawn runs.xids;
+  xids = ap drawn runs.xids;
   numbers = runs.numbers;
-  opened = λ q. subst (λ x. OpensAs (begun name p) x (get (insert m.opens name new) q)) (sym (find-behind q name p.xids.next p.opens))
-      (subst (OpensAs (begun name p) (behind q (find_named q p.opens))) (sym (get-insert nat_list_cmp_total m.opens name new q ∙ ap (λ t. cond t (Some new) (get m.opens q)) (key_test q name)))
+  opened =
+      λ q. subst (λ x. OpensAs (begun name p) x (get (insert m.opens name new) q))
+      (sym (find-behind q name p.xids.next p.opens))
+      (subst (OpensAs (begun name p) (behind q (find_named q p.opens)))
+      (sym (get-insert nat_list_cmp_total m.opens name new q
+      ∙ ap (λ t. cond t (Some new) (get m.opens q)) (key_test q name)))
       (by_name q (bytes_eq q name) refl));
-  locked = λ table key text. runs.locked table key text ∙ holders_agree table key (open_xids p) (open_xids (begun name p)) p.actions (older p.actions sound.known);
+  locked =
+      λ table key text. runs.locked table key text
+      ∙ holders_agree table key (open_xids p) (open_xids (begun name p)) p.actions (older p.actions sound.known);
 }
   where
     new : Transaction
@@ -198,65 +276,91 @@ begun_runs name p m xids xid sound runs none xid_is xids_is = record {
     behind : List ℕ → Option ℕ → Option ℕ
     behind q o = cond (is_some o) o (cond (bytes_eq q name) (Some p.xids.next) None)
 
-    stays : (q : List ℕ) (o : Option ℕ) (t : Option Transaction) → bytes_eq q name ≡ false → OpensAs p o t → OpensAs (begun name p) (behind q o) t
-    stays q None t other opens = subst (λ b. OpensAs (begun name p) (cond b (Some p.xids.next) None) t) (sym other) (opens_same p (begun name p) None t refl refl opens)
+    stays : (q : List ℕ) (o : Option ℕ) (t : Option Transaction) → bytes_eq q name ≡ false → OpensAs p o t →
+        OpensAs (begun name p) (behind q o) t
+    stays q None t other opens =
+        subst (λ b. OpensAs (begun name p) (cond b (Some p.xids.next) None) t) (sym other)
+        (opens_same p (begun name p) None t refl refl opens)
     stays q (Some x) t other opens = opens_same p (begun name p) (Some x) t refl refl opens
 
-    by_name : (q : List ℕ) (t : Bool) → bytes_eq q name ≡ t → OpensAs (begun name p) (behind q (find_named q p.opens)) (cond t (Some new) (get m.opens q))
+    by_name : (q : List ℕ) (t : Bool) → bytes_eq q name ≡ t →
+        OpensAs (begun name p) (behind q (find_named q p.opens)) (cond t (Some new) (get m.opens q))
     by_name q true same =
-        subst (λ o. OpensAs (begun name p) (behind q o) (Some new)) (sym (ap (λ k. find_named k p.opens) (bytes_same q name same) ∙ none))
-        (subst (λ b. OpensAs (begun name p) (cond b (Some p.xids.next) None) (Some new)) (sym same) (opened_new p (begun name p) p.xids.next xid sound refl refl refl (xid_is ∙ ap (λ c. c.next) runs.xids)))
+        subst (λ o. OpensAs (begun name p) (behind q o) (Some new))
+        (sym (ap (λ k. find_named k p.opens) (bytes_same q name same) ∙ none))
+        (subst (λ b. OpensAs (begun name p) (cond b (Some p.xids.next) None) (Some new)) (sym same)
+        (opened_new p (begun name p) xid sound refl refl (xid_is ∙ ap (λ c. c.next) runs.xids)))
     by_name q false other = stays q (find_named q p.opens) (get m.opens q) other (runs.opened q)
 
     or_false : (t : Bool) → (t || false) ≡ t
     or_false true = refl
     or_false false = refl
 
-    older : (actions : List Action) → AllByRecursion (λ a. a.xid < p.xids.next) actions → AllByRecursion (λ a. member a.xid (open_xids p) ≡ member a.xid (open_xids (begun name p))) actions
+    older : (actions : List Action) → AllByRecursion (λ a. a.xid < p.xids.next) actions →
+        AllByRecursion (λ a. member a.xid (open_xids p) ≡ member a.xid (open_xids (begun name p))) actions
     older [] known = tt
-    older (a ∷ rest) known =
-        (sym (member_snoc a.xid p.xids.next name p.opens ∙ ap (λ t. member a.xid (ids_of p.opens) || t) (false_from_ne_true _ (λ same. let eq = eqb-true a.xid p.xids.next same in absurd (omega (arith, eq, known.0)))) ∙ or_false (member a.xid (ids_of p.opens))), older rest known.1)
+    older (a ∷ rest) known = (
+      sym (member_snoc a.xid p.xids.next name p.opens
+          ∙ ap (λ t. member a.xid (ids_of p.opens) || t)
+          (false_from_ne_true _ (λ same. let eq = eqb-true a.xid p.xids.next same in
+          absurd (omega (arith, eq, known.0)))) ∙ or_false (member a.xid (ids_of p.opens))),
+      older rest known.1,
+    )
+
+-- The database was up as the ceiling had risen, and the transaction was opened with the next id.
+pub record HasOpened (name : List ℕ) (xid : ℕ) (mid new : Base) : Type 0 where
+  pub up : mid.memory.up ≡ true
+  pub drawn : xid ≡ mid.memory.xids.next
+  pub new_is : new ≡ record mid { memory = with_opened name xid mid.memory }
 
 -- what comes of the ceiling that rises first
-pub begins_on : (name : List ℕ) (p : Place) (b mid new : Base) (xid : ℕ) → Ready p b → b.memory.up ≡ true → get b.memory.opens name ≡ None → RaisedTo Xids p (Ok tt) mid → mid.memory.up ≡ true → xid ≡ mid.memory.xids.next
-    → new ≡ record mid { memory = record mid.memory { xids = drawn mid.memory.xids; opens = insert mid.memory.opens name (record { xid = xid; actions = 0; writes = empty }) } } → Comes (ToOpen name) p (Ok (Sure (Opened xid))) new
-begins_on name p b mid new xid ready up none (Raises is less fits) mid_up xid_is new_is =
+pub begins_on : {p : Place} {b mid : Base} (name : List ℕ) (new : Base) (xid : ℕ) → UpAt p b →
+    get b.memory.opens name ≡ None → RaisedTo Xids p (Ok tt) mid → HasOpened name xid mid new →
+    Comes (ToOpen name) p (Ok (Sure (Opened xid))) new
+begins_on {p} {b} {mid} name new xid at none (Raises is less fits) has =
     let q = raised Xids p in
     let same = raised_same Xids p in
-    let runs = up_running q mid fits mid_up in
-    let absent = not_named p b.memory name (up_running p b ready.fits up).1 none in
+    let runs = up_running q mid fits has.up in
+    let absent = not_named p b.memory name (running at).1 none in
     let absent_mid : find_named name q.opens ≡ None = ap (find_named name) same.opens ∙ absent in
-    let number : xid ≡ p.xids.next = xid_is ∙ ap (λ c. c.next) runs.1.xids ∙ same.xid in
+    let number : xid ≡ p.xids.next = has.drawn ∙ ap (λ c. c.next) runs.1.xids ∙ same.xid in
     subst (λ n. Comes (ToOpen name) p (Ok (Sure (Opened n))) new) (sym number)
     (carried (ToOpen name) p (Accepts (Opened p.xids.next) (Begins name)) new
-    (decided _ p b _ _ ready.fits up (begin_decision name p false (ap is_some absent)) (within (Begins name) p (Opened p.xids.next) less))
-    (subst (Fits (begun name q)) (sym new_is) (fits_running (begun name q) _ fits.held.0 runs.0
-    (begun_runs name q mid.memory (drawn mid.memory.xids) xid (sound_raised Xids p ready.sound) runs.1 absent_mid xid_is refl) fits.told fits.held.1
-    (holds_same q (begun name q) fits.held.0 refl refl refl refl (λ t. refl) fits.held.2))))
-begins_on name p b mid new xid ready up none (Bursts is most fits) mid_up xid_is new_is = absurd cc
-begins_on name p b mid new xid ready up none (StopsRaise fault less is fell) mid_up xid_is new_is = absurd cc
+    (decided _ _ _ at (begin_decision name p false (ap is_some absent))
+    (within (Begins name) p (Opened p.xids.next) less))
+    (subst (Fits (begun name q)) (sym has.new_is) (fits_running (begun name q) _ fits.held.0 runs.0
+    (begun_runs name xid (sound_raised Xids p at.ready.sound) runs.1 absent_mid has.drawn) fits.told fits.held.1
+    (holds_same q (begun name q) fits.held.0 refl fits.held.2))))
+begins_on name new xid at none (Bursts is most fits) has = absurd cc
+begins_on name new xid at none (StopsRaise fault less is fell) has = absurd cc
 
-pub begin_stopped : (name : List ℕ) (p : Place) (b new : Base) (fault : DbFault) → Ready p b → b.memory.up ≡ true → get b.memory.opens name ≡ None → RaisedTo Xids p (Err fault) new → Comes (ToOpen name) p (Err fault) new
-begin_stopped name p b new fault ready up none raises = by raises
+pub begin_stopped : {p : Place} {b : Base} (name : List ℕ) (new : Base) (fault : DbFault) → UpAt p b →
+    get b.memory.opens name ≡ None → RaisedTo Xids p (Err fault) new → Comes (ToOpen name) p (Err fault) new
+begin_stopped {p} {b} name new fault at none raises = by raises
   where
     accepted : Rattle.slon_model.specs.Deciding.decide_up (ToOpen name) p ≡ Accepts (Opened p.xids.next) (Begins name)
-    accepted = begin_decision name p false (ap is_some (not_named p b.memory name (up_running p b ready.fits up).1 none))
+    accepted = begin_decision name p false (ap is_some (not_named p b.memory name (running at).1 none))
 
     by : RaisedTo Xids p (Err fault) new → Comes (ToOpen name) p (Err fault) new
     by (Raises is less fits) = absurd cc
     by (Bursts is most fits) =
         let same : fault ≡ Halt (TooBig 1) = cc in
         subst (λ f. Comes (ToOpen name) p (Err f) new) (sym same)
-        (carried (ToOpen name) p Overflows new (decided _ p b _ Overflows ready.fits up accepted (ap (λ b. cond b Overflows (Accepts (Opened p.xids.next) (Begins name))) most)) fits)
+        (carried (ToOpen name) p Overflows new
+        (decided _ _ Overflows at accepted
+        (ap (λ b. cond b Overflows (Accepts (Opened p.xids.next) (Begins name))) most)) fits)
     by (StopsRaise other less is stops) =
         let same : fault ≡ other = cc in
-        fell (ToOpen name) p (Accepts (Opened p.xids.next) (Begins name)) fault new (ap (λ s. Rattle.slon_model.specs.Deciding.may_call s (ToOpen name)) (up_running p b ready.fits up).0)
-        (decided _ p b _ _ ready.fits up accepted (within (Begins name) p (Opened p.xids.next) less)) (subst (λ f. FellTo p (raised Xids p) f new) (sym same) stops)
+        fell (ToOpen name) p (Accepts (Opened p.xids.next) (Begins name)) fault new
+        (ap (λ s. Rattle.slon_model.specs.Deciding.may_call s (ToOpen name)) (running at).0)
+        (decided _ _ _ at accepted (within (Begins name) p (Opened p.xids.next) less))
+        (subst (λ f. FellTo p (raised Xids p) f new) (sym same) stops)
 
 -- ---- the end of a transaction
 
 -- what was not there is taken away
-same_opens : (p : Place) (m : Memory) (name : List ℕ) → Runs p m → get m.opens name ≡ None → Runs p (record m { opens = remove m.opens name })
+same_opens : (p : Place) (m : Memory) (name : List ℕ) → Runs p m → get m.opens name ≡ None →
+    Runs p (record m { opens = remove m.opens name })
 same_opens p m name runs none = record {
   up = runs.up;
   stamp = runs.stamp;
@@ -264,7 +368,10 @@ same_opens p m name runs none = record {
   founded = runs.founded;
   xids = runs.xids;
   numbers = runs.numbers;
-  opened = λ q. subst (OpensAs p (find_named q p.opens)) (sym (get-remove nat_list_cmp_total m.opens name q ∙ ap (λ t. cond t None (get m.opens q)) (key_test q name) ∙ unchanged q (bytes_eq q name) refl)) (runs.opened q);
+  opened =
+      λ q. subst (OpensAs p (find_named q p.opens))
+      (sym (get-remove nat_list_cmp_total m.opens name q ∙ ap (λ t. cond t None (get m.opens q)) (key_test q name)
+      ∙ unchanged q (bytes_eq q name) refl)) (runs.opened q);
   locked = runs.locked;
 }
   where
@@ -272,55 +379,73 @@ same_opens p m name runs none = record {
     unchanged q true same = sym (ap (get m.opens) (bytes_same q name same) ∙ none)
     unchanged q false other = refl
 
-pub end_refused : (task : Task) (name : List ℕ) (go : ℕ → Decision) (p : Place) (b : Base) (fits : Fits p b) → b.memory.up ≡ true → get b.memory.opens name ≡ None →
-    Rattle.slon_model.specs.Deciding.decide_up task p ≡ with_found (find_named name p.opens) NoTransaction go → Comes task p (Err NoTransaction) (record b { memory = record b.memory { opens = remove b.memory.opens name } })
-end_refused task name go p b fits up none is =
-    let runs = up_running p b fits up in
-    carried task p (Refuses NoTransaction) _ (decided task p b _ (Refuses NoTransaction) fits up (is ∙ ap (λ o. with_found o NoTransaction go) (not_named p b.memory name runs.1 none)) refl)
+pub end_refused : {p : Place} {b : Base} (task : Task) (name : List ℕ) (go : ℕ → Decision) → UpAt p b →
+    get b.memory.opens name ≡ None →
+    Rattle.slon_model.specs.Deciding.decide_up task p ≡ with_found (find_named name p.opens) NoTransaction go →
+    Comes task p (Err NoTransaction) (record b { memory = record b.memory { opens = remove b.memory.opens name } })
+end_refused {p} {b} task name go at none is =
+    let runs = running at in
+    let fits = at.ready.fits in
+    carried task p (Refuses NoTransaction) _
+    (decided task _ (Refuses NoTransaction) at
+    (is ∙ ap (λ o. with_found o NoTransaction go) (not_named p b.memory name runs.1 none)) refl)
     (fits_running p _ fits.held.0 runs.0 (same_opens p b.memory name runs.1 none) fits.told fits.held.1 fits.held.2)
 
 -- two names have two ids
-pub ids_differ : (p : Place) (name q : List ℕ) (x y : ℕ) → Sound p → find_named name p.opens ≡ Some x → find_named q p.opens ≡ Some y → bytes_eq q name ≡ false → (y == x) ≡ false
-ids_differ p name q x y sound named found other = false_from_ne_true _ (λ same.
-    let there : find_named q (without_name name p.opens) ≡ Some y = find-without q name p.opens ∙ ap (λ t. cond t None (find_named q p.opens)) other ∙ found in
-    member_taken x name p.opens sound.named sound.running named (ap (λ z. member z (ids_of (without_name name p.opens))) (sym (eqb-true y x same)) ∙ found_member q y (without_name name p.opens) there))
+pub ids_differ : {x y : ℕ} (p : Place) (name q : List ℕ) → Sound p → find_named name p.opens ≡ Some x →
+    find_named q p.opens ≡ Some y → bytes_eq q name ≡ false → (y == x) ≡ false
+ids_differ {x} {y} p name q sound named found other = false_from_ne_true _ (λ same.
+    let there : find_named q (without_name name p.opens) ≡ Some y =
+    find-without q name p.opens ∙ ap (λ t. cond t None (find_named q p.opens)) other ∙ found in
+    member_taken x name p.opens sound.named sound.running named
+    (ap (λ z. member z (ids_of (without_name name p.opens))) (sym (eqb-true y x same))
+    ∙ found_member q y (without_name name p.opens) there))
 
 freed_same : (x : ℕ) (o : Option ℕ) → without_xid x o ≡ freed x o
 freed_same x None = refl
 freed_same x (Some y) = refl
 
--- A transaction of the rules and of the code, which ends, and the locks without its own.
-pub record Ending (p : Place) (name : List ℕ) (t : Transaction) (locks : Locks) (m : Memory) : Type 0 where
-  pub xid : ℕ
-  pub named : find_named name p.opens ≡ Some xid
-  pub there : get m.opens name ≡ Some t
-  pub opened : IsOpened p xid t
-  pub frees : (table key : List ℕ) → holder_of table key locks ≡ without_xid xid (holder_of table key m.locks)
+-- A transaction that the code takes away, and the locks without its own.
+pub record Ending (name : List ℕ) (m : Memory) : Type 0 where
+  pub transaction : Transaction
+  pub locks : Locks
+  pub there : get m.opens name ≡ Some transaction
+  pub frees : (table key : List ℕ) → holder_of table key locks
+      ≡ without_xid transaction.xid (holder_of table key m.locks)
 
-pub ending : (p : Place) (name : List ℕ) (locks : Locks) (m : Memory) (t : Transaction) → Runs p m → get m.opens name ≡ Some t →
-    ((table key : List ℕ) → holder_of table key locks ≡ without_xid t.xid (holder_of table key m.locks)) → Ending p name t locks m
-ending p name locks m t runs there frees =
-    let named = is_named p m name t runs there in
-    record {
-      xid = named.0;
-      named = named.1;
-      there = there;
-      opened = named.2;
-      frees = λ table key. frees table key ∙ ap (λ n. without_xid n (holder_of table key m.locks)) named.2.xid_is;
-    }
+-- the same transaction by the rules
+record IsEnding (p : Place) (name : List ℕ) (t : Transaction) : Type 0 where
+  xid : ℕ
+  named : find_named name p.opens ≡ Some xid
+  opened : IsOpened p xid t
 
--- the place after the end of a transaction, where the others stay as they were
+ending : {p : Place} {m : Memory} {name : List ℕ} (t : Transaction) → Runs p m → get m.opens name ≡ Some t →
+    IsEnding p name t
+ending {p} {m} {name} t runs there =
+    let named = is_named p m name t runs there in record { xid = named.0; named = named.1; opened = named.2 }
+
+-- the other transactions stay as they were
+abbrev OthersStay : Place → Place → ℕ → Type 0
+OthersStay p q x =
+    (y : ℕ) (t : Transaction) → member y (open_xids p) ≡ true → (y == x) ≡ false → IsOpened p y t → IsOpened q y t
+
+-- the place after the end of a transaction
 record IsEnded (p q : Place) (name : List ℕ) (x : ℕ) : Type 0 where
   opens : q.opens ≡ without_name name p.opens
   actions : q.actions ≡ p.actions
   xids : q.xids ≡ p.xids
   numbers : q.numbers ≡ p.numbers
   founded : 0 < q.stamp
-  keep : (y : ℕ) (t : Transaction) → member y (open_xids p) ≡ true → (y == x) ≡ false → IsOpened p y t → IsOpened q y t
+  keep : OthersStay p q x
 
-ended_runs : {t : Transaction} (p q : Place) (m : Memory) (name : List ℕ) (stamp : ℕ) (locks : Locks) → Sound p → Runs p m → (e : Ending p name t locks m) → IsEnded p q name e.xid → stamp ≡ q.stamp →
-    Runs q (record m { stamp = stamp; opens = remove m.opens name; locks = locks })
-ended_runs p q m name stamp locks sound runs e ended stamp_is = record {
+-- the memory without the transaction
+abbrev pub without_one : List ℕ → ℕ → Locks → Memory → Memory
+without_one name stamp locks m = record m { stamp = stamp; opens = remove m.opens name; locks = locks }
+
+ended_runs : {p : Place} {m : Memory} {name : List ℕ} (q : Place) (stamp : ℕ) (ends : Ending name m) → Sound p →
+    Runs p m → (e : IsEnding p name ends.transaction) → IsEnded p q name e.xid → stamp ≡ q.stamp →
+    Runs q (without_one name stamp ends.locks m)
+ended_runs {p} {m} {name} q stamp ends sound runs e ended stamp_is = record {
   up = runs.up;
   stamp = stamp_is;
   settled = runs.settled;
@@ -329,142 +454,234 @@ ended_runs p q m name stamp locks sound runs e ended stamp_is = record {
   numbers = runs.numbers ∙ sym ended.numbers;
   opened = λ k. subst (λ o. OpensAs q (find_named k o) (get (remove m.opens name) k)) (sym ended.opens)
       (subst (λ o. OpensAs q o (get (remove m.opens name) k)) (sym (find-without k name p.opens))
-      (subst (OpensAs q (cond (bytes_eq k name) None (find_named k p.opens))) (sym (get-remove nat_list_cmp_total m.opens name k ∙ ap (λ t. cond t None (get m.opens k)) (key_test k name)))
+      (subst (OpensAs q (cond (bytes_eq k name) None (find_named k p.opens)))
+      (sym (get-remove nat_list_cmp_total m.opens name k ∙ ap (λ t. cond t None (get m.opens k)) (key_test k name)))
       (by_name k (bytes_eq k name) refl)));
-  locked = λ table key text. e.frees table key ∙ ap (without_xid e.xid) (runs.locked table key text) ∙ freed_same e.xid (holder table key p)
-      ∙ sym (released table key e.xid (open_xids p) (ids_of (without_name name p.opens)) p.actions (ended_names e.xid name p.opens sound.named sound.running e.named) sound.locked)
-      ∙ ap (λ os. holder_in table key (ids_of os) p.actions) (sym ended.opens) ∙ ap (holder_in table key (open_xids q)) (sym ended.actions);
+  locked =
+      λ table key text. ends.frees table key ∙ ap (λ n. without_xid n (holder_of table key m.locks)) e.opened.xid_is
+      ∙ ap (without_xid e.xid) (runs.locked table key text)
+      ∙ freed_same e.xid (holder table key p)
+      ∙ sym (released table key e.xid (open_xids p) (ids_of (without_name name p.opens)) p.actions
+      (ended_names e.xid name p.opens sound.named sound.running e.named) sound.locked)
+      ∙ ap (λ os. holder_in table key (ids_of os) p.actions) (sym ended.opens)
+      ∙ ap (holder_in table key (open_xids q)) (sym ended.actions);
 }
   where
-    other : (k : List ℕ) → bytes_eq k name ≡ false → (o : Option ℕ) (t : Option Transaction) → find_named k p.opens ≡ o → OpensAs p o t → OpensAs q o t
+    other : (k : List ℕ) → bytes_eq k name ≡ false → (o : Option ℕ) (t : Option Transaction) →
+        find_named k p.opens ≡ o → OpensAs p o t → OpensAs q o t
     other k differ None None is opened = tt
     other k differ None (Some t) is opened = opened
     other k differ (Some y) None is opened = opened
-    other k differ (Some y) (Some t) is opened = ended.keep y t (found_member k y p.opens is) (ids_differ p name k e.xid y sound e.named is differ) opened
+    other k differ (Some y) (Some t) is opened =
+        ended.keep y t (found_member k y p.opens is) (ids_differ p name k sound e.named is differ) opened
 
-    by_name : (k : List ℕ) (t : Bool) → bytes_eq k name ≡ t → OpensAs q (cond t None (find_named k p.opens)) (cond t None (get m.opens k))
+    by_name : (k : List ℕ) (t : Bool) → bytes_eq k name ≡ t →
+        OpensAs q (cond t None (find_named k p.opens)) (cond t None (get m.opens k))
     by_name k true same = tt
     by_name k false differ = other k differ (find_named k p.opens) (get m.opens k) refl (runs.opened k)
 
--- the memory without the transaction
-abbrev pub without_one : List ℕ → ℕ → Locks → Memory → Memory
-without_one name stamp locks m = record m { stamp = stamp; opens = remove m.opens name; locks = locks }
+ended_by : {p : Place} {b : Base} (task : Task) (name : List ℕ) (go : ℕ → Decision) (xid : ℕ) → UpAt p b →
+    find_named name p.opens ≡ Some xid →
+    Rattle.slon_model.specs.Deciding.decide_up task p ≡ with_found (find_named name p.opens) NoTransaction go →
+    decide task p ≡ limited p (go xid)
+ended_by task name go xid at named is =
+    decided task _ _ at (is ∙ ap (λ o. with_found o NoTransaction go) named) refl
 
-ended_by : (task : Task) (p : Place) (b : Base) (name : List ℕ) (go : ℕ → Decision) (d : Decision) (xid : ℕ) (fits : Fits p b) → b.memory.up ≡ true → find_named name p.opens ≡ Some xid →
-    Rattle.slon_model.specs.Deciding.decide_up task p ≡ with_found (find_named name p.opens) NoTransaction go → limited p (go xid) ≡ d → decide task p ≡ d
-ended_by task p b name go d xid fits up named is limit = decided task p b _ d fits up (is ∙ ap (λ o. with_found o NoTransaction go) named) limit
-
-pub aborts : (name : List ℕ) (p : Place) (b new : Base) (t : Transaction) (locks : Locks) → Ready p b → b.memory.up ≡ true → get b.memory.opens name ≡ Some t →
-    ((table key : List ℕ) → holder_of table key locks ≡ without_xid t.xid (holder_of table key b.memory.locks)) →
-    new ≡ record b { memory = without_one name b.memory.stamp locks b.memory } → Comes (ToAbort name) p (Ok (Sure Done)) new
-aborts name p b new t locks ready up there frees new_is =
-    let runs = up_running p b ready.fits up in
-    let e = (ending p name locks b.memory t runs.1 there frees) in
+pub aborts : {p : Place} {b : Base} (name : List ℕ) (new : Base) → UpAt p b → (ends : Ending name b.memory) →
+    new ≡ record b { memory = without_one name b.memory.stamp ends.locks b.memory } →
+    Comes (ToAbort name) p (Ok (Sure Done)) new
+aborts {p} {b} name new at ends new_is =
+    let runs = running at in
+    let ready = at.ready in
+    let e = ending ends.transaction runs.1 ends.there in
     let q = aborted name p in
-    carried (ToAbort name) p (Accepts Done (Aborts name)) new (ended_by (ToAbort name) p b name (λ xid. Accepts Done (Aborts name)) _ e.xid ready.fits up e.named refl refl)
+    carried (ToAbort name) p (Accepts Done (Aborts name)) new
+    (ended_by (ToAbort name) name (λ xid. Accepts Done (Aborts name)) e.xid at e.named refl)
     (subst (Fits q) (sym new_is) (fits_running q _ ready.fits.held.0 runs.0
-    (ended_runs p q b.memory name b.memory.stamp locks ready.sound runs.1 e
-    (record { opens = refl; actions = refl; xids = refl; numbers = refl; founded = runs.1.founded; keep = λ y u opened differ o. opened_same p q y u refl refl o }) runs.1.stamp)
-    ready.fits.told ready.fits.held.1 (holds_same p q ready.fits.held.0 refl refl refl refl (λ u. refl) ready.fits.held.2)))
+    (ended_runs q b.memory.stamp ends ready.sound runs.1 e
+    (record {
+      opens = refl;
+      actions = refl;
+      xids = refl;
+      numbers = refl;
+      founded = runs.1.founded;
+      keep = λ y u opened differ o. opened_same p q y u refl refl o;
+    }) runs.1.stamp)
+    ready.fits.told ready.fits.held.1
+    (holds_same p q ready.fits.held.0 refl ready.fits.held.2)))
 
 -- ---- commits
 
 -- the rows that stand after a commit are those that the transaction saw
-rows_after : (p : Place) (x : ℕ) (name : List ℕ) (m : Store) (t : Transaction) → IsOpened p x t → Holds p m → AreRows (standing_rows (committed name x p)) (write_all (entries t.writes) m rows)
+rows_after : (p : Place) (x : ℕ) (name : List ℕ) (m : Store) (t : Transaction) → IsOpened p x t → Holds p m →
+    AreRows (standing_rows (committed name x p)) (write_all (entries t.writes) m rows)
 rows_after p x name m t o holds = record {
-  lookups = λ i text. get-written t.writes m (row_key i.0 i.1) ∙ ap (over (get t.writes (row_key i.0 i.1))) (holds.rows_held.lookups i text) ∙ sym (o.sees i.0 i.1 text);
+  lookups =
+      λ i text. get-written t.writes m (row_key i.0 i.1)
+      ∙ ap (over (get t.writes (row_key i.0 i.1))) (holds.rows_held.lookups i text) ∙ sym (o.sees i.0 i.1 text);
   spelled = λ i text. any_of (get (standing_rows (committed name x p) i.0) i.1);
   keys = λ q value is. by q value (get t.writes q) refl (sym (get-written t.writes m q) ∙ is);
 }
   where
-    by : (q value : List ℕ) (w : Option (Option (List ℕ))) → get t.writes q ≡ w → over w (get (m rows) q) ≡ Some value → (i : List ℕ × List ℕ) × IsText i.0 × (q ≡ row_key i.0 i.1)
+    by : (q value : List ℕ) (w : Option (Option (List ℕ))) → get t.writes q ≡ w → over w (get (m rows) q) ≡ Some value →
+        (i : List ℕ × List ℕ) × IsText i.0 × (q ≡ row_key i.0 i.1)
     by q value None same is = holds.rows_held.keys q value is
     by q value (Some w) same is = let key = o.keys q (ap is_some same) in ((key.0, key.1), key.3, key.2)
 
-committed_others : (p : Place) (name : List ℕ) (x : ℕ) → Sound p → find_named name p.opens ≡ Some x → (y : ℕ) (u : Transaction) → member y (open_xids p) ≡ true → (y == x) ≡ false → IsOpened p y u → IsOpened (committed name x p) y u
-committed_others p name x sound named y u opened differ o = opened_committed p name x y u sound (found_member name x p.opens named) opened differ o
+committed_others : (p : Place) (name : List ℕ) (x : ℕ) → Sound p → find_named name p.opens ≡ Some x →
+    OthersStay p (committed name x p) x
+committed_others p name x sound named y u opened differ o =
+    opened_committed p name (record {
+      one = x;
+      other = y;
+      one_opened = found_member name x p.opens named;
+      other_opened = opened;
+      differ = differ;
+    }) u sound o
 
 commit_limit : (name : List ℕ) (xid : ℕ) (p : Place) (b : Bool) → (not (own_count xid p == 0) && is_last_stamp p) ≡ b →
-    limited p (Accepts (Committed (own_count xid p)) (Commits name xid)) ≡ cond b Overflows (Accepts (Committed (own_count xid p)) (Commits name xid))
+    limited p (Accepts (Committed (own_count xid p)) (Commits name xid)) ≡ cond b Overflows
+    (Accepts (Committed (own_count xid p)) (Commits name xid))
 commit_limit name xid p b is = ap (λ t. cond t Overflows (Accepts (Committed (own_count xid p)) (Commits name xid))) is
 
 not_zero : (n : ℕ) → 0 < n → (n == 0) ≡ false
 not_zero n lt = false_from_ne_true _ (λ is. let same = eqb-true n 0 is in absurd (omega (arith, same, lt)))
 
-pub commits_none : (name : List ℕ) (p : Place) (b new : Base) (t : Transaction) (locks : Locks) → Ready p b → b.memory.up ≡ true → get b.memory.opens name ≡ Some t →
-    ((table key : List ℕ) → holder_of table key locks ≡ without_xid t.xid (holder_of table key b.memory.locks)) → t.actions ≡ 0 →
-    new ≡ record b { memory = without_one name b.memory.stamp locks b.memory } → Comes (ToCommit name) p (Ok (Sure (Committed t.actions))) new
-commits_none name p b new t locks ready up there frees zero new_is =
-    let runs = up_running p b ready.fits up in
-    let e = (ending p name locks b.memory t runs.1 there frees) in
-    let count : t.actions ≡ own_count e.xid p = e.opened.count in
+pub commits_none : {p : Place} {b : Base} (name : List ℕ) (new : Base) → UpAt p b → (ends : Ending name b.memory) →
+    ends.transaction.actions ≡ 0 → new ≡ record b { memory = without_one name b.memory.stamp ends.locks b.memory } →
+    Comes (ToCommit name) p (Ok (Sure (Committed ends.transaction.actions))) new
+commits_none {p} {b} name new at ends zero new_is =
+    let runs = running at in
+    let ready = at.ready in
+    let e = ending ends.transaction runs.1 ends.there in
+    let count : ends.transaction.actions ≡ own_count e.xid p = e.opened.count in
     let none : own_count e.xid p ≡ 0 = sym count ∙ zero in
     let q = committed name e.xid p in
     let stamp_same : q.stamp ≡ p.stamp = ap (λ n. cond (n == 0) p.stamp (p.stamp + 1)) none in
     subst (λ n. Comes (ToCommit name) p (Ok (Sure (Committed n))) new) (sym count)
     (carried (ToCommit name) p (Accepts (Committed (own_count e.xid p)) (Commits name e.xid)) new
-    (ended_by (ToCommit name) p b name (λ xid. Accepts (Committed (own_count xid p)) (Commits name xid)) _ e.xid ready.fits up e.named refl
-    (commit_limit name e.xid p false (ap (λ n. not (n == 0) && is_last_stamp p) none)))
+    (ended_by (ToCommit name) name (λ xid. Accepts (Committed (own_count xid p)) (Commits name xid)) e.xid at e.named
+    refl ∙ commit_limit name e.xid p false (ap (λ n. not (n == 0) && is_last_stamp p) none))
     (subst (Fits q) (sym new_is) (fits_running q _ ready.fits.held.0 runs.0
-    (ended_runs p q b.memory name b.memory.stamp locks ready.sound runs.1 e
-    (record { opens = refl; actions = refl; xids = refl; numbers = refl; founded = omega (arith, runs.1.founded, stamp_same); keep = committed_others p name e.xid ready.sound e.named }) (runs.1.stamp ∙ sym stamp_same))
-    ready.fits.told ready.fits.held.1 (holds_same p q ready.fits.held.0 stamp_same refl refl refl (λ u. rows_agree _ _ u p.actions (all_or e.xid p.commits p.actions (counted_none e.xid p.actions none))) ready.fits.held.2))))
+    (ended_runs q b.memory.stamp ends ready.sound runs.1 e
+    (record {
+      opens = refl;
+      actions = refl;
+      xids = refl;
+      numbers = refl;
+      founded = omega (arith, runs.1.founded, stamp_same);
+      keep = committed_others p name e.xid ready.sound e.named;
+    }) (runs.1.stamp ∙ sym stamp_same))
+    ready.fits.told ready.fits.held.1
+    (holds_same p q ready.fits.held.0 (λ i. record (stored_of p) {
+      stamp = stamp_same i;
+      standing =
+          λ u. rows_agree _ _ u p.actions
+          (all_or e.xid p.commits p.actions (counted_none e.xid p.actions none)) i;
+    }) ready.fits.held.2))))
 
 -- a commit with actions
 commit_stamp : (name : List ℕ) (x : ℕ) (p : Place) → 0 < own_count x p → (committed name x p).stamp ≡ p.stamp + 1
 commit_stamp name x p some = ap (λ b. cond b p.stamp (p.stamp + 1)) (not_zero (own_count x p) some)
 
-committed_holds : (p : Place) (b : Base) (name : List ℕ) (x : ℕ) (t : Transaction) (fits : Fits p b) → Runs p b.memory → IsOpened p x t → 0 < own_count x p →
-    Holds (committed name x p) (new_rows t.writes (number_bytes (b.memory.stamp + 1)) fits.held.0)
-committed_holds p b name x t fits runs o some =
-    subst (λ n. Holds (committed name x p) (new_rows t.writes (number_bytes (n + 1)) fits.held.0)) (sym runs.stamp)
-    (holds_rows p (committed name x p) fits.held.0 t.writes runs.founded (commit_stamp name x p some) refl refl refl (rows_after p x name fits.held.0 t o fits.held.2) fits.held.2)
+-- the store with the rows of the transaction, and with the next stamp
+abbrev pub with_rows : Transaction → Base → Store → Store
+with_rows t b m = new_rows t.writes (number_bytes (b.memory.stamp + 1)) m
 
-commit_accepted : (name : List ℕ) (p : Place) (b : Base) (x : ℕ) (fits : Fits p b) → b.memory.up ≡ true → find_named name p.opens ≡ Some x → b.memory.stamp + 1 < stored_limit →
+committed_holds : {p : Place} {b : Base} (name : List ℕ) (x : ℕ) (t : Transaction) (at : UpAt p b) → IsOpened p x t →
+    0 < own_count x p → Holds (committed name x p) (with_rows t b at.ready.fits.held.0)
+committed_holds {p} name x t at o some =
+    let runs = (running at).1 in
+    let fits = at.ready.fits in
+    subst (λ n. Holds (committed name x p) (new_rows t.writes (number_bytes (n + 1)) fits.held.0)) (sym runs.stamp)
+    (holds_rows p (committed name x p) fits.held.0 t.writes runs.founded
+    (λ i. record (stored_of (committed name x p)) { stamp = commit_stamp name x p some i })
+    (rows_after p x name fits.held.0 t o fits.held.2) fits.held.2)
+
+commit_accepted : {p : Place} {b : Base} (name : List ℕ) (x : ℕ) → UpAt p b → find_named name p.opens ≡ Some x →
+    b.memory.stamp + 1 < stored_limit →
     decide (ToCommit name) p ≡ Accepts (Committed (own_count x p)) (Commits name x)
-commit_accepted name p b x fits up named less =
-    ended_by (ToCommit name) p b name (λ xid. Accepts (Committed (own_count xid p)) (Commits name xid)) _ x fits up named refl
-    (commit_limit name x p false (ap (λ t. not (own_count x p == 0) && t) (small_stamp p b.memory.stamp (up_running p b fits up).1.stamp less) ∙ and_false (not (own_count x p == 0))))
+commit_accepted {p} {b} name x at named less =
+    ended_by (ToCommit name) name (λ xid. Accepts (Committed (own_count xid p)) (Commits name xid)) x at named refl
+    ∙ commit_limit name x p false
+    (ap (λ t. not (own_count x p == 0) && t) (small_stamp p b.memory.stamp (running at).1.stamp less)
+    ∙ and_false (not (own_count x p == 0)))
   where
     and_false : (t : Bool) → (t && false) ≡ false
     and_false true = refl
     and_false false = refl
 
-pub commits_some : (name : List ℕ) (p : Place) (b new : Base) (kept : Kept) (t : Transaction) (locks : Locks) (ready : Ready p b) → b.memory.up ≡ true → get b.memory.opens name ≡ Some t →
-    ((table key : List ℕ) → holder_of table key locks ≡ without_xid t.xid (holder_of table key b.memory.locks)) → 0 < t.actions → b.memory.stamp + 1 < stored_limit →
-    kept.held ≡ Some (new_rows t.writes (number_bytes (b.memory.stamp + 1)) ready.fits.held.0) → b.kept.faults ≤ kept.faults →
-    new ≡ record { kept = kept; memory = without_one name (b.memory.stamp + 1) locks b.memory } → Comes (ToCommit name) p (Ok (Sure (Committed t.actions))) new
-commits_some name p b new kept t locks ready up there frees some less held later new_is =
-    let runs = up_running p b ready.fits up in
-    let e = (ending p name locks b.memory t runs.1 there frees) in
-    let count : t.actions ≡ own_count e.xid p = e.opened.count in
+-- A transaction with actions, and a stamp for its commit.
+pub record HasActions (t : Transaction) (b : Base) : Type 0 where
+  pub some : 0 < t.actions
+  pub less : b.memory.stamp + 1 < stored_limit
+
+pub commits_some : {p : Place} {b : Base} (name : List ℕ) (new : Base) (at : UpAt p b) (ends : Ending name b.memory) →
+    HasActions ends.transaction b → IsChanged (with_rows ends.transaction b at.ready.fits.held.0) b.kept new.kept →
+    new.memory ≡ without_one name (b.memory.stamp + 1) ends.locks b.memory →
+    Comes (ToCommit name) p (Ok (Sure (Committed ends.transaction.actions))) new
+commits_some {p} {b} name new at ends has changed memory_is =
+    let runs = running at in
+    let ready = at.ready in
+    let e = ending ends.transaction runs.1 ends.there in
+    let count : ends.transaction.actions ≡ own_count e.xid p = e.opened.count in
+    let some = has.some in
     let any : 0 < own_count e.xid p = omega (arith, some, count) in
     let q = committed name e.xid p in
     let stamped = commit_stamp name e.xid p any in
     subst (λ n. Comes (ToCommit name) p (Ok (Sure (Committed n))) new) (sym count)
-    (carried (ToCommit name) p (Accepts (Committed (own_count e.xid p)) (Commits name e.xid)) new (commit_accepted name p b e.xid ready.fits up e.named less)
-    (subst (Fits q) (sym new_is) (fits_running q _ _ runs.0
-    (ended_runs p q b.memory name (b.memory.stamp + 1) locks ready.sound runs.1 e
-    (record { opens = refl; actions = refl; xids = refl; numbers = refl; founded = omega (arith, stamped); keep = committed_others p name e.xid ready.sound e.named }) (ap (λ n. n + 1) runs.1.stamp ∙ sym stamped))
-    (omega (arith, ready.fits.told, later)) held (committed_holds p b name e.xid t ready.fits runs.1 e.opened any))))
+    (carried (ToCommit name) p (Accepts (Committed (own_count e.xid p)) (Commits name e.xid)) new
+    (commit_accepted name e.xid at e.named has.less)
+    (fits_running q new _ runs.0
+    (subst (Runs q) (sym memory_is)
+    (ended_runs q (b.memory.stamp + 1) ends ready.sound runs.1 e
+    (record {
+      opens = refl;
+      actions = refl;
+      xids = refl;
+      numbers = refl;
+      founded = omega (arith, stamped);
+      keep = committed_others p name e.xid ready.sound e.named;
+    }) (ap (λ n. n + 1) runs.1.stamp ∙ sym stamped)))
+    (omega (arith, ready.fits.told, changed.later)) changed.held
+    (committed_holds name e.xid ends.transaction at e.opened any)))
 
-pub commit_doubted : (name : List ℕ) (p : Place) (b new : Base) (t : Transaction) (ready : Ready p b) → b.memory.up ≡ true → get b.memory.opens name ≡ Some t → 0 < t.actions → b.memory.stamp + 1 < stored_limit →
-    new.memory.up ≡ false → new.memory.doubt ≡ Some (b.memory.stamp + 1) → b.kept.faults ≤ new.kept.faults →
-    (new.kept.held ≡ Some ready.fits.held.0) ⊎ (new.kept.held ≡ Some (new_rows t.writes (number_bytes (b.memory.stamp + 1)) ready.fits.held.0)) → Comes (ToCommit name) p (Ok (InDoubt (Committed t.actions))) new
-commit_doubted name p b new t ready up there some less down doubt later either =
-    let runs = up_running p b ready.fits up in
-    let named = is_named p b.memory name t runs.1 there in
-    let any : 0 < own_count named.0 p = omega (arith, some, named.2.count) in
-    subst (λ n. Comes (ToCommit name) p (Ok (InDoubt (Committed n))) new) (sym named.2.count)
-    (wavers (ToCommit name) p (Committed (own_count named.0 p)) (Commits name named.0) new ready.fits.held.0 _ (commit_accepted name p b named.0 ready.fits up named.1 less) (ap not (not_zero (own_count named.0 p) any))
-    (record { stamp = commit_stamp name named.0 p any; told = refl; up = down; doubt = doubt ∙ ap (λ n. Some (n + 1)) runs.1.stamp }) (omega (arith, ready.fits.told, later)) ready.fits.held.2
-    (committed_holds p b name named.0 t ready.fits runs.1 named.2 any) either)
+pub commit_doubted : {p : Place} {b : Base} (name : List ℕ) (new : Base) (t : Transaction) (at : UpAt p b) →
+    get b.memory.opens name ≡ Some t → HasActions t b →
+    LeftInDoubt at.ready.fits.held.0 (with_rows t b at.ready.fits.held.0) b new →
+    Comes (ToCommit name) p (Ok (InDoubt (Committed t.actions))) new
+commit_doubted {p} name new t at there has waver =
+    let runs = running at in
+    let e = ending t runs.1 there in
+    let some = has.some in
+    let count = e.opened.count in
+    let any : 0 < own_count e.xid p = omega (arith, some, count) in
+    subst (λ n. Comes (ToCommit name) p (Ok (InDoubt (Committed n))) new) (sym count)
+    (wavers (ToCommit name) p (Committed (own_count e.xid p)) (Commits name e.xid) new
+    (commit_accepted name e.xid at e.named has.less) (ap not (not_zero (own_count e.xid p) any)) (record {
+      before = at.ready.fits.held.0;
+      after = _;
+      memory = record {
+        stamp = commit_stamp name e.xid p any;
+        told = refl;
+        up = waver.up;
+        doubt = waver.doubt ∙ ap (λ n. Some (n + 1)) runs.1.stamp;
+      };
+      told = omega (arith, at.ready.fits.told, waver.later);
+      holds = at.ready.fits.held.2;
+      holds_after = committed_holds name e.xid t at e.opened any;
+      either = waver.either;
+    }))
 
-pub commit_at_limit : (name : List ℕ) (p : Place) (b new : Base) (t : Transaction) → Ready p b → b.memory.up ≡ true → get b.memory.opens name ≡ Some t → 0 < t.actions → stored_limit ≤ b.memory.stamp + 1 →
-    GoesDown b.memory new.memory → new.kept ≡ b.kept → Comes (ToCommit name) p (Err (Halt (TooBig 1))) new
-commit_at_limit name p b new t ready up there some most down same =
-    let runs = up_running p b ready.fits up in
-    let named = is_named p b.memory name t runs.1 there in
-    let any : 0 < own_count named.0 p = omega (arith, some, named.2.count) in
-    overflows (ToCommit name) p (Committed (own_count named.0 p)) (Commits name named.0) b new ready.fits up (ap (λ o. with_found o NoTransaction (λ xid. Accepts (Committed (own_count xid p)) (Commits name xid))) named.1)
-    (ap (λ z. not z && is_last_stamp p) (not_zero (own_count named.0 p) any) ∙ last_stamp p b.memory.stamp runs.1.stamp most) down (ap (λ k. k.held) same) (omega (arith, ap (λ k. k.faults) same))
+pub commit_at_limit : {p : Place} {b : Base} (name : List ℕ) (new : Base) (t : Transaction) → UpAt p b →
+    get b.memory.opens name ≡ Some t → 0 < t.actions → stored_limit ≤ b.memory.stamp + 1 → WentDown b new →
+    Comes (ToCommit name) p (Err (Halt (TooBig 1))) new
+commit_at_limit {p} {b} name new t at there some most went =
+    let runs = (running at).1 in
+    let e = ending t runs there in
+    let count = e.opened.count in
+    let any : 0 < own_count e.xid p = omega (arith, some, count) in
+    overflows (ToCommit name) (Committed (own_count e.xid p)) (Commits name e.xid) new at
+    (ap (λ o. with_found o NoTransaction (λ xid. Accepts (Committed (own_count xid p)) (Commits name xid))) e.named)
+    (ap (λ z. not z && is_last_stamp p) (not_zero (own_count e.xid p) any)
+    ∙ last_stamp p b.memory.stamp runs.stamp most) went

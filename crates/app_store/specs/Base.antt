@@ -22,7 +22,15 @@ pub record Memory : Type 0 where
 
 abbrev pub memory_of : State → Memory
 memory_of s =
-    record { up = s.up; doubt = s.doubt; stamp = s.stamp; xids = s.xids; numbers = s.numbers; opens = s.opens; locks = s.locks }
+    record {
+      up = s.up;
+      doubt = s.doubt;
+      stamp = s.stamp;
+      xids = s.xids;
+      numbers = s.numbers;
+      opens = s.opens;
+      locks = s.locks;
+    }
 
 -- What the code keeps of a database: its store and its memory.
 pub record Base : Type 0 where

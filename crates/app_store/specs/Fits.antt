@@ -1,12 +1,14 @@
 -- When the code of a database agrees with what the rules know of it.
-use Rattle.std.specs.Prelude.{◌≡◌, ℕ, ◌+◌, ◌≤◌, ◌<◌, ◌==◌, ◌&&◌, ◌||◌, if◌then◌else◌, Bool, true, false, List, [], ◌∷◌, Option, Some, None, is_some}
+use Rattle.std.specs.Prelude.{◌≡◌, ℕ, ◌+◌, ◌≤◌, ◌<◌, ◌==◌, ◌&&◌, ◌||◌, if◌then◌else◌, Bool, true, false, List, [], ◌∷◌}
+use Rattle.std.specs.Prelude.{Option, Some, None, is_some}
 use Rattle.std.specs.Option.{option_map}
 use Rattle.std.specs.FinMap.{get}
 use Rattle.slon_base.specs.Keeper.{Store}
 use Rattle.slon_base.specs.Codec.{list_bytes, IsText}
 use Rattle.slon_model.specs.Names.{find_named}
 use Rattle.slon_model.specs.Rows.{Action, is_on}
-use Rattle.slon_model.specs.Place.{Place, Standing, IsRunning, IsFallen, IsDoubtful, holder, seen_rows, standing_rows, own_count}
+use Rattle.slon_model.specs.Place.{Place, Standing, IsRunning, IsFallen, IsDoubtful, holder, seen_rows, standing_rows}
+use Rattle.slon_model.specs.Place.{own_count}
 use Rattle.slon_laws.specs.Sound.{Sound}
 use Rattle.slon_laws.specs.Spelled.{IsSpelled}
 use Rattle.txn_core.specs.Locks.{holder_of}
@@ -27,7 +29,8 @@ pub record IsOpened (p : Place) (xid : ℕ) (t : Transaction) : Type 0 where
   pub sees : (table key : List ℕ) → IsText table → option_map list_bytes (get (seen_rows xid p table) key)
       ≡ over (get t.writes (row_key table key)) (option_map list_bytes (get (standing_rows p table) key))
   -- it wrote exactly the rows of its actions
-  pub wrote : (table key : List ℕ) → IsText table → is_some (get t.writes (row_key table key)) ≡ has_written xid table key p.actions
+  pub wrote : (table key : List ℕ) → IsText table →
+      is_some (get t.writes (row_key table key)) ≡ has_written xid table key p.actions
   pub keys : (q : List ℕ) → is_some (get t.writes q) ≡ true → IsRowKey q
 
 abbrev pub OpensAs : Place → Option ℕ → Option Transaction → Type 0
@@ -56,7 +59,8 @@ abbrev pub StandsAs : Standing → Place → Memory → Type 0
 StandsAs IsRunning p m = Runs p m
 StandsAs IsFallen p m = (m.up ≡ false) × (m.doubt ≡ None)
 -- a commit that stands has written its stamp
-StandsAs (IsDoubtful stands) p m = (m.up ≡ false) × (m.doubt ≡ Some (doubtful_stamp stands p)) × (stands ≡ true → 0 < p.stamp)
+StandsAs (IsDoubtful stands) p m =
+    (m.up ≡ false) × (m.doubt ≡ Some (doubtful_stamp stands p)) × (stands ≡ true → 0 < p.stamp)
 
 -- The code agrees with the rules, over a store that tells what it holds.
 pub record Fits (p : Place) (b : Base) : Type 0 where

@@ -2,26 +2,18 @@
 use Rattle.std.specs.Prelude.{◌≡◌, true, false}
 use Rattle.slon_base.specs.Keeper.{Kept}
 use Rattle.slon_base.specs.declared.keeper.Keeper.{Ghosts}
-use Rattle.slon_model.specs.declared.command.Crash.{Crash as CrashKind}
-use Rattle.slon_model.specs.declared.command.Crash.TheVariants.{Now, After, AtCommit}
 use Rattle.slon_model.specs.Tasks.{Task, ToCrash, ToRise, Subject, OnNew, OnOne}
-use Rattle.node_keeper.specs.declared.charge.Charge.{Charge}
-use Rattle.node_keeper.specs.declared.charge.Charge.TheVariants.{After as ChargeAfter, AtCommit as ChargeAtCommit}
 use Rattle.node_keeper.specs.Fused.{fuse_kept}
 use Rattle.app_store.specs.declared.database.Database.{Database}
+use Rattle.app_store.specs.Serves.{armed_by}
 use Rattle.store_rows.specs.Spending.{Stays}
 
--- what a database that is up tells its fuse
-abbrev pub armed_by : CrashKind → Charge → Charge
-armed_by Now charge = charge
-armed_by (After calls keep) charge = ChargeAfter calls keep
-armed_by (AtCommit keep) charge = ChargeAtCommit keep
-
--- A crash tells the fuse which calls to fail, and nothing where it is at once. A database that comes up tells it to fail
--- none, so each bound on the failures of the store below is one on its own.
+-- A crash tells the fuse which calls to fail, and nothing where it is at once. A database that comes up tells it to
+-- fail none, so each bound on the failures of the store below is one on its own.
 abbrev pub Arms : {K : Type 0} {g : Ghosts K} → (K → Kept) → Task → Database K g → Database K g → Type 0
 Arms kept (ToCrash crash) old new = old.state.up ≡ true → new.keeper.charge ≡ armed_by crash old.keeper.charge
-Arms kept ToRise old new = old.state.up ≡ false → Stays (kept old.keeper.keeper).can_fail (fuse_kept kept new.keeper).can_fail
+Arms kept ToRise old new =
+    old.state.up ≡ false → Stays (kept old.keeper.keeper).can_fail (fuse_kept kept new.keeper).can_fail
 Arms kept others old new = Unit {0}
 
 abbrev pub ArmsOn : {K : Type 0} {g : Ghosts K} → (K → Kept) → Subject → Database K g → Database K g → Type 0

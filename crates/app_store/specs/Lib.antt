@@ -1,8 +1,11 @@
 pub mod Answers
 pub mod Base
 pub mod Closed
+pub mod Finds
 pub mod Fits
+pub mod Formed
 pub mod Fuses
+pub mod Handed
 pub mod Parts
 pub mod Scan
 pub mod Serves

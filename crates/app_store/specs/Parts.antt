@@ -3,7 +3,8 @@ use Rattle.std.specs.Prelude.{◌≡◌, ℕ, ◌≤◌, if◌then◌else◌, Bo
 use Rattle.slon_base.specs.Counts.{Rose}
 use Rattle.slon_base.specs.Keeper.{Kept}
 use Rattle.slon_base.specs.declared.fault.Halt.{Halt as HaltOf}
-use Rattle.slon_base.specs.declared.fault.Halt.TheVariants.{Fault, Doubt, TooBig as HaltTooBig, NoMemory as HaltNoMemory, BadRow as HaltBadRow}
+use Rattle.slon_base.specs.declared.fault.Halt.TheVariants.{Fault, Doubt, TooBig as HaltTooBig}
+use Rattle.slon_base.specs.declared.fault.Halt.TheVariants.{NoMemory as HaltNoMemory, BadRow as HaltBadRow}
 use Rattle.slon_model.specs.declared.numbering.Numbering.{Numbering}
 use Rattle.slon_model.specs.declared.fault.DbFault.{DbFault}
 use Rattle.slon_model.specs.declared.fault.DbFault.TheVariants.{Halt}
@@ -15,8 +16,8 @@ use Rattle.app_store.specs.declared.look.Numbers.{Numbers}
 use Rattle.app_store.specs.Closed.{IsClosed}
 use Rattle.app_store.specs.Base.{Memory, Base}
 use Rattle.app_store.specs.Fits.{Fits, Ready}
-use Rattle.store_rows.specs.Spending.{Stays, Spends}
-use Rattle.app_store.specs.Serves.{halts, is_memory, is_failure, Need, IsBig}
+use Rattle.app_store.specs.Steps.{Knows}
+use Rattle.app_store.specs.Serves.{halts, is_memory, is_failure, Falls, Need, IsBig}
 
 -- why a database went down, by the stop and the count of faults of its store
 abbrev pub halt_of : Stop → ℕ → DbFault
@@ -27,16 +28,20 @@ halt_of (TooBig space) count = Halt (HaltTooBig space)
 
 -- a stop at the store: it failed, and the place is as it was or as the other one
 pub data FellTo (p also : Place) (fault : DbFault) (new : Base) : Type 0 where
-  Fell : (count : ℕ) (stands : Bool) → fault ≡ Halt (Fault count) → Rose p.told count → Fits (fallen count (if stands then also else p)) new → FellTo p also fault new
+  Fell : (count : ℕ) (stands : Bool) → fault ≡ Halt (Fault count) → Rose p.told count →
+      Fits (fallen count (if stands then also else p)) new → FellTo p also fault new
 
 -- a ceiling rises where a draw needs it; or it would pass the limit; or the store fails
 pub data RaisedTo (kind : Numbering) (p : Place) (result : Result (Unit {0}) DbFault) (new : Base) : Type 0 where
   Raises : result ≡ Ok tt → is_last kind p ≡ false → Fits (raised kind p) new → RaisedTo kind p result new
-  Bursts : result ≡ Err (Halt (HaltTooBig 1)) → is_last kind p ≡ true → Fits (crashed p) new → RaisedTo kind p result new
-  StopsRaise : (fault : DbFault) → is_last kind p ≡ false → result ≡ Err fault → FellTo p (raised kind p) fault new → RaisedTo kind p result new
+  Bursts : result ≡ Err (Halt (HaltTooBig 1)) → is_last kind p ≡ true → Fits (crashed p) new →
+      RaisedTo kind p result new
+  StopsRaise : (fault : DbFault) → is_last kind p ≡ false → result ≡ Err fault → FellTo p (raised kind p) fault new →
+      RaisedTo kind p result new
 
 -- a part from every place that fits, unless there was no memory
-abbrev pub FromPlace : {T : Type 0} → (Place → Result T DbFault → Base → Type 0) → Base → Result T DbFault → Base → Type 0
+abbrev pub FromPlace : {T : Type 0} → (Place → Result T DbFault → Base → Type 0) → Base → Result T DbFault → Base →
+    Type 0
 FromPlace does old result new = (p : Place) → Ready p old → is_memory (halts result) ≡ false → does p result new
 
 -- a fault has its cause
@@ -49,8 +54,8 @@ PartCaused old others new = Unit {0}
 pub record Part {T : Type 0} (need : Need) (old new : Base) (result : Result T DbFault) : Type 0 where
   pub later : old.kept.faults ≤ new.kept.faults
   pub caused : PartCaused old.kept (halts result) new.kept
-  pub still : Stays old.kept.can_fail new.kept.can_fail
-  pub spends : Spends (is_failure (halts result)) old.kept.can_fail new.kept.can_fail
+  pub knows : Knows (is_failure (halts result)) old.kept new.kept
+  pub falls : Falls (halts result) new.memory
   pub big : IsBig need (halts result) new.memory
 
 -- a database that goes on from these numbers, with no transaction open and no commit in doubt

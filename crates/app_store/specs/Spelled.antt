@@ -1,5 +1,6 @@
 -- How a database stands in its store, space by space.
-use Rattle.std.specs.Prelude.{◌≡◌, ℕ, ◌==◌, ◌||◌, if◌then◌else◌, not, ◌<◌, ◌^◌, Bool, true, List, [], ◌∷◌, ◌++◌, length, slice_index_or, Option, Some, None}
+use Rattle.std.specs.Prelude.{◌≡◌, ℕ, ◌==◌, ◌||◌, if◌then◌else◌, not, ◌<◌, ◌^◌, Bool, true, List, [], ◌∷◌, ◌++◌, length}
+use Rattle.std.specs.Prelude.{slice_index_or, Option, Some, None}
 use Rattle.std.specs.FinMap.{FinMap, get, empty, entries}
 use Rattle.slon_base.specs.Keeper.{Space, Store, put_at, del_at, key_cmp}
 use Rattle.slon_base.specs.Codec.{number_bytes, text_bytes, list_bytes, IsText}

@@ -1,17 +1,25 @@
 -- What the reads and the transactions of a step do to the store, and why they stop.
-use Rattle.std.specs.Prelude.{◌≡◌, ◌⊎◌, ◌≤◌, Bool, true, false, Option, Some, None, Result, Ok, Err, OnOk, IfErr, is_some}
+use Rattle.std.specs.Prelude.{◌≡◌, ◌⊎◌, ◌≤◌, Bool, true, false, Option, Some, None, Result, Ok, Err, OnOk, IfErr}
+use Rattle.std.specs.Prelude.{is_some}
 use Rattle.slon_base.specs.Keeper.{Kept, Store, sight}
+use Rattle.slon_base.specs.Charges.{KeepsTold}
 use Rattle.slon_base.specs.Counts.{Rose}
 use Rattle.store_rows.specs.declared.stop.Stop.{Stop}
-use Rattle.store_rows.specs.Spending.{Stays, Spends}
+use Rattle.store_rows.specs.Spending.{Stays, Spends, Rests}
 use Rattle.store_rows.specs.Steps.{Rises, Gives, IsOutside, IsWithinLimit, is_failed, is_stop_failed}
 use Rattle.app_store.specs.declared.transact.Made.{Made}
 use Rattle.app_store.specs.declared.transact.Made.TheVariants.{Done, InDoubt}
 
--- a bound on the failures to come is kept, and a failure takes one from it
-pub record IsSure {T : Type 0} (old new : Kept) (result : Result T Stop) : Type 0 where
+-- What is known of the failures of a store over a step that failed or not: a bound on those to come is kept, and a
+-- failure takes one from it; a fault that was counted is told; and what the store was told to fail goes on.
+pub record Knows (failed : Bool) (old new : Kept) : Type 0 where
   pub still : Stays old.can_fail new.can_fail
-  pub spends : Spends (is_failed result) old.can_fail new.can_fail
+  pub spends : Spends failed old.can_fail new.can_fail
+  pub quiet : failed ≡ false → Rests old.faults new.faults
+  pub told : KeepsTold old.told new.told
+
+abbrev pub IsSure : {T : Type 0} → Kept → Kept → Result T Stop → Type 0
+IsSure old new result = Knows (is_failed result) old new
 
 -- faults are told where the count rose, and no number is above the limit
 pub record IsCounted {T : Type 0} (old new : Kept) (result : Result T Stop) : Type 0 where
@@ -35,8 +43,7 @@ Says right = Gives (λ x. x ≡ right)
 
 -- a transaction begins
 pub record Starts (old new : Kept) (result : Result (Unit {0}) Stop) : Type 0 where
-  pub still : Stays old.can_fail new.can_fail
-  pub spends : Spends (is_failed result) old.can_fail new.can_fail
+  pub sure : Knows (is_failed result) old new
   pub later : old.faults ≤ new.faults
   pub rises : Rises (is_failed result) old.faults new.faults
   pub held : new.held ≡ old.held
@@ -69,8 +76,7 @@ EndsAs old new (Ok InDoubt) = (new.held ≡ old.held) ⊎ (old.pending ≡ Some 
 EndsAs old new (Err stop) = (new.held ≡ old.held) × IsOutside stop
 
 pub record Finishes (old new : Kept) (result : Result Made Stop) : Type 0 where
-  pub still : Stays old.can_fail new.can_fail
-  pub spends : Spends (fails_made result) old.can_fail new.can_fail
+  pub sure : Knows (fails_made result) old new
   pub counted : IsCounted old new result
   pub closed : Closes new result
   pub doubts : Doubts old new result
@@ -84,8 +90,7 @@ Leaves change m (Err stop) new = (new.held ≡ Some m) × IsOutside stop
 
 -- a transaction
 pub record Transacts (change : Store → Store) (old new : Kept) (result : Result Made Stop) : Type 0 where
-  pub still : Stays old.can_fail new.can_fail
-  pub spends : Spends (fails_made result) old.can_fail new.can_fail
+  pub sure : Knows (fails_made result) old new
   pub counted : IsCounted old new result
   pub closed : Closes new result
   pub doubts : Doubts old new result
@@ -93,8 +98,7 @@ pub record Transacts (change : Store → Store) (old new : Kept) (result : Resul
 
 -- what is promised of a transaction over every store
 pub record Tries (old new : Kept) (result : Result Made Stop) : Type 0 where
-  pub still : Stays old.can_fail new.can_fail
-  pub spends : Spends (fails_made result) old.can_fail new.can_fail
+  pub sure : Knows (fails_made result) old new
   pub counted : IsCounted old new result
   pub closed : Closes new result
   pub doubts : Doubts old new result
@@ -121,8 +125,7 @@ LeavesOr refused change m (Ok (Some made)) new = (refused ≡ false) × Leaves c
 LeavesOr refused change m (Err stop) new = (new.held ≡ Some m) × IsOutside stop
 
 pub record TriesOr (old new : Kept) (result : Result (Option Made) Stop) : Type 0 where
-  pub still : Stays old.can_fail new.can_fail
-  pub spends : Spends (fails_made_or result) old.can_fail new.can_fail
+  pub sure : Knows (fails_made_or result) old new
   pub counted : IsCounted old new result
   pub closed : ClosesOr new result
   pub doubts : DoubtsOr old new result

@@ -10,7 +10,7 @@ use Rattle.slon_model.specs.declared.fault.DbFault.TheVariants.{Locked, NoTable,
 use Rattle.slon_model.specs.declared.reply.Answered.{Answered}
 use Rattle.slon_model.specs.Names.{find_named}
 use Rattle.slon_model.specs.Rows.{Change, change_key}
-use Rattle.slon_model.specs.Tasks.{Write, write_by}
+use Rattle.slon_model.specs.Tasks.{Write}
 use Rattle.slon_model.specs.Place.{Place, holder, seen_rows, raised}
 use Rattle.slon_model.specs.Moves.{Writes, prepared, done, is_last, crashed}
 use Rattle.slon_model.specs.Deciding.{Decision, limited, decide_row, result_of, move_of, sure}
@@ -26,14 +26,18 @@ use Rattle.app_store.specs.Spelled.{row_key}
 -- what came of a decision: it was carried out, or the store stopped before its effect
 pub data Follows (d : Decision) (p : Place) (result : Result Answered DbFault) (new : Base) : Type 0 where
   Carried : result ≡ sure (result_of d) → Fits (done (move_of d) p) new → Follows d p result new
-  StopsAt : (fault : DbFault) → result ≡ Err fault → FellTo p (prepared (move_of d) p) fault new → Follows d p result new
+  StopsAt : (fault : DbFault) → result ≡ Err fault → FellTo p (prepared (move_of d) p) fault new →
+      Follows d p result new
 
 -- the transaction and the width of a table, or what is missing
 pub data FoundWidth (name table : List ℕ) (p : Place) (result : Result (ℕ × ℕ) DbFault) (new : Base) : Type 0 where
-  HasWidth : (xid width : ℕ) → result ≡ Ok (xid, width) → find_named name p.opens ≡ Some xid → find_named table p.tables ≡ Some width → Fits p new →
+  HasWidth : (xid width : ℕ) → result ≡ Ok (xid, width) → find_named name p.opens ≡ Some xid →
+      find_named table p.tables ≡ Some width → Fits p new →
       FoundWidth name table p result new
-  IsUnknown : result ≡ Err NoTransaction → find_named name p.opens ≡ None → Fits p new → FoundWidth name table p result new
-  HasNoTable : (xid : ℕ) → result ≡ Err NoTable → find_named name p.opens ≡ Some xid → find_named table p.tables ≡ None → Fits p new →
+  IsUnknown : result ≡ Err NoTransaction → find_named name p.opens ≡ None → Fits p new →
+      FoundWidth name table p result new
+  HasNoTable : (xid : ℕ) → result ≡ Err NoTable → find_named name p.opens ≡ Some xid →
+      find_named table p.tables ≡ None → Fits p new →
       FoundWidth name table p result new
   StopsWidth : (fault : DbFault) → result ≡ Err fault → FellTo p p fault new → FoundWidth name table p result new
 
@@ -43,44 +47,68 @@ pub record IsTarget (xid : ℕ) (table key : List ℕ) (p : Place) (t : Target) 
   pub seen_is : t.seen ≡ option_map list_bytes (get (seen_rows xid p table) key)
 
 -- the row was read as the transaction sees it
-pub data ReadTarget (xid : ℕ) (table key : List ℕ) (p : Place) (result : Result Target DbFault) (new : Base) : Type 0 where
-  HasTarget : (t : Target) → result ≡ Ok t → IsTarget xid table key p t → Fits p new → ReadTarget xid table key p result new
+pub data ReadTarget (xid : ℕ) (table key : List ℕ) (p : Place) (result : Result Target DbFault)
+    (new : Base) : Type 0 where
+  HasTarget : (t : Target) → result ≡ Ok t → IsTarget xid table key p t → Fits p new →
+      ReadTarget xid table key p result new
   StopsTarget : (fault : DbFault) → result ≡ Err fault → FellTo p p fault new → ReadTarget xid table key p result new
 
 abbrev pub ReadsTarget : List ℕ → List ℕ → List ℕ → Base → Result Target DbFault → Base → Type 0
-ReadsTarget name table key = FromPlace (λ p result new. (xid : ℕ) → find_named name p.opens ≡ Some xid → ReadTarget xid table key p result new)
+ReadsTarget name table key =
+    FromPlace (λ p result new. (xid : ℕ) → find_named name p.opens ≡ Some xid → ReadTarget xid table key p result new)
 
 -- the row was found free and read, or another transaction wrote it
-pub data FoundRow (xid : ℕ) (table key : List ℕ) (p : Place) (result : Result Target DbFault) (new : Base) : Type 0 where
-  HasRow : (t : Target) → result ≡ Ok t → IsFree xid (holder table key p) → IsTarget xid table key p t → Fits p new → FoundRow xid table key p result new
-  IsHeld : (other : ℕ) → result ≡ Err (Locked other) → holder table key p ≡ Some other → (other == xid) ≡ false → Fits p new →
+pub data FoundRow (xid : ℕ) (table key : List ℕ) (p : Place) (result : Result Target DbFault)
+    (new : Base) : Type 0 where
+  HasRow : (t : Target) → result ≡ Ok t → IsFree xid (holder table key p) → IsTarget xid table key p t → Fits p new →
+      FoundRow xid table key p result new
+  IsHeld : (other : ℕ) → result ≡ Err (Locked other) → holder table key p ≡ Some other → (other == xid) ≡ false →
+      Fits p new →
       FoundRow xid table key p result new
   StopsRow : (fault : DbFault) → result ≡ Err fault → FellTo p p fault new → FoundRow xid table key p result new
 
 abbrev pub FindsRow : List ℕ → ℕ → List ℕ → List ℕ → Base → Result Target DbFault → Base → Type 0
-FindsRow name xid table key = FromPlace (λ p result new. find_named name p.opens ≡ Some xid → FoundRow xid table key p result new)
+FindsRow name xid table key =
+    FromPlace (λ p result new. find_named name p.opens ≡ Some xid → FoundRow xid table key p result new)
 
 -- a write was added, or its number passed the limit, or the store stopped as the ceiling rose
-pub data AddedWrite (xid : ℕ) (table : List ℕ) (change : Change) (p : Place) (result : Result ℕ DbFault) (new : Base) : Type 0 where
-  Adds : (number : ℕ) → result ≡ Ok number → number ≡ p.numbers.next → is_last Actions p ≡ false → Fits (done (Writes xid table change) p) new →
+pub data AddedWrite (xid : ℕ) (table : List ℕ) (change : Change) (p : Place) (result : Result ℕ DbFault)
+    (new : Base) : Type 0 where
+  Adds : (number : ℕ) → result ≡ Ok number → number ≡ p.numbers.next → is_last Actions p ≡ false →
+      Fits (done (Writes xid table change) p) new →
       AddedWrite xid table change p result new
-  BurstsWrite : result ≡ Err (Halt (TooBig 1)) → is_last Actions p ≡ true → Fits (crashed p) new → AddedWrite xid table change p result new
-  StopsWrite : (fault : DbFault) → is_last Actions p ≡ false → result ≡ Err fault → FellTo p (raised Actions p) fault new →
+  BurstsWrite : result ≡ Err (Halt (TooBig 1)) → is_last Actions p ≡ true → Fits (crashed p) new →
       AddedWrite xid table change p result new
+  StopsWrite : (fault : DbFault) → is_last Actions p ≡ false → result ≡ Err fault →
+      FellTo p (raised Actions p) fault new →
+      AddedWrite xid table change p result new
+
+-- A row of a table, with the name and the id of the transaction that is to write it.
+pub record Spot : Type 0 where
+  pub name : List ℕ
+  pub xid : ℕ
+  pub table : List ℕ
+  pub key : List ℕ
+
+abbrev pub spot_of : List ℕ → ℕ → List ℕ → List ℕ → Spot
+spot_of name xid table key = record { name = name; xid = xid; table = table; key = key }
 
 -- what a write may be added to: an open transaction, and a row that it may write
-pub record MayAdd (w : Write) (xid : ℕ) (key spelled : List ℕ) (value : Option (List ℕ)) (p : Place) : Type 0 where
-  pub opened : find_named w.name p.opens ≡ Some xid
-  pub free : IsFree xid (holder w.table (change_key w.change) p)
-  pub key_is : change_key w.change ≡ key
-  pub spelled_is : spelled ≡ row_key w.table key
-  pub value_is : value ≡ option_map list_bytes (change_at w.change (get (seen_rows xid p w.table) key))
+pub record MayAdd (s : Spot) (change : Change) (spelled : List ℕ) (value : Option (List ℕ))
+    (p : Place) : Type 0 where
+  pub opened : find_named s.name p.opens ≡ Some s.xid
+  pub free : IsFree s.xid (holder s.table (change_key change) p)
+  pub key_is : change_key change ≡ s.key
+  pub spelled_is : spelled ≡ row_key s.table s.key
+  pub value_is : value ≡ option_map list_bytes (change_at change (get (seen_rows s.xid p s.table) s.key))
 
-abbrev pub AddsWrite : List ℕ → ℕ → List ℕ → List ℕ → List ℕ → Option (List ℕ) → Base → Result ℕ DbFault → Base → Type 0
-AddsWrite name xid table key spelled value =
-    FromPlace (λ p result new. (change : Change) → MayAdd (write_by name table change) xid key spelled value p → AddedWrite xid table change p result new)
+abbrev pub AddsWrite : Spot → List ℕ → Option (List ℕ) → Base → Result ℕ DbFault → Base → Type 0
+AddsWrite s spelled value =
+    FromPlace (λ p result new. (change : Change) → MayAdd s change spelled value p →
+    AddedWrite s.xid s.table change p result new)
 
 -- the write of a row that fits its table
 abbrev pub WritesRow : Write → ℕ → Base → Result Answered DbFault → Base → Type 0
 WritesRow w xid old result new =
-    (p : Place) → Ready p old → is_memory (trouble result) ≡ false → find_named w.name p.opens ≡ Some xid → Follows (limited p (decide_row xid w p)) p result new
+    (p : Place) → Ready p old → is_memory (trouble result) ≡ false → find_named w.name p.opens ≡ Some xid →
+    Follows (limited p (decide_row xid w p)) p result new

@@ -1,5 +1,6 @@
 -- What each piece of work on a store comes to, over a store that tells what it holds and can fail no more.
-use Rattle.std.specs.Prelude.{◌≡◌, ◌⊎◌, ℕ, ◌+◌, ◌<◌, ◌≤◌, ◌^◌, ◌==◌, ◌||◌, nat_le, Bool, true, false, List, Option, Some, None, Result, Ok, Err, is_some, if◌then◌else◌}
+use Rattle.std.specs.Prelude.{◌≡◌, ◌⊎◌, ℕ, ◌+◌, ◌<◌, ◌≤◌, ◌^◌, ◌==◌, ◌||◌, nat_le, Bool, true, false, List, Option}
+use Rattle.std.specs.Prelude.{Some, None, Result, Ok, Err, is_some, if◌then◌else◌}
 use Rattle.std.specs.Option.{option_map}
 use Rattle.std.specs.FinMap.{get, len, empty, entries}
 use Rattle.slon_base.specs.Keeper.{Kept, Store}
@@ -55,15 +56,21 @@ abbrev pub RaisesTo : (Store → Store) → Store → Result (Unit {0}) Stop →
 RaisesTo change m (Ok u) new = new.held ≡ Some (change m)
 RaisesTo change m (Err stop) new = ((new.held ≡ Some m) ⊎ (new.held ≡ Some (change m))) × IsOutside stop
 
--- What a draw makes of a counter and of the store: nothing, where the next number is below the ceiling; else the ceiling is
--- lifted, or it or the stamp would pass the limit, or the store stops.
-pub data Lifts (key : List ℕ) (m : Store) (c : Counter) (stamp : ℕ) (result : Result (Unit {0}) Unlifted) (held : Option Store) (d : Counter) (stamped : ℕ) : Type 0 where
-  LeavesIt : result ≡ Ok tt → (c.next == c.ceiling) ≡ false → held ≡ Some m → d ≡ c → stamped ≡ stamp → Lifts key m c stamp result held d stamped
-  LiftsIt : result ≡ Ok tt → (c.next == c.ceiling) ≡ true → is_past stamp c.ceiling ≡ false → held ≡ Some (new_ceiling key (number_bytes (c.ceiling + 64)) (number_bytes (stamp + 1)) m) →
+-- What a draw makes of a counter and of the store: nothing, where the next number is below the ceiling; else the
+-- ceiling is lifted, or it or the stamp would pass the limit, or the store stops.
+pub data Lifts (key : List ℕ) (m : Store) (c : Counter) (stamp : ℕ) (result : Result (Unit {0}) Unlifted)
+    (held : Option Store) (d : Counter) (stamped : ℕ) : Type 0 where
+  LeavesIt : result ≡ Ok tt → (c.next == c.ceiling) ≡ false → held ≡ Some m → d ≡ c → stamped ≡ stamp →
+      Lifts key m c stamp result held d stamped
+  LiftsIt : result ≡ Ok tt → (c.next == c.ceiling) ≡ true → is_past stamp c.ceiling ≡ false →
+      held ≡ Some (new_ceiling key (number_bytes (c.ceiling + 64)) (number_bytes (stamp + 1)) m) →
       d ≡ lifted c → stamped ≡ stamp + 1 → Lifts key m c stamp result held d stamped
-  PassesIt : result ≡ Err TooBig → (c.next == c.ceiling) ≡ true → is_past stamp c.ceiling ≡ true → held ≡ Some m → Lifts key m c stamp result held d stamped
-  StopsIt : (stop : Stop) → result ≡ Err (Stopped stop) → (c.next == c.ceiling) ≡ true → is_past stamp c.ceiling ≡ false →
-      (held ≡ Some m) ⊎ (held ≡ Some (new_ceiling key (number_bytes (c.ceiling + 64)) (number_bytes (stamp + 1)) m)) → IsOutside stop → Lifts key m c stamp result held d stamped
+  PassesIt : result ≡ Err TooBig → (c.next == c.ceiling) ≡ true → is_past stamp c.ceiling ≡ true → held ≡ Some m →
+      Lifts key m c stamp result held d stamped
+  StopsIt : (stop : Stop) → result ≡ Err (Stopped stop) → (c.next == c.ceiling) ≡ true →
+      is_past stamp c.ceiling ≡ false →
+      (held ≡ Some m) ⊎ (held ≡ Some (new_ceiling key (number_bytes (c.ceiling + 64)) (number_bytes (stamp + 1)) m)) →
+      IsOutside stop → Lifts key m c stamp result held d stamped
 
 -- how the work on the store ended
 abbrev pub stopped : Result (Unit {0}) Unlifted → Result (Unit {0}) Stop

@@ -35,7 +35,8 @@ pub(crate) fn lift<K: Keeper>(
     requires small { stamp.old < 2 ^ 63 }
     ensures sure { IsSure (K.kept keeper.old) (K.kept keeper.new) (stopped result) }
     ensures counted { IsCounted (K.kept keeper.old) (K.kept keeper.new) (stopped result) }
-    ensures lifts { (m : Store) → (K.kept keeper.old).held ≡ Some m → Lifts key.now m counters.old stamp.old result (K.kept keeper.new).held counters.new stamp.new }
+    ensures lifts { (m : Store) → (K.kept keeper.old).held ≡ Some m →
+        Lifts key.now m counters.old stamp.old result (K.kept keeper.new).held counters.new stamp.new }
     ensures big { IfErr result (IsPassing counters.new stamp.new) }
     ensures ready { OnOk result (counters.new.next ≢ counters.new.ceiling) }
     ensures small { stamp.new < 2 ^ 63 }

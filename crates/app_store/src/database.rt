@@ -1,5 +1,6 @@
 // One database: its store and its memory; how it begins, goes down and comes up again.
-ghost use Rattle.std.specs.Prelude.{◌≡◌, ◌≤◌, ℕ, List, OnOk, OnErr, true, false, is_some, not, if◌then◌else◌, Ok, Err, Some};
+ghost use Rattle.std.specs.Prelude.{◌≡◌, ◌≤◌, ℕ, List, OnOk, OnErr, true, false, is_some, not, if◌then◌else◌, Ok, Err};
+ghost use Rattle.std.specs.Prelude.{Some};
 ghost use Rattle.node_keeper.specs.Fused.{fuse_kept};
 
 use crate::ceilings::{Unlifted, lift};
@@ -33,9 +34,10 @@ impl<K: Keeper> Database<K> {
     ghost use Rattle.slon_model.specs.declared.reply.Answer.TheVariants.{Done as IsDone};
     ghost use Rattle.slon_model.specs.declared.reply.Answered.TheVariants.{Sure as IsSure};
     ghost use Rattle.app_store.specs.Base.{Base, base_of, memory_of};
-    ghost use Rattle.app_store.specs.Serves.{Serves, Founds, settled, NeedsNext, counter_in};
+    ghost use Rattle.app_store.specs.Serves.{Serves, Founds, settled, halts, NeedsNext, counter_in};
     ghost use Rattle.app_store.specs.Parts.{Part, FromPlace, RaisedTo};
     ghost use Rattle.app_store.specs.Fuses.{Arms};
+    ghost use Rattle.app_store.specs.Handed.{Hands, Tells, Told, Nothing};
     ghost use Rattle.std.specs.Prelude.{◌≢◌};
 
     /// The database of a store that holds no row yet: its first rows are written.
@@ -108,7 +110,9 @@ impl<K: Keeper> Database<K> {
         requires { self.old.state.up ≡ true }
         ensures part { Part (NeedsNext kind) (base_of K.kept self.old) (base_of K.kept self.new) result }
         ensures raises { FromPlace (RaisedTo kind) (base_of K.kept self.old) result (base_of K.kept self.new) }
-        ensures ready { OnOk result ((counter_in kind (memory_of self.new.state)).next ≢ (counter_in kind (memory_of self.new.state)).ceiling) }
+        ensures ready { OnOk result ((counter_in kind (memory_of self.new.state)).next
+            ≢ (counter_in kind (memory_of self.new.state)).ceiling) }
+        ensures form { Told (base_of K.kept self.old) (λ m. Tells Nothing (halts result)) }
         ensures up { OnOk result (self.new.state.up ≡ true) }
     {
         match kind {
@@ -153,6 +157,7 @@ impl<K: Keeper> Database<K> {
     pub fn crash(&mut self, crash: Crash) -> Result<(), DbFault>
         ensures serves { Serves (ToCrash crash) (base_of K.kept self.old) (settled result) (base_of K.kept self.new) }
         ensures answer { result ≡ (if self.old.state.up then Ok tt else Err IsDown) }
+        ensures hands { Hands (ToCrash crash) (base_of K.kept self.old) (settled result) }
         ensures arms { Arms K.kept (ToCrash crash) self.old self.new }
     {
         if !self.state.up {
@@ -173,6 +178,7 @@ impl<K: Keeper> Database<K> {
     /// `IsUp` where it is up, and `Fault`, `BadRow` and `NoMemory` where its store stopped.
     pub fn up(&mut self) -> Result<Answered, DbFault>
         ensures serves { Serves ToRise (base_of K.kept self.old) result (base_of K.kept self.new) }
+        ensures hands { Hands ToRise (base_of K.kept self.old) result }
         ensures arms { Arms K.kept ToRise self.old self.new }
     {
         if self.state.up {

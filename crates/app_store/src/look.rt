@@ -6,7 +6,9 @@ ghost use Rattle.slon_base.specs.Keeper.{Store, sight};
 ghost use Rattle.slon_base.specs.Codec.{number_bytes};
 ghost use Rattle.store_rows.specs.Steps.{Safe, IsWithinLimit};
 ghost use Rattle.store_rows.specs.declared.stop.Stop.TheVariants.{BadRow};
-ghost use Rattle.app_store.specs.Spelled.{meta, tables, rows, IsSmall};
+ghost use Rattle.app_store.specs.Spelled.{meta, rows, IsSmall};
+ghost use Rattle.app_store.specs.Formed.{IsNumber, IsCeiling, AreNumbers, Lacks, Reads};
+ghost use Rattle.app_store.specs.Finds.{FindsColumns};
 ghost use Rattle.app_store.specs.Works.{FindsNumbers, AreSmall};
 ghost use Rattle.app_store.specs.Steps.{Looks, Says};
 
@@ -17,6 +19,7 @@ use store_rows::{Stop, get_pair};
 /// The number that a value of a space spells.
 fn read_number(space: u8, bytes: &Bytes) -> Result<u64, Stop>
     ensures again { (n : ℕ) → n < 2 ^ 63 → bytes.now ≡ number_bytes n → result ≡ Ok n }
+    ensures found { IfOk result (λ n. bytes.now ≡ number_bytes n) }
     ensures small { IfOk result (λ n. n < 2 ^ 63) }
     ensures fault { IfErr result (λ stop. stop ≡ BadRow space) }
 {
@@ -37,6 +40,10 @@ fn find_number<K: Keeper>(keeper: &mut K, space: u8, key: &[u8]) -> Result<Optio
     ensures within { IfErr result IsWithinLimit }
     ensures says { (m : Store) (number : Option ℕ) → sight (K.kept keeper.old) ≡ Some m → IsSmall number →
         get (m space) key.now ≡ option_map number_bytes number → Says number result }
+    ensures found { (m : Store) → sight (K.kept keeper.old) ≡ Some m →
+        IfOk result (λ number. get (m space) key.now ≡ option_map number_bytes number) }
+    ensures form { (m : Store) → sight (K.kept keeper.old) ≡ Some m →
+        Reads (Lacks space (IsNumber (get (m space) key.now))) result }
     ensures small { IfOk result IsSmall }
 {
     match get_pair(keeper, space, key)? {
@@ -47,9 +54,7 @@ fn find_number<K: Keeper>(keeper: &mut K, space: u8, key: &[u8]) -> Result<Optio
 
 /// How many columns a table has, by the spelled name, if there is one.
 pub(crate) fn find_columns<K: Keeper>(keeper: &mut K, table: &[u8]) -> Result<Option<u64>, Stop>
-    ensures { Looks (λ m result. (columns : Option ℕ) → IsSmall columns →
-        get (m tables) table.now ≡ option_map number_bytes columns → Says columns result)
-        (K.kept keeper.old) (K.kept keeper.new) result }
+    ensures { Looks (FindsColumns table.now) (K.kept keeper.old) (K.kept keeper.new) result }
 {
     find_number(keeper, TABLES, table)
 }
@@ -76,6 +81,10 @@ fn find_ceiling<K: Keeper>(keeper: &mut K, key: &[u8]) -> Result<u64, Stop>
     ensures within { IfErr result IsWithinLimit }
     ensures says { (m : Store) (number : ℕ) → sight (K.kept keeper.old) ≡ Some m → number < 2 ^ 63 →
         get (m meta) key.now ≡ Some (number_bytes number) → Says number result }
+    ensures found { (m : Store) → sight (K.kept keeper.old) ≡ Some m →
+        IfOk result (λ number. get (m meta) key.now ≡ Some (number_bytes number)) }
+    ensures form { (m : Store) → sight (K.kept keeper.old) ≡ Some m →
+        Reads (Lacks meta (IsCeiling (get (m meta) key.now))) result }
     ensures small { IfOk result (λ n. n < 2 ^ 63) }
 {
     match find_number(keeper, META, key)? {
@@ -90,6 +99,7 @@ pub(crate) fn find_numbers<K: Keeper>(keeper: &mut K) -> Result<Option<Numbers>,
     ensures same { OnOk result ((K.kept keeper.new).pending ≡ (K.kept keeper.old).pending) }
     ensures within { IfErr result IsWithinLimit }
     ensures finds { (m : Store) → sight (K.kept keeper.old) ≡ Some m → FindsNumbers m result }
+    ensures form { (m : Store) → sight (K.kept keeper.old) ≡ Some m → Reads (Lacks meta (AreNumbers m)) result }
     ensures small { IfOk result AreSmall }
 {
     match find_number(keeper, META, &STAMP)? {

@@ -6,6 +6,7 @@ ghost use Rattle.app_store.specs.Base.{base_of};
 ghost use Rattle.app_store.specs.Serves.{Serves, ServesOn, answered, settled};
 ghost use Rattle.app_store.specs.Answers as answers;
 ghost use Rattle.app_store.specs.Fuses.{ArmsOn};
+ghost use Rattle.app_store.specs.Handed.{Hands, HandsOn};
 
 use crate::database::Database;
 use node_keeper::Keeper;
@@ -94,6 +95,7 @@ impl<K: Keeper> Database<K> {
         requires { IsSpoken command.now }
         ensures serves { ServesOn (subject_of command.now) (base_of K.kept self.old) result (base_of K.kept self.new) }
         ensures arms { ArmsOn K.kept (subject_of command.now) self.old self.new }
+        ensures hands { HandsOn (subject_of command.now) (base_of K.kept self.old) result }
     {
         match command {
             Command::Database { .. } => Err(DbFault::Down),
@@ -129,7 +131,8 @@ impl<K: Keeper> Database<K> {
 
     /// The node of the database and the rows of its log, both 0 before there is a cluster.
     fn status(&mut self) -> Result<Answered, DbFault>
-        ensures { Serves ToTell (base_of K.kept self.old) result (base_of K.kept self.new) }
+        ensures serves { Serves ToTell (base_of K.kept self.old) result (base_of K.kept self.new) }
+        ensures hands { Hands ToTell (base_of K.kept self.old) result }
     {
         if !self.state.up {
             return Err(DbFault::Down);

@@ -3,7 +3,7 @@ ghost use Rattle.std.specs.Prelude.{◌≡◌, ℕ, ◌+◌, ◌-◌, ◌^◌, m
 ghost use Rattle.std.specs.Option.{option_map};
 ghost use Rattle.std.specs.FinMap.{get, insert, remove, empty, entries};
 ghost use Rattle.app_store.specs.Taking.{put_xids};
-ghost use Rattle.app_store.specs.Written.{with_write, written_at};
+ghost use Rattle.app_store.specs.Written.{with_write, written_at, IsWritten, AreWritten};
 
 use slon_base::{ByteMap, Bytes};
 use std::alloc::{AllocError, Global};
@@ -28,7 +28,9 @@ pub(crate) fn open(
     name: &[u8],
     xid: u64,
 ) -> Result<(), AllocError>
-    ensures { OnOk result (opens.new ≡ insert opens.old name.now (record { xid = xid; actions = 0; writes = empty })) }
+    ensures opened { OnOk result (opens.new ≡ insert opens.old name.now
+        (record { xid = xid; actions = 0; writes = empty })) }
+    ensures kept { AreWritten opens.old → AreWritten opens.new }
 {
     let transaction = Transaction {
         xid,
@@ -46,7 +48,9 @@ pub(crate) fn write(
     key: &[u8],
     value: Option<Bytes>,
 ) -> Result<(), AllocError>
-    ensures { (t : Transaction) → get opens.old name.now ≡ Some t → OnOk result (opens.new ≡ insert (remove opens.old name.now) name.now (with_write key.now value t)) }
+    ensures wrote { (t : Transaction) → get opens.old name.now ≡ Some t →
+        OnOk result (opens.new ≡ insert (remove opens.old name.now) name.now (with_write key.now value t)) }
+    ensures kept { AreWritten opens.old → IsWritten value → AreWritten opens.new }
 {
     let Some(mut transaction) = opens.remove(name) else {
         return Ok(());

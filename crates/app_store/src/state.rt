@@ -2,6 +2,7 @@
 ghost use Rattle.std.specs.Prelude.{◌≡◌, ◌<◌, ◌^◌, false};
 ghost use Rattle.app_store.specs.Closed.{IsClosed};
 ghost use Rattle.app_store.specs.Settled.{settled_as};
+ghost use Rattle.app_store.specs.Written.{AreWritten};
 
 use crate::look::Numbers;
 use crate::numbers::FIRST_CEILING;
@@ -11,8 +12,8 @@ use slon_model::Answer;
 use std::alloc::Global;
 use txn_core::{Counters, LockTable};
 
-/// What a database keeps in memory: its numbers, its open transactions and their locks. While it is down no transaction is
-/// open and no row is locked.
+/// What a database keeps in memory: its numbers, its open transactions and their locks. While it is down no transaction
+/// is open and no row is locked.
 #[derive(Drop)]
 pub(crate) struct State {
     pub(crate) up: bool,
@@ -25,6 +26,7 @@ pub(crate) struct State {
     pub(crate) locks: LockTable,
     ghost small: { stamp < 2 ^ 63 },
     ghost closed: { up ≡ false → IsClosed opens locks },
+    ghost written: { AreWritten opens },
 }
 
 impl State {

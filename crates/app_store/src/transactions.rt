@@ -9,6 +9,7 @@ ghost use Rattle.slon_model.specs.Snapshots.{first_or, IsSnapshot};
 ghost use Rattle.txn_core.specs.Snapshots.{seen_as};
 ghost use Rattle.app_store.specs.Base.{base_of, memory_of};
 ghost use Rattle.app_store.specs.Fits.{Ready};
+ghost use Rattle.app_store.specs.Handed.{Hands};
 ghost use Rattle.app_store.specs.Serves.{Serves, answered, settled};
 ghost use Rattle.app_store.specs.Answers.{opened, committed, listed};
 ghost use Rattle.app_store.specs.Taking.{IsTakenOf};
@@ -45,7 +46,9 @@ impl<K: Keeper> Database<K> {
     pub fn table(&mut self, table: &Text, columns: u32) -> Result<(), DbFault>
         requires text { IsText table.now }
         requires narrow { columns ≤ most_columns }
-        ensures { Serves (ToMake table.now columns) (base_of K.kept self.old) (settled result) (base_of K.kept self.new) }
+        ensures serves { Serves (ToMake table.now columns) (base_of K.kept self.old) (settled result)
+            (base_of K.kept self.new) }
+        ensures hands { Hands (ToMake table.now columns) (base_of K.kept self.old) (settled result) }
     {
         if !self.state.up {
             return Err(DbFault::Down);
@@ -78,7 +81,9 @@ impl<K: Keeper> Database<K> {
         requires up { self.old.state.up ≡ true }
         requires limit { stored_limit ≤ self.old.state.stamp + 1 }
         requires text { IsText table.now }
-        ensures { (columns : ℕ) → Serves (ToMake table.now columns) (base_of K.kept self.old) (settled result) (base_of K.kept self.new) }
+        ensures serves { (columns : ℕ) → Serves (ToMake table.now columns) (base_of K.kept self.old) (settled result)
+            (base_of K.kept self.new) }
+        ensures hands { (columns : ℕ) → Hands (ToMake table.now columns) (base_of K.kept self.old) (settled result) }
     {
         let key = spell_table(self.alloc, table)?;
         match find_columns(&mut self.keeper, key.as_slice()) {
@@ -96,7 +101,9 @@ impl<K: Keeper> Database<K> {
     ///
     /// `NameUsed` where one of the name is open; `TooBig`, and what stopped the store.
     pub fn begin(&mut self, name: &Text) -> Result<u64, DbFault>
-        ensures { Serves (ToOpen name.now) (base_of K.kept self.old) (answered opened result) (base_of K.kept self.new) }
+        ensures serves { Serves (ToOpen name.now) (base_of K.kept self.old) (answered opened result)
+            (base_of K.kept self.new) }
+        ensures hands { Hands (ToOpen name.now) (base_of K.kept self.old) (answered opened result) }
     {
         if !self.state.up {
             return Err(DbFault::Down);
@@ -114,14 +121,16 @@ impl<K: Keeper> Database<K> {
         }
     }
 
-    /// Makes what a transaction wrote stand. Answers how many actions that were, and whether the commit is in doubt. Without
-    /// actions there is no call on the store.
+    /// Makes what a transaction wrote stand. Answers how many actions that were, and whether the commit is in doubt.
+    /// Without actions there is no call on the store.
     ///
     /// # Errors
     ///
     /// `NoTransaction` where none of the name is open; `TooBig`, and what stopped the store.
     pub fn commit(&mut self, name: &Text) -> Result<(u64, bool), DbFault>
-        ensures { Serves (ToCommit name.now) (base_of K.kept self.old) (answered committed result) (base_of K.kept self.new) }
+        ensures serves { Serves (ToCommit name.now) (base_of K.kept self.old) (answered committed result)
+            (base_of K.kept self.new) }
+        ensures hands { Hands (ToCommit name.now) (base_of K.kept self.old) (answered committed result) }
     {
         if !self.state.up {
             return Err(DbFault::Down);
@@ -162,7 +171,9 @@ impl<K: Keeper> Database<K> {
     ///
     /// `NoTransaction` where none of the name is open.
     pub fn abort(&mut self, name: &Text) -> Result<(), DbFault>
-        ensures { Serves (ToAbort name.now) (base_of K.kept self.old) (settled result) (base_of K.kept self.new) }
+        ensures serves { Serves (ToAbort name.now) (base_of K.kept self.old) (settled result)
+            (base_of K.kept self.new) }
+        ensures hands { Hands (ToAbort name.now) (base_of K.kept self.old) (settled result) }
     {
         if !self.state.up {
             return Err(DbFault::Down);
@@ -183,7 +194,9 @@ impl<K: Keeper> Database<K> {
     /// `NoTable` where there is no such table, and what stopped the store.
     pub fn rows(&mut self, table: &Text) -> Result<TableRows, DbFault>
         requires { IsText table.now }
-        ensures { Serves (ToList table.now) (base_of K.kept self.old) (answered listed result) (base_of K.kept self.new) }
+        ensures serves { Serves (ToList table.now) (base_of K.kept self.old) (answered listed result)
+            (base_of K.kept self.new) }
+        ensures hands { Hands (ToList table.now) (base_of K.kept self.old) (answered listed result) }
     {
         if !self.state.up {
             return Err(DbFault::Down);
@@ -197,7 +210,8 @@ impl<K: Keeper> Database<K> {
         }
     }
 
-    /// The snapshot that is taken now, which sees the transactions that have ended. It lists none while the database is down.
+    /// The snapshot that is taken now, which sees the transactions that have ended. It lists none while the database is
+    /// down.
     ///
     /// # Errors
     ///
@@ -205,8 +219,10 @@ impl<K: Keeper> Database<K> {
     pub fn snapshot(&self) -> Result<Snapshot, AllocError>
         ensures lists { IfOk result (λ s. IsTakenOf (memory_of self.now.state) (seen_as s)) }
         ensures down { self.now.state.up ≡ false → IfOk result (λ s. (seen_as s).running ≡ []) }
-        ensures taken { (p : Place) → Ready p (base_of K.kept self.now) → is_running p.standing ≡ true → IfOk result (λ s. seen_as s ≡ taken p) }
-        ensures form { (p : Place) → Ready p (base_of K.kept self.now) → is_running p.standing ≡ true → IfOk result (λ s. IsSnapshot (seen_as s)) }
+        ensures taken { (p : Place) → Ready p (base_of K.kept self.now) → is_running p.standing ≡ true →
+            IfOk result (λ s. seen_as s ≡ taken p) }
+        ensures form { (p : Place) → Ready p (base_of K.kept self.now) → is_running p.standing ≡ true →
+            IfOk result (λ s. IsSnapshot (seen_as s)) }
     {
         let running = open_xids(self.alloc, &self.state.opens)?;
         let xmax = self.state.xids.next();

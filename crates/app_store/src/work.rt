@@ -1,15 +1,18 @@
 // The work of each command on the store: what is read first, and then the transaction.
-ghost use Rattle.std.specs.Prelude.{◌≡◌, ◌<◌, ◌^◌, ◌≤◌, ℕ, List, length, map, Option, Some, None, true, false, is_some, if◌then◌else◌, IfOk, IfErr, OnOk, unwrap_or};
+ghost use Rattle.std.specs.Prelude.{◌≡◌, ◌<◌, ◌^◌, ◌≤◌, ℕ, List, length, map, Option, Some, None, true, false, is_some};
+ghost use Rattle.std.specs.Prelude.{if◌then◌else◌, IfOk, IfErr, OnOk, unwrap_or};
 ghost use Rattle.std.specs.Option.{option_map};
 ghost use Rattle.std.specs.FinMap.{get, entries};
 ghost use Rattle.slon_base.specs.Keeper.{Store, sight, nothing};
 ghost use Rattle.slon_base.specs.Codec.{number_bytes, text_bytes, list_bytes, IsText, AllTexts, AreTexts};
 ghost use Rattle.slon_model.specs.Rows.{Row, column_value, updated};
-ghost use Rattle.app_store.specs.Spelled.{tables, first_rows, new_table, new_ceiling, new_rows, IsSmall};
-ghost use Rattle.app_store.specs.Scan.{AllKeys};
+ghost use Rattle.app_store.specs.Spelled.{tables, rows, first_rows, new_table, new_ceiling, new_rows, IsSmall};
 ghost use Rattle.store_rows.specs.Steps.{Safe, IsOutside, IsWithinLimit, is_failed};
 ghost use Rattle.app_store.specs.Steps.{Looks, Says, Leaves, LeavesOr, Tries, TriesOr};
-ghost use Rattle.app_store.specs.Works.{ListsRows, TellsEmpty, HasPair};
+ghost use Rattle.app_store.specs.Formed.{IsNumber, AreValues, Lacks, Reads};
+ghost use Rattle.app_store.specs.Finds.{ListsAll};
+ghost use Rattle.app_store.specs.Works.{TellsEmpty, HasPair};
+ghost use Rattle.app_store.specs.Written.{IsWritten};
 
 use crate::layout::{ACTION_CEILING, LOG_STATUS, META, ROWS, STAMP, TABLES, XID_CEILING};
 use crate::look::find_columns;
@@ -87,6 +90,8 @@ pub(crate) fn make_table<K: Keeper>(
         (text_bytes table.now) ≡ option_map number_bytes found →
         LeavesOr (is_some found) (new_table (text_bytes table.now) (number_bytes columns) (number_bytes stamp)) m result
         (K.kept keeper.new) }
+    ensures form { (m : Store) → (K.kept keeper.old).held ≡ Some m →
+        Reads (Lacks tables (IsNumber (get (m tables) (text_bytes table.now)))) result }
 {
     let key = spell_table(alloc, table)?;
     let found = find_columns(keeper, key.as_slice())?;
@@ -185,6 +190,8 @@ pub(crate) fn update_values(
     requires { AllTexts (map (λ c. c.1) columns.now) }
     ensures says { (row : Row) → AreTexts row → values.now ≡ list_bytes row →
         Says (list_bytes (updated columns.now row)) result }
+    ensures form { Reads (Lacks rows (AreValues (Some values.now))) result }
+    ensures written { IfOk result (λ value. IsWritten (Some value)) }
     ensures never { is_failed result ≡ false }
     ensures within { IfErr result IsWithinLimit }
 {
@@ -197,22 +204,6 @@ pub(crate) fn update_values(
     }
 }
 
-/// The rows in order, as a list.
-fn listed(alloc: Global, found: ByteMap<TextList>) -> Result<TableRows, Stop>
-    ensures says { AllKeys (entries found) → Says (entries found) result }
-    ensures never { is_failed result ≡ false }
-    ensures within { IfErr result IsWithinLimit }
-{
-    let mut rows = TableRows::new(alloc);
-    for (key, values) in found.into_entries() {
-        let Some(key) = Text::from_bytes(alloc, key.as_slice())? else {
-            return Err(Stop::BadRow { space: ROWS });
-        };
-        rows.push(key, values)?;
-    }
-    Ok(rows)
-}
-
 /// The rows of a table, if there is one of the name.
 pub(crate) fn list_rows<K: Keeper>(
     alloc: Global,
@@ -221,13 +212,12 @@ pub(crate) fn list_rows<K: Keeper>(
 ) -> Result<Option<TableRows>, Stop>
     requires idle { is_some (K.kept keeper.old).pending ≡ false }
     requires text { IsText table.now }
-    ensures { Looks (ListsRows table.now) (K.kept keeper.old) (K.kept keeper.new) result }
+    ensures { Looks (ListsAll table.now) (K.kept keeper.old) (K.kept keeper.new) result }
 {
     let name = spell_table(alloc, table)?;
     let columns = find_columns(keeper, name.as_slice())?;
     if columns.is_none() {
         return Ok(None);
     }
-    let found = scan_table(alloc, keeper, name.as_slice())?;
-    Ok(Some(listed(alloc, found)?))
+    Ok(Some(scan_table(alloc, keeper, name.as_slice())?))
 }

@@ -1,16 +1,21 @@
 // The tasks of a database that write rows.
-ghost use Rattle.std.specs.Prelude.{◌≡◌, ◌≤◌, ◌<◌, ◌^◌, ◌∷◌, ◌==◌, ◌&&◌, nat_le, ℕ, List, length, map, true, false, OnOk};
+ghost use Rattle.std.specs.Prelude.{◌≡◌, ◌≤◌, ◌<◌, ◌^◌, ◌∷◌, ◌==◌, ◌&&◌, nat_le, ℕ, List, length, map, true, false};
+ghost use Rattle.std.specs.Prelude.{OnOk, IfErr, is_some};
+ghost use Rattle.slon_model.specs.World.{halt_in};
 ghost use Rattle.slon_base.specs.Codec.{IsText, AllTexts};
 ghost use Rattle.slon_model.specs.declared.numbering.Numbering.TheVariants.{Actions as NumbersActions};
 ghost use Rattle.slon_model.specs.Rows.{Put, Set, Remove};
 ghost use Rattle.slon_model.specs.Tasks.{Write, ToWrite, write_by, key_of, row_of};
 ghost use Rattle.slon_model.specs.Deciding as rules;
 ghost use Rattle.txn_core.specs.Locks.{holder_of, without};
-ghost use Rattle.app_store.specs.Base.{base_of};
+ghost use Rattle.app_store.specs.Base.{base_of, memory_of};
+ghost use Rattle.app_store.specs.Handed.{Hands, Tells, Told, Nothing, ReadsWidth, ReadsSeen, ReadsFree, UpdatesRow};
+ghost use Rattle.app_store.specs.Spelled.{row_key as row_key_of};
+ghost use Rattle.app_store.specs.Written.{IsWritten};
 ghost use Rattle.app_store.specs.Serves.{Serves, answered, halts, NeedsNothing, NeedsNext};
 ghost use Rattle.app_store.specs.Answers.{acted, acted_or_not};
 ghost use Rattle.app_store.specs.Parts.{Part, FromPlace};
-ghost use Rattle.app_store.specs.Targets.{FoundWidth, ReadsTarget, FindsRow, AddsWrite, WritesRow};
+ghost use Rattle.app_store.specs.Targets.{FoundWidth, ReadsTarget, FindsRow, AddsWrite, WritesRow, spot_of};
 
 use crate::database::Database;
 use crate::falls::fall;
@@ -55,7 +60,10 @@ impl<K: Keeper> Database<K> {
         requires up { self.old.state.up ≡ true }
         requires text { IsText table.now }
         ensures part { Part NeedsNothing (base_of K.kept self.old) (base_of K.kept self.new) result }
-        ensures finds { FromPlace (FoundWidth name.now table.now) (base_of K.kept self.old) result (base_of K.kept self.new) }
+        ensures finds { FromPlace (FoundWidth name.now table.now) (base_of K.kept self.old) result
+            (base_of K.kept self.new) }
+        ensures form { Told (base_of K.kept self.old) (λ m. ReadsWidth name.now table.now (base_of K.kept self.old) m
+            result (base_of K.kept self.new)) }
         ensures up { OnOk result (self.new.state.up ≡ true) }
     {
         match self.state.opens.get(name.as_slice()) {
@@ -95,7 +103,11 @@ impl<K: Keeper> Database<K> {
         requires text { IsText table.now }
         requires key { IsText key.now }
         ensures part { Part NeedsNothing (base_of K.kept self.old) (base_of K.kept self.new) result }
-        ensures reads { ReadsTarget name.now table.now key.now (base_of K.kept self.old) result (base_of K.kept self.new) }
+        ensures reads { ReadsTarget name.now table.now key.now (base_of K.kept self.old) result
+            (base_of K.kept self.new) }
+        ensures form { Told (base_of K.kept self.old) (λ m. ReadsSeen name.now (row_key_of table.now key.now)
+            (base_of K.kept self.old) m result (base_of K.kept self.new)) }
+        ensures halts { IfErr result (λ fault. is_some (halt_in fault) ≡ true) }
         ensures up { OnOk result (self.new.state.up ≡ true) }
     {
         let row_key = spell_key(self.alloc, table, key)?;
@@ -121,7 +133,11 @@ impl<K: Keeper> Database<K> {
         requires text { IsText table.now }
         requires key { IsText key.now }
         ensures part { Part NeedsNothing (base_of K.kept self.old) (base_of K.kept self.new) result }
-        ensures finds { FindsRow name.now xid table.now key.now (base_of K.kept self.old) result (base_of K.kept self.new) }
+        ensures finds { FindsRow name.now xid table.now key.now (base_of K.kept self.old) result
+            (base_of K.kept self.new) }
+        ensures form { Told (base_of K.kept self.old) (λ m. ReadsSeen name.now (row_key_of table.now key.now)
+            (base_of K.kept self.old) m result (base_of K.kept self.new)) }
+        ensures free { ReadsFree xid table.now key.now (memory_of self.old.state) result }
         ensures up { OnOk result (self.new.state.up ≡ true) }
     {
         match self.other_holder(xid, table, key) {
@@ -143,8 +159,11 @@ impl<K: Keeper> Database<K> {
         requires up { self.old.state.up ≡ true }
         requires text { IsText table.now }
         requires key { IsText key.now }
+        requires written { IsWritten value }
         ensures part { Part (NeedsNext NumbersActions) (base_of K.kept self.old) (base_of K.kept self.new) result }
-        ensures adds { AddsWrite name.now xid table.now key.now row_key.now value (base_of K.kept self.old) result (base_of K.kept self.new) }
+        ensures adds { AddsWrite (spot_of name.now xid table.now key.now) row_key.now value (base_of K.kept self.old)
+            result (base_of K.kept self.new) }
+        ensures form { Told (base_of K.kept self.old) (λ m. Tells Nothing (halts result)) }
     {
         match self.raise(Numbering::Actions) {
             Ok(()) => match self.state.locks.take(xid, table.as_slice(), key.as_slice()) {
@@ -173,14 +192,17 @@ impl<K: Keeper> Database<K> {
     ///
     /// # Errors
     ///
-    /// `NoTransaction` where no transaction of the name is open, `NoTable` where there is no such table, `BadWidth` where it
-    /// has another number of columns, `Locked` where another open transaction wrote the row, `Duplicate` where the
-    /// transaction sees a row of the key; `TooBig`, and what stopped the store.
+    /// `NoTransaction` where no transaction of the name is open, `NoTable` where there is no such table, `BadWidth`
+    /// where it has another number of columns, `Locked` where another open transaction wrote the row, `Duplicate` where
+    /// the transaction sees a row of the key; `TooBig`, and what stopped the store.
     pub fn insert(&mut self, name: &Text, table: &Text, values: &TextList) -> Result<u64, DbFault>
         requires text { IsText table.now }
         requires texts { AllTexts values.now }
         requires some { 0 < length values.now }
-        ensures { Serves (ToWrite (write_by name.now table.now (Put (key_of values.now) (row_of values.now)))) (base_of K.kept self.old) (answered acted result) (base_of K.kept self.new) }
+        ensures serves { Serves (ToWrite (write_by name.now table.now (Put (key_of values.now) (row_of values.now))))
+            (base_of K.kept self.old) (answered acted result) (base_of K.kept self.new) }
+        ensures hands { Hands (ToWrite (write_by name.now table.now (Put (key_of values.now) (row_of values.now))))
+            (base_of K.kept self.old) (answered acted result) }
     {
         if !self.state.up {
             return Err(DbFault::Down);
@@ -212,7 +234,9 @@ impl<K: Keeper> Database<K> {
         requires texts { AllTexts row.now }
         requires few { length row.now < 2 ^ 16 }
         ensures part { Part (NeedsNext NumbersActions) (base_of K.kept self.old) (base_of K.kept self.new) result }
-        ensures writes { WritesRow (write_by name.now table.now (Put key.now row.now)) xid (base_of K.kept self.old) (answered acted result) (base_of K.kept self.new) }
+        ensures writes { WritesRow (write_by name.now table.now (Put key.now row.now)) xid (base_of K.kept self.old)
+            (answered acted result) (base_of K.kept self.new) }
+        ensures form { Told (base_of K.kept self.old) (λ m. Tells Nothing (halts result)) }
     {
         match self.find_row(name, xid, table, key) {
             Ok(target) => {
@@ -229,13 +253,14 @@ impl<K: Keeper> Database<K> {
         }
     }
 
-    /// Gives columns of a row new values and answers the number of the action, or none where there is no row of the key.
+    /// Gives columns of a row new values and answers the number of the action, or none where there is no row of the
+    /// key.
     ///
     /// # Errors
     ///
-    /// `NoTransaction` where no transaction of the name is open, `NoTable` where there is no such table, `BadWidth` where a
-    /// column is not from 2 to its width, `Locked` where another open transaction wrote the row; `TooBig`, and what stopped
-    /// the store.
+    /// `NoTransaction` where no transaction of the name is open, `NoTable` where there is no such table, `BadWidth`
+    /// where a column is not from 2 to its width, `Locked` where another open transaction wrote the row; `TooBig`, and
+    /// what stopped the store.
     pub fn update(
         &mut self,
         name: &Text,
@@ -246,7 +271,11 @@ impl<K: Keeper> Database<K> {
         requires text { IsText table.now }
         requires key { IsText key.now }
         requires texts { AllTexts (map (λ c. c.1) columns.now) }
-        ensures { Serves (ToWrite (write_by name.now table.now (Set key.now columns.now))) (base_of K.kept self.old) (answered acted_or_not result) (base_of K.kept self.new) }
+        ensures serves { Serves (ToWrite (write_by name.now table.now (Set key.now columns.now)))
+            (base_of K.kept self.old)
+            (answered acted_or_not result) (base_of K.kept self.new) }
+        ensures hands { Hands (ToWrite (write_by name.now table.now (Set key.now columns.now)))
+            (base_of K.kept self.old) (answered acted_or_not result) }
     {
         if !self.state.up {
             return Err(DbFault::Down);
@@ -276,7 +305,11 @@ impl<K: Keeper> Database<K> {
         requires key { IsText key.now }
         requires texts { AllTexts (map (λ c. c.1) columns.now) }
         ensures part { Part (NeedsNext NumbersActions) (base_of K.kept self.old) (base_of K.kept self.new) result }
-        ensures writes { WritesRow (write_by name.now table.now (Set key.now columns.now)) xid (base_of K.kept self.old) (answered acted_or_not result) (base_of K.kept self.new) }
+        ensures writes { WritesRow (write_by name.now table.now (Set key.now columns.now)) xid (base_of K.kept self.old)
+            (answered acted_or_not result) (base_of K.kept self.new) }
+        ensures form { Told (base_of K.kept self.old) (UpdatesRow
+            (write_by name.now table.now (Set key.now columns.now)) xid
+            (base_of K.kept self.old) result) }
     {
         match self.find_row(name, xid, table, key) {
             Ok(target) => {
@@ -304,7 +337,10 @@ impl<K: Keeper> Database<K> {
     pub fn delete(&mut self, name: &Text, table: &Text, key: &Text) -> Result<Option<u64>, DbFault>
         requires text { IsText table.now }
         requires key { IsText key.now }
-        ensures { Serves (ToWrite (write_by name.now table.now (Remove key.now))) (base_of K.kept self.old) (answered acted_or_not result) (base_of K.kept self.new) }
+        ensures serves { Serves (ToWrite (write_by name.now table.now (Remove key.now))) (base_of K.kept self.old)
+            (answered acted_or_not result) (base_of K.kept self.new) }
+        ensures hands { Hands (ToWrite (write_by name.now table.now (Remove key.now)))
+            (base_of K.kept self.old) (answered acted_or_not result) }
     {
         if !self.state.up {
             return Err(DbFault::Down);
@@ -327,7 +363,9 @@ impl<K: Keeper> Database<K> {
         requires text { IsText table.now }
         requires key { IsText key.now }
         ensures part { Part (NeedsNext NumbersActions) (base_of K.kept self.old) (base_of K.kept self.new) result }
-        ensures writes { WritesRow (write_by name.now table.now (Remove key.now)) xid (base_of K.kept self.old) (answered acted_or_not result) (base_of K.kept self.new) }
+        ensures writes { WritesRow (write_by name.now table.now (Remove key.now)) xid (base_of K.kept self.old)
+            (answered acted_or_not result) (base_of K.kept self.new) }
+        ensures form { Told (base_of K.kept self.old) (λ m. Tells Nothing (halts result)) }
     {
         match self.find_row(name, xid, table, key) {
             Ok(target) => {

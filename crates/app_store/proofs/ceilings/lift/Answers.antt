@@ -8,4 +8,6 @@ returns-in-Err-clause-lifts g c m held =
     let raised = c.in-Err.ensures.raises m held in
     let stamp = c.if-stamp-ge-STORED_LIMIT.false in
     let ceiling = c.if-ceiling.false in
-    StopsIt c.in-Err.stop refl (sym c.must_raise.ensures ∙ c.if-not-must_raise.false) (not_past c.args.stamp.now c.args.counters.now.ceiling (omega (arith, stamp)) (omega (arith, ceiling, c.ceiling.ensures.value))) raised.0 raised.1
+    StopsIt c.in-Err.stop refl (sym c.must_raise.ensures ∙ c.if-not-must_raise.false)
+    (not_past c.args.stamp.now c.args.counters.now.ceiling (omega (arith, stamp))
+    (omega (arith, ceiling, c.ceiling.ensures.value))) raised.0 raised.1

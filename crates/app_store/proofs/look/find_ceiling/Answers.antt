@@ -1,9 +1,15 @@
 use Rattle.std.proofs.Common.{Some}
 use Rattle.std.proofs.lemmas.Result.{err_from_is_err_and}
 use Rattle.app_store.specs.Steps.{Says}
+use Rattle.app_store.proofs.Formed.{passes_on, number_of}
 use Rattle.app_store.proofs.Pending.{exit_as}
 use Rattle.app_store.proofs.MetaNumbers.{some_same, not_some}
 use Rattle.app_store.proofs.look.find_ceiling.Goals as goal
+
+pub returns-in_err-number-clause-form : goal.returns-in_err-number-clause-form
+returns-in_err-number-clause-form g c m seen =
+    passes_on _ _ c.from_residual.result (err_from_is_err_and c.from_residual.result c.from_residual.ensures.1)
+    (λ space lacks. (lacks.0, λ ceiling. lacks.1 (number_of ceiling))) (c.in_err-number.ensures.form m seen)
 
 pub returns-in_err-number-clause-says : goal.returns-in_err-number-clause-says
 returns-in_err-number-clause-says g c m number seen small is =

@@ -1,10 +1,40 @@
-use Rattle.std.proofs.Common.{◌∙◌}
+use Rattle.std.proofs.Common.{◌∙◌, Some, ap, subst}
+use Rattle.std.specs.Option.{option_map}
+use Rattle.slon_base.specs.Codec.{number_bytes}
+use Rattle.app_store.specs.Spelled.{IsSmall}
+use Rattle.app_store.proofs.Formed.{passes_on, none_lacks, stamp_of}
 use Rattle.std.proofs.lemmas.Result.{err_from_is_err_and}
 use Rattle.store_rows.proofs.Spaces.{sight_safe}
 use Rattle.app_store.specs.Works.{NumbersAre}
 use Rattle.app_store.proofs.Pending.{exit_as}
 use Rattle.app_store.proofs.MetaNumbers.{stamp_if, small_if, stamp_at, xids_at, actions_at, found_stamp, no_stamp}
 use Rattle.app_store.proofs.look.find_numbers.Goals as goal
+
+pub returns-in_err-find_number-clause-form : goal.returns-in_err-find_number-clause-form
+returns-in_err-find_number-clause-form g c m seen =
+    passes_on _ _ c.from_residual.result (err_from_is_err_and c.from_residual.result c.from_residual.ensures.1)
+    (λ space lacks. (lacks.0, λ are. lacks.1 (stamp_of are))) (c.in_err-find_number.ensures.form m seen)
+
+pub returns-in_ok-number_ceiling-in-Some-clause-form : goal.returns-in_ok-number_ceiling-in-Some-clause-form
+returns-in_ok-number_ceiling-in-Some-clause-form g c m seen =
+    let read = c.in_ok-find_number.ensures in
+    let next = c.in_ok-xid_ceiling-in-Some.ensures in
+    let last = c.in_ok-number_ceiling-in-Some.ensures in
+    let then = sight_safe read.safe read.same ∙ seen in
+    let later = sight_safe next.safe next.same ∙ then in
+    none_lacks (record {
+      numbers = Some (record {
+        stamp = c.in-Some.stamp;
+        xid_ceiling = c.in_ok-xid_ceiling-in-Some.xid_ceiling;
+        number_ceiling = c.in_ok-number_ceiling-in-Some.number_ceiling;
+      });
+      small = (subst IsSmall c.in-Some.is read.small, next.small, last.small);
+      stand = (
+        read.found m seen ∙ ap (option_map number_bytes) c.in-Some.is,
+        next.found m then,
+        last.found m later,
+      );
+    })
 
 pub returns-in_err-find_number-clause-finds : goal.returns-in_err-find_number-clause-finds
 returns-in_err-find_number-clause-finds g c m seen stamp xids numbers a b d is =

@@ -1,6 +1,7 @@
 use Rattle.std.proofs.Common.{◌≡◌, ◌≤◌, true, is_some, drop}
 use Rattle.std.specs.Option.{option_map}
-use Rattle.store_rows.specs.Spending.{Stays}
+use Rattle.slon_base.specs.Charges.{KeepsTold}
+use Rattle.store_rows.specs.Spending.{Stays, Rests}
 use Rattle.app_store.specs.Spelled.{put_all}
 use Rattle.app_store.proofs.transact.put_pairs.Given as goal
 
@@ -10,6 +11,8 @@ invariant-loop-put g l =
     let now = g.K.Keeper.kept l.keeper in
     record {
       still : Stays old.can_fail now.can_fail;
+      rests : Rests old.faults now.faults;
+      told : KeepsTold old.told now.told;
       later : old.faults ≤ now.faults;
       held : now.held ≡ old.held;
       doubts : now.doubts ≡ old.doubts;

@@ -2,7 +2,8 @@ use Rattle.std.proofs.Common.{◌≡◌, ◌≤◌, true, is_some}
 use Rattle.std.specs.FinMap.{entries}
 use Rattle.std.specs.Option.{option_map}
 use Rattle.slon_base.specs.ByteMap.{pairs}
-use Rattle.store_rows.specs.Spending.{Stays}
+use Rattle.slon_base.specs.Charges.{KeepsTold}
+use Rattle.store_rows.specs.Spending.{Stays, Rests}
 use Rattle.app_store.specs.Spelled.{write_all}
 use Rattle.app_store.proofs.transact.write_rows.Given as goal
 
@@ -12,6 +13,8 @@ invariant-loop-key g l =
     let now = g.K.Keeper.kept l.keeper in
     record {
       still : Stays old.can_fail now.can_fail;
+      rests : Rests old.faults now.faults;
+      told : KeepsTold old.told now.told;
       later : old.faults ≤ now.faults;
       held : now.held ≡ old.held;
       doubts : now.doubts ≡ old.doubts;

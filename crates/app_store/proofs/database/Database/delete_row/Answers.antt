@@ -1,4 +1,4 @@
-use Rattle.std.proofs.Common.{Some, None, is_some, refl, sym, ap, subst}
+use Rattle.std.proofs.Common.{◌∙◌, Some, is_some, refl, sym, ap, subst}
 use Rattle.std.specs.FinMap.{get}
 use Rattle.slon_model.specs.Place.{seen_rows}
 use Rattle.app_store.specs.Base.{base_of}
@@ -6,24 +6,47 @@ use Rattle.slon_model.specs.Rows.{Remove}
 use Rattle.slon_model.specs.Tasks.{write_by}
 use Rattle.slon_model.specs.Deciding.{limited, decide_row}
 use Rattle.app_store.specs.Targets.{Follows}
-use Rattle.app_store.proofs.Writing.{row_stopped, row_left, row_added, row_parts, seen_none, seen_there, acted_calm}
+use Rattle.app_store.proofs.Writing.{row_stopped, row_left, row_added, row_parts, sees_none, seen_there, acted_calm}
+use Rattle.app_store.specs.Handed.{Tells, Nothing}
 use Rattle.app_store.proofs.database.Database.delete_row.Goals as goal
 
 pub returns-in-None-clause-writes : goal.returns-in-None-clause-writes
 returns-in-None-clause-writes g c p ready memory named =
     let found = c.in-Ok.ensures.finds p ready refl named in
     let parts = row_parts c.args.xid c.args.table.now c.args.key.now p c.in-Ok.target _ found in
-    row_left (write_by c.args.name.now c.args.table.now (Remove c.args.key.now)) c.args.xid p c.in-Ok.target _ None _ found (seen_none (get (seen_rows c.args.xid p c.args.table.now) c.args.key.now) c.in-Ok.target.seen parts.target.seen_is (ap is_some c.in-None.is)) refl refl
+    let w = write_by c.args.name.now c.args.table.now (Remove c.args.key.now) in
+    row_left w c.args.xid p (sees_none w parts (ap is_some c.in-None.is)) _ _ parts.fits
+    (record { told = refl; stays = refl })
 
 pub returns-in-Ok-clause-writes : goal.returns-in-Ok-clause-writes
 returns-in-Ok-clause-writes g c p ready memory named =
     let found = c.in-Ok.ensures.finds p ready refl named in
     let parts = row_parts c.args.xid c.args.table.now c.args.key.now p c.in-Ok.target _ found in
-    let row = seen_there (get (seen_rows c.args.xid p c.args.table.now) c.args.key.now) c.in-Ok.target.seen parts.target.seen_is (ap is_some c.in-Some.is) in
-    subst (λ r. Follows (limited p (decide_row c.args.xid (write_by c.args.name.now c.args.table.now (Remove c.args.key.now)) p)) p r (base_of g.K.Keeper.kept c.add_write.new.self)) (sym c.some.ensures.value)
-    (row_added (write_by c.args.name.now c.args.table.now (Remove c.args.key.now)) c.args.xid p (Some row.0) c.add_write.result _ parts.free row.1 refl
-    (c.add_write.ensures.adds p (record { fits = parts.fits; sound = ready.sound; spelled = ready.spelled }) (acted_calm c.add_write.result _ c.some.ensures.value memory) (Remove c.args.key.now) (record { opened = named; free = parts.free; key_is = refl; spelled_is = parts.target.key_is; value_is = refl })))
+    let row =
+    seen_there (get (seen_rows c.args.xid p c.args.table.now) c.args.key.now) c.in-Ok.target.seen
+    parts.target.seen_is (ap is_some c.in-Some.is) in
+    subst
+    (λ r. Follows
+    (limited p (decide_row c.args.xid (write_by c.args.name.now c.args.table.now (Remove c.args.key.now)) p)) p
+    r (base_of g.K.Keeper.kept c.add_write.new.self)) (sym c.some.ensures.value)
+    (row_added (write_by c.args.name.now c.args.table.now (Remove c.args.key.now)) c.args.xid p
+    (record { row = Some row.0; free = parts.free; seen = row.1 }) c.add_write.result _ refl
+    (c.add_write.ensures.adds p (record { fits = parts.fits; sound = ready.sound; spelled = ready.spelled })
+    (acted_calm c.add_write.result _ c.some.ensures.value memory) (Remove c.args.key.now)
+    (record {
+      opened = named;
+      free = parts.free;
+      key_is = refl;
+      spelled_is = parts.target.key_is;
+      value_is = refl;
+    })))
 
 pub returns-clause-writes : goal.returns-clause-writes
 returns-clause-writes g c p ready memory named =
-    row_stopped (write_by c.args.name.now c.args.table.now (Remove c.args.key.now)) c.args.xid p c.in-Err.fault _ (c.in-Err.ensures.finds p ready memory named)
+    row_stopped (write_by c.args.name.now c.args.table.now (Remove c.args.key.now)) c.args.xid p c.in-Err.fault _
+    (c.in-Err.ensures.finds p ready memory named)
+
+pub returns-in-Ok-clause-form : goal.returns-in-Ok-clause-form
+returns-in-Ok-clause-form g c m held =
+    subst (Tells Nothing) (sym c.some.ensures.halts)
+    (c.add_write.ensures.form m ((c.in-Ok.ensures.form m held).1.held ∙ held))

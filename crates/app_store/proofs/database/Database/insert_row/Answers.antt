@@ -1,25 +1,49 @@
-use Rattle.std.proofs.Common.{Some, None, is_some, refl, ap}
+use Rattle.std.proofs.Common.{◌∙◌, Some, is_some, refl, ap, arith}
 use Rattle.std.specs.FinMap.{get}
 use Rattle.slon_model.specs.Place.{seen_rows}
 use Rattle.slon_model.specs.Rows.{Put}
 use Rattle.slon_model.specs.Tasks.{write_by}
-use Rattle.app_store.proofs.Writing.{row_stopped, row_left, row_added, row_parts, seen_none, seen_there, acted_calm}
+use Rattle.app_store.proofs.Writing.{row_stopped, row_left, row_added, row_parts, sees_none, seen_there, acted_calm}
+use Rattle.app_store.proofs.Written.{row_written}
 use Rattle.app_store.proofs.database.Database.insert_row.Goals as goal
 
 pub returns-in-Some-clause-writes : goal.returns-in-Some-clause-writes
 returns-in-Some-clause-writes g c p ready memory named =
     let found = c.in-Ok.ensures.finds p ready refl named in
     let parts = row_parts c.args.xid c.args.table.now c.args.key.now p c.in-Ok.target _ found in
-    let row = seen_there (get (seen_rows c.args.xid p c.args.table.now) c.args.key.now) c.in-Ok.target.seen parts.target.seen_is (ap is_some c.in-Some.is) in
-    row_left (write_by c.args.name.now c.args.table.now (Put c.args.key.now c.args.row.now)) c.args.xid p c.in-Ok.target _ (Some row.0) _ found row.1 refl refl
+    let row =
+    seen_there (get (seen_rows c.args.xid p c.args.table.now) c.args.key.now) c.in-Ok.target.seen
+    parts.target.seen_is (ap is_some c.in-Some.is) in
+    row_left (write_by c.args.name.now c.args.table.now (Put c.args.key.now c.args.row.now)) c.args.xid p
+    (record { row = Some row.0; free = parts.free; seen = row.1 }) _ _ parts.fits
+    (record { told = refl; stays = refl })
 
 pub returns-in-Ok-clause-writes : goal.returns-in-Ok-clause-writes
 returns-in-Ok-clause-writes g c p ready memory named =
     let found = c.in-Ok.ensures.finds p ready refl named in
     let parts = row_parts c.args.xid c.args.table.now c.args.key.now p c.in-Ok.target _ found in
-    row_added (write_by c.args.name.now c.args.table.now (Put c.args.key.now c.args.row.now)) c.args.xid p None c.add_write.result _ parts.free (seen_none (get (seen_rows c.args.xid p c.args.table.now) c.args.key.now) c.in-Ok.target.seen parts.target.seen_is (ap is_some c.in-None.is)) refl
-    (c.add_write.ensures.adds p (record { fits = parts.fits; sound = ready.sound; spelled = ready.spelled }) (acted_calm c.add_write.result _ refl memory) (Put c.args.key.now c.args.row.now) (record { opened = named; free = parts.free; key_is = refl; spelled_is = parts.target.key_is; value_is = ap (λ v. Some v) c.in_ok-value-in-None.ensures }))
+    let w = write_by c.args.name.now c.args.table.now (Put c.args.key.now c.args.row.now) in
+    row_added w c.args.xid p (sees_none w parts (ap is_some c.in-None.is)) c.add_write.result _ refl
+    (c.add_write.ensures.adds p (record { fits = parts.fits; sound = ready.sound; spelled = ready.spelled })
+    (acted_calm c.add_write.result _ refl memory) (Put c.args.key.now c.args.row.now)
+    (record {
+      opened = named;
+      free = parts.free;
+      key_is = refl;
+      spelled_is = parts.target.key_is;
+      value_is = ap (λ v. Some v) c.in_ok-value-in-None.ensures;
+    }))
 
 pub returns-clause-writes : goal.returns-clause-writes
 returns-clause-writes g c p ready memory named =
-    row_stopped (write_by c.args.name.now c.args.table.now (Put c.args.key.now c.args.row.now)) c.args.xid p c.in-Err.fault _ (c.in-Err.ensures.finds p ready memory named)
+    row_stopped (write_by c.args.name.now c.args.table.now (Put c.args.key.now c.args.row.now)) c.args.xid p
+    c.in-Err.fault _ (c.in-Err.ensures.finds p ready memory named)
+
+pub add_write-requires-clause-written : goal.add_write-requires-clause-written
+add_write-requires-clause-written g c =
+    row_written _ c.args.row.now (record { few = omega (arith, c.requires.few); each = c.requires.texts })
+    c.in_ok-value-in-None.ensures
+
+pub returns-in-Ok-clause-form : goal.returns-in-Ok-clause-form
+returns-in-Ok-clause-form g c m held =
+    c.add_write.ensures.form m ((c.in-Ok.ensures.form m held).1.held ∙ held)

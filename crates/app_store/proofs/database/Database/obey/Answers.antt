@@ -1,7 +1,5 @@
-use Rattle.slon_model.proofs.Spoken.{value_text, value_texts, table_name_text}
+use Rattle.slon_model.proofs.Spoken.{value_text, table_name_text}
 use Rattle.slon_laws.proofs.Spells.{column_texts}
-use Rattle.slon_model.specs.Spoken.{IsSpoken}
-use Rattle.std.proofs.Common.{sym, subst}
 use Rattle.app_store.proofs.database.Database.obey.Goals as goal
 
 pub table-requires-clause-text : goal.table-requires-clause-text
@@ -11,7 +9,8 @@ pub insert-requires-clause-text : goal.insert-requires-clause-text
 insert-requires-clause-text g c = table_name_text c.in-Insert.table (rw c.in-Insert.is at c.requires).1.1
 
 pub insert-requires-clause-texts : goal.insert-requires-clause-texts
-insert-requires-clause-texts g c = Rattle.app_store.proofs.Writing.parts_texts c.in-Insert.values (rw c.in-Insert.is at c.requires).1.2
+insert-requires-clause-texts g c =
+    Rattle.app_store.proofs.Writing.parts_texts c.in-Insert.values (rw c.in-Insert.is at c.requires).1.2
 
 pub update-requires-clause-text : goal.update-requires-clause-text
 update-requires-clause-text g c = table_name_text c.in-Update.table (rw c.in-Update.is at c.requires).1.1
