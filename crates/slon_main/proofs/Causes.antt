@@ -1,11 +1,17 @@
 -- Why a run stops, carried over the calls that it makes.
-use Rattle.std.proofs.Common.{◌≡◌, ◌∙◌, ℕ, ◌≤◌, ◌^◌, ◌-◌, true, Option, Some, None, Result, Err, sym, ap, subst, inl, inr, arith}
+use Rattle.std.proofs.Common.{◌≡◌, ◌∙◌, ℕ, List, ◌≤◌, ◌^◌, ◌-◌, true, Option, Some, None, Result, Err, refl, sym, ap}
+use Rattle.std.proofs.Common.{subst, inl, inr, arith}
 use Rattle.slon_base.specs.Counts.{Rose, Within}
 use Rattle.slon_base.specs.Keeper.{Kept, nothing}
 use Rattle.slon_main.specs.declared.run.Stop.{Stop}
 use Rattle.slon_main.specs.declared.run.Stop.TheVariants.{Read, Write, NoStore}
 use Rattle.slon_base.specs.Shelf.{Shelved, IsAsPromised}
-use Rattle.slon_main.specs.Running.{Counts, HasCause, NeverFails, Tells}
+use Rattle.slon_model.specs.declared.command.Command.TheVariants.{Database}
+use Rattle.slon_model.specs.declared.reply.Answer.TheVariants.{Done}
+use Rattle.slon_model.specs.declared.reply.Reply.TheVariants.{Accepted}
+use Rattle.slon_main.specs.Agreed.{Clustered}
+use Rattle.slon_main.specs.Calls.{grant}
+use Rattle.slon_main.specs.Running.{Counts, HasCause, NeverFails, Tells, NamesMade, is_no_store}
 
 -- a count that rises after it stood still or rose has risen
 pub rose_since : (old mid new : ℕ) → old ≤ mid → Rose mid new → Rose old new
@@ -16,15 +22,20 @@ pub rose_on : (old mid new : ℕ) → Rose old mid → mid ≤ new → new ≤ 2
 rose_on old mid new (inl less) later small = inl (omega (arith, later, less))
 rose_on old mid new (inr last) later small = inr (omega (arith, last, later, small))
 
+-- no count fell
+pub record Later (old new : Counts) : Type 0 where
+  pub files : old.files ≤ new.files
+  pub shelf : old.shelf ≤ new.shelf
+  pub out : old.out ≤ new.out
+
 -- a stop after a call that did not stop
-pub stops_since : {T : Type 0} (result : Result T Stop) (old mid new : Counts) → old.files ≤ mid.files →
-    old.shelf ≤ mid.shelf → old.out ≤ mid.out →
+pub stops_since : {T : Type 0} (result : Result T Stop) (old mid new : Counts) → Later old mid →
     HasCause mid new result → HasCause old new result
-stops_since (Err Read) old mid new files shelf out cause = rose_since old.files mid.files new.files files cause
-stops_since (Err Write) old mid new files shelf out cause = rose_since old.out mid.out new.out out cause
-stops_since (Err (NoStore name)) old mid new files shelf out cause = rose_since old.shelf mid.shelf new.shelf shelf
-    cause
-stops_since others old mid new files shelf out cause = tt
+stops_since (Err Read) old mid new later cause = rose_since old.files mid.files new.files later.files cause
+stops_since (Err Write) old mid new later cause = rose_since old.out mid.out new.out later.out cause
+stops_since (Err (NoStore name)) old mid new later cause =
+    rose_since old.shelf mid.shelf new.shelf later.shelf cause
+stops_since others old mid new later cause = tt
 
 -- the same stop, of another call
 pub stops_as : (T U : Type 0) (old new : Counts) (stop : Stop) (result : Result U Stop) →
@@ -66,3 +77,14 @@ pub cannot_fail : (shelf : Shelved) (place : ℕ) (k : Kept) → NeverFails shel
     k.can_fail ≡ Some 0
 cannot_fail shelf place k never promised = within_none k.can_fail
     (subst (λ p. Within p.can_fail k.can_fail) (never place) promised.left)
+
+-- no store for a database that was granted
+one_name : (name copy other : List ℕ) → copy ≡ name → NoStore other ≡ NoStore copy → name ≡ other
+one_name name copy other same is = let named : other ≡ copy = cc in sym (named ∙ same)
+
+pub names_made : (name copy : List ℕ) (old : Clustered) (stop : Stop) → copy ≡ name → grant name old ≡ Accepted Done →
+    (is_no_store stop ≡ true → stop ≡ NoStore copy) → NamesMade (Database name) old stop
+names_made name copy old (NoStore other) same done named =
+    let is = one_name name copy other same (named refl) in
+    (ap Database is, subst (λ n. grant n old ≡ Accepted Done) is done)
+names_made name copy old others same done named = tt

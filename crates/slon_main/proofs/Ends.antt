@@ -1,21 +1,31 @@
 -- The end of a run, with its last line.
-use Rattle.std.proofs.Common.{◌≡◌, ◌∙◌, ℕ, ◌<◌, ◌≤◌, List, ◌++◌, length, Option, Some, None, Err, Bool, true, false, is_some, true≢false, refl, sym, ap, subst, arith}
+use Rattle.std.proofs.Common.{◌≡◌, ◌∙◌, ℕ, ◌<◌, ◌≤◌, List, [], ◌∷◌, ◌++◌, length, append-nil, Option, Some, None, Err}
+use Rattle.std.proofs.Common.{Bool, true, false, is_some, true≢false, refl, sym, ap, subst, arith}
 use Rattle.std.specs.Option.{option_map}
-use Rattle.slon_base.specs.Outside.{Filed, Poured, Entered, HoldsFile, top}
+use Rattle.slon_base.specs.Outside.{Filed, Poured, with_piece, WritesPart, Entered, HoldsFile, top}
 use Rattle.slon_base.specs.Counts.{Rose}
 use Rattle.slon_base.specs.Shelf.{Shelved}
+use Rattle.slon_model.specs.declared.command.Command.{Command}
 use Rattle.slon_model.specs.Lines.{session_of}
-use Rattle.slon_model.specs.World.{output_of}
+use Rattle.slon_model.specs.World.{lines_of}
 use Rattle.session_text.specs.Reading.{session_limit}
 use Rattle.slon_main.specs.declared.status.Status.{Status}
-use Rattle.slon_main.specs.declared.status.Status.TheVariants.{Usage, BadLine, ReadFault, WriteFault, NoMemory, NoStore, Missing, TooLong}
+use Rattle.slon_main.specs.declared.status.Status.TheVariants.{Done, Usage, BadLine, ReadFault, WriteFault, NoMemory}
+use Rattle.slon_main.specs.declared.status.Status.TheVariants.{NoStore, Missing, TooLong}
 use Rattle.slon_main.specs.declared.run.Stop.{Stop}
-use Rattle.slon_main.specs.declared.run.Stop.TheVariants.{BadLine as StopsBad, Read as StopsRead, Write as StopsWrite, NoMemory as StopsShort, NoStore as StopsNoStore, TooLong as StopsLong}
+use Rattle.slon_main.specs.declared.run.Stop.TheVariants.{BadLine as StopsBad, Read as StopsRead, Write as StopsWrite}
+use Rattle.slon_main.specs.declared.run.Stop.TheVariants.{NoMemory as StopsShort, NoStore as StopsNoStore}
+use Rattle.slon_main.specs.declared.run.Stop.TheVariants.{TooLong as StopsLong}
 use Rattle.slon_main.specs.Agreed.{Clustered}
-use Rattle.slon_main.specs.Running.{Counts, Ran, RanOn, RunsSession, StopsAt}
-use Rattle.slon_main.specs.Ending.{Closes, Closed, Failed, Short, ClosesAt, EndsRun, EndsAt, FaultOnly, NoneRose, IsWhole, Holds, hands_back, is_run, is_whole, session_word, database_limit, bad_line, read_line, store_line, long_line}
+use Rattle.slon_main.specs.Running.{Counts, Begun, Pieces, Starts, Ran, RanOn, RanInPart, RunsSession, StopsAt}
+use Rattle.slon_main.specs.Ending.{Closes, Closed, Failed, Short, ClosesAt, Unread, AtFirst, InRead, EndsWhole}
+use Rattle.slon_main.specs.Ending.{EndsInPart, InReply, InLast, EndsRun, EndsAt, FaultOnly, NoneRose, IsWhole, Holds}
+use Rattle.slon_main.specs.Ending.{hands_back, is_cut, is_run, is_whole, session_word, database_limit, bad_line}
+use Rattle.slon_main.specs.Ending.{read_line}
+use Rattle.slon_main.specs.Ending.{store_line, long_line}
 use Rattle.slon_main.proofs.Causes.{rose_since}
 use Rattle.slon_main.proofs.Places.{too_long}
+use Rattle.slon_main.proofs.Runs.{ran_nothing}
 
 -- what the ending of a session makes of the output, its status, and what it hands back
 pub record Outcome (C : Type 0) : Type 0 where
@@ -27,9 +37,9 @@ pub record Outcome (C : Type 0) : Type 0 where
 -- what holds in each case of an ending with a last line
 pub record Cases {C : Type 0} (P : Status → Option C → Type 0) (line : List ℕ) (status : Status) (cluster : Option C)
     (o : Outcome C) : Type 0 where
-  pub here : o.new.written ≡ option_map (λ before. before ++ line) o.old.written → P status cluster
-  pub failed : Rose o.old.faults o.new.faults → P WriteFault None
-  pub short : P NoMemory None
+  pub here : o.new.pieces ≡ with_piece line o.old.pieces → P status cluster
+  pub failed : WritesPart line o.old.pieces o.new.pieces → Rose o.old.faults o.new.faults → P WriteFault None
+  pub short : o.new.pieces ≡ o.old.pieces → P NoMemory None
 
 -- an ending is the one with the line, or the output failed, or memory ran out
 pub closed_by : {C : Type 0} (P : Status → Option C → Type 0) (line : List ℕ) (status : Status) (cluster : Option C)
@@ -37,134 +47,189 @@ pub closed_by : {C : Type 0} (P : Status → Option C → Type 0) (line : List �
     Cases P line status cluster o → Closes line status cluster o.old o.new o.is o.has → P o.is o.has
 closed_by P line status cluster o cases (Closed same kept written later) =
     subst (λ s. P s o.has) (sym same) (subst (λ h. P status h) (sym kept) (cases.here written))
-closed_by P line status cluster o cases (Failed same kept rose) =
-    subst (λ s. P s o.has) (sym same) (subst (λ h. P WriteFault h) (sym kept) (cases.failed rose))
-closed_by P line status cluster o cases (Short same kept later) =
-    subst (λ s. P s o.has) (sym same) (subst (λ h. P NoMemory h) (sym kept) cases.short)
+closed_by P line status cluster o cases (Failed same kept part rose) =
+    subst (λ s. P s o.has) (sym same) (subst (λ h. P WriteFault h) (sym kept) (cases.failed part rose))
+closed_by P line status cluster o cases (Short same kept written later) =
+    subst (λ s. P s o.has) (sym same) (subst (λ h. P NoMemory h) (sym kept) (cases.short written))
 
 -- the same, of what was written
-ran_written : (shelf : Shelved) (bytes : List ℕ) (output : Option (List ℕ)) (cluster : Clustered) →
-    (ran : Ran shelf database_limit (session_of bytes).commands output cluster) →
-    Ran shelf database_limit (session_of bytes).commands (Some (output_of ran.history)) cluster
-ran_written shelf bytes output cluster ran = record {
-  history = ran.history;
-  world = ran.world;
-  leads = ran.leads;
-  commands = ran.commands;
-  written = refl;
-  agrees = ran.agrees;
-  due = ran.due;
-  quiet = ran.quiet;
-  few = ran.few;
+ran_written : {shelf : Shelved} {said : List Command} {output : Pieces} {cluster : Clustered} →
+    (ran : Ran shelf database_limit said output cluster) →
+    Ran shelf database_limit said (Some (lines_of ran.history)) cluster
+ran_written {shelf = shelf} {said = said} {cluster = cluster} ran =
+    subst (λ output. Ran shelf database_limit said output cluster) ran.written ran
+
+abbrev ran_on_written : {shelf : Shelved} {said : List Command} {output : Pieces} {cluster : Clustered} →
+    (on : RanOn shelf database_limit said output cluster) →
+    RanOn shelf database_limit said (Some (lines_of on.ran.history)) cluster
+ran_on_written on = record { first = on.first; others = on.others; parts = on.parts; ran = ran_written on.ran }
+
+line_after : (line : List ℕ) (output : List (List ℕ)) (old new : Pieces) → new ≡ with_piece line old →
+    old ≡ Some output → new ≡ Some (output ++ line ∷ [])
+line_after line output old new written is = written ∙ ap (with_piece line) is
+
+-- a session: the shelf, its bytes, and what was left of its file
+pub record Sitting : Type 0 where
+  pub shelf : Shelved
+  pub bytes : List ℕ
+  pub unread : Unread
+
+-- how it ends as the output now is
+abbrev Ends : {C : Type 0} → Sitting → (C → Clustered) → Outcome C → Status → Option C → Type 0
+Ends at f o status has = EndsRun at.shelf status at.bytes o.new.pieces at.unread (option_map f has)
+
+-- the first commands of a session were run
+abbrev RanFirst : Sitting → Pieces → Clustered → Type 0
+RanFirst at output cluster = RanOn at.shelf database_limit (session_of at.bytes).commands output cluster
+
+-- the status and the line with which it ends, where the output takes it
+record Last : Type 0 where
+  status : Status
+  line : List ℕ
+
+-- A run that stopped, with the line that comes last: what was written before it, how it ends once the line is written,
+-- where the databases are handed back, and what was run.
+record Stopping (at : Sitting) (last : Last) (cluster : Clustered) (old : Pieces) : Type 0 where
+  before : List (List ℕ)
+  was : old ≡ Some before
+  other : last.status ≡ Done → ⊥
+  whole : EndsWhole at.shelf last.status at.bytes (Some (before ++ last.line ∷ [])) at.unread cluster
+  hands : (written : Pieces) → EndsWhole at.shelf last.status at.bytes written at.unread cluster →
+      EndsRun at.shelf last.status at.bytes written at.unread (Some cluster)
+  on : RanFirst at old cluster
+
+cut_in : (at : Sitting) (last : Last) (cluster : Clustered) (old new : Pieces) → Stopping at last cluster old →
+    WritesPart last.line old new → EndsInPart at.shelf at.bytes new at.unread
+cut_in at last cluster old new s part =
+    let told = subst (λ p. WritesPart last.line p new) s.was part in
+    InLast last.status s.before last.line told.0 cluster s.other s.whole told.2
+
+-- the ending after a stop with a last line, where the databases are handed back
+ends_by : {C : Type 0} (at : Sitting) (f : C → Clustered) (last : Last) (cluster : C) (o : Outcome C) →
+    Stopping at last (f cluster) o.old.pieces →
+    Closes last.line last.status (Some cluster) o.old o.new o.is o.has → Ends at f o o.is o.has
+ends_by at f last cluster o s closes =
+    closed_by (Ends at f o) last.line last.status (Some cluster) o (record {
+      here = λ written. s.hands o.new.pieces
+          (subst (λ p. EndsWhole at.shelf last.status at.bytes p at.unread (f cluster))
+          (sym (line_after last.line s.before o.old.pieces o.new.pieces written s.was)) s.whole);
+      failed = λ part rose. cut_in at last (f cluster) o.old.pieces o.new.pieces s part;
+      short = λ same. (f cluster, subst (λ p. RanFirst at p (f cluster)) (sym same) s.on);
+    }) closes
+
+all_on : {shelf : Shelved} {said : List Command} {output : Pieces} {cluster : Clustered} →
+    Ran shelf database_limit said output cluster → RanOn shelf database_limit said output cluster
+all_on {said = said} ran = record { first = said; others = []; parts = sym (append-nil said); ran = ran }
+
+abbrev session_run : Shelved → List ℕ → Begun
+session_run shelf bytes = record { shelf = shelf; limit = database_limit; bytes = bytes }
+
+stopping : (at : Sitting) (last : Last) (cluster : Clustered) (old : Pieces) (on : RanFirst at old cluster) →
+    (last.status ≡ Done → ⊥) × ((written : Pieces) → EndsWhole at.shelf last.status at.bytes written at.unread cluster →
+    EndsRun at.shelf last.status at.bytes written at.unread (Some cluster)) →
+    EndsWhole at.shelf last.status at.bytes (Some (lines_of on.ran.history ++ last.line ∷ [])) at.unread cluster →
+    Stopping at last cluster old
+stopping at last cluster old on (other, hands) whole = record {
+  before = lines_of on.ran.history;
+  was = on.ran.written;
+  other = other;
+  whole = whole;
+  hands = hands;
+  on = on;
 }
 
-abbrev ran_on_written : (shelf : Shelved) (bytes : List ℕ) (output : Option (List ℕ)) (cluster : Clustered) →
-    (on : RanOn shelf database_limit (session_of bytes).commands output cluster) →
-    RanOn shelf database_limit (session_of bytes).commands (Some (output_of on.ran.history)) cluster
-ran_on_written shelf bytes output cluster on = record {
-  first = on.first;
-  others = on.others;
-  parts = on.parts;
-  ran = record {
-    history = on.ran.history;
-    world = on.ran.world;
-    leads = on.ran.leads;
-    commands = on.ran.commands;
-    written = refl;
-    agrees = on.ran.agrees;
-    due = on.ran.due;
-    quiet = on.ran.quiet;
-    few = on.ran.few;
-  };
-}
+pub ends_stopped : {C : Type 0} (at : Sitting) (f : C → Clustered) (stop : Stop) (cluster : C) (o : Outcome C) →
+    ClosesAt stop cluster o.old o.new o.is o.has ×
+    RunsSession (session_run at.shelf at.bytes) o.old.pieces (f cluster) at.unread.now (Err stop) →
+    EndsRun at.shelf o.is at.bytes o.new.pieces at.unread (option_map f o.has)
+ends_stopped at f (StopsBad number) cluster o (closes, (ran, stop)) =
+    ends_by at f (record { status = BadLine; line = bad_line number }) cluster o (record {
+      before = lines_of ran.history;
+      was = ran.written;
+      other = λ is. cc;
+      whole = (lines_of ran.history, number, ran_written ran, stop, refl);
+      hands = λ written whole. whole;
+      on = all_on ran;
+    }) closes
+ends_stopped at f StopsRead cluster o (closes, (on, broke)) =
+    ends_by at f (record { status = ReadFault; line = read_line }) cluster o (stopping at _ (f cluster) o.old.pieces on
+    (λ is. cc, λ written whole. whole) (lines_of on.ran.history, ran_on_written on, InRead broke, refl)) closes
+ends_stopped at f StopsWrite cluster o (closes, part) =
+    subst (λ s. Ends at f o s o.has) (sym closes.0)
+    (InReply (subst (λ (p : Poured). RanInPart at.shelf database_limit (session_of at.bytes).commands p.pieces)
+    (sym closes.2) part))
+ends_stopped at f StopsShort cluster o (closes, on) =
+    subst (λ s. Ends at f o s o.has) (sym closes.0)
+    (on.0, subst (λ (p : Poured). RanFirst at p.pieces on.0) (sym closes.2) on.1)
+ends_stopped at f (StopsNoStore name) cluster o (closes, (on, making)) =
+    ends_by at f (record { status = NoStore; line = store_line name }) cluster o
+    (stopping at _ (f cluster) o.old.pieces on
+    (λ is. cc, λ written whole. whole) (lines_of on.ran.history, name, ran_on_written on, making, refl)) closes
+ends_stopped at f StopsLong cluster o (closes, (on, beyond)) =
+    ends_by at f (record { status = TooLong; line = long_line }) cluster o (stopping at _ (f cluster) o.old.pieces on
+    (λ is. cc, λ written whole. whole) (lines_of on.ran.history, ran_on_written on, beyond, refl)) closes
 
-line_after : (line output : List ℕ) (old new : Option (List ℕ)) → new ≡ option_map (λ before. before ++ line) old →
-    old ≡ Some output → new ≡ Some (output ++ line)
-line_after line output old new written is = written ∙ ap (option_map (λ before. before ++ line)) is
+-- what is left of the session's file once that is left
+pub left_unread : (b : Begun) (written : Pieces) (cluster : Clustered) (before now : Option (List ℕ)) (stop : Stop) →
+    now ≡ before → RunsSession b written cluster before (Err stop) →
+    RunsSession b written cluster now (Err stop)
+left_unread b written cluster before now stop same runs =
+    subst (λ u. RunsSession b written cluster u (Err stop)) (sym same) runs
 
--- the run as the last line tells of it, where it was written
-abbrev Ends : {C : Type 0} → Shelved → (C → Clustered) → List ℕ → Outcome C → Status → Option C → Type 0
-Ends shelf f bytes o status has = EndsRun shelf status bytes o.new.written (option_map f has)
+-- the session could not be entered
+pub ends_unentered : {C : Type 0} (at : Sitting) (f : C → Clustered) (cluster : C) (o : Outcome C) →
+    at.unread.now ≡ at.unread.was → (Starts database_limit (f cluster)) × (o.old.pieces ≡ Some []) →
+    Closes read_line ReadFault (Some cluster) o.old o.new o.is o.has →
+    EndsRun at.shelf o.is at.bytes o.new.pieces at.unread (option_map f o.has)
+ends_unentered at f cluster o same (starts, empty) closes =
+    let on =
+    ran_nothing at.shelf database_limit (session_of at.bytes).commands o.old.pieces (f cluster) empty starts in
+    ends_by at f (record { status = ReadFault; line = read_line }) cluster o (record {
+      before = [];
+      was = empty;
+      other = λ is. cc;
+      whole = ([], ran_on_written on, AtFirst same refl, refl);
+      hands = λ written whole. whole;
+      on = on;
+    }) closes
 
-pub ends_stopped : {C : Type 0} (shelf : Shelved) (f : C → Clustered) (bytes : List ℕ) (stop : Stop) (cluster : C)
-    (o : Outcome C) →
-    ClosesAt stop cluster o.old o.new o.is o.has →
-    RunsSession shelf database_limit bytes o.old.written (f cluster) (Err stop) →
-    EndsRun shelf o.is bytes o.new.written (option_map f o.has)
-ends_stopped shelf f bytes (StopsBad number) cluster o closes (ran, stop) =
-    closed_by (Ends shelf f bytes o) (bad_line number) BadLine (Some cluster) o (record {
-      here = λ written. (
-        output_of ran.history,
-        number,
-        ran_written shelf bytes o.old.written (f cluster) ran,
-        stop,
-        line_after (bad_line number) (output_of ran.history) o.old.written o.new.written written ran.written,
-      );
-      failed = λ rose. tt;
-      short = tt;
-    }) closes
-ends_stopped shelf f bytes StopsRead cluster o closes on =
-    closed_by (Ends shelf f bytes o) read_line ReadFault (Some cluster) o (record {
-      here = λ written. (
-        output_of on.ran.history,
-        ran_on_written shelf bytes o.old.written (f cluster) on,
-        line_after read_line (output_of on.ran.history) o.old.written o.new.written written on.ran.written,
-      );
-      failed = λ rose. tt;
-      short = tt;
-    }) closes
-ends_stopped shelf f bytes StopsWrite cluster o closes runs = subst (λ s. Ends shelf f bytes o s o.has)
-    (sym closes.0) tt
-ends_stopped shelf f bytes StopsShort cluster o closes runs = subst (λ s. Ends shelf f bytes o s o.has)
-    (sym closes.0) tt
-ends_stopped shelf f bytes (StopsNoStore name) cluster o closes on =
-    closed_by (Ends shelf f bytes o) (store_line name) NoStore (Some cluster) o (record {
-      here = λ written. (
-        output_of on.0.ran.history,
-        name,
-        ran_on_written shelf bytes o.old.written (f cluster) on.0,
-        on.1,
-        line_after (store_line name) (output_of on.0.ran.history) o.old.written o.new.written written on.0.ran.written,
-      );
-      failed = λ rose. tt;
-      short = tt;
-    }) closes
-ends_stopped shelf f bytes StopsLong cluster o closes on =
-    closed_by (Ends shelf f bytes o) long_line TooLong (Some cluster) o (record {
-      here = λ written. (
-        output_of on.0.ran.history,
-        ran_on_written shelf bytes o.old.written (f cluster) on.0,
-        on.1,
-        line_after long_line (output_of on.0.ran.history) o.old.written o.new.written written on.0.ran.written,
-      );
-      failed = λ rose. tt;
-      short = tt;
-    }) closes
+-- there was no memory before the first line
+pub ends_short : (shelf : Shelved) (bytes : List ℕ) (unread : Unread) (written : Pieces) (status : Status)
+    (has : Option Clustered) → status ≡ NoMemory → written ≡ Some [] → EndsRun shelf status bytes written unread has
+ends_short shelf bytes unread written status has is empty =
+    subst (λ s. EndsRun shelf s bytes written unread has) (sym is) (
+      bare,
+      ran_nothing shelf database_limit (session_of bytes).commands written bare empty (record {
+        agrees = record { limit = refl; fits = tt };
+        given = refl;
+      }),
+    )
+  where
+    bare : Clustered
+    bare = record { limit = database_limit; given = 0; bases = [] }
 
 -- where the session could not be entered
 pub read_faults : {C : Type 0} (line : List ℕ) (cluster : Option C) (before behind shelf : ℕ) (o : Outcome C) →
-    Rose before behind →
-    Closes line ReadFault cluster o.old o.new o.is o.has →
+    Rose before behind × Closes line ReadFault cluster o.old o.new o.is o.has →
     FaultOnly o.is (record { files = before; shelf = shelf; out = o.old.faults })
     (record { files = behind; shelf = shelf; out = o.new.faults })
-read_faults line cluster before behind shelf o rose closes =
+read_faults line cluster before behind shelf o (rose, closes) =
     closed_by (λ s h. FaultOnly s (record { files = before; shelf = shelf; out = o.old.faults })
     (record { files = behind; shelf = shelf; out = o.new.faults }))
-    line ReadFault cluster o (record { here = λ written. rose; failed = λ failed. failed; short = tt }) closes
+    line ReadFault cluster o (record { here = λ written. rose; failed = λ part failed. failed; short = λ same. tt })
+    closes
 
 -- it is lost, and neither refused for its words nor missing
 abbrev other_ending : Status → Bool
 other_ending ReadFault = true
-other_ending WriteFault = true
-other_ending NoMemory = true
-other_ending others = false
+other_ending others = is_cut others
 
 read_other : {C : Type 0} (line : List ℕ) (cluster : Option C) (o : Outcome C) →
     Closes line ReadFault cluster o.old o.new o.is o.has →
     other_ending o.is ≡ true
 read_other line cluster o closes =
     closed_by (λ s h. other_ending s ≡ true) line ReadFault cluster o
-    (record { here = λ written. refl; failed = λ failed. refl; short = refl }) closes
+    (record { here = λ written. refl; failed = λ part failed. refl; short = λ same. refl }) closes
 
 pub read_no_usage : {C : Type 0} (line : List ℕ) (cluster : Option C) (o : Outcome C) →
     Closes line ReadFault cluster o.old o.new o.is o.has →
@@ -185,7 +250,7 @@ hands_closed : {C : Type 0} (line : List ℕ) (status : Status) (cluster : C) (o
     Closes line status (Some cluster) o.old o.new o.is o.has → is_some o.has ≡ hands_back o.is
 hands_closed line status cluster o hands closes =
     closed_by (λ s h. is_some h ≡ hands_back s) line status (Some cluster) o
-    (record { here = λ written. sym hands; failed = λ failed. refl; short = refl }) closes
+    (record { here = λ written. sym hands; failed = λ part failed. refl; short = λ same. refl }) closes
 
 pub hands_stopped : {C : Type 0} (stop : Stop) (cluster : C) (o : Outcome C) →
     ClosesAt stop cluster o.old o.new o.is o.has →
@@ -203,7 +268,7 @@ at_closed : {C : Type 0} (bytes line : List ℕ) (status : Status) (cluster : Op
     Closes line status cluster o.old o.new o.is o.has → EndsAt o.is bytes
 at_closed bytes line status cluster o at closes =
     closed_by (λ s h. EndsAt s bytes) line status cluster o
-    (record { here = λ written. at; failed = λ failed. tt; short = tt }) closes
+    (record { here = λ written. at; failed = λ part failed. tt; short = λ same. tt }) closes
 
 pub at_stopped : {C : Type 0} (bytes : List ℕ) (stop : Stop) (cluster : C) (o : Outcome C) →
     ClosesAt stop cluster o.old o.new o.is o.has →

@@ -1,10 +1,11 @@
 -- The replies that tell of faults are at most as many as the calls of the stores that can fail.
-use Rattle.std.proofs.Common.{◌≡◌, ◌∙◌, ℕ, ◌+◌, ◌≤◌, suc, Bool, true, false, cond, List, [], ◌∷◌, ◌++◌, length, is_some, Option, Some, None, Result, Ok, Err, refl, sym, ap, subst, arith}
+use Rattle.std.proofs.Common.{◌≡◌, ◌∙◌, ℕ, ◌+◌, ◌≤◌, suc, Bool, true, false, cond, List, [], ◌∷◌, ◌++◌, length, is_some}
+use Rattle.std.proofs.Common.{Option, Some, None, Result, Ok, Err, refl, sym, ap, subst, arith, length-append}
 use Rattle.std.specs.Prelude.{◌&&◌}
 use Rattle.std.specs.Option.{option_map}
 use Rattle.std.specs.Str.{bytes_eq}
 use Rattle.std.proofs.lemmas.Bool.{false≢true}
-use Rattle.slon_base.specs.Keeper.{Kept}
+use Rattle.slon_base.specs.Keeper.{Kept, nothing}
 use Rattle.slon_base.specs.Shelf.{Promise, IsAsPromised}
 use Rattle.slon_base.specs.Counts.{Within}
 use Rattle.slon_base.specs.declared.fault.Halt.TheVariants.{Doubt, Fault as HaltFault}
@@ -25,10 +26,12 @@ use Rattle.app_store.specs.Base.{Base}
 use Rattle.app_store.specs.Serves.{is_failure, trouble, settled}
 use Rattle.store_rows.specs.Spending.{IsAtMost, Stays, Spends}
 use Rattle.slon_main.specs.Agreed.{Clustered}
-use Rattle.slon_main.specs.Calls.{arms_on, happened, with_base, with_more, Moves, Grants, Misses, Asks, is_sure_reply, Adopts, Rejects, Keeps}
+use Rattle.slon_main.specs.Calls.{arms_on, happened, with_base, with_more, Moves, Grants, Misses, Asks, is_sure_reply}
+use Rattle.slon_main.specs.Calls.{Adopts, Rejects, Keeps}
 use Rattle.slon_main.specs.Failing.{tells_of, failures, place_of, IsWithin, Pays}
 use Rattle.slon_main.proofs.Moving.{IsGranted}
 use Rattle.slon_main.proofs.Telling.{granted_sure}
+use Rattle.slon_main.proofs.Stepping.{never_empty}
 
 -- ---- bounds
 
@@ -73,6 +76,7 @@ untold : (promise : ℕ → Promise) (h : Happening) (cluster : Clustered) (hist
     is_sure_reply h.reply ≡ true →
     IsWithin promise history cluster → IsWithin promise (h ∷ history) cluster
 untold promise h cluster history is w = record {
+  placed = w.placed;
   absent = λ name none. ap (λ b. cond b (failures name history + 1) (failures name history))
       (sure_tells name h.reply is) ∙ w.absent name none;
   present = λ name b n found told.
@@ -122,6 +126,14 @@ place_put name other d (b ∷ bs) =
       | false ↦ ap (λ k. cond (bytes_eq name b.0) 0 (k + 1)) (place_put name other d bs)
     ]
 
+length_put : (name : List ℕ) (d : Base) (bases : Named Base) → length (put_named name d bases) ≡ length bases
+length_put name d [] = refl
+length_put name d (b ∷ bs) =
+    elim (bytes_eq name b.0) as (λ c. length (cond c ((b.0, d) ∷ bs) (b ∷ put_named name d bs)) ≡ length (b ∷ bs)) [
+      | true ↦ refl
+      | false ↦ ap suc (length_put name d bs)
+    ]
+
 -- a database that was asked, and what it spends
 record Spent (name : List ℕ) (h : Happening) (c : Clustered) (d : Base) : Type 0 where
   failed : Bool
@@ -135,6 +147,7 @@ asks_pays : (promise : ℕ → Promise) (name : List ℕ) (h : Happening) (old :
     (history : List Happening) → Spent name h old d →
     IsWithin promise history old → IsWithin promise (h ∷ history) (with_base name d old)
 asks_pays promise name h old d history s w = record {
+  placed = w.placed ∙ sym (length_put name d old.bases);
   absent = λ other none. gone other (bytes_eq other name) refl none;
   present = λ other e n is told. here other e n (bytes_eq other name) refl is
       (ap (λ k. (promise k).can_fail) (sym (place_put other name d old.bases)) ∙ told);
@@ -174,19 +187,18 @@ moves_pays promise command old reply new (Grants name about told same) armless c
 moves_pays promise command old reply new (Misses name task about none told same) armless choice history w =
     subst (IsWithin promise (happened command reply choice ∷ history)) (sym same)
     (untold promise (happened command reply choice) old history (ap is_sure_reply told) w)
-moves_pays promise command old reply new (Asks name task b d result about found serves memory told same) armless choice
-    history w =
-    subst (IsWithin promise (happened command reply choice ∷ history)) (sym same)
-    (asks_pays promise name (happened command reply choice) old d history (record {
-      failed = is_failure (trouble result);
+moves_pays promise command old reply new (Asks s) armless choice history w =
+    subst (IsWithin promise (happened command reply choice ∷ history)) (sym s.same)
+    (asks_pays promise s.name (happened command reply choice) old s.behind history (record {
+      failed = is_failure (trouble s.result);
       tells = record {
-        tells = λ other. ap (tells_of other) told
-            ∙ reply_tells other (words_of (OnOne name task)) result;
+        tells = λ other. ap (tells_of other) s.told
+            ∙ reply_tells other (words_of (OnOne s.name s.task)) s.result;
       };
-      b = b;
-      found = found;
-      still = serves.still (sym (ap arms_on about) ∙ armless);
-      spends = serves.spends;
+      b = s.before;
+      found = s.found;
+      still = s.serves.still (sym (ap arms_on s.about) ∙ armless);
+      spends = s.serves.spends;
     }) w)
 
 -- ---- a database that is made
@@ -244,6 +256,7 @@ keeps_pays : (promise : ℕ → Promise) (name : List ℕ) (h : Happening) (old 
     (history : List Happening) → Opened promise name h old b →
     IsWithin promise history old → IsWithin promise (h ∷ history) (with_more name b old)
 keeps_pays promise name h old b history s w = record {
+  placed = omega (arith, w.placed, length-append old.bases ((name, b) ∷ []));
   absent = λ other none. gone other (bytes_eq other name) refl none;
   present = λ other e n is told. here other e n (bytes_eq other name) refl is told;
 }
@@ -278,17 +291,17 @@ keeps_pays promise name h old b history s w = record {
         (w.present other e n found (ap (λ k. (promise k).can_fail) (sym (place_old other name b e old.bases found))
         ∙ told))
 
--- the store is as it was promised, and the name is free
+-- the store is as it was promised and begins empty, and the name is free
 pub record MayMake (promise : ℕ → Promise) (name : List ℕ) (kept : Kept) (old : Clustered) : Type 0 where
-  pub promised : IsAsPromised (promise (length old.bases)) kept
+  pub promised : IsAsPromised (promise old.given) kept
+  pub empty : kept.held ≡ Some nothing
   pub free : find_named name old.bases ≡ None
 
 pub adopts_pays : (promise : ℕ → Promise) (name : List ℕ) (kept : Kept) (old : Clustered) (reply : Reply)
     (new : Clustered) →
     MayMake promise name kept old → Adopts name kept old reply new → Pays promise (Database name) old reply new
 adopts_pays promise name kept old reply new may (Rejects b made told same) armless choice history w =
-    subst (IsWithin promise (happened (Database name) reply choice ∷ history)) (sym same)
-    (untold promise (happened (Database name) reply choice) old history (ap is_sure_reply told) w)
+    absurd (never_empty kept b made.founds may.empty)
 adopts_pays promise name kept old reply new may (Keeps b result made memory kept_it told same) armless choice history w
     =
     subst (IsWithin promise (happened (Database name) reply choice ∷ history)) (sym same)
@@ -300,7 +313,7 @@ adopts_pays promise name kept old reply new may (Keeps b result made memory kept
       };
       free = may.free;
       kept = kept;
-      promised = may.promised;
+      promised = subst (λ place. IsAsPromised (promise place) kept) w.placed may.promised;
       still = made.founds.still;
       spends = made.founds.spends;
     }) w)

@@ -1,7 +1,10 @@
+pub mod Asks
 pub mod Causes
 pub mod Certain
+pub mod Charges
 pub mod Ends
 pub mod Failing
+pub mod Forms
 pub mod Lifting
 pub mod Moving
 pub mod Places

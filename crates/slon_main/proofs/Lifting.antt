@@ -1,5 +1,6 @@
 -- A call on one database, lifted to the databases of a session.
-use Rattle.std.proofs.Common.{◌≡◌, ◌∙◌, ℕ, zero, suc, ◌<◌, ◌≤◌, Bool, true, false, cond, List, [], ◌∷◌, ◌++◌, length, map, get_or, set, is_some, Option, Some, None, refl, sym, ap, subst, true≢false, arith}
+use Rattle.std.proofs.Common.{◌≡◌, ◌∙◌, ℕ, zero, suc, ◌<◌, ◌≤◌, Bool, true, false, cond, List, [], ◌∷◌, ◌++◌, length}
+use Rattle.std.proofs.Common.{map, get_or, set, is_some, Option, Some, None, refl, sym, ap, subst, true≢false, arith}
 use Rattle.std.specs.List.{position, position_or_len}
 use Rattle.std.specs.Str.{bytes_eq}
 use Rattle.std.proofs.lemmas.List.Quantifiers.{position-Some}
@@ -61,16 +62,16 @@ find_at f name d (x ∷ xs) (suc i) first =
 
 -- and setting it is putting another under the name
 put_at : {X : Type 0} (f : X → List ℕ × Base) (name : List ℕ) (d y : X) (items : List X) (i : ℕ) →
-    IsFirst f name d items i →
-    (f y).0 ≡ (f (get_or items i d)).0 → map f (set items i y) ≡ put_named name (f y).1 (map f items)
-put_at f name d y [] i first same = absurd (omega (arith, first.inside))
-put_at f name d y (x ∷ xs) zero first same =
+    IsFirst f name d items i × ((f y).0 ≡ (f (get_or items i d)).0) →
+    map f (set items i y) ≡ put_named name (f y).1 (map f items)
+put_at f name d y [] i (first, same) = absurd (omega (arith, first.inside))
+put_at f name d y (x ∷ xs) zero (first, same) =
     put_here (bytes_eq name (f x).0) (f x).0 (f y) (map f xs) (f x ∷ put_named name (f y).1 (map f xs)) first.named same
-put_at f name d y (x ∷ xs) (suc i) first same =
+put_at f name d y (x ∷ xs) (suc i) (first, same) =
     put_later (bytes_eq name (f x).0) (((f x).0, (f y).1) ∷ map f xs) (f x ∷ map f (set xs i y))
     (f x ∷ put_named name (f y).1 (map f xs))
     (first.before 0 (omega arith)) (ap (λ bs. f x ∷ bs)
-    (put_at f name d y xs i (first_later f name d x xs i first) same))
+    (put_at f name d y xs i (first_later f name d x xs i first, same)))
 
 -- an element at the first index of a name
 pub record IsAt {X : Type 0} (f : X → List ℕ × Base) (name : List ℕ) (items : List X) (i : ℕ) (x : X) : Type 0 where
@@ -90,10 +91,9 @@ find_position f name items i x is =
     find_at f name x items i (is_first f name x items i is.at) ∙ ap (λ z. Some (f z).1) (sym is.held)
 
 pub put_position : {X : Type 0} (f : X → List ℕ × Base) (name : List ℕ) (items : List X) (i : ℕ) (x y : X) →
-    IsAt f name items i x →
-    (f y).0 ≡ (f x).0 → map f (set items i y) ≡ put_named name (f y).1 (map f items)
-put_position f name items i x y is same =
-    put_at f name x y items i (is_first f name x items i is.at) (same ∙ ap (λ z. (f z).0) is.held)
+    IsAt f name items i x × ((f y).0 ≡ (f x).0) → map f (set items i y) ≡ put_named name (f y).1 (map f items)
+put_position f name items i x y (is, same) =
+    put_at f name x y items i (is_first f name x items i is.at, same ∙ ap (λ z. (f z).0) is.held)
 
 none_passes : {X : Type 0} (p : X → Bool) (xs : List X) (d : X) → position p xs ≡ None → (k : ℕ) → k < length xs →
     p (get_or xs k d) ≡ false

@@ -1,5 +1,7 @@
 -- What the calls on the databases of a session do, from what their parts do.
-use Rattle.std.proofs.Common.{◌≡◌, ◌∙◌, ℕ, ◌<◌, ◌≤◌, Bool, true, false, cond, List, length, map, set, is_some, nat_lt, Option, Some, None, Result, Ok, Err, IfOk, OnErr, is_err, refl, sym, ap, subst, true≢false}
+use Rattle.std.proofs.Common.{◌+◌, ◌≡◌, ◌∙◌, ℕ, ◌<◌, ◌≤◌, Bool, true, false, cond, List, length, map, set, is_some}
+use Rattle.std.proofs.Common.{nat_lt, Option, Some, None, Result, Ok, Err, IfOk, IfErr, OnErr, is_err, refl, sym, ap}
+use Rattle.std.proofs.Common.{subst, true≢false}
 use Rattle.std.specs.List.{position}
 use Rattle.std.specs.Str.{bytes_eq}
 use Rattle.std.proofs.lemmas.Bool.{lt-ltb, le-ltb}
@@ -17,12 +19,15 @@ use Rattle.slon_model.specs.declared.reply.Refusal.TheVariants as refused
 use Rattle.slon_model.specs.declared.reply.Reply.{Reply}
 use Rattle.slon_model.specs.declared.reply.Reply.TheVariants.{Accepted, Refused}
 use Rattle.slon_model.specs.Names.{find_named}
-use Rattle.slon_model.specs.Tasks.{Subject, OnNew, OnOne, subject_of, database_named, transaction_named, table_named, Words, words_of}
+use Rattle.slon_model.specs.Tasks.{Subject, OnNew, OnOne, subject_of, database_named, transaction_named, table_named}
+use Rattle.slon_model.specs.Tasks.{Words, words_of}
 use Rattle.slon_model.specs.World.{halt_in, refusal_of, reply_of, is_accepted}
 use Rattle.app_store.specs.Base.{Base}
+use Rattle.app_store.specs.Handed.{HandsOn}
 use Rattle.app_store.specs.Serves.{ServesOn, Founds, is_memory, trouble, settled}
 use Rattle.slon_main.specs.Agreed.{Clustered}
-use Rattle.slon_main.specs.Calls.{is_making, with_base, with_more, grant, Moves, Grants, Misses, Asks, Made, making_reply, is_not_empty, Adopts, Rejects, Keeps}
+use Rattle.slon_main.specs.Calls.{is_making, with_base, with_base_behind, with_given, with_more, fused, grant, Moves}
+use Rattle.slon_main.specs.Calls.{Grants, Misses, Asks, Made, making_reply, is_not_empty, Adopts, Rejects, Keeps}
 use Rattle.slon_main.proofs.Lifting.{IsAt, find_position, put_position, find_some}
 
 -- what follows of the reply of a call
@@ -35,6 +40,11 @@ if_ok P Q (Err e) from holds = tt
 pub if_told : {E : Type 0} (P : Reply → Type 0) (result : Result Reply E) (reply : Reply) →
     IfOk result (λ r. r ≡ reply) → P reply → IfOk result P
 if_told P result reply told holds = if_ok (λ r. r ≡ reply) P result (λ r is. subst P (sym is) holds) told
+
+pub if_err : {T E : Type 0} (P Q : E → Type 0) (result : Result T E) → ((e : E) → P e → Q e) → IfErr result P →
+    IfErr result Q
+if_err P Q (Ok x) from holds = tt
+if_err P Q (Err e) from holds = from e holds
 
 pub not_so : (b : Bool) → (b ≡ true → false ≡ true) → b ≡ false
 not_so false no_error = refl
@@ -86,53 +96,70 @@ moves_none command c word name names same none = go (subject_of command) refl na
         Misses one task about (ap (λ w. find_named w c.bases) (sym named) ∙ none)
         (ap (λ w. Refused (refused.NoDatabase w)) (same ∙ named)) refl
 
--- an element of a list is the database of that word, and served a command
-pub record Asked {X : Type 0} (f : X → List ℕ × Base) (command : Command) (items : List X) (i : ℕ) (y : X)
-    (result : Result Answered DbFault) : Type 0 where
+-- the element x at an index, which a word names, became y, with an answer
+pub record Turn (X : Type 0) : Type 0 where
   pub word : List ℕ
-  pub names : Names command word
+  pub i : ℕ
   pub x : X
-  pub at : IsAt f word items i x
-  pub same : (f y).0 ≡ (f x).0
-  pub serves : ServesOn (subject_of command) (f x).1 result (f y).1
-  pub memory : is_memory (trouble result) ≡ false
+  pub y : X
+  pub result : Result Answered DbFault
 
-pub moves_at : {X : Type 0} (f : X → List ℕ × Base) (command : Command) (limit : ℕ) (items : List X) (i : ℕ) (y : X)
-    (result : Result Answered DbFault) →
-    Asked f command items i y result →
-    Moves command (record { limit = limit; bases = map f items }) (reply_of (words_of (subject_of command)) result)
-    (record { limit = limit; bases = map f (set items i y) })
-moves_at f command limit items i y result asked = go
-    (subject_of command) refl asked.names.is asked.names.other asked.serves
+-- an element of a list is the database of that word, and served a command
+pub record Asked {X : Type 0} (f : X → List ℕ × Base) (command : Command) (items : List X) (t : Turn X) : Type 0
+  where
+    pub names : Names command t.word
+    pub at : IsAt f t.word items t.i t.x
+    pub same : (f t.y).0 ≡ (f t.x).0
+    pub serves : ServesOn (subject_of command) (f t.x).1 t.result (f t.y).1
+    pub hands : HandsOn (subject_of command) (f t.x).1 t.result
+    pub memory : is_memory (trouble t.result) ≡ false
+
+pub moves_at : {X : Type 0} (f : X → List ℕ × Base) (command : Command) (c : Clustered) (items : List X)
+    (t : Turn X) → Asked f command items t →
+    Moves command (record c { bases = map f items }) (reply_of (words_of (subject_of command)) t.result)
+    (record c { bases = map f (set items t.i t.y) })
+moves_at f command c items t asked = go
+    (subject_of command) refl asked.names.is asked.names.other asked.serves asked.hands
   where
     old : Clustered
-    old = record { limit = limit; bases = map f items }
+    old = record c { bases = map f items }
 
     new : Clustered
-    new = record { limit = limit; bases = map f (set items i y) }
+    new = record c { bases = map f (set items t.i t.y) }
 
-    go : (s : Subject) → subject_of command ≡ s → asked.word ≡ database_named s → is_making s ≡ false →
-        ServesOn s (f asked.x).1 result (f y).1 →
-        Moves command old (reply_of (words_of s) result) new
-    go (OnNew made) about named other serves = absurd (true≢false other)
-    go (OnOne one task) about named other serves =
-        Asks one task (f asked.x).1 (f y).1 result about
-        (ap (λ w. find_named w old.bases) (sym named)
-        ∙ find_position f asked.word items i asked.x asked.at) serves asked.memory refl
-        (ap (λ bs. record { limit = limit; bases = bs })
-        (put_position f asked.word items i asked.x y asked.at asked.same)
-        ∙ ap (λ w. with_base w (f y).1 old) named)
+    go : (s : Subject) → subject_of command ≡ s → t.word ≡ database_named s → is_making s ≡ false →
+        ServesOn s (f t.x).1 t.result (f t.y).1 → HandsOn s (f t.x).1 t.result →
+        Moves command old (reply_of (words_of s) t.result) new
+    go (OnNew made) about named other serves hands = absurd (true≢false other)
+    go (OnOne one task) about named other serves hands =
+        Asks (record {
+          name = one;
+          task = task;
+          before = (f t.x).1;
+          behind = (f t.y).1;
+          result = t.result;
+          about = about;
+          found = ap (λ w. find_named w old.bases) (sym named)
+              ∙ find_position f t.word items t.i t.x asked.at;
+          serves = serves;
+          hands = hands;
+          memory = asked.memory;
+          told = refl;
+          same = ap (λ bs. record c { bases = bs })
+              (put_position f t.word items t.i t.x t.y (asked.at, asked.same))
+              ∙ ap (λ w. with_base w (f t.y).1 old) named;
+        })
 
 -- ---- whether there may be a new one
 
 pub grants_taken : {X : Type 0} (f : X → List ℕ × Base) (name : List ℕ) (limit : ℕ) (items : List X) →
     is_some (position (λ x. bytes_eq name (f x).0) items) ≡ true →
-    Refused (refused.NameUsed name) ≡ grant name (record { limit = limit; bases = map f items })
+    Refused (refused.NameUsed name) ≡ grant name (record { limit = limit; given = 0; bases = map f items })
 grants_taken f name limit items is = rw (find_some f name items ∙ is) refl
 
 pub grants_more : {X : Type 0} (f : X → List ℕ × Base) (name : List ℕ) (limit : ℕ) (items : List X) →
     is_some (position (λ x. bytes_eq name (f x).0) items) ≡ false →
-    length items < limit → Accepted Done ≡ grant name (record { limit = limit; bases = map f items })
+    length items < limit → Accepted Done ≡ grant name (record { limit = limit; given = 0; bases = map f items })
 grants_more f name limit items is less = rw (
   find_some f name items ∙ is,
   length-map items f,
@@ -141,7 +168,8 @@ grants_more f name limit items is less = rw (
 
 pub grants_none : {X : Type 0} (f : X → List ℕ × Base) (name : List ℕ) (limit : ℕ) (items : List X) →
     is_some (position (λ x. bytes_eq name (f x).0) items) ≡ false →
-    limit ≤ length items → Refused (refused.Full limit) ≡ grant name (record { limit = limit; bases = map f items })
+    limit ≤ length items →
+    Refused (refused.Full limit) ≡ grant name (record { limit = limit; given = 0; bases = map f items })
 grants_none f name limit items is full = rw (
   find_some f name items ∙ is,
   length-map items f,
@@ -181,10 +209,10 @@ granted name command old mid reply is (Grants made about told same) accepted =
     let named : made ≡ name = one_name made name (sym about ∙ ap subject_of is) in
     subst (IsGranted name old) (sym same) (granted_as name old
     (ap (λ n. is_accepted (grant n old)) (sym named) ∙ sym (ap is_accepted told) ∙ accepted))
-granted name command old mid reply is (Misses one task about none told same) accepted = let bad : OnOne one task ≡ OnNew
-    name = sym about ∙ ap subject_of is in absurd cc
-granted name command old mid reply is (Asks one task b d result about found serves memory told same) accepted = let bad
-    : OnOne one task ≡ OnNew name = sym about ∙ ap subject_of is in absurd cc
+granted name command old mid reply is (Misses one task about none told same) accepted =
+    let bad : OnOne one task ≡ OnNew name = sym about ∙ ap subject_of is in absurd cc
+granted name command old mid reply is (Asks s) accepted =
+    let bad : OnOne s.name s.task ≡ OnNew name = sym s.about ∙ ap subject_of is in absurd cc
 
 -- ---- the making of a database
 
@@ -199,22 +227,30 @@ pub made_by : (kept fused : Kept) (result outcome : Result (Unit {0}) DbFault) (
 made_by kept fused result outcome b founds down (same, is) =
     subst (λ r. Made kept r b) is (subst (λ k. Made k result b) same (record { founds = founds; down = down }))
 
-pub rejects : (name : List ℕ) (kept : Kept) (old : Clustered) (b : Base) (fault : DbFault) → Made kept (Err fault) b →
-    is_not_empty fault ≡ true →
-    Adopts name kept old (Refused (refused.NotEmpty name)) old
-rejects name kept old b fault made empty = Rejects b
-    (subst (λ f. Made kept (Err f) b) (is_it fault empty) made) refl refl
+pub rejects : (name : List ℕ) (kept : Kept) (old new : Clustered) (b : Base) (fault : DbFault) →
+    Made (fused kept) (Err fault) b × (is_not_empty fault ≡ true) → new ≡ with_given old →
+    Adopts name kept old (Refused (refused.NotEmpty name)) new
+rejects name kept old new b fault (made, empty) same = Rejects b
+    (subst (λ f. Made (fused kept) (Err f) b) (is_it fault empty) made) refl same
 
-pub keeps_ok : (name : List ℕ) (kept : Kept) (old new : Clustered) (b : Base) (u : Unit {0}) → Made kept (Ok u) b →
-    new ≡ with_more name b old →
-    Adopts name kept old (Accepted Done) new
+-- a database is kept behind the others, over a store that was given
+pub given_more : (c : Clustered) (given : ℕ) → given ≡ c.given + 1 →
+    record { limit = c.limit; given = given; bases = c.bases } ≡ with_given c
+given_more c given is = ap (λ n. record { limit = c.limit; given = n; bases = c.bases }) is
+
+pub kept_more : (name : List ℕ) (b : Base) (old mid new : Clustered) → mid ≡ with_given old →
+    new ≡ with_base_behind name b mid → new ≡ with_more name b old
+kept_more name b old mid new given same = same ∙ ap (with_base_behind name b) given
+
+pub keeps_ok : (name : List ℕ) (kept : Kept) (old new : Clustered) (b : Base) (u : Unit {0}) →
+    Made (fused kept) (Ok u) b → new ≡ with_more name b old → Adopts name kept old (Accepted Done) new
 keeps_ok name kept old new b u made same = Keeps b (Ok u) made refl refl refl same
 
 -- the making stopped by a fault that is no want of memory, over a store that was empty
 pub record Fell (name : List ℕ) (kept : Kept) (old : Clustered) (reply : Reply) (new : Clustered) : Type 0 where
   pub b : Base
   pub fault : DbFault
-  pub made : Made kept (Err fault) b
+  pub made : Made (fused kept) (Err fault) b
   pub empty : is_not_empty fault ≡ false
   pub memory : is_memory (halt_in fault) ≡ false
   pub told : reply ≡ refusal_of (words_of (OnNew name)) fault

@@ -1,5 +1,6 @@
 -- From what the calls on the databases of a session do follow steps that the rules allow.
-use Rattle.std.proofs.Common.{◌≡◌, ◌∙◌, ℕ, Bool, true, false, cond, List, Some, Result, Ok, Err, refl, sym, ap, subst, true≢false}
+use Rattle.std.proofs.Common.{◌≡◌, ◌∙◌, ℕ, Bool, true, false, cond, List, Some, Result, Ok, Err, refl, sym, ap, subst}
+use Rattle.std.proofs.Common.{true≢false}
 use Rattle.slon_base.specs.Keeper.{Kept, nothing}
 use Rattle.slon_model.specs.declared.fault.DbFault.{DbFault}
 use Rattle.slon_model.specs.declared.fault.DbFault.TheVariants.{NotEmpty}
@@ -13,16 +14,20 @@ use Rattle.slon_model.specs.declared.reply.Reply.TheVariants.{Accepted}
 use Rattle.slon_model.specs.Tasks.{Task, ToFound, Subject, OnNew, OnOne, Words, words_of}
 use Rattle.slon_model.specs.Place.{Place, bare_place}
 use Rattle.slon_model.specs.Moves.{commits_at}
-use Rattle.slon_model.specs.Deciding.{Decision, Refuses, Accepts, Overflows, decide, result_of, move_of, sure, unsure, Choice, AsDue, AtFault, Wavers, result_by, place_by, Takes}
-use Rattle.slon_model.specs.World.{World, Happening, Step, Grants as StepGrants, Denies as StepDenies, Misses as StepMisses, Asks as StepAsks, database_due, due, due_on, ask, asked, after, after_on, adopted, changed, is_accepted, reply_of}
+use Rattle.slon_model.specs.Deciding.{Decision, Refuses, Accepts, Overflows, decide, result_of, move_of, sure, unsure}
+use Rattle.slon_model.specs.Deciding.{Choice, AsDue, AtFault, Wavers, result_by, place_by, Takes}
+use Rattle.slon_model.specs.World.{World, Happening, Step, Grants as StepGrants, Denies as StepDenies}
+use Rattle.slon_model.specs.World.{Misses as StepMisses, Asks as StepAsks, database_due, due, due_on, ask, asked, after}
+use Rattle.slon_model.specs.World.{after_on, adopted, changed, is_accepted, reply_of}
 use Rattle.slon_model.proofs.Names.{all_found}
 use Rattle.slon_laws.specs.Sound.{Sound}
 use Rattle.slon_laws.specs.Spelled.{IsSpelled}
 use Rattle.app_store.specs.Base.{Base}
 use Rattle.app_store.specs.Fits.{Ready}
-use Rattle.app_store.specs.Serves.{is_failure, trouble, settled}
+use Rattle.app_store.specs.Serves.{Founds, is_failure, trouble, settled}
 use Rattle.slon_main.specs.Agreed.{Clustered, Agrees, Follows}
-use Rattle.slon_main.specs.Calls.{grant, Moves, Grants, Misses, Asks, StepsOn, Steps, is_sure_reply, Adopts, Rejects, Keeps, Makes}
+use Rattle.slon_main.specs.Calls.{grant, Moves, Grants, Misses, Asks, StepsOn, Steps, fused, is_sure_reply, Adopts}
+use Rattle.slon_main.specs.Calls.{Rejects, Keeps, Makes}
 use Rattle.slon_main.specs.Running.{Obeys}
 use Rattle.slon_main.proofs.Lifting.{Fitting, fitting, missing_fits, same_some, same_length, fits_more}
 use Rattle.slon_main.proofs.Moving.{IsGranted}
@@ -60,15 +65,26 @@ steps command old reply new (Misses name task about none told same) w follows =
       step = StepMisses name task about (missing_fits name w.places old.bases follows.agrees.fits none) refl told refl;
       agrees = subst (Agrees w) (sym same) follows.agrees;
     })
-steps command old reply new (Asks name task b d result about found serves memory told same) w follows =
-    let fit = fitting name b w.places old.bases follows.agrees.fits found in
-    let comes = serves.goes fit.place (ready_place name b w old follows fit) memory in
-    subst (λ s. StepsOn s command w reply new) (sym about) (record {
+steps command old reply new (Asks s) w follows =
+    let fit = fitting s.name s.before w.places old.bases follows.agrees.fits s.found in
+    let comes = s.serves.goes fit.place (ready_place s.name s.before w old follows fit) s.memory in
+    let place = place_by s.task fit.place comes.0 in
+    subst (λ subject. StepsOn subject command w reply new) (sym s.about) (record {
       choice = comes.0;
-      world = changed name (place_by task fit.place comes.0) w;
-      step = StepAsks name task fit.place result about fit.found comes.1 told refl;
-      agrees = subst (Agrees (changed name (place_by task fit.place comes.0) w)) (sym same)
-          (record { limit = follows.agrees.limit; fits = fit.puts (place_by task fit.place comes.0) d comes.2 });
+      world = changed s.name place w;
+      step = StepAsks (record {
+        name = s.name;
+        task = s.task;
+        place = fit.place;
+        result = s.result;
+        about = s.about;
+        found = fit.found;
+        takes = comes.1;
+        told = s.told;
+        is = refl;
+      });
+      agrees = subst (Agrees (changed s.name place w)) (sym s.same)
+          (record { limit = follows.agrees.limit; fits = fit.puts place s.behind comes.2 });
     })
 
 -- ---- a step whose reply tells of no fault is the one that is due
@@ -122,13 +138,12 @@ sure_step w v h (StepDenies name about denied chosen told same) certain =
 sure_step w v h (StepMisses name task about none chosen told same) certain =
     subst (IsDueOn w h.reply v) (sym about)
     (told ∙ sym (ap (ask (words_of (OnOne name task)) task) none), same ∙ sym (ap (λ p. asked name task p w) none))
-sure_step w v h (StepAsks name task p result about found takes told same) certain =
-    let place = sure_choice task p h.choice result (words_of (OnOne name task)) takes
-    (sym (ap is_sure_reply told) ∙ certain) in
-    subst (IsDueOn w h.reply v) (sym about) (
-      told ∙ ap (reply_of (words_of (OnOne name task))) place.0
-          ∙ sym (ap (ask (words_of (OnOne name task)) task) found),
-      same ∙ ap (λ q. changed name q w) place.1 ∙ sym (ap (λ o. asked name task o w) found),
+sure_step w v h (StepAsks t) certain =
+    let words = words_of (OnOne t.name t.task) in
+    let place = sure_choice t.task t.place h.choice t.result words t.takes (sym (ap is_sure_reply t.told) ∙ certain) in
+    subst (IsDueOn w h.reply v) (sym t.about) (
+      t.told ∙ ap (reply_of words) place.0 ∙ sym (ap (ask words t.task) t.found),
+      t.is ∙ ap (λ q. changed t.name q w) place.1 ∙ sym (ap (λ o. asked t.name t.task o w) t.found),
     )
 
 -- ---- a new database
@@ -138,11 +153,15 @@ never_not_empty AsDue is = cc
 never_not_empty (AtFault count also) is = cc
 never_not_empty (Wavers stands) is = cc
 
+-- an empty store is not refused
+pub never_empty : (kept : Kept) (b : Base) → Founds (fused kept) (Err NotEmpty) b → kept.held ≡ Some nothing → ⊥
+never_empty kept b founds empty = let comes = founds.begins empty refl in never_not_empty comes.0 comes.1.told
+
 pub makes : (name : List ℕ) (kept : Kept) (old : Clustered) (reply : Reply) (new : Clustered) →
     Adopts name kept old reply new → kept.held ≡ Some nothing →
     Makes name old reply new
 makes name kept old reply new (Rejects b made told same) empty w agrees done =
-    let comes = made.founds.begins empty refl in absurd (never_not_empty comes.0 comes.1.told)
+    absurd (never_empty kept b made.founds empty)
 makes name kept old reply new (Keeps b result made memory kept_it told same) empty w agrees done =
     let comes = made.founds.begins empty memory in
     record {
@@ -170,7 +189,7 @@ pub adopts_done : (name : List ℕ) (kept : Kept) (old : Clustered) (reply : Rep
     Adopts name kept old reply new → kept.held ≡ Some nothing →
     kept.can_fail ≡ Some 0 → reply ≡ Accepted Done
 adopts_done name kept old reply new (Rejects b made told same) empty never =
-    let comes = made.founds.begins empty refl in absurd (never_not_empty comes.0 comes.1.told)
+    absurd (never_empty kept b made.founds empty)
 adopts_done name kept old reply new (Keeps b result made memory kept_it told same) empty never =
     let comes = made.founds.begins empty memory in
     told ∙ ap (reply_of (words_of (OnNew name)))
@@ -204,3 +223,9 @@ pub obeys_made : (name : List ℕ) (old mid : Clustered) (reply : Reply) (new : 
     Obeys (Database name) old reply new
 obeys_made name old mid reply new was makes_it w follows =
     makes_it w (subst (Agrees w) (sym was.same) follows.agrees) (sym (granted_due name w old follows.agrees) ∙ was.done)
+
+-- a command that makes no database
+pub obeys_other : (command : Command) (old : Clustered) (reply : Reply) (new : Clustered) →
+    ((name : List ℕ) → command ≡ Database name → ⊥) → Steps command old reply new → Obeys command old reply new
+obeys_other (Database name) old reply new other goes = absurd (other name refl)
+obeys_other others old reply new other goes = goes

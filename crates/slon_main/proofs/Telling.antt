@@ -1,9 +1,10 @@
 -- Why a fault or a doubt is told, and where none is.
-use Rattle.std.proofs.Common.{◌≡◌, ◌∙◌, ℕ, ◌≤◌, Bool, true, false, cond, List, [], ◌∷◌, ◌++◌, length, is_some, nat_lt, Some, Result, Ok, Err, IfOk, inl, inr, refl, sym, ap, subst, true≢false, arith}
+use Rattle.std.proofs.Common.{◌≡◌, ◌∙◌, ℕ, ◌≤◌, Bool, true, false, cond, List, [], ◌∷◌, ◌++◌, length, is_some, nat_lt}
+use Rattle.std.proofs.Common.{Some, Result, Ok, Err, IfOk, inl, inr, refl, sym, ap, subst, true≢false, arith}
 use Rattle.std.specs.List.{AllByRecursion}
 use Rattle.std.specs.Str.{bytes_eq}
 use Rattle.slon_base.specs.Counts.{Rose}
-use Rattle.slon_base.specs.Keeper.{Kept}
+use Rattle.slon_base.specs.Keeper.{Kept, nothing}
 use Rattle.slon_base.specs.declared.fault.Halt.TheVariants.{Doubt, Fault as HaltFault}
 use Rattle.slon_model.specs.declared.fault.DbFault.{DbFault}
 use Rattle.slon_model.specs.declared.fault.DbFault.TheVariants.{Halt}
@@ -21,9 +22,12 @@ use Rattle.slon_model.proofs.Names.{put_found, all_found, all_put, all_behind}
 use Rattle.app_store.specs.Base.{Base}
 use Rattle.app_store.specs.Serves.{Caused, is_failure, trouble, settled}
 use Rattle.slon_main.specs.Agreed.{Clustered}
-use Rattle.slon_main.specs.Calls.{arms_on, grant, with_more, Moves, Grants, Misses, Asks, ReplyCaused, is_sure_reply, AllCertain, StaysCertain, AllQuiet, StaysQuiet, Adopts, Rejects, Keeps, MakingReplyCaused, MakesCertain, Steps}
+use Rattle.slon_main.specs.Calls.{DoubtRose, arms_on, grant, with_more, Moves, Grants, Misses, Asks, ReplyCaused}
+use Rattle.slon_main.specs.Calls.{is_sure_reply}
+use Rattle.slon_main.specs.Calls.{AllCertain, StaysCertain, AllQuiet, StaysQuiet, Adopts, Rejects, Keeps}
+use Rattle.slon_main.specs.Calls.{MakingReplyCaused, Makes, MakesCertain, Steps}
 use Rattle.slon_main.proofs.Certain.{stays_none, never_fails}
-use Rattle.slon_main.proofs.Stepping.{steps}
+use Rattle.slon_main.proofs.Stepping.{steps, makes, adopts_done}
 
 -- ---- why a fault is told
 
@@ -34,19 +38,24 @@ record Both (name : List ℕ) (old new : Clustered) : Type 0 where
   was : find_named name old.bases ≡ Some before
   is : find_named name new.bases ≡ Some behind
 
-answer_caused : (name : List ℕ) (task : Task) (result : Result Answered DbFault) (old new : Clustered) →
-    (both : Both name old new) →
-    Caused task both.before.kept (trouble result) both.behind.kept →
-    ReplyCaused (reply_of (words_of (OnOne name task)) result) old new
-answer_caused name task (Ok (AnsweredInDoubt answer)) old new both caused =
+doubted : (name : List ℕ) (old new : Clustered) (both : Both name old new) →
+    Rose both.before.kept.faults both.behind.kept.faults × Rose both.before.kept.doubts both.behind.kept.doubts →
+    DoubtRose name old new
+doubted name old new both (faults, doubts) =
     record {
       before = both.before;
       behind = both.behind;
       was = both.was;
       is = both.is;
-      faults = caused.0;
-      doubts = caused.1;
+      faults = faults;
+      doubts = doubts;
     }
+
+answer_caused : (name : List ℕ) (task : Task) (result : Result Answered DbFault) (old new : Clustered) →
+    (both : Both name old new) →
+    Caused task both.before.kept (trouble result) both.behind.kept →
+    ReplyCaused (reply_of (words_of (OnOne name task)) result) old new
+answer_caused name task (Ok (AnsweredInDoubt answer)) old new both caused = doubted name old new both caused
 answer_caused name task (Err (Halt (HaltFault count))) old new both caused =
     record {
       before = both.before;
@@ -56,15 +65,7 @@ answer_caused name task (Err (Halt (HaltFault count))) old new both caused =
       rose = caused.0;
       count_is = caused.1;
     }
-answer_caused name task (Err (Halt Doubt)) old new both caused =
-    record {
-      before = both.before;
-      behind = both.behind;
-      was = both.was;
-      is = both.is;
-      faults = caused.0;
-      doubts = caused.1;
-    }
+answer_caused name task (Err (Halt Doubt)) old new both caused = doubted name old new both caused
 answer_caused name task others old new both caused = tt
 
 granted_caused : (taken room : Bool) (name : List ℕ) (limit : ℕ) (old new : Clustered) →
@@ -81,13 +82,14 @@ moves_caused command old reply new (Grants name about told same) =
     (nat_lt (length old.bases) old.limit) name old.limit old new)
 moves_caused command old reply new (Misses name task about none told same) = subst (λ r. ReplyCaused r old new)
     (sym told) tt
-moves_caused command old reply new (Asks name task b d result about found serves memory told same) =
-    subst (λ r. ReplyCaused r old new) (sym told) (answer_caused name task result old new (record {
-      before = b;
-      behind = d;
-      was = found;
-      is = ap (λ (c : Clustered). find_named name c.bases) same ∙ put_found name d b old.bases found;
-    }) serves.caused)
+moves_caused command old reply new (Asks s) =
+    subst (λ r. ReplyCaused r old new) (sym s.told) (answer_caused s.name s.task s.result old new (record {
+      before = s.before;
+      behind = s.behind;
+      was = s.found;
+      is = ap (λ (c : Clustered). find_named s.name c.bases) s.same
+          ∙ put_found s.name s.behind s.before old.bases s.found;
+    }) s.serves.caused)
 
 made_caused : (name : List ℕ) (kept : Kept) (old new : Clustered) (b : Base) (result : Result Answered DbFault) →
     new ≡ with_more name b old →
@@ -98,7 +100,7 @@ made_caused name kept old new b (Err (Halt (HaltFault count))) same caused = (re
 made_caused name kept old new b (Err (Halt Doubt)) same caused = (refl, b, same, caused.0, caused.1)
 made_caused name kept old new b others same caused = tt
 
-pub adopts_caused : (name : List ℕ) (kept : Kept) (old : Clustered) (reply : Reply) (new : Clustered) →
+adopts_caused : (name : List ℕ) (kept : Kept) (old : Clustered) (reply : Reply) (new : Clustered) →
     Adopts name kept old reply new →
     MakingReplyCaused name kept reply old new
 adopts_caused name kept old reply new (Rejects b made told same) = subst (λ r. MakingReplyCaused name kept r old new)
@@ -132,16 +134,19 @@ moves_certain command old reply new (Grants name about told same) certain =
     (ap is_sure_reply told ∙ granted_sure name old, λ armless. subst AllCertain (sym same) certain)
 moves_certain command old reply new (Misses name task about none told same) certain =
     (ap is_sure_reply told, λ armless. subst AllCertain (sym same) certain)
-moves_certain command old reply new (Asks name task b d result about found serves memory told same) certain =
-    let here : b.kept.can_fail ≡ Some 0 = all_found
-    (λ (e : Base). e.kept.can_fail ≡ Some 0) name b old.bases certain found in (
-      ap is_sure_reply told ∙ answer_sure (words_of (OnOne name task)) result
-          (never_fails (is_failure (trouble result)) b.kept.can_fail d.kept.can_fail serves.spends here),
-      λ armless. subst AllCertain (sym same) (all_put (λ (e : Base). e.kept.can_fail ≡ Some 0) name d old.bases
-          (stays_none b.kept.can_fail d.kept.can_fail (serves.still (sym (ap arms_on about) ∙ armless)) here) certain),
+moves_certain command old reply new (Asks s) certain =
+    let old_bound = s.before.kept.can_fail in
+    let new_bound = s.behind.kept.can_fail in
+    let here : old_bound ≡ Some 0 = all_found
+    (λ (e : Base). e.kept.can_fail ≡ Some 0) s.name s.before old.bases certain s.found in (
+      ap is_sure_reply s.told ∙ answer_sure (words_of (OnOne s.name s.task)) s.result
+          (never_fails (is_failure (trouble s.result)) old_bound new_bound s.serves.spends here),
+      λ armless. subst AllCertain (sym s.same)
+          (all_put (λ (e : Base). e.kept.can_fail ≡ Some 0) s.name s.behind old.bases
+          (stays_none old_bound new_bound (s.serves.still (sym (ap arms_on s.about) ∙ armless)) here) certain),
     )
 
-pub adopts_certain : (name : List ℕ) (kept : Kept) (old : Clustered) (reply : Reply) (new : Clustered) →
+adopts_certain : (name : List ℕ) (kept : Kept) (old : Clustered) (reply : Reply) (new : Clustered) →
     Adopts name kept old reply new →
     MakesCertain kept old reply new
 adopts_certain name kept old reply new (Rejects b made told same) never =
@@ -190,10 +195,11 @@ moves_quiet command old reply new (Grants name about told same) quiet =
     (ap is_sure_reply told ∙ granted_sure name old, subst AllQuiet same quiet)
 moves_quiet command old reply new (Misses name task about none told same) quiet =
     (ap is_sure_reply told, subst AllQuiet same quiet)
-moves_quiet command old reply new (Asks name task b d result about found serves memory told same) quiet =
-    let parts = quiet_put name b d old.bases found serves.later (subst AllQuiet same quiet) in (
-      ap is_sure_reply told ∙ answer_sure (words_of (OnOne name task)) result
-          (quiet_sure task b.kept d.kept result parts.0 serves.caused),
+moves_quiet command old reply new (Asks s) quiet =
+    let parts =
+    quiet_put s.name s.before s.behind old.bases s.found s.serves.later (subst AllQuiet s.same quiet) in (
+      ap is_sure_reply s.told ∙ answer_sure (words_of (OnOne s.name s.task)) s.result
+          (quiet_sure s.task s.before.kept s.behind.kept s.result parts.0 s.serves.caused),
       parts.1,
     )
 
@@ -203,7 +209,7 @@ quiet_behind : (name : List ℕ) (b : Base) (bases : Named Base) →
 quiet_behind name b [] all = (all.0, tt)
 quiet_behind name b (e ∷ es) all = let rest = quiet_behind name b es all.1 in (rest.0, (all.0, rest.1))
 
-pub adopts_quiet : (name : List ℕ) (kept : Kept) (old : Clustered) (reply : Reply) (new : Clustered) →
+adopts_quiet : (name : List ℕ) (kept : Kept) (old : Clustered) (reply : Reply) (new : Clustered) →
     Adopts name kept old reply new → StaysQuiet reply old new
 adopts_quiet name kept old reply new (Rejects b made told same) quiet =
     (ap is_sure_reply told, subst AllQuiet same quiet)
@@ -233,3 +239,24 @@ promises command old (Ok reply) new moves = record {
   quiet = moves_quiet command old reply new moves;
 }
 promises command old (Err e) new moves = record { steps = tt; cause = tt; certain = tt; quiet = tt }
+
+-- what is promised of the making of a database that did this
+pub record MakingPromises (name : List ℕ) (kept : Kept) (old : Clustered) (reply : Reply) (new : Clustered) : Type 0
+  where
+    pub adopts : Adopts name kept old reply new
+    pub makes : kept.held ≡ Some nothing → Makes name old reply new
+    pub done : kept.held ≡ Some nothing → kept.can_fail ≡ Some 0 → reply ≡ Accepted Done
+    pub cause : MakingReplyCaused name kept reply old new
+    pub certain : MakesCertain kept old reply new
+    pub quiet : StaysQuiet reply old new
+
+pub making_promises : (name : List ℕ) (kept : Kept) (old : Clustered) (reply : Reply) (new : Clustered) →
+    Adopts name kept old reply new → MakingPromises name kept old reply new
+making_promises name kept old reply new adopts = record {
+  adopts = adopts;
+  makes = makes name kept old reply new adopts;
+  done = adopts_done name kept old reply new adopts;
+  cause = adopts_caused name kept old reply new adopts;
+  certain = adopts_certain name kept old reply new adopts;
+  quiet = adopts_quiet name kept old reply new adopts;
+}

@@ -9,9 +9,11 @@ use Rattle.slon_laws.specs.Worlds.{AllPlaces}
 use Rattle.app_store.specs.Base.{Base}
 use Rattle.app_store.specs.Fits.{Fits}
 
--- What the code keeps of a session: how many databases it allows, and its databases in the order of their making.
+-- What the code keeps of a session: how many databases it allows, how many stores it was given, and its databases in
+-- the order of their making.
 pub record Clustered : Type 0 where
   pub limit : ℕ
+  pub given : ℕ
   pub bases : Named Base
 
 -- the databases agree one by one

@@ -1,8 +1,11 @@
 -- What the calls on the databases of a session do.
-use Rattle.std.specs.Prelude.{◌≡◌, ℕ, if◌then◌else◌, is_some, nat_lt, Bool, true, false, List, [], ◌∷◌, ◌++◌, length, Some, None, Result, Ok, Err, OnErr}
+use Rattle.std.specs.Prelude.{◌≡◌, ℕ, ◌+◌, if◌then◌else◌, is_some, nat_lt, Bool, true, false, List, [], ◌∷◌, ◌++◌}
+use Rattle.std.specs.Prelude.{length, Some, None, Result, Ok, Err, OnErr}
 use Rattle.std.specs.List.{AllByRecursion}
 use Rattle.slon_base.specs.Counts.{Rose}
 use Rattle.slon_base.specs.Keeper.{Kept}
+use Rattle.slon_base.specs.declared.charge.Charge.TheVariants.{Off}
+use Rattle.node_keeper.specs.Fused.{told_so}
 use Rattle.slon_model.specs.declared.fault.DbFault.{DbFault}
 use Rattle.slon_model.specs.declared.fault.DbFault.TheVariants.{NotEmpty}
 use Rattle.slon_model.specs.declared.command.Command.{Command}
@@ -17,6 +20,7 @@ use Rattle.slon_model.specs.Tasks.{Task, Subject, OnNew, OnOne, subject_of, word
 use Rattle.slon_model.specs.Deciding.{Choice}
 use Rattle.slon_model.specs.World.{World, Happening, Step, due, reply_of}
 use Rattle.app_store.specs.Base.{Base}
+use Rattle.app_store.specs.Handed.{Hands}
 use Rattle.app_store.specs.Serves.{Serves, Founds, arms, is_memory, trouble, settled}
 use Rattle.slon_main.specs.Agreed.{Clustered, Agrees, Follows}
 
@@ -42,13 +46,28 @@ happened command reply choice = record { command = command; reply = reply; choic
 
 -- the first database of the name is another
 abbrev pub with_base : List ℕ → Base → Clustered → Clustered
-with_base name d c = record { limit = c.limit; bases = put_named name d c.bases }
+with_base name d c = record { limit = c.limit; given = c.given; bases = put_named name d c.bases }
 
 -- whether there may be a new database of the name
 abbrev pub grant : List ℕ → Clustered → Reply
 grant name c =
     if is_some (find_named name c.bases) then Refused (refused.NameUsed name) else
     (if nat_lt (length c.bases) c.limit then Accepted Done else Refused (refused.Full c.limit))
+
+-- The database of a name serves the task of a command, and the reply is what it answers.
+pub record IsServed (command : Command) (old : Clustered) (reply : Reply) (new : Clustered) : Type 0 where
+  pub name : List ℕ
+  pub task : Task
+  pub before : Base
+  pub behind : Base
+  pub result : Result Answered DbFault
+  pub about : subject_of command ≡ OnOne name task
+  pub found : find_named name old.bases ≡ Some before
+  pub serves : Serves task before result behind
+  pub hands : Hands task before result
+  pub memory : is_memory (trouble result) ≡ false
+  pub told : reply ≡ reply_of (words_of (OnOne name task)) result
+  pub same : new ≡ with_base name behind old
 
 -- What a command does: the making of a database is granted or refused; or no database has the name; in both cases
 -- nothing is changed. Or the database of the name serves the task, the reply is what it answers, and all others stay
@@ -58,10 +77,7 @@ pub data Moves (command : Command) (old : Clustered) (reply : Reply) (new : Clus
       Moves command old reply new
   Misses : (name : List ℕ) (task : Task) → subject_of command ≡ OnOne name task → find_named name old.bases ≡ None →
       reply ≡ Refused (refused.NoDatabase name) → new ≡ old → Moves command old reply new
-  Asks : (name : List ℕ) (task : Task) (b d : Base) (result : Result Answered DbFault) →
-      subject_of command ≡ OnOne name task →
-      find_named name old.bases ≡ Some b → Serves task b result d → is_memory (trouble result) ≡ false →
-      reply ≡ reply_of (words_of (OnOne name task)) result → new ≡ with_base name d old → Moves command old reply new
+  Asks : IsServed command old reply new → Moves command old reply new
 
 -- a step that the rules allow, with this reply, to a world that agrees
 pub record GoesOn (command : Command) (w : World) (reply : Reply) (new : Clustered) : Type 0 where
@@ -145,14 +161,27 @@ was_not_empty (Ok u) = false
 was_not_empty (Err fault) = is_not_empty fault
 
 abbrev pub with_more : List ℕ → Base → Clustered → Clustered
-with_more name b c = record { limit = c.limit; bases = c.bases ++ (name, b) ∷ [] }
+with_more name b c = record { limit = c.limit; given = c.given + 1; bases = c.bases ++ (name, b) ∷ [] }
+
+-- a database behind the others
+abbrev pub with_base_behind : List ℕ → Base → Clustered → Clustered
+with_base_behind name b c = record { limit = c.limit; given = c.given; bases = c.bases ++ (name, b) ∷ [] }
+
+-- a store more was given, of which no database was made
+abbrev pub with_given : Clustered → Clustered
+with_given c = record { limit = c.limit; given = c.given + 1; bases = c.bases }
+
+-- what is told of a store behind a fuse that is told to fail no call
+abbrev pub fused : Kept → Kept
+fused kept = told_so Off kept.can_fail kept
 
 -- A database over a store that holds a row is refused, and not kept. Any other is kept behind the others, and is down
 -- unless it was made.
 pub data Adopts (name : List ℕ) (kept : Kept) (old : Clustered) (reply : Reply) (new : Clustered) : Type 0 where
-  Rejects : (b : Base) → Made kept (Err NotEmpty) b → reply ≡ Refused (refused.NotEmpty name) → new ≡ old →
+  Rejects : (b : Base) → Made (fused kept) (Err NotEmpty) b → reply ≡ Refused (refused.NotEmpty name) →
+      new ≡ with_given old →
       Adopts name kept old reply new
-  Keeps : (b : Base) (result : Result (Unit {0}) DbFault) → Made kept result b →
+  Keeps : (b : Base) (result : Result (Unit {0}) DbFault) → Made (fused kept) result b →
       is_memory (trouble (settled result)) ≡ false →
       was_not_empty result ≡ false → reply ≡ making_reply name result → new ≡ with_more name b old →
       Adopts name kept old reply new

@@ -11,4 +11,4 @@ abbrev pub named_base : {K : Type 0} {g : Ghosts K} → (K → Kept) → Named K
 named_base kept d = (d.name, base_of kept d.database)
 
 abbrev pub cluster_of : {K : Type 0} {g : Ghosts K} → (K → Kept) → Cluster K g → Clustered
-cluster_of kept c = record { limit = c.limit; bases = map (named_base kept) c.databases.items }
+cluster_of kept c = record { limit = c.limit; given = c.given; bases = map (named_base kept) c.databases.items }

@@ -1,18 +1,22 @@
 -- How a session ends, and what is written last.
-use Rattle.std.specs.Prelude.{◌≡◌, ℕ, ◌==◌, ◌≤◌, if◌then◌else◌, Bool, true, false, List, [], ◌∷◌, ◌++◌, length, codes, Option, Some, None}
-use Rattle.std.specs.Option.{option_map}
+use Rattle.std.specs.Prelude.{not, ◌≡◌, ℕ, ◌==◌, ◌≤◌, ◌&&◌, if◌then◌else◌, Bool, true, false, List, [], ◌∷◌, ◌++◌}
+use Rattle.std.specs.Prelude.{length, take, drop, codes, Option, Some, None}
 use Rattle.std.specs.Fmt.{decimal}
 use Rattle.slon_base.specs.Counts.{Rose}
-use Rattle.slon_base.specs.Outside.{Filed, Poured}
+use Rattle.slon_base.specs.Outside.{Filed, Poured, with_piece, WritesPart}
 use Rattle.slon_base.specs.Shelf.{Shelved}
+use Rattle.slon_model.specs.declared.command.Command.{Command}
 use Rattle.slon_model.specs.Lines.{session_of}
 use Rattle.session_text.specs.Reading.{session_limit}
 use Rattle.slon_main.specs.declared.status.Status.{Status}
-use Rattle.slon_main.specs.declared.status.Status.TheVariants.{Done, Usage, BadLine, ReadFault, WriteFault, NoMemory, NoStore, Missing, TooLong}
+use Rattle.slon_main.specs.declared.status.Status.TheVariants.{Done, Usage, BadLine, ReadFault, WriteFault, NoMemory}
+use Rattle.slon_main.specs.declared.status.Status.TheVariants.{NoStore, Missing, TooLong}
 use Rattle.slon_main.specs.declared.run.Stop.{Stop}
-use Rattle.slon_main.specs.declared.run.Stop.TheVariants.{BadLine as StopsBad, Read as StopsRead, Write as StopsWrite, NoMemory as StopsShort, NoStore as StopsNoStore, TooLong as StopsLong}
+use Rattle.slon_main.specs.declared.run.Stop.TheVariants.{BadLine as StopsBad, Read as StopsRead, Write as StopsWrite}
+use Rattle.slon_main.specs.declared.run.Stop.TheVariants.{NoMemory as StopsShort, NoStore as StopsNoStore}
+use Rattle.slon_main.specs.declared.run.Stop.TheVariants.{TooLong as StopsLong}
 use Rattle.slon_main.specs.Agreed.{Clustered}
-use Rattle.slon_main.specs.Running.{Counts, Ran, RanOn, IsMaking, IsBeyond, IsTooLong}
+use Rattle.slon_main.specs.Running.{Counts, Pieces, Ran, RanOn, RanInPart, IsMaking, IsBeyond, IsUnread, IsTooLong}
 
 -- the greatest number of databases of a session
 abbrev pub database_limit : ℕ
@@ -47,14 +51,16 @@ missing_line name = codes "stop missing " ++ name ++ codes "\n"
 abbrev pub long_line : List ℕ
 long_line = codes "stop long\n"
 
--- an ending with a last line: the line is written, or the output fails, or memory runs out; the databases are handed
--- back only in the first case
+-- an ending with a last line: the line is written, or the output fails in it, or memory runs out and nothing is
+-- written; the databases are handed back only in the first case
 pub data Closes {C : Type 0} (line : List ℕ) (status : Status) (cluster : Option C) (old new : Poured) (is : Status)
     (has : Option C) : Type 0 where
-  Closed : is ≡ status → has ≡ cluster → new.written ≡ option_map (λ before. before ++ line) old.written →
-      old.faults ≤ new.faults → Closes line status cluster old new is has
-  Failed : is ≡ WriteFault → has ≡ None → Rose old.faults new.faults → Closes line status cluster old new is has
-  Short : is ≡ NoMemory → has ≡ None → old.faults ≤ new.faults → Closes line status cluster old new is has
+  Closed : is ≡ status → has ≡ cluster → new.pieces ≡ with_piece line old.pieces → old.faults ≤ new.faults →
+      Closes line status cluster old new is has
+  Failed : is ≡ WriteFault → has ≡ None → WritesPart line old.pieces new.pieces → Rose old.faults new.faults →
+      Closes line status cluster old new is has
+  Short : is ≡ NoMemory → has ≡ None → new.pieces ≡ old.pieces → old.faults ≤ new.faults →
+      Closes line status cluster old new is has
 
 -- the ending after a stop
 abbrev pub ClosesAt : {C : Type 0} → Stop → C → Poured → Poured → Status → Option C → Type 0
@@ -65,13 +71,21 @@ ClosesAt StopsShort cluster old new is has = (is ≡ NoMemory) × (has ≡ None)
 ClosesAt (StopsNoStore name) cluster old new is has = Closes (store_line name) NoStore (Some cluster) old new is has
 ClosesAt StopsLong cluster old new is has = Closes long_line TooLong (Some cluster) old new is has
 
--- the databases are handed back exactly at these
+-- the endings at which the last line may be cut
+abbrev pub is_cut : Status → Bool
+is_cut WriteFault = true
+is_cut NoMemory = true
+is_cut others = false
+
+-- the endings of a session that was entered
+abbrev pub is_run : Status → Bool
+is_run Usage = false
+is_run Missing = false
+is_run others = true
+
+-- the databases are handed back exactly at these: the session was entered, and its last line is whole
 abbrev pub hands_back : Status → Bool
-hands_back Usage = false
-hands_back WriteFault = false
-hands_back NoMemory = false
-hands_back Missing = false
-hands_back others = true
+hands_back status = is_run status && not (is_cut status)
 
 -- an ending for a fault comes only where the count of that object rose
 abbrev pub FaultOnly : Status → Counts → Counts → Type 0
@@ -80,53 +94,70 @@ FaultOnly WriteFault old new = Rose old.out new.out
 FaultOnly NoStore old new = Rose old.shelf new.shelf
 FaultOnly others old new = Unit {0}
 
--- the endings of a session that was entered
-abbrev pub is_run : Status → Bool
-is_run Usage = false
-is_run Missing = false
-is_run others = true
+-- the endings of a session that is not there
+abbrev pub is_lost : Status → Bool
+is_lost ReadFault = true
+is_lost Missing = true
+is_lost others = is_cut others
 
 -- the endings of words that are no session's name
 abbrev pub is_refused : Status → Bool
 is_refused Usage = true
-is_refused WriteFault = true
-is_refused NoMemory = true
-is_refused others = false
+is_refused others = is_cut others
 
--- the endings of a session that is not there
-abbrev pub is_lost : Status → Bool
-is_lost ReadFault = true
-is_lost WriteFault = true
-is_lost NoMemory = true
-is_lost Missing = true
-is_lost others = false
+-- what was left of the file that was left last, before a session and after it
+pub record Unread : Type 0 where
+  pub was : Option (List ℕ)
+  pub now : Option (List ℕ)
+
+abbrev pub unread : Filed → Filed → Unread
+unread old new = record { was = old.unread; now = new.unread }
+
+-- A file failed: the session could not be entered, and nothing was run; or a read of it failed.
+pub data BrokeOff (bytes : List ℕ) (unread : Unread) (others : List Command) : Type 0 where
+  AtFirst : unread.now ≡ unread.was → others ≡ (session_of bytes).commands → BrokeOff bytes unread others
+  InRead : IsUnread bytes unread.now others → BrokeOff bytes unread others
 
 -- What is written and handed back at the end of a session of these bytes, and after the lines before its first bad
 -- one: the replies to exactly their commands, as the rules allow, and databases that agree with the rules. Without a
 -- store these are the replies to all commands before the one that was to make the database, where there are too many
--- bytes exactly those of the lines that end within as many as there may be, and where a file fails those to the first
--- commands.
-abbrev pub EndsRun : Shelved → Status → List ℕ → Option (List ℕ) → Option Clustered → Type 0
-EndsRun shelf Done bytes written (Some cluster) =
+-- bytes exactly those of the lines that end within as many as there may be, and where a file fails exactly those of the
+-- lines that were read whole.
+abbrev pub EndsWhole : Shelved → Status → List ℕ → Pieces → Unread → Clustered → Type 0
+EndsWhole shelf Done bytes written unread cluster =
     Ran shelf database_limit (session_of bytes).commands written cluster × ((session_of bytes).stop ≡ None)
-EndsRun shelf BadLine bytes written (Some cluster) =
-    (output : List ℕ) × (number : ℕ) × Ran shelf database_limit (session_of bytes).commands (Some output) cluster
-    × ((session_of bytes).stop ≡ Some number) × (written ≡ Some (output ++ bad_line number))
-EndsRun shelf ReadFault bytes written (Some cluster) =
-    (output : List ℕ) × RanOn shelf database_limit (session_of bytes).commands (Some output) cluster
-    × (written ≡ Some (output ++ read_line))
-EndsRun shelf NoStore bytes written (Some cluster) =
-    (output : List ℕ) × (name : List ℕ) × (on : RanOn shelf database_limit (session_of bytes).commands
+EndsWhole shelf BadLine bytes written unread cluster =
+    (output : List (List ℕ)) × (number : ℕ) × Ran shelf database_limit (session_of bytes).commands (Some output) cluster
+    × ((session_of bytes).stop ≡ Some number) × (written ≡ Some (output ++ bad_line number ∷ []))
+EndsWhole shelf ReadFault bytes written unread cluster =
+    (output : List (List ℕ)) × (on : RanOn shelf database_limit (session_of bytes).commands (Some output) cluster)
+    × BrokeOff bytes unread on.others × (written ≡ Some (output ++ read_line ∷ []))
+EndsWhole shelf NoStore bytes written unread cluster =
+    (output : List (List ℕ)) × (name : List ℕ) × (on : RanOn shelf database_limit (session_of bytes).commands
     (Some output) cluster)
-    × IsMaking name on.others × (written ≡ Some (output ++ store_line name))
-EndsRun shelf TooLong bytes written (Some cluster) =
-    (output : List ℕ) × (on : RanOn shelf database_limit (session_of bytes).commands (Some output) cluster)
-    × IsBeyond bytes on.others × (written ≡ Some (output ++ long_line))
-EndsRun shelf Usage bytes written cluster = Unit {0}
-EndsRun shelf WriteFault bytes written cluster = Unit {0}
-EndsRun shelf NoMemory bytes written cluster = Unit {0}
-EndsRun shelf Missing bytes written cluster = Unit {0}
-EndsRun shelf others bytes written cluster = ⊥
+    × IsMaking name bytes cluster on.others × (written ≡ Some (output ++ store_line name ∷ []))
+EndsWhole shelf TooLong bytes written unread cluster =
+    (output : List (List ℕ)) × (on : RanOn shelf database_limit (session_of bytes).commands (Some output) cluster)
+    × IsBeyond bytes on.others × (written ≡ Some (output ++ long_line ∷ []))
+EndsWhole shelf others bytes written unread cluster = ⊥
+
+-- What is written where the output failed: whole lines and the first bytes of one more, which is the line of a reply,
+-- or the last line of a session that stopped.
+pub data EndsInPart (shelf : Shelved) (bytes : List ℕ) (written : Pieces) (unread : Unread) : Type 0 where
+  InReply : RanInPart shelf database_limit (session_of bytes).commands written → EndsInPart shelf bytes written unread
+  InLast : (status : Status) (before : List (List ℕ)) (line : List ℕ) (n : ℕ) (cluster : Clustered) →
+      (status ≡ Done → ⊥) → EndsWhole shelf status bytes (Some (before ++ line ∷ [])) unread cluster →
+      written ≡ Some (before ++ take n line ∷ []) → EndsInPart shelf bytes written unread
+
+-- What is written and handed back, by the status. Where memory ran out, whole lines were written and nothing else.
+abbrev pub EndsRun : Shelved → Status → List ℕ → Pieces → Unread → Option Clustered → Type 0
+EndsRun shelf Usage bytes written unread cluster = Unit {0}
+EndsRun shelf Missing bytes written unread cluster = Unit {0}
+EndsRun shelf WriteFault bytes written unread cluster = EndsInPart shelf bytes written unread
+EndsRun shelf NoMemory bytes written unread cluster =
+    (c : Clustered) × RanOn shelf database_limit (session_of bytes).commands written c
+EndsRun shelf status bytes written unread (Some cluster) = EndsWhole shelf status bytes written unread cluster
+EndsRun shelf status bytes written unread None = ⊥
 
 -- Where the run of a session of these bytes ends: at its end, at its first bad line, or where it is too long.
 abbrev pub EndsAt : Status → List ℕ → Type 0
@@ -173,9 +204,14 @@ pub record MissingOnly (words : List (List ℕ)) (files : Filed) (old new : Pour
   pub name : List ℕ
   pub word : session_word words ≡ Some name
   pub lacks : (names : List ℕ → Option (List ℕ)) → files.names ≡ Some names → names name ≡ None
-  pub written : new.written ≡ option_map (λ before. before ++ missing_line name) old.written
+  pub written : new.pieces ≡ with_piece (missing_line name) old.pieces
 
 -- why the words are refused, and what is written then
 pub record UsageOnly (words : List (List ℕ)) (old new : Poured) : Type 0 where
   pub word : session_word words ≡ None
-  pub written : new.written ≡ option_map (λ before. before ++ usage_line) old.written
+  pub written : new.pieces ≡ with_piece usage_line old.pieces
+
+-- what the run of a session that was entered leaves of the files: it was left, and the others are as they were
+pub record LeavesIt (old new : Filed) : Type 0 where
+  pub names : new.names ≡ old.names
+  pub stack : new.stack ≡ drop 1 old.stack

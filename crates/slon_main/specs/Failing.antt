@@ -1,5 +1,5 @@
 -- How many replies tell that a store failed.
-use Rattle.std.specs.Prelude.{◌≡◌, ◌+◌, ◌≤◌, ℕ, if◌then◌else◌, Bool, false, List, [], ◌∷◌, Some, None}
+use Rattle.std.specs.Prelude.{◌≡◌, ◌+◌, ◌≤◌, ℕ, if◌then◌else◌, Bool, false, List, [], ◌∷◌, length, Some, None}
 use Rattle.std.specs.Str.{bytes_eq}
 use Rattle.slon_base.specs.Shelf.{Promise}
 use Rattle.slon_model.specs.declared.command.Command.{Command}
@@ -33,6 +33,8 @@ place_of name (b ∷ bs) = if bytes_eq name b.0 then 0 else place_of name bs + 1
 -- The replies that tell of a fault or a doubt of a database, and the calls of its store that can still fail, are
 -- together at most as many as the shelf told of the store. No reply tells of a database that is not there.
 pub record IsWithin (promise : ℕ → Promise) (history : List Happening) (cluster : Clustered) : Type 0 where
+  -- each store that was given is that of a database
+  pub placed : cluster.given ≡ length cluster.bases
   pub absent : (name : List ℕ) → find_named name cluster.bases ≡ None → failures name history ≡ 0
   pub present : (name : List ℕ) (b : Base) (n : ℕ) → find_named name cluster.bases ≡ Some b →
       (promise (place_of name cluster.bases)).can_fail ≡ Some n →

@@ -4,3 +4,5 @@ pub mod Clustered
 pub mod Ending
 pub mod Failing
 pub mod Running
+pub mod Statuses
+pub mod Telling

@@ -16,7 +16,8 @@ ghost use Rattle.app_store.specs.Base.{base_of};
 ghost use Rattle.app_store.specs.Serves.{is_memory};
 ghost use Rattle.slon_main.specs.Agreed.{Agrees};
 ghost use Rattle.slon_main.specs.Calls as calls;
-ghost use Rattle.slon_main.specs.Calls.{Moves, Steps, ReplyCaused, StaysCertain, StaysQuiet, Adopts, Makes, MakingReplyCaused, MakesCertain, is_making};
+ghost use Rattle.slon_main.specs.Calls.{Moves, Steps, ReplyCaused, StaysCertain, StaysQuiet, Adopts, Makes};
+ghost use Rattle.slon_main.specs.Calls.{MakingReplyCaused, MakesCertain, is_making};
 ghost use Rattle.slon_main.specs.Clustered.{cluster_of};
 
 use crate::status::NoMemory;
@@ -38,6 +39,8 @@ struct Named<K: Keeper> {
 pub struct Cluster<K: Keeper> {
     alloc: Global,
     limit: u32,
+    // How many stores it was given, also of databases that it did not keep.
+    given: u32,
     databases: Vec<Named<K>>,
 }
 
@@ -142,11 +145,13 @@ impl<K: Keeper> Cluster<K> {
     /// No databases yet, of which there may be `limit`.
     pub fn new(alloc: Global, limit: u32) -> Cluster<K>
         ensures agrees { Agrees (start limit) (cluster_of K.kept result) }
+        ensures given { (cluster_of K.kept result).given ≡ 0 }
         ensures certain { calls.AllCertain (cluster_of K.kept result) }
     {
         Cluster {
             alloc,
             limit,
+            given: 0,
             databases: Vec::new(alloc),
         }
     }
@@ -156,6 +161,13 @@ impl<K: Keeper> Cluster<K> {
         ensures { result ≡ length (cluster_of K.kept self.now).bases }
     {
         self.databases.len()
+    }
+
+    /// How many stores it was given, which is the place of the next one.
+    pub fn given(&self) -> u32
+        ensures { result ≡ (cluster_of K.kept self.now).given }
+    {
+        self.given
     }
 
     fn index_of(&self, name: &Text) -> Option<usize>
@@ -210,29 +222,29 @@ impl<K: Keeper> Cluster<K> {
     /// # Errors
     ///
     /// `NoMemory` where there is none.
-    pub fn step(&mut self, command: &Command) -> Result<Reply, NoMemory>
-        requires { IsSpoken command.now }
-        ensures moves { IfOk result (λ reply. Moves command.now (cluster_of K.kept self.old) reply
+    pub fn step(&mut self, command: Command) -> Result<Reply, NoMemory>
+        requires { IsSpoken command }
+        ensures moves { IfOk result (λ reply. Moves command (cluster_of K.kept self.old) reply
             (cluster_of K.kept self.new)) }
-        ensures steps { IfOk result (λ reply. Steps command.now (cluster_of K.kept self.old) reply
+        ensures steps { IfOk result (λ reply. Steps command (cluster_of K.kept self.old) reply
             (cluster_of K.kept self.new)) }
         ensures cause { IfOk result (λ reply. ReplyCaused reply (cluster_of K.kept self.old)
             (cluster_of K.kept self.new)) }
-        ensures certain { IfOk result (λ reply. StaysCertain command.now (cluster_of K.kept self.old) reply
+        ensures certain { IfOk result (λ reply. StaysCertain command (cluster_of K.kept self.old) reply
             (cluster_of K.kept self.new)) }
         ensures quiet { IfOk result (λ reply. StaysQuiet reply (cluster_of K.kept self.old)
             (cluster_of K.kept self.new)) }
     {
-        match command {
+        match &command {
             Command::Database { name } => self.grant(name),
-            _ => self.ask(command),
+            _ => self.ask(&command),
         }
     }
 
     /// Keeps a database behind the others.
     fn keep(&mut self, name: Text, database: Database<K>) -> Result<(), NoMemory>
-        ensures { IfOk result (λ _. cluster_of K.kept self.new ≡ calls.with_more name (base_of K.kept database)
-            (cluster_of K.kept self.old)) }
+        ensures { IfOk result (λ _. cluster_of K.kept self.new ≡ calls.with_base_behind name
+            (base_of K.kept database) (cluster_of K.kept self.old)) }
     {
         match self.databases.push(Named { name, database }) {
             Ok(()) => Ok(()),
@@ -245,7 +257,7 @@ impl<K: Keeper> Cluster<K> {
     ///
     /// # Errors
     ///
-    /// `NoMemory` where there is none.
+    /// `NoMemory` where there is none, and where 4,294,967,295 stores were given before.
     pub fn adopt(&mut self, name: Text, keeper: K) -> Result<Reply, NoMemory>
         ensures adopts { IfOk result (λ reply. Adopts name (K.kept keeper) (cluster_of K.kept self.old) reply
             (cluster_of K.kept self.new)) }
@@ -260,6 +272,10 @@ impl<K: Keeper> Cluster<K> {
         ensures quiet { IfOk result (λ reply. StaysQuiet reply (cluster_of K.kept self.old)
             (cluster_of K.kept self.new)) }
     {
+        let Some(given) = self.given.checked_add(1) else {
+            return Err(NoMemory);
+        };
+        self.given = given;
         let (database, created) = Database::create(self.alloc, Fuse::new(keeper));
         match created {
             Ok(()) => {

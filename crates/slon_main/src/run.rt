@@ -1,9 +1,9 @@
 // The run of a session: its lines are read, obeyed and answered one by one.
-ghost use Rattle.std.specs.Prelude.{◌≡◌, ℕ, ◌<◌, ◌≤◌, ◌++◌, List, length, true, false, Some, None, [], IfOk, IfErr, OnOk};
-ghost use Rattle.slon_base.specs.Outside.{top};
+ghost use Rattle.std.specs.Prelude.{◌≡◌, ℕ, ◌<◌, ◌≤◌, ◌++◌, List, length, true, false, Some, None, [], IfOk, IfErr};
+ghost use Rattle.std.specs.Prelude.{IsErrOf, OnOk};
+ghost use Rattle.slon_base.specs.Outside.{top, with_piece, WritesPart};
 ghost use Rattle.slon_model.specs.Lines.{meaning};
 ghost use Rattle.slon_model.specs.Spoken.{IsSpoken};
-ghost use Rattle.std.specs.Option.{option_map};
 ghost use Rattle.slon_model.specs.Printed.{reply_line};
 ghost use Rattle.slon_model.specs.World as world;
 ghost use Rattle.slon_model.specs.World.{World, start};
@@ -15,11 +15,19 @@ ghost use Rattle.slon_main.specs.Clustered.{cluster_of};
 ghost use Rattle.slon_main.specs.Failing.{Pays};
 ghost use Rattle.slon_model.specs.Names.{find_named};
 ghost use Rattle.slon_model.specs.declared.command.Command.TheVariants.{Database as DatabaseCommand};
-ghost use Rattle.slon_main.specs.Running.{counts, Tells, NeverFails, Shelves, HasCause, ReadsLine, Obeys, Replies, RunsLine, RunsSession, NamesMade, BadOnly, StopsAt, is_of_store, is_of_output, is_of_command, is_of_line, is_no_store};
+ghost use Rattle.session_text.specs.Replies.{NumbersFit};
+ghost use Rattle.slon_model.specs.Lines.{Says};
+ghost use Rattle.slon_main.specs.Running.{counts, begun, Tells, NeverFails, Shelves, AsksOn, HasCause, ReadsLine};
+ghost use Rattle.slon_main.specs.Running.{Obeys};
+ghost use Rattle.slon_main.specs.Running.{KeepsTelling, Replies, MeansInPart, RunsLine, Starts, RunsSession, NamesMade};
+ghost use Rattle.slon_main.specs.Running.{BadOnly, StopsAt, is_of_store, is_of_output, is_of_command, is_of_line};
+ghost use Rattle.slon_main.specs.Running.{is_no_store};
 
 use crate::cluster::Cluster;
 use crate::status::NoMemory;
-use session_text::{LineFault, LineReader, NextLine, ReadStop, print_line, read_command};
+use session_text::{
+    LineFault, LineReader, NextLine, ReadStop, numbers_fit, print_line, read_command,
+};
 use slon_base::{Files, OutFault, Shelf, Sink, Text};
 use slon_model::{Command, Reply};
 use std::alloc::Global;
@@ -74,6 +82,8 @@ fn read_line<F: Files>(
 /// Makes a database over the next store of the shelf.
 fn make<S: Shelf>(cluster: &mut Cluster<S::Store>, shelf: &mut S, name: Text) -> Result<Reply, Stop>
     ensures shelf { Shelves (S.shelved shelf.old) (S.shelved shelf.new) }
+    ensures asked { AsksOn (S.shelved shelf.old).asked (cluster_of S.Store.kept cluster.old)
+        (S.shelved shelf.new).asked (cluster_of S.Store.kept cluster.new) result }
     ensures cause { (files out : ℕ) → HasCause (counts files (S.shelved shelf.old).faults out)
         (counts files (S.shelved shelf.new).faults out) result }
     ensures made { Tells (S.shelved shelf.old) → IfOk result
@@ -83,18 +93,18 @@ fn make<S: Shelf>(cluster: &mut Cluster<S::Store>, shelf: &mut S, name: Text) ->
         × (AllCertain (cluster_of S.Store.kept cluster.old) → AllCertain (cluster_of S.Store.kept cluster.new))) }
     ensures quiet { IfOk result (λ reply. StaysQuiet reply (cluster_of S.Store.kept cluster.old)
         (cluster_of S.Store.kept cluster.new)) }
-    ensures pays { find_named name (cluster_of S.Store.kept cluster.old).bases ≡ None →
+    ensures pays { Tells (S.shelved shelf.old) → find_named name (cluster_of S.Store.kept cluster.old).bases ≡ None →
         IfOk result (λ reply. Pays (S.shelved shelf.old).promise (DatabaseCommand name)
         (cluster_of S.Store.kept cluster.old) reply (cluster_of S.Store.kept cluster.new)) }
-    ensures named { IfErr result (NamesMade (DatabaseCommand name)) }
+    ensures tells { find_named name (cluster_of S.Store.kept cluster.old).bases ≡ None →
+        IfOk result (λ reply. KeepsTelling (DatabaseCommand name)
+        (cluster_of S.Store.kept cluster.old) reply (cluster_of S.Store.kept cluster.new)) }
+    ensures named { IfErr result (λ stop. is_no_store stop ≡ true → stop ≡ Stop.NoStore name) }
     ensures unmade { IfErr result (λ stop. is_no_store stop ≡ true →
         cluster_of S.Store.kept cluster.new ≡ cluster_of S.Store.kept cluster.old) }
     ensures stop { IfErr result (λ stop. is_of_store stop ≡ true) }
 {
-    let Ok(place) = u32::try_from(cluster.len()) else {
-        return Err(Stop::NoMemory);
-    };
-    match shelf.give(None, place) {
+    match shelf.give(None, cluster.given()) {
         Ok(keeper) => match cluster.adopt(name, keeper) {
             Ok(reply) => Ok(reply),
             Err(NoMemory) => Err(Stop::NoMemory),
@@ -106,46 +116,83 @@ fn make<S: Shelf>(cluster: &mut Cluster<S::Store>, shelf: &mut S, name: Text) ->
     }
 }
 
+/// Makes the database of this name, if there may be one.
+fn make_named<S: Shelf>(
+    alloc: Global,
+    cluster: &mut Cluster<S::Store>,
+    shelf: &mut S,
+    name: Text,
+) -> Result<Reply, Stop>
+    requires { IsSpoken (DatabaseCommand name) }
+    ensures shelf { Shelves (S.shelved shelf.old) (S.shelved shelf.new) }
+    ensures asked { AsksOn (S.shelved shelf.old).asked (cluster_of S.Store.kept cluster.old)
+        (S.shelved shelf.new).asked (cluster_of S.Store.kept cluster.new) result }
+    ensures cause { (files out : ℕ) → HasCause (counts files (S.shelved shelf.old).faults out)
+        (counts files (S.shelved shelf.new).faults out) result }
+    ensures obeys { Tells (S.shelved shelf.old) → IfOk result (λ reply. Obeys (DatabaseCommand name)
+        (cluster_of S.Store.kept cluster.old) reply (cluster_of S.Store.kept cluster.new)) }
+    ensures certain { NeverFails (S.shelved shelf.old) →
+        IfOk result (λ reply. StaysCertain (DatabaseCommand name) (cluster_of S.Store.kept cluster.old) reply
+        (cluster_of S.Store.kept cluster.new)) }
+    ensures quiet { IfOk result (λ reply. StaysQuiet reply (cluster_of S.Store.kept cluster.old)
+        (cluster_of S.Store.kept cluster.new)) }
+    ensures pays { Tells (S.shelved shelf.old) → IfOk result (λ reply. Pays (S.shelved shelf.old).promise
+        (DatabaseCommand name) (cluster_of S.Store.kept cluster.old) reply (cluster_of S.Store.kept cluster.new)) }
+    ensures tells { IfOk result (λ reply. KeepsTelling (DatabaseCommand name)
+        (cluster_of S.Store.kept cluster.old) reply (cluster_of S.Store.kept cluster.new)) }
+    ensures named { IfErr result (NamesMade (DatabaseCommand name) (cluster_of S.Store.kept cluster.old)) }
+    ensures unmade { IfErr result (λ stop. is_no_store stop ≡ true →
+        cluster_of S.Store.kept cluster.new ≡ cluster_of S.Store.kept cluster.old) }
+    ensures stop { IfErr result (λ stop. is_of_store stop ≡ true) }
+{
+    let Ok(copy) = name.copy(alloc) else {
+        return Err(Stop::NoMemory);
+    };
+    let Ok(reply) = cluster.step(Command::Database { name }) else {
+        return Err(Stop::NoMemory);
+    };
+    if !is_accepted(&reply) {
+        return Ok(reply);
+    }
+    drop(reply);
+    make(cluster, shelf, copy)
+}
+
 /// Runs a command that a line can say, and replies.
 fn obey<S: Shelf>(
     alloc: Global,
     cluster: &mut Cluster<S::Store>,
     shelf: &mut S,
-    command: &Command,
+    command: Command,
 ) -> Result<Reply, Stop>
-    requires { IsSpoken command.now }
+    requires { IsSpoken command }
     ensures shelf { Shelves (S.shelved shelf.old) (S.shelved shelf.new) }
+    ensures asked { AsksOn (S.shelved shelf.old).asked (cluster_of S.Store.kept cluster.old)
+        (S.shelved shelf.new).asked (cluster_of S.Store.kept cluster.new) result }
     ensures cause { (files out : ℕ) → HasCause (counts files (S.shelved shelf.old).faults out)
         (counts files (S.shelved shelf.new).faults out) result }
     ensures obeys { Tells (S.shelved shelf.old) → IfOk result
-        (λ reply. Obeys command.now (cluster_of S.Store.kept cluster.old) reply (cluster_of S.Store.kept cluster.new)) }
+        (λ reply. Obeys command (cluster_of S.Store.kept cluster.old) reply (cluster_of S.Store.kept cluster.new)) }
     ensures certain { NeverFails (S.shelved shelf.old) →
-        IfOk result (λ reply. StaysCertain command.now (cluster_of S.Store.kept cluster.old) reply
+        IfOk result (λ reply. StaysCertain command (cluster_of S.Store.kept cluster.old) reply
         (cluster_of S.Store.kept cluster.new)) }
     ensures quiet { IfOk result (λ reply. StaysQuiet reply (cluster_of S.Store.kept cluster.old)
         (cluster_of S.Store.kept cluster.new)) }
-    ensures pays { IfOk result (λ reply. Pays (S.shelved shelf.old).promise command.now
+    ensures pays { Tells (S.shelved shelf.old) → IfOk result (λ reply. Pays (S.shelved shelf.old).promise command
         (cluster_of S.Store.kept cluster.old) reply (cluster_of S.Store.kept cluster.new)) }
-    ensures named { IfErr result (NamesMade command.now) }
+    ensures tells { IfOk result (λ reply. KeepsTelling command
+        (cluster_of S.Store.kept cluster.old) reply (cluster_of S.Store.kept cluster.new)) }
+    ensures named { IfErr result (NamesMade command (cluster_of S.Store.kept cluster.old)) }
     ensures unmade { IfErr result (λ stop. is_no_store stop ≡ true →
         cluster_of S.Store.kept cluster.new ≡ cluster_of S.Store.kept cluster.old) }
     ensures stop { IfErr result (λ stop. is_of_store stop ≡ true) }
 {
-    let Ok(reply) = cluster.step(command) else {
-        return Err(Stop::NoMemory);
-    };
     match command {
-        Command::Database { name } => {
-            if !is_accepted(&reply) {
-                return Ok(reply);
-            }
-            drop(reply);
-            let Ok(name) = name.copy(alloc) else {
-                return Err(Stop::NoMemory);
-            };
-            make(cluster, shelf, name)
-        }
-        _ => Ok(reply),
+        Command::Database { name } => make_named(alloc, cluster, shelf, name),
+        other => match cluster.step(other) {
+            Ok(reply) => Ok(reply),
+            Err(NoMemory) => Err(Stop::NoMemory),
+        },
     }
 }
 
@@ -164,10 +211,15 @@ fn answer<O: Sink>(alloc: Global, reply: &Reply, out: &mut O) -> Result<(), Stop
     ensures cause { (files shelf : ℕ) → HasCause (counts files shelf (O.poured out.old).faults)
         (counts files shelf (O.poured out.new).faults) result }
     ensures later { (O.poured out.old).faults ≤ (O.poured out.new).faults }
-    ensures written { OnOk result ((O.poured out.new).written ≡ option_map (λ bytes. bytes ++ reply_line reply.now)
-        (O.poured out.old).written) }
+    ensures written { OnOk result ((O.poured out.new).pieces ≡ with_piece (reply_line reply.now)
+        (O.poured out.old).pieces) }
+    ensures fits { NumbersFit reply.now }
+    ensures cut { IsErrOf result Stop.Write → WritesPart (reply_line reply.now) (O.poured out.old).pieces
+        (O.poured out.new).pieces }
+    ensures silent { IsErrOf result Stop.NoMemory → (O.poured out.new).pieces ≡ (O.poured out.old).pieces }
     ensures stop { IfErr result (λ stop. is_of_output stop ≡ true) }
 {
+    numbers_fit(reply);
     let Ok(line) = print_line(alloc, reply) else {
         return Err(Stop::NoMemory);
     };
@@ -183,24 +235,32 @@ fn answer<O: Sink>(alloc: Global, reply: &Reply, out: &mut O) -> Result<(), Stop
 /// Obeys a command that a line can say, and writes the reply.
 fn run_command<S: Shelf, O: Sink>(
     alloc: Global,
-    command: &Command,
+    command: Command,
     cluster: &mut Cluster<S::Store>,
     shelf: &mut S,
     out: &mut O,
 ) -> Result<(), Stop>
-    requires { IsSpoken command.now }
+    requires { IsSpoken command }
     ensures shelf { Shelves (S.shelved shelf.old) (S.shelved shelf.new) }
+    ensures asked { AsksOn (S.shelved shelf.old).asked (cluster_of S.Store.kept cluster.old)
+        (S.shelved shelf.new).asked (cluster_of S.Store.kept cluster.new) result }
     ensures later { (O.poured out.old).faults ≤ (O.poured out.new).faults }
     ensures cause { (files : ℕ) → HasCause (counts files (S.shelved shelf.old).faults (O.poured out.old).faults)
         (counts files (S.shelved shelf.new).faults (O.poured out.new).faults) result }
     ensures stop { IfErr result (λ stop. is_of_command stop ≡ true) }
     ensures runs { Tells (S.shelved shelf.old) → OnOk result
         ((w : World) → Follows w (cluster_of S.Store.kept cluster.old) →
-        Replies (S.shelved shelf.old) command.now w (O.poured out.old).written (O.poured out.new).written
+        Replies (S.shelved shelf.old) command w (O.poured out.old).pieces (O.poured out.new).pieces
         (cluster_of S.Store.kept cluster.old) (cluster_of S.Store.kept cluster.new)) }
-    ensures named { IfErr result (NamesMade command.now) }
+    ensures cut { Tells (S.shelved shelf.old) → IsErrOf result Stop.Write →
+        (lines : List (List ℕ)) → (O.poured out.old).pieces ≡ Some lines →
+        (w : World) → Follows w (cluster_of S.Store.kept cluster.old) →
+        MeansInPart (Says command) (S.shelved shelf.old) w lines (O.poured out.new).pieces
+        (cluster_of S.Store.kept cluster.old) (cluster_of S.Store.kept cluster.new) }
+    ensures silent { IsErrOf result Stop.NoMemory → (O.poured out.new).pieces ≡ (O.poured out.old).pieces }
+    ensures named { IfErr result (NamesMade command (cluster_of S.Store.kept cluster.old)) }
     ensures unmade { IfErr result (λ stop. is_no_store stop ≡ true →
-        ((O.poured out.new).written ≡ (O.poured out.old).written)
+        ((O.poured out.new).pieces ≡ (O.poured out.old).pieces)
         × (cluster_of S.Store.kept cluster.new ≡ cluster_of S.Store.kept cluster.old)) }
 {
     let reply = obey(alloc, cluster, shelf, command)?;
@@ -217,19 +277,21 @@ fn run_line<S: Shelf, O: Sink>(
     out: &mut O,
 ) -> Result<(), Stop>
     ensures shelf { Shelves (S.shelved shelf.old) (S.shelved shelf.new) }
+    ensures asked { AsksOn (S.shelved shelf.old).asked (cluster_of S.Store.kept cluster.old)
+        (S.shelved shelf.new).asked (cluster_of S.Store.kept cluster.new) result }
     ensures later { (O.poured out.old).faults ≤ (O.poured out.new).faults }
     ensures cause { (files : ℕ) → HasCause (counts files (S.shelved shelf.old).faults (O.poured out.old).faults)
         (counts files (S.shelved shelf.new).faults (O.poured out.new).faults) result }
     ensures stop { IfErr result (λ stop. is_of_line stop ≡ true) }
     ensures bad { BadOnly number (meaning line.now) result }
     ensures runs { Tells (S.shelved shelf.old) → RunsLine number (meaning line.now) (S.shelved shelf.old)
-        (cluster_of S.Store.kept cluster.old) (cluster_of S.Store.kept cluster.new) (O.poured out.old).written
-        (O.poured out.new).written result }
+        (cluster_of S.Store.kept cluster.old) (cluster_of S.Store.kept cluster.new) (O.poured out.old).pieces
+        (O.poured out.new).pieces result }
 {
     match read_command(alloc, line, number) {
         Ok(said) => match said {
             None => Ok(()),
-            Some(command) => run_command(alloc, &command, cluster, shelf, out),
+            Some(command) => run_command(alloc, command, cluster, shelf, out),
         },
         Err(fault) => Err(match fault {
             LineFault::BadLine { number } => Stop::BadLine { number },
@@ -252,11 +314,13 @@ pub fn run_session<F: Files, S: Shelf, O: Sink>(
     ensures cause { HasCause (counts (F.filed files.old).faults (S.shelved shelf.old).faults (O.poured out.old).faults)
         (counts (F.filed files.new).faults (S.shelved shelf.new).faults (O.poured out.new).faults) result }
     ensures place { (bytes : List ℕ) → top (F.filed files.old).stack ≡ Some bytes → StopsAt bytes result }
+    ensures asked { AsksOn (S.shelved shelf.old).asked (cluster_of S.Store.kept cluster.old)
+        (S.shelved shelf.new).asked (cluster_of S.Store.kept cluster.new) result }
     ensures runs { (bytes : List ℕ) (limit : ℕ) → top (F.filed files.old).stack ≡ Some bytes →
-        Tells (S.shelved shelf.old) → (O.poured out.old).written ≡ Some [] →
-        Agrees (start limit) (cluster_of S.Store.kept cluster.old) →
-        RunsSession (S.shelved shelf.old) limit bytes (O.poured out.new).written
-        (cluster_of S.Store.kept cluster.new) result }
+        Tells (S.shelved shelf.old) → (O.poured out.old).pieces ≡ Some [] →
+        Starts limit (cluster_of S.Store.kept cluster.old) →
+        RunsSession (begun (S.shelved shelf.old) limit bytes) (O.poured out.new).pieces
+        (cluster_of S.Store.kept cluster.new) (top (F.filed files.new).stack) result }
 {
     let Ok(mut reader) = LineReader::new(alloc) else {
         return Err(Stop::NoMemory);

@@ -6,8 +6,10 @@ ghost use Rattle.session_text.specs.Reading.{session_limit};
 ghost use Rattle.std.specs.Prelude.{string_bytes, IfOk};
 ghost use Rattle.slon_main.specs.Ending as ending;
 ghost use Rattle.slon_main.specs.Clustered.{cluster_of};
-ghost use Rattle.slon_main.specs.Running.{counts, Tells};
-ghost use Rattle.slon_main.specs.Ending.{Closes, ClosesAt, hands_back, FaultOnly, NoneRose, IsWhole, is_run, is_whole, is_refused, is_lost, EndsRun, EndsAt, Holds, Lacks, MissingOnly, UsageOnly};
+ghost use Rattle.slon_main.specs.Running.{counts, AreAsked, Tells};
+ghost use Rattle.slon_main.specs.Ending.{Closes, ClosesAt, hands_back, FaultOnly, NoneRose, IsWhole, is_run, is_whole};
+ghost use Rattle.slon_main.specs.Ending.{is_refused, is_lost, EndsRun, EndsAt, Holds, Lacks, LeavesIt, MissingOnly};
+ghost use Rattle.slon_main.specs.Ending.{UsageOnly, unread};
 
 use crate::cluster::Cluster;
 use crate::run::{Stop, run_session};
@@ -136,8 +138,11 @@ fn run_entered<F: Files, S: Shelf, O: Sink>(
         (O.poured out.new).faults) }
     ensures place { (bytes : List ℕ) → top (F.filed files.old).stack ≡ Some bytes → EndsAt result.status bytes }
     ensures ends { (bytes : List ℕ) → top (F.filed files.old).stack ≡ Some bytes → Tells (S.shelved shelf.old) →
-        (O.poured out.old).written ≡ Some [] → EndsRun (S.shelved shelf.old) result.status bytes
-        (O.poured out.new).written (option_map (cluster_of S.Store.kept) result.cluster) }
+        (O.poured out.old).pieces ≡ Some [] → EndsRun (S.shelved shelf.old) result.status bytes
+        (O.poured out.new).pieces (unread (F.filed files.old) (F.filed files.new))
+        (option_map (cluster_of S.Store.kept) result.cluster) }
+    ensures asked { (S.shelved shelf.old).asked ≡ Some [] → AreAsked (S.shelved shelf.new).asked }
+    ensures left { LeavesIt (F.filed files.old) (F.filed files.new) }
 {
     let mut cluster = Cluster::new(alloc, DATABASE_LIMIT);
     let ran = run_session(alloc, &mut cluster, files, shelf, out);
@@ -177,8 +182,13 @@ pub fn slon_main<F: Files, S: Shelf, O: Sink>(
     out: &mut O,
 ) -> Ended<S::Store>
     ensures ends { (bytes : List ℕ) → Holds words.now bytes (F.filed files.old) → Tells (S.shelved shelf.old) →
-        (O.poured out.old).written ≡ Some [] → EndsRun (S.shelved shelf.old) result.status bytes
-        (O.poured out.new).written (option_map (cluster_of S.Store.kept) result.cluster) }
+        (O.poured out.old).pieces ≡ Some [] → EndsRun (S.shelved shelf.old) result.status bytes
+        (O.poured out.new).pieces (unread (F.filed files.old) (F.filed files.new))
+        (option_map (cluster_of S.Store.kept) result.cluster) }
+    ensures asked { (S.shelved shelf.old).asked ≡ Some [] → AreAsked (S.shelved shelf.new).asked }
+    ensures names { (F.filed files.new).names ≡ (F.filed files.old).names }
+    ensures left { (F.filed files.new).stack ≡ (F.filed files.old).stack }
+    ensures untouched { ending.session_word words.now ≡ None → (files.new ≡ files.old) × (shelf.new ≡ shelf.old) }
     ensures cluster { is_some result.cluster ≡ hands_back result.status }
     ensures faults { FaultOnly result.status (counts (F.filed files.old).faults (S.shelved shelf.old).faults
         (O.poured out.old).faults) (counts (F.filed files.new).faults (S.shelved shelf.new).faults

@@ -13,7 +13,7 @@ impl From<AllocError> for NoMemory {
     }
 }
 
-/// How a session ended. The numbers are the exit statuses of the program.
+/// How a session ended.
 #[derive(Clone, Copy, Debug, PartialEq, Eq)]
 pub enum Status {
     /// The session was read to its end.
@@ -34,4 +34,16 @@ pub enum Status {
     Missing = 8,
     /// The session has more than 16,777,216 bytes.
     TooLong = 9,
+}
+
+impl Status {
+    ghost use Rattle.std.specs.Prelude.{◌≡◌};
+    ghost use Rattle.slon_main.specs.Statuses.{number_of};
+
+    /// Its number, which is the exit status of the program.
+    pub fn number(self) -> u8
+        ensures { result ≡ number_of self }
+    {
+        self as u8
+    }
 }

@@ -1,6 +1,7 @@
 // Rows in their outer form, written and read, and maps with keys of bytes.
-use slon_base::{ByteMap, RowFault, RowIn, RowOut, Text};
+use slon_base::{ByteMap, KeepFault, RowFault, RowIn, RowOut, Text};
 use std::test::Fail;
+use txn_core::BadSnapshot;
 
 #[test]
 fn rows_are_spelled(rt: HostRuntime) -> Result<(), Fail> {
@@ -49,6 +50,24 @@ fn faults_are_told(rt: HostRuntime) -> Result<(), Fail> {
     let mut row = RowIn::new(b"\0\0\0\x01\xff");
     assert!(rt; matches!(row.text(rt.alloc()), Err(RowFault::NotCanonical)));
     assert_eq!(rt; row.count(), Ok(1));
+    Ok(())
+}
+
+#[test]
+fn faults_have_numbers(rt: HostRuntime) -> Result<(), Fail> {
+    let table = [
+        (KeepFault::Failed.number(), 10),
+        (KeepFault::NoMemory.number(), 11),
+        (RowFault::Short.number(), 1),
+        (RowFault::Trailing.number(), 2),
+        (RowFault::NotCanonical.number(), 3),
+        (RowFault::NoMemory.number(), 11),
+        (BadSnapshot::NotCanonical.number(), 20),
+        (BadSnapshot::NoMemory.number(), 11),
+    ];
+    for (number, wanted) in table {
+        assert_eq!(rt; number, wanted);
+    }
     Ok(())
 }
 

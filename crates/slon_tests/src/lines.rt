@@ -19,7 +19,12 @@ struct Pieces<'a> {
 impl Files for Pieces<'_> {
     ghost use Rattle.std.specs.Prelude.{if◌then◌else◌, None, [], ◌∷◌};
 
-    ghost filed = { λ f. record { names = None; stack = (if f.entered then None ∷ [] else []); faults = f.faults } };
+    ghost filed = { λ f. record {
+      names = None;
+      stack = (if f.entered then None ∷ [] else []);
+      unread = None;
+      faults = f.faults;
+    } };
 
     fn enter(&mut self, _name: &[u8]) -> Result<bool, OutFault> {
         Ok(false)

@@ -47,6 +47,7 @@ impl Files for Served<'_> {
     ghost filed = { λ f. record {
       names = None;
       stack = (if is_some f.entered then None ∷ [] else []);
+      unread = None;
       faults = f.faults;
     } };
 

@@ -6,10 +6,15 @@ use Rattle.slonrun.specs.declared.fault_count.FaultCount.{FaultCount}
 use Rattle.slonrun.specs.Faults.{faults_of}
 
 abbrev pub untold_files : {F : Type 0} → List F → FaultCount → Filed
-untold_files entered faults = record { names = None; stack = map (λ _. None) entered; faults = faults_of faults }
+untold_files entered faults =
+    record { names = None; stack = map (λ _. None) entered; unread = None; faults = faults_of faults }
 
 abbrev pub untold_output : FaultCount → Poured
-untold_output faults = record { written = None; faults = faults_of faults }
+untold_output faults = record { pieces = None; faults = faults_of faults }
 
 abbrev pub in_memory : Shelved
-in_memory = record { promise = λ _. record { begins_empty = true; tells_rows = true; can_fail = Some 0 }; faults = 0 }
+in_memory = record {
+  promise = λ _. record { begins_empty = true; tells_rows = true; can_fail = Some 0 };
+  asked = None;
+  faults = 0;
+}

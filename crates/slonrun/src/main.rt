@@ -15,7 +15,7 @@ use std::process::ExitCode;
 
 fn main(rt: HostRuntime) -> ExitCode {
     let Ok(words) = words::given(&rt) else {
-        return ExitCode::from(Status::NoMemory as u8);
+        return ExitCode::from(Status::NoMemory.number());
     };
     let mut files = RealFiles::new(rt.alloc(), &rt);
     let mut shelf = RealShelf::new(rt.alloc());
@@ -27,7 +27,7 @@ fn main(rt: HostRuntime) -> ExitCode {
         &mut shelf,
         &mut out,
     );
-    ExitCode::from(ended.status as u8)
+    ExitCode::from(ended.status.number())
 }
 
 #[cfg(test)]

@@ -23,7 +23,12 @@ impl<R: rt::Files + Drop> RealFiles<R> {
 
     /// The files of this system, with none entered.
     pub(crate) fn new(alloc: Global, system: R) -> RealFiles<R>
-        ensures { untold_files result.entered.items result.faults ≡ record { names = None; stack = []; faults = 0 } }
+        ensures { untold_files result.entered.items result.faults ≡ record {
+          names = None;
+          stack = [];
+          unread = None;
+          faults = 0;
+        } }
     {
         RealFiles {
             system,

@@ -16,7 +16,7 @@ impl<W: Write + Drop> RealSink<W> {
 
     /// An output that writes on this writer.
     pub(crate) fn new(writer: W) -> RealSink<W>
-        ensures { untold_output result.faults ≡ record { written = None; faults = 0 } }
+        ensures { untold_output result.faults ≡ record { pieces = None; faults = 0 } }
     {
         RealSink {
             writer,

@@ -1,11 +1,9 @@
 use Rattle.std.proofs.Common.{◌≡◌, ◌+◌, ◌-◌, ◌≤◌, ℕ, List, [], Some}
 use Rattle.slon_base.specs.Outside.{top}
-use Rattle.slon_model.specs.World.{start}
 use Rattle.session_text.specs.Reading.{session_limit}
 use Rattle.session_text.specs.Handing.{Stays}
-use Rattle.slon_main.specs.Agreed.{Agrees}
 use Rattle.slon_main.specs.Clustered.{cluster_of}
-use Rattle.slon_main.specs.Running.{Tells, Shelves}
+use Rattle.slon_main.specs.Running.{Tells, Shelves, Starts, IsAsked, begun}
 use Rattle.slon_main.proofs.Places.{Came}
 use Rattle.slon_main.proofs.Runs.{Running}
 use Rattle.slon_main.proofs.run.run_session.Given as goal
@@ -15,19 +13,21 @@ invariant-loop-line g l = record {
   files : Stays (g.F.Files.filed l.fn.files) (g.F.Files.filed l.files);
   shelf : Shelves (g.S.Shelf.shelved l.fn.shelf) (g.S.Shelf.shelved l.shelf);
   later : (g.O.Sink.poured l.fn.out).faults ≤ (g.O.Sink.poured l.out).faults;
+  asked : IsAsked (g.S.Shelf.shelved l.fn.shelf).asked (cluster_of g.S.Store.Keeper.kept l.fn.cluster).given →
+      IsAsked (g.S.Shelf.shelved l.shelf).asked (cluster_of g.S.Store.Keeper.kept l.cluster).given;
   count : l.number ≤ l.reader.taken + 1;
   limit : l.reader.taken ≤ session_limit;
   came : (bytes : List ℕ) → top (g.F.Files.filed l.fn.files).stack ≡ Some bytes →
       Came bytes (record { number = l.number; reader = l.reader; files = g.F.Files.filed l.files });
   runs : (bytes : List ℕ) (limit : ℕ) → top (g.F.Files.filed l.fn.files).stack ≡ Some bytes →
       Tells (g.S.Shelf.shelved l.fn.shelf) →
-      (g.O.Sink.poured l.fn.out).written ≡ Some [] →
-      Agrees (start limit) (cluster_of g.S.Store.Keeper.kept l.fn.cluster) →
-      Running (record { shelf = g.S.Shelf.shelved l.fn.shelf; limit = limit; bytes = bytes }) (record {
+      (g.O.Sink.poured l.fn.out).pieces ≡ Some [] →
+      Starts limit (cluster_of g.S.Store.Keeper.kept l.fn.cluster) →
+      Running (begun (g.S.Shelf.shelved l.fn.shelf) limit bytes) (record {
         number = l.number;
         reader = l.reader;
         files = g.F.Files.filed l.files;
-        output = (g.O.Sink.poured l.out).written;
+        output = (g.O.Sink.poured l.out).pieces;
         cluster = cluster_of g.S.Store.Keeper.kept l.cluster;
       });
 }

@@ -20,13 +20,13 @@ returns-in-Ok g c =
     if_told _ c.answered.result (reply_of words (Ok c.in-Ok.done))
     (subst (λ (r : Reply). IfOk c.answered.result (λ told. told ≡ r))
     (same_answer words c.database-database.result.now c.in-Ok.done c.database-database.ensures) c.answered.ensures)
-    (moves_at (named_base g.K.Keeper.kept) c.args.command.now _ _ _ _ (Ok c.in-Ok.done) (record {
-      word = c.database-database.result.now;
+    (moves_at (named_base g.K.Keeper.kept) c.args.command.now (cluster_of g.K.Keeper.kept c.args.self.now) _
+    (record { word = c.database-database.result.now; i = _; x = _; y = _; result = Ok c.in-Ok.done }) (record {
       names = record { is = c.database-database.ensures; other = c.requires.other };
-      x = _;
       at = record { at = sym c.index_of.ensures ∙ c.in-Some.is; held = c.index_mut.ensures.value };
       same = refl;
       serves = c.in-Ok.ensures.serves;
+      hands = c.in-Ok.ensures.hands;
       memory = answer_memory c.in-Ok.done;
     }))
 
@@ -37,12 +37,13 @@ returns-in-Err g c =
     (subst (λ words. IfOk c.refused.result (λ told. told ≡ refusal_of words c.in-Err.fault))
     (same_words (subject_of c.args.command.now) _ _ _ c.database-database.ensures c.transaction.ensures c.table.ensures)
     c.refused.ensures.reply) c.refused.ensures.memory
-    (λ memory. moves_at (named_base g.K.Keeper.kept) c.args.command.now _ _ _ _ (Err c.in-Err.fault) (record {
-      word = c.database-database.result.now;
+    (λ memory. moves_at (named_base g.K.Keeper.kept) c.args.command.now
+    (cluster_of g.K.Keeper.kept c.args.self.now) _
+    (record { word = c.database-database.result.now; i = _; x = _; y = _; result = Err c.in-Err.fault }) (record {
       names = record { is = c.database-database.ensures; other = c.requires.other };
-      x = _;
       at = record { at = sym c.index_of.ensures ∙ c.in-Some.is; held = c.index_mut.ensures.value };
       same = refl;
       serves = c.in-Err.ensures.serves;
+      hands = c.in-Err.ensures.hands;
       memory = memory;
     }))
