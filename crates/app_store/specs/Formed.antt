@@ -71,8 +71,8 @@ Reads handed (Err stop) = StopsAt handed stop
 abbrev pub columns_at : List ℕ → Store → Option (List ℕ)
 columns_at table m = get (m tables) (text_bytes table)
 
--- the rows of a table that is there
+-- the rows of a table whose number of columns is in its form
 abbrev pub HandedList : List ℕ → Store → ℕ → Type 0
 HandedList table m space =
     Lacks tables (IsNumber (columns_at table m)) space
-    ⊎ (((columns_at table m ≡ None) → ⊥) × Lacks rows (AreListed (text_bytes table) m) space)
+    ⊎ (IsCeiling (columns_at table m) × Lacks rows (AreListed (text_bytes table) m) space)

@@ -62,9 +62,8 @@ Handed others memory m space = ⊥
 
 -- ---- what is told
 
--- An answer tells of a row that is not in its form only where one is handed; and each other answer, but for a failure
--- of
--- the store and want of memory, only where none is.
+-- What is answered to a task that is handed such rows: that one is not in its form, with the space of one of them; or
+-- the store failed, or there was no memory; or else it was handed none.
 abbrev pub Tells : (ℕ → Type 0) → Option Halt → Type 0
 Tells handed (Some (BadRow space)) = handed space
 Tells handed (Some (Fault count)) = Unit {0}
@@ -96,7 +95,8 @@ pub record Same (old new : Base) : Type 0 where
   pub memory : new.memory ≡ old.memory
   pub held : new.kept.held ≡ old.kept.held
 
--- the id of a transaction and the width of a table were found, or no write of them is handed what is not told
+-- What a write finds first is the id of its transaction and the width of its table, and nothing is changed. Else it is
+-- answered as a write that is handed these rows.
 abbrev pub ReadsWidth : List ℕ → List ℕ → Base → Store → Result (ℕ × ℕ) DbFault → Base → Type 0
 ReadsWidth name table old m (Ok found) new = HasWidth name table found.0 found.1 old.memory m × Same old new
 ReadsWidth name table old m (Err fault) new =

@@ -14,7 +14,8 @@ abbrev pub written_at : List ℕ → Option Transaction → Option (Option (List
 written_at key None = None
 written_at key (Some t) = get t.writes key
 
--- values of a row in their form, or a row that was taken away: it cannot be that they are not
+-- Values of a row in their form, or a row that was taken away. It is said by a double negation, so that a ghost field
+-- can hold it.
 abbrev pub IsWritten : Option (List ℕ) → Type 0
 IsWritten written = (AreValues written → ⊥) → ⊥
 
