@@ -37,8 +37,11 @@ pub record Base : Type 0 where
   pub kept : Kept
   pub memory : Memory
 
+abbrev pub base_with : Kept → State → Base
+base_with kept s = record { kept = kept; memory = memory_of s }
+
 abbrev pub base_of : {K : Type 0} {g : Ghosts K} → (K → Kept) → Database K g → Base
-base_of kept d = record { kept = fuse_kept kept d.keeper; memory = memory_of d.state }
+base_of kept d = base_with (fuse_kept kept d.keeper) d.state
 
 -- the memory of a database that was just made, with its first numbers
 pub record IsFresh (up : Bool) (doubt : Option ℕ) (m : Memory) : Type 0 where

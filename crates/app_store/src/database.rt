@@ -5,13 +5,11 @@ ghost use Rattle.node_keeper.specs.Fused.{fuse_kept};
 
 use crate::ceilings::{Unlifted, lift};
 use crate::falls::{fall, overflow};
+use crate::founding::first_state;
 use crate::layout::{ACTION_CEILING, XID_CEILING};
 use crate::numbers::recover;
 use crate::state::{State, settled};
-use crate::transact::Made;
-use crate::work::make_database;
 use node_keeper::{Fuse, Keeper};
-use slon_base::Halt;
 use slon_model::{Answer, Answered, Crash, DbFault, Numbering};
 use std::alloc::Global;
 
@@ -50,59 +48,13 @@ impl<K: Keeper> Database<K> {
         ensures down { OnErr result.1 (result.0.state.up ≡ false) }
     {
         let mut keeper = keeper;
-        let _ = keeper.rollback();
-        match make_database(alloc, &mut keeper) {
-            Ok(made) => match made {
-                None => {
-                    let state = State::fresh(alloc, false, None);
-                    (
-                        Database {
-                            alloc,
-                            keeper,
-                            state,
-                        },
-                        Err(DbFault::NotEmpty),
-                    )
-                }
-                Some(made) => match made {
-                    Made::Done => {
-                        let state = State::fresh(alloc, true, None);
-                        (
-                            Database {
-                                alloc,
-                                keeper,
-                                state,
-                            },
-                            Ok(()),
-                        )
-                    }
-                    Made::InDoubt => {
-                        let state = State::fresh(alloc, false, Some(1));
-                        let fault = DbFault::Halt(Halt::Doubt);
-                        (
-                            Database {
-                                alloc,
-                                keeper,
-                                state,
-                            },
-                            Err(fault),
-                        )
-                    }
-                },
-            },
-            Err(stop) => {
-                let mut state = State::fresh(alloc, false, None);
-                let fault = fall(alloc, &mut state, &keeper, stop);
-                (
-                    Database {
-                        alloc,
-                        keeper,
-                        state,
-                    },
-                    Err(fault),
-                )
-            }
-        }
+        let (state, result) = first_state(alloc, &mut keeper);
+        let database = Database {
+            alloc,
+            keeper,
+            state,
+        };
+        (database, result)
     }
 
     /// Raises a ceiling if the next number is at it.

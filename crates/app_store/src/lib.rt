@@ -4,6 +4,7 @@
 mod ceilings;
 mod database;
 mod falls;
+mod founding;
 mod layout;
 mod look;
 mod numbers;

@@ -76,7 +76,7 @@ pub(crate) fn written(
             None => Ok(None),
             Some(written) => Ok(Some(match written {
                 None => None,
-                Some(value) => Some(Bytes::from_slice(alloc, value.as_slice())?),
+                Some(value) => Some(value.copy(alloc)?),
             })),
         },
     }

@@ -1,9 +1,8 @@
 -- What the slots show, by look-ups.
 use Rattle.std.proofs.Common.{◌≡◌, ℕ, ◌+◌, ◌-◌, ◌≤◌, Bool, true, false, cond, List, [], ◌∷◌, length, Option, Some, None}
-use Rattle.std.proofs.Common.{is_some, IsSome, Vec, refl, sym, ◌∙◌, ap, subst, arith, zero, suc, T, ◌&&◌}
+use Rattle.std.proofs.Common.{is_some, IsSome, refl, sym, ◌∙◌, ap, subst, arith, zero, suc, T, ◌&&◌}
 use Rattle.std.proofs.lemmas.Bool.{false≢true}
 use mir.Val.{bool_byte}
-use Rattle.std.specs.declared.alloc.Global.{Global}
 use Rattle.std.specs.declared.cmp.Ordering.TheVariants.{Less, Equal}
 use Rattle.std.specs.Ordering.{is_eq, is_lt, eq_by_cmp}
 use Rattle.std.specs.Cmp.Lexicographic.{nat_list_cmp_total}
@@ -18,7 +17,7 @@ use Rattle.std.specs.FinMap.Entries.{find, below_all, is_sorted}
 use Rattle.std.specs.Option.{option_flatten}
 use Rattle.slon_base.specs.Keeper.{key_cmp, Space, after}
 use Rattle.slon_base.proofs.Order.{same_keys, equal_of, less_of}
-use Rattle.node_keeper.specs.Slots.{Slot, SlotMap, vec_cmp, IsInOrder, HasSlot, slot_at, shown, living, pairs, with_at}
+use Rattle.node_keeper.specs.Slots.{Slot, SlotMap, IsInOrder, HasSlot, slot_at, shown, living, pairs, with_at}
 
 pub same_space : (m n : Space) → ((q : List ℕ) → get m q ≡ get n q) → m ≡ n
 same_space m n h = same_map nat_list_cmp_total (slice_cmp-IsAntisymmetric nat_cmp-IsAntisymmetric) m n h
@@ -29,12 +28,12 @@ get-with_at key None m q = get-remove nat_list_cmp_total m key q
 get-with_at key (Some v) m q = get-insert nat_list_cmp_total m key v q
 
 -- no key after this one is equal to it
-missed : (q k : List ℕ) (es : List (Vec ℕ Global × Slot)) → key_cmp q k ≡ Equal →
-    AllByRecursion (λ y. key_cmp k y.items ≡ Less) (keys_of es) → lookup (λ y. is_eq (key_cmp q y.items)) es ≡ None
+missed : (q k : List ℕ) (es : List (List ℕ × Slot)) → key_cmp q k ≡ Equal →
+    AllByRecursion (λ y. key_cmp k y ≡ Less) (keys_of es) → lookup (λ y. is_eq (key_cmp q y)) es ≡ None
 missed q k [] same below = refl
 missed q k (e ∷ es) same below =
-    ap (λ o. cond (is_eq o) (Some e.1) (lookup (λ y. is_eq (key_cmp q y.items)) es))
-    (nat_list_cmp_total.congr q k e.0.items same ∙ below.0) ∙ missed q k es same below.1
+    ap (λ o. cond (is_eq o) (Some e.1) (lookup (λ y. is_eq (key_cmp q y)) es))
+    (nat_list_cmp_total.congr q k e.0 same ∙ below.0) ∙ missed q k es same below.1
 
 flatten-cond : (b : Bool) (x y : Option Slot) → option_flatten (cond b x y) ≡ cond b (option_flatten x)
     (option_flatten y)
@@ -53,11 +52,11 @@ find-shown q key None others rest same none =
 find-shown q key (Some v) others rest same none =
     ap (cond (is_eq (key_cmp q key)) (Some v)) same ∙ sym (flatten-cond (is_eq (key_cmp q key)) (Some (Some v)) rest)
 
-find-living : (q : List ℕ) (es : List (Vec ℕ Global × Slot)) → IsStrictlySortedBy vec_cmp (keys_of es) →
-    find key_cmp q (living es) ≡ option_flatten (lookup (λ k. is_eq (key_cmp q k.items)) es)
+find-living : (q : List ℕ) (es : List (List ℕ × Slot)) → IsStrictlySortedBy key_cmp (keys_of es) →
+    find key_cmp q (living es) ≡ option_flatten (lookup (λ k. is_eq (key_cmp q k)) es)
 unfolding IsStrictlySortedBy
 find-living q [] s = refl
-find-living q (e ∷ es) s = find-shown q e.0.items e.1 (living es) _ (find-living q es s.1) (λ eq. missed q e.0.items es
+find-living q (e ∷ es) s = find-shown q e.0 e.1 (living es) _ (find-living q es s.1) (λ eq. missed q e.0 es
     (equal_of _ eq) s.0)
 
 both : (a b : Bool) → T a → T b → T (a && b)
@@ -69,21 +68,21 @@ below-shown : (k key : List ℕ) (slot : Slot) (others : List (List ℕ × List 
 below-shown k key None others e t = t
 below-shown k key (Some v) others e t = both _ _ (subst (λ o. T (is_lt o)) (sym e) tt) t
 
-below-living : (k : List ℕ) (es : List (Vec ℕ Global × Slot)) → AllByRecursion (λ y. key_cmp k y.items ≡ Less)
+below-living : (k : List ℕ) (es : List (List ℕ × Slot)) → AllByRecursion (λ y. key_cmp k y ≡ Less)
     (keys_of es) → T (below_all key_cmp k (living es))
 below-living k [] h = tt
-below-living k (e ∷ es) h = below-shown k e.0.items e.1 (living es) h.0 (below-living k es h.1)
+below-living k (e ∷ es) h = below-shown k e.0 e.1 (living es) h.0 (below-living k es h.1)
 
 sorted-shown : (key : List ℕ) (slot : Slot) (others : List (List ℕ × List ℕ)) → T (below_all key_cmp key others) →
     T (is_sorted key_cmp others) → T (is_sorted key_cmp (shown key slot others))
 sorted-shown key None others b s = s
 sorted-shown key (Some v) others b s = both _ _ b s
 
-sorted-living : (es : List (Vec ℕ Global × Slot)) → IsStrictlySortedBy vec_cmp (keys_of es) →
+sorted-living : (es : List (List ℕ × Slot)) → IsStrictlySortedBy key_cmp (keys_of es) →
     T (is_sorted key_cmp (living es))
 unfolding IsStrictlySortedBy
 sorted-living [] s = tt
-sorted-living (e ∷ es) s = sorted-shown e.0.items e.1 (living es) (below-living e.0.items es s.0) (sorted-living es s.1)
+sorted-living (e ∷ es) s = sorted-shown e.0 e.1 (living es) (below-living e.0 es s.0) (sorted-living es s.1)
 
 pub get-pairs : (m : SlotMap) (q : List ℕ) → IsInOrder m → get (pairs m) q ≡ option_flatten (slot_at m q)
 get-pairs m q s = get-from_sorted key_cmp (living m.entries) q (sorted-living m.entries s) ∙ find-living q m.entries s
@@ -96,9 +95,9 @@ length-shown : (key : List ℕ) (slot : Slot) (others : List (List ℕ × List �
 length-shown key None others n h = omega arith
 length-shown key (Some v) others n h = omega arith
 
-length-living : (es : List (Vec ℕ Global × Slot)) → length (living es) ≤ length es
+length-living : (es : List (List ℕ × Slot)) → length (living es) ≤ length es
 length-living [] = omega arith
-length-living (e ∷ es) = omega (arith, length-shown e.0.items e.1 (living es) (length es) (length-living es))
+length-living (e ∷ es) = omega (arith, length-shown e.0 e.1 (living es) (length es) (length-living es))
 
 pub len-pairs : (m : SlotMap) → IsInOrder m → len (pairs m) ≤ length m.entries
 len-pairs m s = rw (len-entries (pairs m), entries-pairs m s) (length-living m.entries)
@@ -113,14 +112,14 @@ apart q key k ne e = let same : key ≡ k = same_keys key k (equal_of _ e) in
 abbrev Turns : List ℕ → Option Slot → SlotMap → SlotMap → Type 0
 Turns key w m n = (q : List ℕ) → slot_at n q ≡ cond (is_eq (key_cmp q key)) w (slot_at m q)
 
-turns_by : (key : List ℕ) (w : Option Slot) (m n : SlotMap) → UpdatesBy vec_cmp (λ k. key_cmp key k.items) m n w →
+turns_by : (key : List ℕ) (w : Option Slot) (m n : SlotMap) → UpdatesBy key_cmp (λ k. key_cmp key k) m n w →
     Turns key w m n
 unfolding KeepsOthers
 turns_by key w m n u q =
     elim (is_eq (key_cmp q key)) as (λ b. is_eq (key_cmp q key) ≡ b → slot_at n q ≡ cond b w (slot_at m q)) [
       | true ↦ λ e. ap (slot_at n) (same_keys q key (equal_of _ e)) ∙ u.1
-      | false ↦ λ e. u.3 (λ k. is_eq (key_cmp q k.items)) (λ x y t. ap is_eq (nat_list_cmp_total.congr q x.items y.items
-          (equal_of _ t))) (λ k t. apart q key k.items e t)
+      | false ↦ λ e. u.3 (λ k. is_eq (key_cmp q k)) (λ x y t. ap is_eq (nat_list_cmp_total.congr q x y
+          (equal_of _ t))) (λ k t. apart q key k e t)
     ] refl
 
 pairs_turn : (key : List ℕ) (w : Option Slot) (m n : SlotMap) → IsInOrder m → IsInOrder n → Turns key w m n →
@@ -181,7 +180,7 @@ pub record Turned (key : List ℕ) (slot : Slot) (m n : SlotMap) : Type 0 where
   pub keeps : (q : List ℕ) → HasSlot m q → HasSlot n q
 
 pub turned : (key : List ℕ) (slot : Slot) (m n : SlotMap) → IsInOrder m → IsInOrder n →
-    UpdatesBy vec_cmp (λ k. key_cmp key k.items) m n (Some slot) → Turned key slot m n
+    UpdatesBy key_cmp (λ k. key_cmp key k) m n (Some slot) → Turned key slot m n
 turned key slot m n s t u =
     let turns = turns_by key (Some slot) m n u in
     let shows = pairs_turn key (Some slot) m n s t turns in
@@ -193,23 +192,23 @@ turned key slot m n s t u =
 
 -- the same, written through what `get_mut` lends
 pub written : {old w : Slot} (key : List ℕ) (slot : Slot) (m n : SlotMap) → IsInOrder m → Some old ≡ slot_at m key →
-    w ≡ slot → WritesThrough vec_cmp (λ k. key_cmp key k.items) m w n → Turned key slot m n
+    w ≡ slot → WritesThrough key_cmp (λ k. key_cmp key k) m w n → Turned key slot m n
 written {w = w} key slot m n s e is h =
     subst (λ x. Turned key x m n) is (turned key w m n s h.4 (h.3 (subst IsSome e refl)))
 
 -- a slot with no value shows nothing
 pub swept : (key : List ℕ) (m n : SlotMap) → IsInOrder m → IsInOrder n → slot_at m key ≡ Some None →
-    UpdatesBy vec_cmp (λ k. key_cmp key k.items) m n None → pairs n ≡ pairs m
+    UpdatesBy key_cmp (λ k. key_cmp key k) m n None → pairs n ≡ pairs m
 swept key m n s t e u = pairs_turn key None m n s t (turns_by key None m n u)
     ∙ with_at-same key None (pairs m) (get-pairs m key s ∙ ap option_flatten e)
 
 -- ---- the pairs after a key
 
-all_above : (start k : List ℕ) (es : List (Vec ℕ Global × Slot)) → key_cmp start k ≡ Less →
-    AllByRecursion (λ y. key_cmp k y.items ≡ Less) (keys_of es) → AllByRecursion (λ y. key_cmp start y.items ≡ Less)
+all_above : (start k : List ℕ) (es : List (List ℕ × Slot)) → key_cmp start k ≡ Less →
+    AllByRecursion (λ y. key_cmp k y ≡ Less) (keys_of es) → AllByRecursion (λ y. key_cmp start y ≡ Less)
     (keys_of es)
 all_above start k [] e h = tt
-all_above start k (x ∷ es) e h = (nat_list_cmp_total.trans start k x.0.items e h.0, all_above start k es e h.1)
+all_above start k (x ∷ es) e h = (nat_list_cmp_total.trans start k x.0 e h.0, all_above start k es e h.1)
 
 after-below : (start : List ℕ) (xs : List (List ℕ × List ℕ)) → T (below_all key_cmp start xs) → after start xs ≡ xs
 after-below start [] h = refl
@@ -227,20 +226,20 @@ after-shown start k None others true e same = same refl
 after-shown start k None others false e same = refl
 after-shown start k (Some v) others b e same = ap (λ x. cond x ((k, v) ∷ others) (after start others)) e
 
-pub living-between : (start : List ℕ) (es : List (Vec ℕ Global × Slot)) → IsStrictlySortedBy vec_cmp (keys_of es) →
-    living (filter (λ e. is_lt (key_cmp start e.0.items) && true) es) ≡ after start (living es)
+pub living-between : (start : List ℕ) (es : List (List ℕ × Slot)) → IsStrictlySortedBy key_cmp (keys_of es) →
+    living (filter (λ e. is_lt (key_cmp start e.0) && true) es) ≡ after start (living es)
 unfolding IsStrictlySortedBy
 living-between start [] s = refl
 living-between start (e ∷ es) s =
     let rest = living-between start es s.1 in
-    let others = filter (λ (e : Vec ℕ Global × Slot). is_lt (key_cmp start e.0.items) && true) es in
-    elim (is_lt (key_cmp start e.0.items)) as (λ b. is_lt (key_cmp start e.0.items) ≡ b →
-    living (cond (b && true) (e ∷ others) others) ≡ after start (shown e.0.items e.1 (living es))) [
+    let others = filter (λ (e : List ℕ × Slot). is_lt (key_cmp start e.0) && true) es in
+    elim (is_lt (key_cmp start e.0)) as (λ b. is_lt (key_cmp start e.0) ≡ b →
+    living (cond (b && true) (e ∷ others) others) ≡ after start (shown e.0 e.1 (living es))) [
       | true ↦ λ h.
-          let above = all_above start e.0.items es (less_of _ (subst T (sym h) tt)) s.0 in
+          let above = all_above start e.0 es (less_of _ (subst T (sym h) tt)) s.0 in
           let same = after-below start (living es) (below-living start es above) in
-          ap (shown e.0.items e.1) (rest ∙ same) ∙ sym (after-shown start e.0.items e.1 (living es) true h (λ _. same))
-      | false ↦ λ h. rest ∙ sym (after-shown start e.0.items e.1 (living es) false h (λ no. absurd (false≢true no)))
+          ap (shown e.0 e.1) (rest ∙ same) ∙ sym (after-shown start e.0 e.1 (living es) true h (λ _. same))
+      | false ↦ λ h. rest ∙ sym (after-shown start e.0 e.1 (living es) false h (λ no. absurd (false≢true no)))
     ] refl
 
 -- what was at a key, put back

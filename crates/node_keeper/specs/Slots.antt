@@ -1,9 +1,6 @@
 -- The slots of one space, and the pairs that they show.
-use Rattle.std.specs.Prelude.{◌≡◌, ℕ, true, List, [], ◌∷◌, Option, Some, None, is_some, Vec}
-use Rattle.std.specs.declared.alloc.Global.{Global}
-use Rattle.std.specs.declared.cmp.Ordering.{Ordering}
-use Rattle.std.specs.Ordering.{is_eq, nat_cmp}
-use Rattle.std.specs.Cmp.Lexicographic.{slice_cmp}
+use Rattle.std.specs.Prelude.{◌≡◌, ℕ, true, List, [], ◌∷◌, Option, Some, None, is_some}
+use Rattle.std.specs.Ordering.{is_eq}
 use Rattle.std.specs.BTreeMap.{BTreeMap, IsOrdered}
 use Rattle.std.specs.Map.{lookup}
 use Rattle.std.specs.FinMap.{from_sorted, insert, remove}
@@ -14,17 +11,14 @@ abbrev pub Slot : Type 0
 Slot = Option (List ℕ)
 
 abbrev pub SlotMap : Type 0
-SlotMap = BTreeMap (Vec ℕ Global) Slot
-
-abbrev pub vec_cmp : Vec ℕ Global → Vec ℕ Global → Ordering
-vec_cmp x y = slice_cmp nat_cmp x.items y.items
+SlotMap = BTreeMap (List ℕ) Slot
 
 abbrev pub IsInOrder : SlotMap → Type 0
-IsInOrder m = IsOrdered vec_cmp m
+IsInOrder m = IsOrdered key_cmp m
 
 -- the slot of a key
 abbrev pub slot_at : SlotMap → List ℕ → Option Slot
-slot_at m key = lookup (λ k. is_eq (key_cmp key k.items)) m.entries
+slot_at m key = lookup (λ k. is_eq (key_cmp key k)) m.entries
 
 abbrev pub HasSlot : SlotMap → List ℕ → Type 0
 HasSlot m key = is_some (slot_at m key) ≡ true
@@ -35,9 +29,9 @@ shown key None others = others
 shown key (Some value) others = (key, value) ∷ others
 
 -- the slots with a value
-abbrev pub living : List (Vec ℕ Global × Slot) → List (List ℕ × List ℕ)
+abbrev pub living : List (List ℕ × Slot) → List (List ℕ × List ℕ)
 living [] = []
-living (e ∷ es) = shown e.0.items e.1 (living es)
+living (e ∷ es) = shown e.0 e.1 (living es)
 
 -- the pairs that the slots show
 abbrev pub pairs : SlotMap → Space

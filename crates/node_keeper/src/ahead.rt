@@ -10,11 +10,19 @@ use slon_base::Bytes;
 use std::alloc::{AllocError, Global};
 use std::collections::VecDeque;
 
+/// How many pairs are read where a scan begins. Each time that it goes on, twice as many are read.
+const FIRST_LEN: usize = 8;
+
+/// The most pairs that are read at once.
+const MOST_LEN: usize = 256;
+
 /// The first pairs with greater keys than one, as far as they were read.
 #[derive(Drop)]
 pub(crate) struct Ahead {
     pub(crate) key: Bytes,
     pub(crate) pairs: VecDeque<(Bytes, Bytes)>,
+    // How many were to be read last, or 0 where they were forgotten since.
+    len: usize,
 }
 
 impl Ahead {
@@ -25,6 +33,7 @@ impl Ahead {
         Ahead {
             key: Bytes::from_vec(Vec::new(alloc)),
             pairs: VecDeque::new(alloc),
+            len: 0,
         }
     }
 
@@ -33,6 +42,7 @@ impl Ahead {
         ensures { self.new.pairs.items ≡ [] }
     {
         self.pairs.clear();
+        self.len = 0;
     }
 
     /// Reads the pairs behind this key, where they were not read yet.
@@ -47,10 +57,12 @@ impl Ahead {
         ensures key { OnOk result (self.new.key ≡ key.now) }
         ensures none { OnOk result (self.new.pairs.items ≡ [] → after key.now (entries (pairs slots.now.map)) ≡ []) }
     {
-        if !self.pairs.is_empty() && self.key.as_slice() == key {
+        let goes_on = self.key.as_slice() == key;
+        if goes_on && !self.pairs.is_empty() {
             return Ok(());
         }
-        let pairs = slots.pairs_after(alloc, key)?;
+        self.len = next_len(self.len, goes_on);
+        let pairs = slots.pairs_after(alloc, key, self.len)?;
         self.key = Bytes::from_slice(alloc, key)?;
         self.pairs = pairs;
         Ok(())
@@ -64,11 +76,20 @@ impl Ahead {
     {
         match self.pairs.front() {
             Some((key, _)) => {
-                let key = Bytes::from_slice(alloc, key.as_slice())?;
+                let key = key.copy(alloc)?;
                 self.key = key;
                 Ok(self.pairs.pop_front())
             }
             None => Ok(None),
         }
+    }
+}
+
+/// How many pairs to read behind so many.
+fn next_len(len: usize, goes_on: bool) -> usize {
+    if goes_on {
+        len.min(MOST_LEN / 2).max(FIRST_LEN / 2) * 2
+    } else {
+        FIRST_LEN
     }
 }

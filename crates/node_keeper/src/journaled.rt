@@ -62,7 +62,7 @@ impl Journaled {
     }
 
     /// The pending value at a key.
-    pub(crate) fn get(&self, key: &[u8]) -> Option<&Bytes>
+    pub(crate) fn get(&self, key: &Bytes) -> Option<&Bytes>
         ensures { option_map (λ v. v.now) result ≡ get self.now.1 key.now }
     {
         self.slots.get(key)
@@ -95,8 +95,8 @@ impl Journaled {
     {
         self.ahead.forget();
         let value = Bytes::from_slice(alloc, value)?;
-        let slot = Vec::from_slice(alloc, key)?;
         let key = Bytes::from_slice(alloc, key)?;
+        let slot = key.copy(alloc)?;
         self.changes.reserve(1)?;
         let old = self.slots.put(slot, value)?;
         let change = Change {
@@ -114,14 +114,14 @@ impl Journaled {
         ensures err { OnErr result (self.new ≡ self.old) }
     {
         self.ahead.forget();
-        if self.slots.get(key).is_none() {
+        let key = Bytes::from_slice(alloc, key)?;
+        if self.slots.get(&key).is_none() {
             return Ok(());
         }
-        let copy = Bytes::from_slice(alloc, key)?;
         self.changes.reserve(1)?;
-        let old = self.slots.set(key, None);
+        let old = self.slots.set(&key, None);
         let change = Change {
-            key: copy,
+            key,
             old,
             deletes: true,
         };
@@ -149,7 +149,7 @@ fn settle(slots: &mut Slots, changes: &mut Vec<Change>, commits: bool)
 {
     for change in changes.as_slice() {
         if change.deletes || !commits {
-            slots.sweep(change.key.as_slice());
+            slots.sweep(&change.key);
         }
     }
     changes.clear();
@@ -163,6 +163,6 @@ fn undo(slots: &mut Slots, changes: &mut Vec<Change>)
     for index in (0..changes.len()).rev() {
         let change = &mut changes[index];
         let old = change.old.take();
-        drop(slots.set(change.key.as_slice(), old));
+        drop(slots.set(&change.key, old));
     }
 }

@@ -3,6 +3,7 @@ ghost use Rattle.std.specs.Prelude.{◌≡◌, ◌+◌, ◌≤◌, Some, None, O
 ghost use Rattle.std.specs.Prelude.{OnOk, OnErr, IfErr, IfOk, is_err, is_some, length, not, ◌&&◌, ◌||◌, min, ◌-◌, ◌^◌};
 ghost use Rattle.std.specs.Prelude.{if◌then◌else◌};
 ghost use Rattle.std.specs.FinMap.{empty, entries};
+ghost use Rattle.std.specs.Option.{option_map};
 ghost use Rattle.slon_base.specs.Keeper.{Begins, Gets, GetsNext, Counts, Changes, Commits, RollsBack, put_at, del_at};
 ghost use Rattle.slon_base.specs.Keeper.{after, first};
 ghost use Rattle.node_keeper.specs.Plan.{Counted, CountsCall, IsFrom, capped, left};
@@ -145,10 +146,9 @@ impl Keeper for MemKeeper {
         if self.strikes() {
             return Err(KeepFault::Failed);
         }
-        match self.space(space).get(key) {
-            Some(value) => Ok(Some(Bytes::from_slice(self.alloc, value.as_slice())?)),
-            None => Ok(None),
-        }
+        let key = Bytes::from_slice(self.alloc, key)?;
+        let found = copied(self.alloc, self.space(space).get(&key))?;
+        Ok(found)
     }
 
     fn next_after(&mut self, space: u8, key: &[u8]) -> Result<Option<(Bytes, Bytes)>, KeepFault>
@@ -260,6 +260,16 @@ fn end_touched(spaces: &mut [Journaled], touched: &[u8], commits: bool)
 {
     for space in touched {
         spaces[*space as usize].end(commits);
+    }
+}
+
+// Copies a value, if there is one.
+fn copied(alloc: Global, value: Option<&Bytes>) -> Result<Option<Bytes>, AllocError>
+    ensures { IfOk result (λ found. option_map (λ v. v.now) value.entry ≡ found) }
+{
+    match value {
+        Some(value) => Ok(Some(value.copy(alloc)?)),
+        None => Ok(None),
     }
 }
 

@@ -14,13 +14,10 @@ use std::collections::{BTreeMap, VecDeque};
 use std::mem;
 use std::ops::Bound;
 
-/// How many pairs are copied at once.
-const AHEAD_LEN: usize = 32;
-
 /// Keys in the order of their bytes, each with a value, or with none where that was taken away.
 #[derive(Drop)]
 pub struct Slots {
-    map: BTreeMap<Vec<u8>, Option<Bytes>>,
+    map: BTreeMap<Bytes, Option<Bytes>>,
     live: u64,
     ghost ordered: { IsInOrder map } by { Prim.hlevel props },
     ghost counted: { live ≡ len (pairs map) },
@@ -38,7 +35,7 @@ impl Slots {
     }
 
     /// The value at a key.
-    pub(crate) fn get(&self, key: &[u8]) -> Option<&Bytes>
+    pub(crate) fn get(&self, key: &Bytes) -> Option<&Bytes>
         ensures value { option_map (λ v. v.now) result ≡ get (pairs self.now.map) key.now }
         ensures has { is_some result ≡ true → HasSlot self.now.map key.now }
     {
@@ -55,22 +52,22 @@ impl Slots {
         self.live
     }
 
-    /// Copies the first pairs with greater keys: some, where there are any.
+    /// Copies the first pairs with greater keys, at most so many: some, where there are any.
     pub(crate) fn pairs_after(
         &self,
         alloc: Global,
         key: &[u8],
+        most: usize,
     ) -> Result<VecDeque<(Bytes, Bytes)>, AllocError>
         ensures ahead { IfOk result (λ found. IsAhead key.now found.items (pairs self.now.map)) }
         ensures none { IfOk result (λ found. found.items ≡ [] → after key.now (entries (pairs self.now.map)) ≡ []) }
     {
-        let start = Vec::from_slice(alloc, key)?;
-        let mut found = VecDeque::with_capacity(alloc, AHEAD_LEN)?;
+        let start = Bytes::from_slice(alloc, key)?;
+        let mut found = VecDeque::with_capacity(alloc, most)?;
         for (key, slot) in self.map.range((Bound::Excluded(start), Bound::Unbounded)) {
             if let Some(value) = slot {
-                let key = Bytes::from_slice(alloc, key.as_slice())?;
-                found.push_back((key, Bytes::from_slice(alloc, value.as_slice())?))?;
-                if found.len() >= AHEAD_LEN {
+                found.push_back((key.copy(alloc)?, value.copy(alloc)?))?;
+                if found.len() >= most {
                     return Ok(found);
                 }
             }
@@ -79,10 +76,10 @@ impl Slots {
     }
 
     /// Puts a value at a key and answers the one that was there. Without memory nothing is changed.
-    pub(crate) fn put(&mut self, key: Vec<u8>, value: Bytes) -> Result<Option<Bytes>, AllocError>
-        ensures old { IfOk result (λ old. old ≡ get (pairs self.old.map) key.items) }
-        ensures ok { OnOk result (pairs self.new.map ≡ insert (pairs self.old.map) key.items value) }
-        ensures has { OnOk result (HasSlot self.new.map key.items) }
+    pub(crate) fn put(&mut self, key: Bytes, value: Bytes) -> Result<Option<Bytes>, AllocError>
+        ensures old { IfOk result (λ old. old ≡ get (pairs self.old.map) key) }
+        ensures ok { OnOk result (pairs self.new.map ≡ insert (pairs self.old.map) key value) }
+        ensures has { OnOk result (HasSlot self.new.map key) }
         ensures keeps { (q : List ℕ) → HasSlot self.old.map q → HasSlot self.new.map q }
         ensures err { OnErr result (pairs self.new.map ≡ pairs self.old.map) }
     {
@@ -93,7 +90,7 @@ impl Slots {
     }
 
     /// Gives the slot of a key this value, or none, and answers what it had.
-    pub(crate) fn set(&mut self, key: &[u8], value: Option<Bytes>) -> Option<Bytes>
+    pub(crate) fn set(&mut self, key: &Bytes, value: Option<Bytes>) -> Option<Bytes>
         requires { HasSlot self.old.map key.now }
         ensures old { result ≡ get (pairs self.old.map) key.now }
         ensures pairs { pairs self.new.map ≡ with_at key.now value (pairs self.old.map) }
@@ -110,7 +107,7 @@ impl Slots {
     }
 
     /// Takes away the slot of a key where it has no value.
-    pub(crate) fn sweep(&mut self, key: &[u8])
+    pub(crate) fn sweep(&mut self, key: &Bytes)
         ensures { pairs self.new.map ≡ pairs self.old.map }
     {
         if let Some(None) = self.map.get(key) {

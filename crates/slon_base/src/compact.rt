@@ -42,6 +42,19 @@ impl Compact {
         })
     }
 
+    /// The same bytes once more. Those in the value itself are copied with it, however many they are.
+    pub(crate) fn copy(&self, alloc: Global) -> Result<Compact, AllocError>
+        ensures { IfOk result (λ kept. bytes_at kept ≡ bytes_at self.now) }
+    {
+        match self {
+            Compact::Inline { len, bytes } => Ok(Compact::Inline {
+                len: *len,
+                bytes: *bytes,
+            }),
+            Compact::Heap(bytes) => Compact::from_slice(alloc, bytes.as_slice()),
+        }
+    }
+
     /// The bytes.
     pub(crate) fn as_slice(&self) -> &[u8]
         ensures { result.now ≡ bytes_at self.now }

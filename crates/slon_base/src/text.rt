@@ -1,5 +1,5 @@
 // Texts are UTF-8 and seen as their bytes.
-ghost use Rattle.std.specs.Prelude.{◌≡◌, IfOk, MatchOption, string_bytes};
+ghost use Rattle.std.specs.Prelude.{◌≡◌, IfOk, IsTrue, MatchOption, string_bytes};
 ghost use Rattle.std.specs.Str.{IsUtf8};
 
 use crate::compact::Compact;
@@ -50,6 +50,10 @@ impl Text {
         ensures { IfOk result (λ found. MatchOption found (¬ (IsUtf8 bytes.now)) (λ t. (t ≡ bytes.now)
             × IsUtf8 bytes.now)) }
     {
+        if is_ascii(bytes) {
+            let text = unsafe { str::from_utf8_unchecked(bytes) };
+            return Ok(Some(Text::from_str(alloc, text)?));
+        }
         match str::from_utf8(bytes) {
             Ok(text) => Ok(Some(Text::from_str(alloc, text)?)),
             Err(_) => Ok(None),
@@ -60,7 +64,9 @@ impl Text {
     pub fn copy(&self, alloc: Global) -> Result<Text, AllocError>
         ensures { IfOk result (λ t. t ≡ self.now) }
     {
-        Text::from_str(alloc, self.as_str())
+        Ok(Text {
+            inner: self.inner.copy(alloc)?,
+        })
     }
 
     /// The text as Rust has it.
@@ -78,4 +84,16 @@ impl Text {
     {
         self.inner.as_slice()
     }
+}
+
+/// Whether each of the bytes is ASCII. Most texts are short, and so this costs less than to read UTF-8.
+fn is_ascii(bytes: &[u8]) -> bool
+    ensures { IsTrue result → IsUtf8 bytes.now }
+{
+    for byte in bytes {
+        if !byte.is_ascii() {
+            return false;
+        }
+    }
+    true
 }

@@ -1,6 +1,6 @@
 -- A scan, row by row.
 use Rattle.std.proofs.Common.{◌≡◌, ℕ, ◌+◌, ◌≤◌, true, false, cond, List, [], ◌∷◌, ◌++◌, length, map, Option, Some, None}
-use Rattle.std.proofs.Common.{refl, sym, ap, ◌∙◌, append_assoc, arith}
+use Rattle.std.proofs.Common.{refl, sym, ap, ◌∙◌, subst, append_assoc, arith}
 use Rattle.std.specs.Prelude.{nat_eq}
 use Rattle.std.specs.List.{starts_with}
 use Rattle.std.specs.Ordering.{is_lt}
@@ -87,6 +87,15 @@ pub none_ahead : {E : Type 0} {prefix : List ℕ} {spell : E → List ℕ × Lis
 none_ahead {all = all} {from = from} rows can is =
     record { left = rows; can = can; whole = refl; spelled = is; count = omega (arith, length-after from all) }
 
+-- the same of another name of the key, and of the rows
+pub ahead_at : {E : Type 0} {prefix : List ℕ} {spell : E → List ℕ × List ℕ} {Can : E → Type 0} {all : Entries}
+    {at key : List ℕ} {n : ℕ} {found read rows : List E} → at ≡ key → found ≡ read →
+    Ahead prefix spell Can all at n found rows → Ahead prefix spell Can all key n read rows
+ahead_at {prefix = prefix} {spell = spell} {Can = Can} {all = all} {key = key} {n = n} {found = found} {rows = rows} k f
+    a =
+    subst (λ read. Ahead prefix spell Can all key n read rows) f
+    (subst (λ key. Ahead prefix spell Can all key n found rows) k a)
+
 pub at_end : {E : Type 0} {prefix : List ℕ} {spell : E → List ℕ × List ℕ} {Can : E → Type 0} {all : Entries}
     {at : List ℕ} {n : ℕ} {found rows : List E} → Ahead prefix spell Can all at n found rows →
     ranged prefix (after at all) ≡ [] → found ≡ rows
@@ -155,6 +164,14 @@ pub none_gone : {E : Type 0} {prefix : List ℕ} {spell : E → List ℕ × List
     {from : List ℕ} → Gone prefix spell Can all from from 0 []
 none_gone {all = all} {from = from} =
     record { can = tt; whole = refl; count = omega (arith, length-after from all) }
+
+pub gone_at : {E : Type 0} {prefix : List ℕ} {spell : E → List ℕ × List ℕ} {Can : E → Type 0} {all : Entries}
+    {from at key : List ℕ} {n : ℕ} {found read : List E} → at ≡ key → found ≡ read →
+    Gone prefix spell Can all from at n found → Gone prefix spell Can all from key n read
+gone_at {prefix = prefix} {spell = spell} {Can = Can} {all = all} {from = from} {key = key} {n = n} {found = found} k f
+    a =
+    subst (λ read. Gone prefix spell Can all from key n read) f
+    (subst (λ key. Gone prefix spell Can all from key n found) k a)
 
 pub all_in : {E : Type 0} {prefix : List ℕ} {spell : E → List ℕ × List ℕ} {Can : E → Type 0} {all : Entries}
     {from at : List ℕ} {n : ℕ} {found : List E} → Gone prefix spell Can all from at n found →

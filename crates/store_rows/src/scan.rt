@@ -4,7 +4,7 @@ ghost use Rattle.std.specs.FinMap.{entries};
 ghost use Rattle.slon_base.specs.Keeper.{Store, sight, after};
 ghost use Rattle.slon_base.specs.Codec.{AllAre};
 ghost use Rattle.store_rows.specs.Steps.{Safe, IsWithinLimit, IsOfSpace, Gives, is_failed};
-ghost use Rattle.store_rows.specs.Scan.{ranged, spelled_rows};
+ghost use Rattle.store_rows.specs.Scan.{key_of, ranged, spelled_rows};
 
 use crate::calls::{count_pairs, next_pair};
 use crate::stored_rows::read_alone;
@@ -35,6 +35,16 @@ fn read_pair<I: Spelled, X: Spelled>(
     }
 }
 
+/// The key of a pair, or `from` where there is none.
+fn key_of<'a>(pair: &'a Option<(Bytes, Bytes)>, from: &'a [u8]) -> &'a [u8]
+    ensures { result.now ≡ key_of pair.now from.now }
+{
+    match pair {
+        Some((key, _)) => key.as_slice(),
+        None => from,
+    }
+}
+
 /// The rows whose keys have the prefix and come after the key `from`, ascending, by what stands behind the prefix.
 #[tactic(auto, using(crate::proofs::Causes::outside_within, crate::proofs::Causes::outside_space))]
 pub fn scan_rows<K: Keeper, I: Spelled, X: Spelled>(
@@ -58,9 +68,11 @@ pub fn scan_rows<K: Keeper, I: Spelled, X: Spelled>(
 {
     let limit = count_pairs(keeper, space)?;
     let mut found = Many::new(alloc);
-    let mut at = Bytes::from_slice(alloc, from)?;
+    // The last pair stays where it came, since to move its bytes costs as much as to read them.
+    let mut last = None;
     for _ in 0..limit {
-        match next_pair(keeper, space, at.as_slice())? {
+        last = next_pair(keeper, space, key_of(&last, from))?;
+        match &last {
             None => return Ok(found),
             Some((key, value)) => {
                 if !key.as_slice().starts_with(prefix) {
@@ -68,10 +80,7 @@ pub fn scan_rows<K: Keeper, I: Spelled, X: Spelled>(
                 }
                 let (_, rest) = key.as_slice().split_at(prefix.len());
                 match read_pair(alloc, space, rest, value.as_slice()) {
-                    Ok(row) => {
-                        found.push(row)?;
-                        at = key;
-                    }
+                    Ok(row) => found.push(row)?,
                     Err(stop) => return Err(stop),
                 }
             }

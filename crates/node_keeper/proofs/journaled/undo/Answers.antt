@@ -16,7 +16,7 @@ loop-index-preserved c =
         change = c.index_mut-change.result.now;
         within = omega (arith, c.loop-index.changes.ok);
         is = c.index_mut-change.ensures.value;
-        turned = c.set.ensures.pairs ∙ ap (λ k. with_at k c.take-old.result old) c.as_slice.ensures
+        turned = c.set.ensures.pairs
             ∙ ap (λ o. with_at c.index_mut-change.result.now.key o old) c.take-old.ensures.value;
       }) (subst (λ n. undone (take n changes) old ≡ undone c.args.changes.now.items (pairs c.args.slots.now.map))
           (omega arith) c.loop-index.invariant.undoes);

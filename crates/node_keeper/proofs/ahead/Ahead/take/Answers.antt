@@ -14,5 +14,5 @@ returns-in_ok-key-in-Some-clause-ahead c space is =
     ∙ ap Some (sym c.in-Some.ensures.lookup) in
     let front : c.args.self.now.pairs.items ≡ e ∷ ahead = c.pop_front.ensures.items
     ∙ ap (λ o. option_to_list o ++ ahead) first in
-    subst (λ k. IsAhead k ahead space) (sym (c.in_ok-key-in-Some.ensures ∙ c.as_slice.ensures))
+    subst (λ k. IsAhead k ahead space) (sym c.in_ok-key-in-Some.ensures)
     (taken key e ahead space (subst (λ (ps : Entries). IsAhead key ps space) front is))

@@ -12,23 +12,23 @@ overflow_add-self c = omega (arith, len-pairs c.args.self.now.map c.args.self.no
 pub invariant_of-self-2 : goal.invariant_of-self-2
 invariant_of-self-2 c =
     let was = c.flatten-old.ensures ∙ ap option_flatten c.in_ok-insert.ensures.old
-    ∙ sym (get-pairs c.args.self.now.map c.args.key.items c.args.self.now.ordered) in
-    let had : c.from.result ≡ bool_byte (is_some (get (pairs c.args.self.now.map) c.args.key.items)) = c.from.ensures
+    ∙ sym (get-pairs c.args.self.now.map c.args.key c.args.self.now.ordered) in
+    let had : c.from.result ≡ bool_byte (is_some (get (pairs c.args.self.now.map) c.args.key)) = c.from.ensures
     ∙ ap bool_byte (c.is_some.ensures ∙ ap is_some was) in
-    let change = turned c.args.key.items (Some c.args.value) c.args.self.now.map c.insert.new.self
+    let change = turned c.args.key (Some c.args.value) c.args.self.now.map c.insert.new.self
     c.args.self.now.ordered c.insert.ensures.ordered c.in_ok-insert.ensures.updates in
     record { ordered = c.insert.ensures.ordered; counted = omega (arith, had, change.counts) }
 
 pub returns-clause-old : goal.returns-clause-old
 returns-clause-old c = c.flatten-old.ensures ∙ ap option_flatten c.in_ok-insert.ensures.old
-    ∙ sym (get-pairs c.args.self.now.map c.args.key.items c.args.self.now.ordered)
+    ∙ sym (get-pairs c.args.self.now.map c.args.key c.args.self.now.ordered)
 
 pub returns-clause-ok : goal.returns-clause-ok
 returns-clause-ok c =
-    (turned c.args.key.items (Some c.args.value) c.args.self.now.map c.insert.new.self c.args.self.now.ordered
+    (turned c.args.key (Some c.args.value) c.args.self.now.map c.insert.new.self c.args.self.now.ordered
     c.insert.ensures.ordered c.in_ok-insert.ensures.updates).shows
 
 pub returns-clause-keeps : goal.returns-clause-keeps
 returns-clause-keeps c =
-    (turned c.args.key.items (Some c.args.value) c.args.self.now.map c.insert.new.self c.args.self.now.ordered
+    (turned c.args.key (Some c.args.value) c.args.self.now.map c.insert.new.self c.args.self.now.ordered
     c.insert.ensures.ordered c.in_ok-insert.ensures.updates).keeps

@@ -6,7 +6,7 @@ use Rattle.app_store.proofs.Rising.{begins_done, begins_doubt, begins_fault}
 use Rattle.app_store.proofs.Halting.{stopped}
 use Rattle.app_store.proofs.Serving.{worked_on, worked_rollback, ran_or, ran_or_doubt, founds_well, founds_doubt}
 use Rattle.app_store.proofs.Serving.{founds_stop}
-use Rattle.app_store.proofs.database.Database.create.Goals as goal
+use Rattle.app_store.proofs.founding.first_state.Goals as goal
 
 pub returns-in-None-clause-founds : goal.returns-in-None-clause-founds
 returns-in-None-clause-founds g c =
@@ -26,7 +26,7 @@ returns-in-Done-clause-founds g c =
     let tries = rw (c.in-Some.is, c.in-Done.is) at c.in-Ok.ensures.tries in
     founds_well _ _ _ refl (worked_on (worked_rollback c.rollback.ensures.rolls_back) (ran_or refl tries))
     (λ told from. tries.sure.told told (c.rollback.ensures.rolls_back.cause.told told from))
-    (λ held memory. begins_done _ c.fresh-state-in-Done.ensures (rw (c.in-Some.is, c.in-Done.is) at
+    (λ held memory. begins_done _ c.fresh-in-Done.ensures (rw (c.in-Some.is, c.in-Done.is) at
     (c.in-Ok.ensures.works (c.rollback.ensures.rolls_back.held ∙ held))).1)
     (λ m pair held. absurd (true≢false (rw (c.in-Some.is, c.in-Done.is) at
     (c.in-Ok.ensures.full m pair (c.rollback.ensures.rolls_back.held ∙ held))).0))
@@ -37,7 +37,7 @@ returns-in-InDoubt-clause-founds g c =
     founds_doubt _ _ _ (worked_on (worked_rollback c.rollback.ensures.rolls_back) (ran_or_doubt tries))
     (λ told from. tries.sure.told told (c.rollback.ensures.rolls_back.cause.told told from))
     (rw c.rollback.ensures.rolls_back.doubts at tries.doubts.1)
-    (λ held memory. begins_doubt _ c.fresh-state-in-InDoubt.ensures (rw (c.in-Some.is, c.in-InDoubt.is) at
+    (λ held memory. begins_doubt _ c.fresh-in-InDoubt.ensures (rw (c.in-Some.is, c.in-InDoubt.is) at
     (c.in-Ok.ensures.works (c.rollback.ensures.rolls_back.held ∙ held))).1)
     (λ m pair held. absurd (true≢false (rw (c.in-Some.is, c.in-InDoubt.is) at
     (c.in-Ok.ensures.full m pair (c.rollback.ensures.rolls_back.held ∙ held))).0))
@@ -58,9 +58,9 @@ returns-in-Err-clause-founds g c =
     })
     (λ held memory. let works = c.in-Err.ensures.works (c.rollback.ensures.rolls_back.held ∙ held) in
     begins_fault (record {
-      kept = fuse_kept g.K.Keeper.kept c.args.keeper;
-      memory = memory_of c.fresh-state-in-Err.result;
-    }) _ c.in-Err.stop c.fall-fault.result c.fresh-state-in-Err.ensures.doubt_is works.0
+      kept = fuse_kept g.K.Keeper.kept c.args.keeper.now;
+      memory = memory_of c.fresh-state.result;
+    }) _ c.in-Err.stop c.fall-fault.result c.fresh-state.ensures.doubt_is works.0
     (stopped _ _ _ _ (c.fall-fault.ensures.down.up, c.fall-fault.ensures.down.doubt) ran.rose
     c.fall-fault.ensures.fault
     (memory, works.1)))
