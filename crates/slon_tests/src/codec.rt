@@ -3,6 +3,9 @@ use slon_base::{ByteMap, KeepFault, RowFault, RowIn, RowOut, Text};
 use std::test::Fail;
 use txn_core::BadSnapshot;
 
+/// A number, a byte, a count and a text.
+const SPELLED: &[u8] = b"\0\0\0\0\0\0\0\x41\x07\0\0\x01\x02\0\0\0\x03a\xc3\xb1";
+
 #[test]
 fn rows_are_spelled(rt: HostRuntime) -> Result<(), Fail> {
     let mut out = RowOut::new(rt.alloc());
@@ -10,10 +13,13 @@ fn rows_are_spelled(rt: HostRuntime) -> Result<(), Fail> {
     out.byte(7)?;
     out.count(258)?;
     out.text("añ".as_bytes())?;
-    let bytes = out.finish();
-    let spelled = b"\0\0\0\0\0\0\0\x41\x07\0\0\x01\x02\0\0\0\x03a\xc3\xb1";
-    assert_eq!(rt; bytes.as_slice(), spelled.as_slice());
-    let mut row = RowIn::new(bytes.as_slice());
+    assert_eq!(rt; out.finish().as_slice(), SPELLED);
+    Ok(())
+}
+
+#[test]
+fn rows_are_read(rt: HostRuntime) -> Result<(), Fail> {
+    let mut row = RowIn::new(SPELLED);
     assert_eq!(rt; row.u64()?, 65);
     assert_eq!(rt; row.byte()?, 7);
     assert_eq!(rt; row.count()?, 258);

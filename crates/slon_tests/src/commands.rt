@@ -98,7 +98,7 @@ fn expect_bad(rt: &(impl AllocGlobal + Abort), table: &[&str]) -> Result<(), Fai
 }
 
 /// Lines, each with the command that it is read as.
-const COMMANDS: [(&str, &str); 25] = [
+const COMMANDS: &[(&str, &str)] = &[
     ("", ""),
     ("   ", ""),
     ("# anything at all", ""),
@@ -137,7 +137,7 @@ fn commands_are_read(rt: HostRuntime) -> Result<(), Fail> {
     for (line, said) in COMMANDS {
         assert_eq!(rt;
             reading(rt.alloc(), line.as_bytes())?.as_str(),
-            said,
+            *said,
             "{line:?}"
         );
     }

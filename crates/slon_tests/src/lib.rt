@@ -24,6 +24,8 @@ mod stored_rows;
 #[cfg(test)]
 mod stores;
 #[cfg(test)]
+mod system;
+#[cfg(test)]
 mod telling;
 #[cfg(test)]
 mod tokens;

@@ -91,23 +91,25 @@ fn read_all(rt: &HostRuntime, bytes: &[u8], piece: usize, fails_at: usize) -> Re
     lines_of(rt, &mut files)
 }
 
+/// Files and their lines.
+const FILES: &[(&str, &str)] = &[
+    ("", "."),
+    ("\n", "[]."),
+    ("a", "[a]."),
+    ("a\n", "[a]."),
+    ("a\nbc", "[a][bc]."),
+    ("a\r\nbc\r", "[a][bc\r]."),
+    ("a\r\r\n\n\nb\n", "[a\r][][][b]."),
+    ("\r\n\r\n", "[][]."),
+];
+
 #[test]
 fn lines_come_whole(rt: HostRuntime) -> Result<(), Fail> {
-    let table = [
-        ("", "."),
-        ("\n", "[]."),
-        ("a", "[a]."),
-        ("a\n", "[a]."),
-        ("a\nbc", "[a][bc]."),
-        ("a\r\nbc\r", "[a][bc\r]."),
-        ("a\r\r\n\n\nb\n", "[a\r][][][b]."),
-        ("\r\n\r\n", "[][]."),
-    ];
-    for (text, seen) in table {
+    for (text, seen) in FILES {
         for piece in [1, 2, 3, 100] {
             assert_eq!(rt;
                 read_all(&rt, text.as_bytes(), piece, 1000)?.as_str(),
-                seen,
+                *seen,
                 "{text:?} by {piece}"
             );
         }
@@ -123,26 +125,28 @@ fn read_long(rt: &HostRuntime, len: usize, end: &str) -> Result<String, Fail> {
     Ok(seen.replace(rt.alloc(), "a", "")?)
 }
 
+/// Lengths of a line, what follows it, and what is seen.
+const LONG_LINES: &[(usize, &str, &str)] = &[
+    (8192, "", "[]."),
+    (8192, "\n", "[]."),
+    (8192, "\r\nb", "[][b]."),
+    (8193, "", "*."),
+    (8192, "\r", "*."),
+    (8193, "\nb", "*[b]."),
+    (8192, "\r\r\nb", "*[b]."),
+    (8193, "\r\nb", "*[b]."),
+    (8194, "\r\nb", "*[b]."),
+    (20000, "\nb\n", "*[b]."),
+    (16_777_216, "", "*."),
+    (16_777_217, "", "the session is too long"),
+];
+
 #[test]
 fn long_lines_are_told_apart(rt: HostRuntime) -> Result<(), Fail> {
-    let table = [
-        (8192, "", "[]."),
-        (8192, "\n", "[]."),
-        (8192, "\r\nb", "[][b]."),
-        (8193, "", "*."),
-        (8192, "\r", "*."),
-        (8193, "\nb", "*[b]."),
-        (8192, "\r\r\nb", "*[b]."),
-        (8193, "\r\nb", "*[b]."),
-        (8194, "\r\nb", "*[b]."),
-        (20000, "\nb\n", "*[b]."),
-        (16_777_216, "", "*."),
-        (16_777_217, "", "the session is too long"),
-    ];
-    for (len, end, seen) in table {
+    for (len, end, seen) in LONG_LINES {
         assert_eq!(rt;
-            read_long(&rt, len, end)?.as_str(),
-            seen,
+            read_long(&rt, *len, end)?.as_str(),
+            *seen,
             "{len} and {end:?}"
         );
     }

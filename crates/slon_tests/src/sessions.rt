@@ -349,13 +349,13 @@ const NO_TABLE: &str = "no 52 notable public.t";
 const FAULT: &str = "no 10 fault a 1";
 
 /// A database is made and comes up once, so that its numbers stand at their ceilings.
-const START: [Step; 3] = [
+const START: &[Step] = &[
     ("database a", "ok", Some(NO_TABLE)),
     ("crash a", "ok", None),
     ("up a", "ok", None),
 ];
 
-const COMMANDS: [Step; 16] = [
+const COMMANDS: &[Step] = &[
     ("table a public.t 3", "ok", Some("ok rows 0")),
     ("begin a x", "ok xid 65", None),
     ("insert a x public.t k 1 2", "ok action 65", None),
@@ -375,7 +375,7 @@ const COMMANDS: [Step; 16] = [
 ];
 
 /// It is seen what stands in the end. Where no call fails before, the second `up` finds the database up.
-const FINISH: [Step; 5] = [
+const FINISH: &[Step] = &[
     ("crash a", "ok", None),
     ("up a", "ok", None),
     ("up a", "no 19 isup a", None),
@@ -383,19 +383,28 @@ const FINISH: [Step; 5] = [
     ("rows a public.t", "ok rows 1 n=6,7", None),
 ];
 
+/// Adds a line.
+fn push_line(session: &mut String, line: &str) -> Result<(), Fail> {
+    session.push_str(line)?;
+    session.push('\n')?;
+    Ok(())
+}
+
+/// Adds the commands of these steps.
+fn push_steps(session: &mut String, steps: &[Step]) -> Result<(), Fail> {
+    for (command, _, _) in steps {
+        push_line(session, command)?;
+    }
+    Ok(())
+}
+
 /// The session of these commands, with this line before the table is made.
 fn failing(alloc: Global, order: &str) -> Result<String, Fail> {
     let mut session = String::new(alloc);
-    for (command, _, _) in START {
-        write!(session, "{command}\n")?;
-    }
-    write!(session, "{order}\n")?;
-    for (command, _, _) in COMMANDS {
-        write!(session, "{command}\n")?;
-    }
-    for (command, _, _) in FINISH {
-        write!(session, "{command}\n")?;
-    }
+    push_steps(&mut session, START)?;
+    push_line(&mut session, order)?;
+    push_steps(&mut session, COMMANDS)?;
+    push_steps(&mut session, FINISH)?;
     Ok(session)
 }
 
@@ -547,12 +556,12 @@ fn is_told(
     };
     let mut replies = written.lines();
     let mut known = Known::new(call, keep);
-    known.walk(rt, alloc, START.as_slice(), &mut replies)?;
+    known.walk(rt, alloc, START, &mut replies)?;
     if !order.is_empty() {
         known.is_reply(rt, replies.next().unwrap_or(""), "ok");
     }
-    known.walk(rt, alloc, COMMANDS.as_slice(), &mut replies)?;
-    known.walk(rt, alloc, FINISH.as_slice(), &mut replies)?;
+    known.walk(rt, alloc, COMMANDS, &mut replies)?;
+    known.walk(rt, alloc, FINISH, &mut replies)?;
     assert!(rt; replies.next().is_none());
     Ok(known.told)
 }
@@ -591,28 +600,43 @@ fn stores_fail_at_every_call(rt: HostRuntime) -> Result<(), Fail> {
     Ok(())
 }
 
-/// A database in memory, of which transactions begin and end: which one begins, which one is aborted, and the snapshot.
+/// Which transaction begins, which one is aborted then, and the snapshot.
+const SNAPSHOTS: &[(&str, Option<&str>, &str)] = &[
+    ("c", None, "1:2:1"),
+    ("b", None, "1:3:1,2"),
+    ("a", Some("b"), "1:4:1,3"),
+    ("d", Some("c"), "3:5:3,4"),
+    ("e", Some("e"), "3:6:3,4"),
+];
+
+/// Whether a transaction of this name begins.
+fn begins(alloc: Global, database: &mut Database<MemKeeper>, name: &str) -> Result<bool, Fail> {
+    Ok(database.begin(&Text::from_str(alloc, name)?).is_ok())
+}
+
+/// Whether the transaction of this name is aborted.
+fn aborts(alloc: Global, database: &mut Database<MemKeeper>, name: &str) -> Result<bool, Fail> {
+    Ok(database.abort(&Text::from_str(alloc, name)?).is_ok())
+}
+
+/// The snapshot that is taken now.
+fn seen(alloc: Global, database: &Database<MemKeeper>) -> Result<Text, Fail> {
+    Ok(database.snapshot()?.print(alloc)?)
+}
+
+/// A database in memory, of which transactions begin and end.
 #[test]
 fn snapshots_list_open_transactions(rt: HostRuntime) -> Result<(), Fail> {
     let alloc = rt.alloc();
     let store = MemKeeper::new(alloc, Vec::new(alloc), false)?;
     let (mut database, made) = Database::create(alloc, Fuse::new(store));
     assert!(rt; made.is_ok());
-    for (begins, ends, text) in [
-        ("c", None, "1:2:1"),
-        ("b", None, "1:3:1,2"),
-        ("a", Some("b"), "1:4:1,3"),
-        ("d", Some("c"), "3:5:3,4"),
-        ("e", Some("e"), "3:6:3,4"),
-    ] {
-        let begun = database.begin(&Text::from_str(alloc, begins)?);
-        assert!(rt; begun.is_ok());
+    for (name, ends, text) in SNAPSHOTS {
+        assert!(rt; begins(alloc, &mut database, name)?);
         if let Some(name) = ends {
-            let ended = database.abort(&Text::from_str(alloc, name)?);
-            assert!(rt; ended.is_ok());
+            assert!(rt; aborts(alloc, &mut database, name)?);
         }
-        let snapshot = database.snapshot()?;
-        assert_eq!(rt; snapshot.print(alloc)?.as_str(), text);
+        assert_eq!(rt; seen(alloc, &database)?.as_str(), *text);
     }
     Ok(())
 }

@@ -3,50 +3,54 @@ use std::alloc::Global;
 use std::test::Fail;
 use txn_core::{BadSnapshot, Counters, LockFault, LockTable, Snapshot, XidList};
 
+/// Two snapshots, and whether the first covers the second.
+const PAIRS: &[(&str, &str, bool)] = &[
+    ("4:7:4,6", "4:7:4,6", true),
+    ("4:7:4,6", "4:7:4,5,6", true),
+    ("4:7:4,6", "5:8:5", false),
+    ("4:7:4,6", "7:7:", false),
+    ("9:9:", "4:7:4,6", true),
+    ("9:9:", "0:10:0,9", true),
+    ("9223372036854775808:9223372036854775808:", "9:10:9", true),
+    (
+        "18446744073709551614:18446744073709551615:18446744073709551614",
+        "18446744073709551615:18446744073709551615:",
+        false,
+    ),
+];
+
 #[test]
 fn snapshots_are_read_and_printed(rt: HostRuntime) -> Result<(), Fail> {
-    let table = [
-        ("4:7:4,6", "4:7:4,6", true),
-        ("4:7:4,6", "4:7:4,5,6", true),
-        ("4:7:4,6", "5:8:5", false),
-        ("4:7:4,6", "7:7:", false),
-        ("9:9:", "4:7:4,6", true),
-        ("9:9:", "0:10:0,9", true),
-        ("9223372036854775808:9223372036854775808:", "9:10:9", true),
-        (
-            "18446744073709551614:18446744073709551615:18446744073709551614",
-            "18446744073709551615:18446744073709551615:",
-            false,
-        ),
-    ];
-    for (text, other, covers) in table {
+    for (text, other, covers) in PAIRS {
         let snapshot = Snapshot::parse(rt.alloc(), text.as_bytes())?;
         let other = Snapshot::parse(rt.alloc(), other.as_bytes())?;
-        assert_eq!(rt; snapshot.print(rt.alloc())?.as_str(), text);
+        assert_eq!(rt; snapshot.print(rt.alloc())?.as_str(), *text);
         let covered = snapshot.covers(&other);
-        assert_eq!(rt; covered, covers);
+        assert_eq!(rt; covered, *covers);
     }
     Ok(())
 }
 
+/// Texts that are no snapshots.
+const OTHER_TEXTS: &[&str] = &[
+    "",
+    "::",
+    "4:7",
+    "4:7:4,6:",
+    "04:7:4",
+    "+4:7:4",
+    "4:7:4,",
+    "4:7:6,4",
+    "3:7:4",
+    "4:7:4,7",
+    " 4:7:4",
+    "4:7:4,4",
+    "18446744073709551616:18446744073709551616:",
+];
+
 #[test]
 fn other_texts_are_no_snapshots(rt: HostRuntime) -> Result<(), Fail> {
-    let table = [
-        "",
-        "::",
-        "4:7",
-        "4:7:4,6:",
-        "04:7:4",
-        "+4:7:4",
-        "4:7:4,",
-        "4:7:6,4",
-        "3:7:4",
-        "4:7:4,7",
-        " 4:7:4",
-        "4:7:4,4",
-        "18446744073709551616:18446744073709551616:",
-    ];
-    for text in table {
+    for text in OTHER_TEXTS {
         let refused = match Snapshot::parse(rt.alloc(), text.as_bytes()) {
             Err(BadSnapshot::NotCanonical) => true,
             _ => false,
@@ -102,23 +106,25 @@ fn ids_are_seen_and_drawn(rt: HostRuntime) -> Result<(), Fail> {
     Ok(())
 }
 
+/// Who takes the lock of which row, and who holds it instead.
+const TAKES: &[(u64, &str, &str, Option<u64>)] = &[
+    (7, "a.t", "k", None),
+    (7, "a.t", "k", None),
+    (5, "a.t", "k", Some(7)),
+    (5, "a.t", "l", None),
+    (5, "b.t", "k", None),
+];
+
 #[test]
 fn locks_are_held_until_they_are_released(rt: HostRuntime) -> Result<(), Fail> {
     let mut locks = LockTable::new(rt.alloc());
-    let takes = [
-        (7, "a.t", "k", None),
-        (7, "a.t", "k", None),
-        (5, "a.t", "k", Some(7)),
-        (5, "a.t", "l", None),
-        (5, "b.t", "k", None),
-    ];
-    for (xid, table, key, holder) in takes {
-        let other = match locks.take(xid, table.as_bytes(), key.as_bytes()) {
+    for (xid, table, key, holder) in TAKES {
+        let other = match locks.take(*xid, table.as_bytes(), key.as_bytes()) {
             Ok(()) => None,
             Err(LockFault::Locked { xid }) => Some(xid),
             Err(LockFault::NoMemory) => Some(0),
         };
-        assert_eq!(rt; other, holder);
+        assert_eq!(rt; other, *holder);
     }
     let first = locks.wrote(b"a.t");
     assert_eq!(rt; first, Some(5));

@@ -1,12 +1,12 @@
 // Rows of more than one kind in the spaces of a store in memory.
 use node_keeper::{Fuse, Keeper, MemKeeper};
 use slon_base::{Bytes, Many, Text};
+use std::alloc::Global;
 use std::test::Fail;
 use store_rows::{Stop, del_row, get_row, has_row, put_row, read_alone, scan_rows, spelling};
 
-#[test]
-fn rows_are_stored_and_read(rt: HostRuntime) -> Result<(), Fail> {
-    let alloc = rt.alloc();
+/// A store with two rows in a space, of which a third was taken away.
+fn stored(alloc: Global) -> Result<Fuse<MemKeeper>, Fail> {
     let mut keeper = Fuse::new(MemKeeper::new(alloc, Vec::new(alloc), false)?);
     let flag = true;
     keeper.begin()?;
@@ -15,6 +15,13 @@ fn rows_are_stored_and_read(rt: HostRuntime) -> Result<(), Fail> {
     put_row(alloc, &mut keeper, 9, &2u32, &(6u64, flag))?;
     del_row(alloc, &mut keeper, 9, &2u32)?;
     keeper.commit()?;
+    Ok(keeper)
+}
+
+#[test]
+fn rows_are_stored_and_read(rt: HostRuntime) -> Result<(), Fail> {
+    let alloc = rt.alloc();
+    let mut keeper = stored(alloc)?;
     let found = get_row::<_, u32, (u64, bool)>(alloc, &mut keeper, 9, &3)?;
     assert_eq!(rt; found, Some((700, true)));
     assert!(rt; !has_row(alloc, &mut keeper, 9, &2u32)?);

@@ -3,6 +3,8 @@ ghost use Rattle.std.specs.Prelude.{◌≡◌, is_some, false};
 
 use node_keeper::{Files, Fuse, Keeper, MemFiles, MemKeeper, MemShelf, MemSink, Shelf, Sink};
 use slon_base::{Bytes, KeepFault, OutFault, Text};
+use std::alloc::Global;
+use std::process::Abort;
 use std::test::Fail;
 
 fn is_value(found: Option<Bytes>, value: &[u8]) -> bool {
@@ -19,9 +21,8 @@ fn has_key(found: Option<(Bytes, Bytes)>, key: &[u8]) -> bool {
     }
 }
 
-#[test]
-fn keeps(rt: HostRuntime) -> Result<(), Fail> {
-    let alloc = rt.alloc();
+/// A store that keeps three pairs in two spaces.
+fn kept(rt: &impl Abort, alloc: Global) -> Result<Fuse<MemKeeper>, Fail> {
     let mut keeper = Fuse::new(MemKeeper::new(alloc, Vec::new(alloc), false)?);
     keeper.begin()?;
     keeper.put(3, b"b", b"2")?;
@@ -29,6 +30,12 @@ fn keeps(rt: HostRuntime) -> Result<(), Fail> {
     keeper.put(4, b"b", b"other")?;
     assert!(rt; is_value(keeper.get(3, b"b")?, b"2"));
     keeper.commit()?;
+    Ok(keeper)
+}
+
+#[test]
+fn keeps(rt: HostRuntime) -> Result<(), Fail> {
+    let mut keeper = kept(&rt, rt.alloc())?;
     assert!(rt; has_key(keeper.next_after(3, b"a")?, b"b"));
     assert!(rt; keeper.next_after(3, b"b")?.is_none());
     assert_eq!(rt;
@@ -95,47 +102,44 @@ fn commits_in_doubt(rt: HostRuntime) -> Result<(), Fail> {
 }
 
 /// An empty store in a fuse that is off.
-fn fused(rt: &HostRuntime) -> Result<Fuse<MemKeeper>, Fail> {
-    let alloc = rt.alloc();
+fn fused(alloc: Global) -> Result<Fuse<MemKeeper>, Fail> {
     Ok(Fuse::new(MemKeeper::new(alloc, Vec::new(alloc), false)?))
 }
 
-fn mark(fails: bool) -> char {
-    if fails { 'x' } else { '.' }
+/// Which of four calls fail.
+fn failures(keeper: &mut Fuse<MemKeeper>) -> [bool; 4] {
+    [
+        keeper.get(1, b"a").is_err(),
+        keeper.next_after(1, b"a").is_err(),
+        keeper.count(1).is_err(),
+        keeper.rollback().is_err(),
+    ]
 }
 
-/// Which of four calls fail, as `x`.
-fn looks(rt: &HostRuntime, keeper: &mut Fuse<MemKeeper>) -> Result<String, Fail> {
-    let mut seen = String::new(rt.alloc());
-    seen.push(mark(keeper.get(1, b"a").is_err()))?;
-    seen.push(mark(keeper.next_after(1, b"a").is_err()))?;
-    seen.push(mark(keeper.count(1).is_err()))?;
-    seen.push(mark(keeper.rollback().is_err()))?;
-    Ok(seen)
-}
+/// How many calls succeed, which of four fail then, and how many failed, also behind four more that fail.
+const FROM_A_CALL_ON: &[(u64, [bool; 4], u64, u64)] = &[
+    (0, [true, true, true, true], 4, 8),
+    (1, [false, true, true, true], 3, 7),
+    (2, [false, false, true, true], 2, 6),
+    (3, [false, false, false, true], 1, 5),
+    (4, [false, false, false, false], 0, 4),
+];
 
 #[test]
 fn fails_from_a_call_on(rt: HostRuntime) -> Result<(), Fail> {
-    let table = [
-        (0, "xxxx", 4),
-        (1, ".xxx", 3),
-        (2, "..xx", 2),
-        (3, "...x", 1),
-        (4, "....", 0),
-    ];
-    for (calls, seen, faults) in table {
-        let mut keeper = fused(&rt)?;
+    for (calls, seen, faults, last) in FROM_A_CALL_ON {
+        let mut keeper = fused(rt.alloc())?;
         keeper.arm_commit(true);
-        keeper.arm(calls, false);
-        assert_eq!(rt; looks(&rt, &mut keeper)?.as_str(), seen);
+        keeper.arm(*calls, false);
+        assert_eq!(rt; failures(&mut keeper), *seen);
         keeper.disarm();
-        assert_eq!(rt; looks(&rt, &mut keeper)?.as_str(), "....");
+        assert_eq!(rt; failures(&mut keeper), [false; 4]);
         keeper.arm_commit(true);
-        assert_eq!(rt; looks(&rt, &mut keeper)?.as_str(), "....");
-        assert_eq!(rt; (keeper.faults(), keeper.doubts()), (faults, 0));
+        assert_eq!(rt; failures(&mut keeper), [false; 4]);
+        assert_eq!(rt; (keeper.faults(), keeper.doubts()), (*faults, 0));
         keeper.arm(0, false);
-        assert_eq!(rt; looks(&rt, &mut keeper)?.as_str(), "xxxx");
-        assert_eq!(rt; (keeper.faults(), keeper.doubts()), (faults + 4, 0));
+        assert_eq!(rt; failures(&mut keeper), [true; 4]);
+        assert_eq!(rt; (keeper.faults(), keeper.doubts()), (*last, 0));
     }
     Ok(())
 }
@@ -170,11 +174,11 @@ fn changed<K: Keeper>(
 fn fails_commits(rt: HostRuntime) -> Result<(), Fail> {
     let failed = Err(KeepFault::Failed);
     for (keep, count) in [(false, 0), (true, 1)] {
-        let mut keeper = fused(&rt)?;
+        let mut keeper = fused(rt.alloc())?;
         keeper.rollback()?;
         keeper.arm(2, keep);
         assert_eq!(rt; changed(&mut keeper)?, (failed, failed, count, 2, 1));
-        let mut keeper = fused(&rt)?;
+        let mut keeper = fused(rt.alloc())?;
         keeper.rollback()?;
         keeper.arm_commit(keep);
         assert_eq!(rt; changed(&mut keeper)?, (failed, failed, count, 2, 1));

@@ -1,16 +1,10 @@
 //! Runs a session over the real files and prints its replies.
 #![tactic(auto)]
 
-mod fault_count;
-mod real_files;
-mod real_shelf;
-mod real_sink;
 mod words;
 
-use crate::real_files::RealFiles;
-use crate::real_shelf::RealShelf;
-use crate::real_sink::RealSink;
 use slon_main::{Status, slon_main};
+use slon_system::{RealFiles, RealShelf, RealSink};
 use std::process::ExitCode;
 
 fn main(rt: HostRuntime) -> ExitCode {
@@ -29,6 +23,3 @@ fn main(rt: HostRuntime) -> ExitCode {
     );
     ExitCode::from(ended.status.number())
 }
-
-#[cfg(test)]
-mod tests;

@@ -5,19 +5,19 @@ use std::alloc::Global;
 
 /// Gives empty stores in memory, of which no call fails.
 #[derive(Drop)]
-pub(crate) struct RealShelf {
+pub struct RealShelf {
     alloc: Global,
 }
 
 impl RealShelf {
     /// A shelf of such stores.
-    pub(crate) fn new(alloc: Global) -> RealShelf {
+    pub fn new(alloc: Global) -> RealShelf {
         RealShelf { alloc }
     }
 }
 
 impl Shelf for RealShelf {
-    ghost use Rattle.slonrun.specs.Told.{in_memory};
+    ghost use Rattle.slon_system.specs.Told.{in_memory};
 
     type Store = MemKeeper;
 

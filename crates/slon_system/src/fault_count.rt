@@ -13,7 +13,7 @@ pub(crate) struct FaultCount {
 }
 
 impl FaultCount {
-    ghost use Rattle.slonrun.specs.Faults.{faults_of};
+    ghost use Rattle.slon_system.specs.Faults.{faults_of};
     ghost use Rattle.slon_base.specs.declared.fault.OutFault.TheVariants.{Failed, NoMemory};
 
     /// No call failed yet.

@@ -11,7 +11,7 @@ use std::{fs, io, rt, str};
 
 /// Files of the system by their paths. They tell nothing of what they hold.
 #[derive(Drop)]
-pub(crate) struct RealFiles<R: rt::Files + Drop> {
+pub struct RealFiles<R: rt::Files + Drop> {
     system: R,
     entered: VecDeque<R::File>,
     faults: FaultCount,
@@ -19,10 +19,10 @@ pub(crate) struct RealFiles<R: rt::Files + Drop> {
 
 impl<R: rt::Files + Drop> RealFiles<R> {
     ghost use Rattle.std.specs.Prelude.{◌≡◌, None, []};
-    ghost use Rattle.slonrun.specs.Told.{untold_files};
+    ghost use Rattle.slon_system.specs.Told.{untold_files};
 
     /// The files of this system, with none entered.
-    pub(crate) fn new(alloc: Global, system: R) -> RealFiles<R>
+    pub fn new(alloc: Global, system: R) -> RealFiles<R>
         ensures { untold_files result.entered.items result.faults ≡ record {
           names = None;
           stack = [];
@@ -39,7 +39,7 @@ impl<R: rt::Files + Drop> RealFiles<R> {
 }
 
 impl<R: rt::Files + Drop> Files for RealFiles<R> {
-    ghost use Rattle.slonrun.specs.Told.{untold_files};
+    ghost use Rattle.slon_system.specs.Told.{untold_files};
 
     ghost filed = { λ f. untold_files f.entered.items f.faults };
 

@@ -1,8 +1,6 @@
-// The real objects, used through their traits.
-use crate::real_files::RealFiles;
-use crate::real_shelf::RealShelf;
-use crate::real_sink::RealSink;
+// The files, the output and the stores of the system, used through their traits.
 use slon_base::{Files, Keeper, OutFault, Shelf, Sink};
+use slon_system::{RealFiles, RealShelf, RealSink};
 use std::io::{Error, ErrorKind, Write};
 use std::test::Fail;
 use std::{env, fs, io, process};

@@ -2,8 +2,8 @@
 use Rattle.std.specs.Prelude.{true, List, Some, None, map}
 use Rattle.slon_base.specs.Outside.{Filed, Poured}
 use Rattle.slon_base.specs.Shelf.{Shelved}
-use Rattle.slonrun.specs.declared.fault_count.FaultCount.{FaultCount}
-use Rattle.slonrun.specs.Faults.{faults_of}
+use Rattle.slon_system.specs.declared.fault_count.FaultCount.{FaultCount}
+use Rattle.slon_system.specs.Faults.{faults_of}
 
 abbrev pub untold_files : {F : Type 0} → List F → FaultCount → Filed
 untold_files entered faults =

@@ -5,17 +5,17 @@ use std::io::Write;
 
 /// An output of the system. It tells nothing of what was written.
 #[derive(Drop)]
-pub(crate) struct RealSink<W: Write + Drop> {
+pub struct RealSink<W: Write + Drop> {
     writer: W,
     faults: FaultCount,
 }
 
 impl<W: Write + Drop> RealSink<W> {
     ghost use Rattle.std.specs.Prelude.{◌≡◌, None};
-    ghost use Rattle.slonrun.specs.Told.{untold_output};
+    ghost use Rattle.slon_system.specs.Told.{untold_output};
 
     /// An output that writes on this writer.
-    pub(crate) fn new(writer: W) -> RealSink<W>
+    pub fn new(writer: W) -> RealSink<W>
         ensures { untold_output result.faults ≡ record { pieces = None; faults = 0 } }
     {
         RealSink {
@@ -29,7 +29,7 @@ impl<W: Write + Drop> Sink for RealSink<W> {
     ghost use Rattle.std.specs.Prelude.{OnOk};
     ghost use Rattle.std.specs.Io.KnownBytes.{Appends};
     ghost use Rattle.slon_base.specs.Outside.{Writes};
-    ghost use Rattle.slonrun.specs.Told.{untold_output};
+    ghost use Rattle.slon_system.specs.Told.{untold_output};
 
     ghost poured = { λ s. untold_output s.faults };
 

@@ -1,5 +1,5 @@
 use Rattle.std.specs.Io.KnownBytes.{Keeps}
-use Rattle.slonrun.proofs.real_files.read_on.Given as goal
+use Rattle.slon_system.proofs.real_files.read_on.Given as goal
 
 abbrev pub invariant-loop : goal.invariant-loop
 invariant-loop g l = Keeps (g.F.Read.remaining l.fn.file) (g.F.Read.remaining l.file)

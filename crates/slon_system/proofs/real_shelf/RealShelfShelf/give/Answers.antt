@@ -3,7 +3,7 @@ use Rattle.slon_base.specs.Keeper.{nothing}
 use Rattle.slon_base.specs.Counts.{Within}
 use Rattle.node_keeper.specs.Plan.{left}
 use Rattle.node_keeper.specs.Told.{kept_of, fresh}
-use Rattle.slonrun.proofs.real_shelf.RealShelfShelf.give.Goals as goal
+use Rattle.slon_system.proofs.real_shelf.RealShelfShelf.give.Goals as goal
 
 pub returns : goal.returns
 returns c =
