@@ -8,6 +8,9 @@ use slon_base::{Text, TextList};
 use slon_model::{Answer, Refusal, Reply};
 use std::alloc::{AllocError, Global};
 
+/// For how many bytes a line has room before it grows. Most replies are shorter.
+const REPLY_ROOM: usize = 64;
+
 /// Adds each value behind a comma.
 fn push_behind_commas(line: &mut String, values: &[Text]) -> Result<(), AllocError>
     ensures { OnOk result (string_bytes line.new ≡ string_bytes line.old ++ behind_commas values.now) }
@@ -125,7 +128,7 @@ fn push_reply(line: &mut String, reply: &Reply) -> Result<(), AllocError>
 pub fn print_reply(alloc: Global, reply: &Reply) -> Result<Text, AllocError>
     ensures { IfOk result (λ text. text ≡ reply_text reply.now) }
 {
-    let mut line = String::new(alloc);
+    let mut line = String::with_capacity(alloc, REPLY_ROOM)?;
     push_reply(&mut line, reply)?;
     Ok(Text::from_string(line))
 }
@@ -138,7 +141,7 @@ pub fn print_reply(alloc: Global, reply: &Reply) -> Result<Text, AllocError>
 pub fn print_line(alloc: Global, reply: &Reply) -> Result<Text, AllocError>
     ensures { IfOk result (λ text. text ≡ reply_line reply.now) }
 {
-    let mut line = String::new(alloc);
+    let mut line = String::with_capacity(alloc, REPLY_ROOM)?;
     push_reply(&mut line, reply)?;
     line.push_str("\n")?;
     Ok(Text::from_string(line))

@@ -218,25 +218,28 @@ fn writes(rt: HostRuntime) -> Result<(), Fail> {
     Ok(())
 }
 
+/// A file of this name and these bytes.
+fn file(alloc: Global, name: &str, bytes: &[u8]) -> Result<(Text, Bytes), Fail> {
+    let name = Text::from_str(alloc, name)?;
+    Ok((name, Bytes::from_slice(alloc, bytes)?))
+}
+
+/// The files `outer` and `inner`, of whose calls this one fails.
+fn two_files(alloc: Global, fails: u64) -> Result<MemFiles, Fail> {
+    let mut files = Vec::new(alloc);
+    files.push(file(alloc, "outer", b"abcde")?)?;
+    files.push(file(alloc, "inner", b"x")?)?;
+    let fails = vec![in alloc; fails]?;
+    Ok(MemFiles::new(alloc, files, fails))
+}
+
 #[test]
 fn reads(rt: HostRuntime) -> Result<(), Fail> {
-    let alloc = rt.alloc();
-    let names = vec![in alloc;
-        (
-            Text::from_str(alloc, "outer")?,
-            Bytes::from_slice(alloc, b"abcde")?
-        ),
-        (
-            Text::from_str(alloc, "inner")?,
-            Bytes::from_slice(alloc, b"x")?
-        ),
-    ]?;
-    let mut files = MemFiles::new(alloc, names, vec![in alloc; 3]?);
+    let mut files = two_files(rt.alloc(), 0)?;
     let mut buffer = [0u8; 4];
     assert!(rt; files.enter(b"outer")?);
     assert_eq!(rt; files.read(&mut buffer)?, 4);
     assert_eq!(rt; buffer.as_slice(), b"abcd".as_slice());
-    assert!(rt; files.enter(b"inner").is_err());
     assert!(rt; files.enter(b"inner")?);
     assert_eq!(rt; files.read(&mut buffer)?, 1);
     assert_eq!(rt; files.read(&mut buffer)?, 0);
@@ -244,6 +247,20 @@ fn reads(rt: HostRuntime) -> Result<(), Fail> {
     assert!(rt; !files.enter(b"missing")?);
     assert_eq!(rt; files.read(&mut buffer)?, 1);
     assert_eq!(rt; buffer.as_slice(), b"ebcd".as_slice());
+    assert_eq!(rt; files.faults(), 0);
+    Ok(())
+}
+
+#[test]
+fn reads_on_behind_a_fault(rt: HostRuntime) -> Result<(), Fail> {
+    let mut files = two_files(rt.alloc(), 3)?;
+    let mut buffer = [0u8; 4];
+    assert!(rt; files.enter(b"outer")?);
+    assert_eq!(rt; files.read(&mut buffer)?, 4);
+    assert!(rt; files.enter(b"inner").is_err());
+    assert!(rt; files.enter(b"inner")?);
+    assert_eq!(rt; files.read(&mut buffer)?, 1);
+    assert_eq!(rt; buffer.as_slice(), b"xbcd".as_slice());
     assert_eq!(rt; files.faults(), 1);
     Ok(())
 }
