@@ -2,6 +2,7 @@
 ghost use Rattle.std.specs.Prelude.{◌≡◌, ◌++◌, List, ℕ, IfOk, OnOk, string_bytes, codes};
 ghost use Rattle.slon_model.specs.Printed.{joined, row_text, rows_text, answer_text, refusal_text, reply_text};
 ghost use Rattle.slon_model.specs.Printed.{reply_line};
+ghost use Rattle.std.specs.Fmt.{decimal};
 ghost use Rattle.session_text.specs.Joining.{behind_commas};
 
 use slon_base::{Text, TextList};
@@ -48,23 +49,29 @@ fn push_rows(line: &mut String, rows: &[(Text, TextList)]) -> Result<(), AllocEr
     Ok(())
 }
 
+/// Adds what stands in front of a number, and the number.
+fn push_number(line: &mut String, front: &str, number: u64) -> Result<(), AllocError>
+    ensures { OnOk result (string_bytes line.new ≡ string_bytes line.old ++ (front.now ++ decimal number)) }
+{
+    write!(line, "{front}{number}")
+}
+
 /// Adds what an accepted command answers.
 fn push_answer(line: &mut String, answer: &Answer) -> Result<(), AllocError>
     ensures { OnOk result (string_bytes line.new ≡ string_bytes line.old ++ answer_text answer.now) }
 {
     match answer {
-        Answer::Done => write!(line, "ok"),
-        Answer::Opened { xid } => write!(line, "ok xid {xid}"),
-        Answer::Acted { number } => write!(line, "ok action {number}"),
-        Answer::Unchanged => write!(line, "ok none"),
-        Answer::Committed { actions } => write!(line, "ok actions {actions}"),
+        Answer::Done => line.push_str("ok"),
+        Answer::Opened { xid } => push_number(line, "ok xid ", *xid),
+        Answer::Acted { number } => push_number(line, "ok action ", *number),
+        Answer::Unchanged => line.push_str("ok none"),
+        Answer::Committed { actions } => push_number(line, "ok actions ", *actions),
         Answer::Listed { rows } => {
-            let count = rows.len();
-            write!(line, "ok rows {count}")?;
+            push_number(line, "ok rows ", rows.len() as u64)?;
             push_rows(line, rows.as_slice())
         }
-        Answer::Kept => write!(line, "ok kept"),
-        Answer::Lost => write!(line, "ok lost"),
+        Answer::Kept => line.push_str("ok kept"),
+        Answer::Lost => line.push_str("ok lost"),
         Answer::Status { node, log } => write!(line, "ok node {node} log {log}"),
     }
 }
@@ -84,16 +91,16 @@ fn push_refusal(line: &mut String, refusal: &Refusal) -> Result<(), AllocError>
     match refusal {
         Refusal::Fault { database, count } => {
             push_named(line, "no 10 fault ", database)?;
-            write!(line, " {count}")
+            push_number(line, " ", *count)
         }
-        Refusal::Locked { xid } => write!(line, "no 12 locked {xid}"),
-        Refusal::Full { limit } => write!(line, "no 13 full {limit}"),
-        Refusal::BadRow { space } => write!(line, "no 14 badrow {space}"),
+        Refusal::Locked { xid } => push_number(line, "no 12 locked ", *xid),
+        Refusal::Full { limit } => push_number(line, "no 13 full ", u64::from(*limit)),
+        Refusal::BadRow { space } => push_number(line, "no 14 badrow ", u64::from(*space)),
         Refusal::NotEmpty { database } => push_named(line, "no 15 notempty ", database),
         Refusal::Down { database } => push_named(line, "no 16 down ", database),
         Refusal::NoDatabase { database } => push_named(line, "no 17 nodatabase ", database),
         Refusal::IsUp { database } => push_named(line, "no 19 isup ", database),
-        Refusal::TooBig { space } => write!(line, "no 21 toobig {space}"),
+        Refusal::TooBig { space } => push_number(line, "no 21 toobig ", u64::from(*space)),
         Refusal::TableExists { table } => push_named(line, "no 50 tableexists ", table),
         Refusal::NameUsed { name } => push_named(line, "no 51 nameused ", name),
         Refusal::NoTable { table } => push_named(line, "no 52 notable ", table),
@@ -101,7 +108,7 @@ fn push_refusal(line: &mut String, refusal: &Refusal) -> Result<(), AllocError>
             push_named(line, "no 53 notransaction ", transaction)
         }
         Refusal::Duplicate => write!(line, "no 54 duplicate"),
-        Refusal::BadWidth { columns } => write!(line, "no 57 badwidth {columns}"),
+        Refusal::BadWidth { columns } => push_number(line, "no 57 badwidth ", *columns),
     }
 }
 

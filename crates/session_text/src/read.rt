@@ -1,6 +1,6 @@
 // The command that a line is.
 ghost use Rattle.std.specs.Prelude.{◌≡◌, map, Some, None, Ok, Err};
-ghost use Rattle.std.specs.Str.{is_utf8};
+ghost use Rattle.std.specs.Str.{bytes_eq, is_utf8};
 ghost use Rattle.slon_model.specs.Lines as lines;
 ghost use Rattle.session_text.specs.Commands.{Gives, IsSaid, Reads};
 
@@ -116,33 +116,40 @@ fn status_of(alloc: Global, words: &[&[u8]]) -> Result<Command, Misread>
     })
 }
 
+/// Whether a word is this verb.
+fn is_verb(word: &[u8], verb: &str) -> bool
+    ensures { result ≡ bytes_eq word.now verb.now }
+{
+    word == verb.as_bytes()
+}
+
 /// The command that the first word names, of the words behind it.
 fn command_of(alloc: Global, verb: &[u8], rest: &[&[u8]]) -> Result<Command, Misread>
     ensures { Gives (lines.command_of verb.now (map (λ word. word.now) rest.now)) result }
 {
-    if verb == b"database".as_slice() {
+    if is_verb(verb, "database") {
         database_of(alloc, rest)
-    } else if verb == b"table".as_slice() {
+    } else if is_verb(verb, "table") {
         table_of(alloc, rest)
-    } else if verb == b"begin".as_slice() {
+    } else if is_verb(verb, "begin") {
         begin_of(alloc, rest)
-    } else if verb == b"insert".as_slice() {
+    } else if is_verb(verb, "insert") {
         insert_of(alloc, rest)
-    } else if verb == b"update".as_slice() {
+    } else if is_verb(verb, "update") {
         update_of(alloc, rest)
-    } else if verb == b"delete".as_slice() {
+    } else if is_verb(verb, "delete") {
         delete_of(alloc, rest)
-    } else if verb == b"commit".as_slice() {
+    } else if is_verb(verb, "commit") {
         commit_of(alloc, rest)
-    } else if verb == b"abort".as_slice() {
+    } else if is_verb(verb, "abort") {
         abort_of(alloc, rest)
-    } else if verb == b"rows".as_slice() {
+    } else if is_verb(verb, "rows") {
         rows_of(alloc, rest)
-    } else if verb == b"status".as_slice() {
+    } else if is_verb(verb, "status") {
         status_of(alloc, rest)
-    } else if verb == b"crash".as_slice() {
+    } else if is_verb(verb, "crash") {
         crash_of(alloc, rest)
-    } else if verb == b"up".as_slice() {
+    } else if is_verb(verb, "up") {
         up_of(alloc, rest)
     } else {
         Err(Misread::BadForm)

@@ -216,6 +216,18 @@ impl<K: Keeper> Cluster<K> {
         }
     }
 
+    /// Grants a new database, and has a database that is there obey.
+    fn obey(&mut self, command: &Command) -> Result<Reply, NoMemory>
+        requires { IsSpoken command.now }
+        ensures { IfOk result (λ reply. Moves command.now (cluster_of K.kept self.old) reply
+            (cluster_of K.kept self.new)) }
+    {
+        match command {
+            Command::Database { name } => self.grant(name),
+            _ => self.ask(command),
+        }
+    }
+
     /// Runs a command that a line can say, and replies. A new database is only granted: `adopt` makes it over its
     /// store.
     ///
@@ -235,10 +247,7 @@ impl<K: Keeper> Cluster<K> {
         ensures quiet { IfOk result (λ reply. StaysQuiet reply (cluster_of K.kept self.old)
             (cluster_of K.kept self.new)) }
     {
-        match &command {
-            Command::Database { name } => self.grant(name),
-            _ => self.ask(&command),
-        }
+        self.obey(&command)
     }
 
     /// Keeps a database behind the others.

@@ -17,7 +17,7 @@ pub enum Crash {
 }
 
 /// A line of a session that asks for something.
-#[derive(Debug, Drop)]
+#[derive(Drop)]
 pub enum Command {
     /// Makes a database of this name.
     Database {

@@ -6,7 +6,7 @@ use std::marker::Model;
 
 /// The rows of a table: each key with the values after it, ascending by the bytes of the keys.
 /// Contracts see them as a list of pairs.
-#[derive(Debug, Drop)]
+#[derive(Drop)]
 pub struct TableRows {
     inner: Vec<(Text, TextList)>,
 }
@@ -61,7 +61,7 @@ impl TableRows {
 }
 
 /// What an accepted command answers.
-#[derive(Debug, Drop)]
+#[derive(Drop)]
 pub enum Answer {
     /// It was done.
     Done,
@@ -84,7 +84,7 @@ pub enum Answer {
 }
 
 /// What one database answers to a command that it accepted.
-#[derive(Debug, Drop)]
+#[derive(Drop)]
 pub enum Answered {
     /// The command was done.
     Sure(Answer),
@@ -93,7 +93,7 @@ pub enum Answered {
 }
 
 /// Why a command was not accepted. The number of each refusal is printed before its name.
-#[derive(Debug, Drop)]
+#[derive(Drop)]
 pub enum Refusal {
     /// 10: the store of this database failed; its count of faults.
     Fault { database: Text, count: u64 },
@@ -128,7 +128,7 @@ pub enum Refusal {
 }
 
 /// The reply to a command.
-#[derive(Debug, Drop)]
+#[derive(Drop)]
 pub enum Reply {
     /// The command was accepted.
     Accepted(Answer),

@@ -1,9 +1,9 @@
 // Lines and what they say.
+use crate::expecting::expect;
 use session_text::{LineFault, read_command};
-use slon_base::Text;
-use slon_model::{Command, Crash};
+use slon_base::{Text, TextList};
+use slon_model::{ColumnList, Command, Crash};
 use std::alloc::Global;
-use std::process::Abort;
 use std::test::Fail;
 
 /// Adds a space and the word.
@@ -35,64 +35,89 @@ fn verb(command: &Command) -> &'static str {
     }
 }
 
-/// Adds what a command says behind its names.
-fn push_rest(line: &mut String, command: &Command) -> Result<(), Fail> {
-    match command {
-        Command::Table { columns, .. } => write!(line, " {columns}")?,
-        Command::Insert { values, .. } => {
-            for value in values.as_slice() {
-                push_word(line, value)?;
-            }
-        }
-        Command::Update { key, columns, .. } => {
-            push_word(line, key)?;
-            for (column, value) in columns.as_slice() {
-                write!(line, " {column}={}", value.as_str())?;
-            }
-        }
-        Command::Delete { key, .. } => push_word(line, key)?,
-        Command::Crash { crash, .. } => match crash {
-            Crash::Now => {}
-            Crash::After { calls, keep } => write!(line, " after {calls} {}", keeping(*keep))?,
-            Crash::AtCommit { keep } => write!(line, " commit {}", keeping(*keep))?,
-        },
-        _ => {}
+/// Adds each of these words.
+fn push_words(line: &mut String, words: &TextList) -> Result<(), Fail> {
+    for word in words.as_slice() {
+        push_word(line, word)?;
     }
     Ok(())
 }
 
-/// A command in its one spelling.
-fn spelled(alloc: Global, command: &Command) -> Result<String, Fail> {
-    let mut line = String::from_str(alloc, verb(command))?;
-    push_word(&mut line, command.database())?;
-    if let Some(transaction) = command.transaction() {
-        push_word(&mut line, transaction)?;
+/// Adds the columns and their values.
+fn push_columns(line: &mut String, columns: &ColumnList) -> Result<(), Fail> {
+    for (column, value) in columns.as_slice() {
+        write!(line, " {column}={}", value.as_str())?;
     }
-    if let Some(table) = command.table() {
-        push_word(&mut line, table)?;
-    }
-    push_rest(&mut line, command)?;
-    Ok(line)
+    Ok(())
 }
 
-/// What the line of number 7 says, in its one spelling; nothing, or that it is bad.
-fn reading(alloc: Global, line: &[u8]) -> Result<String, Fail> {
-    match read_command(alloc, line, 7) {
-        Ok(None) => Ok(String::new(alloc)),
-        Ok(Some(command)) => spelled(alloc, &command),
-        Err(LineFault::NoMemory) => Ok(String::from_str(alloc, "no memory")?),
-        Err(fault) => Ok(fault.to_string(alloc)?),
+/// Adds which calls fail.
+fn push_crash(line: &mut String, crash: &Crash) -> Result<(), Fail> {
+    match crash {
+        Crash::Now => Ok(()),
+        Crash::After { calls, keep } => Ok(write!(line, " after {calls} {}", keeping(*keep))?),
+        Crash::AtCommit { keep } => Ok(write!(line, " commit {}", keeping(*keep))?),
     }
+}
+
+/// Adds what a command says behind its names.
+fn push_rest(line: &mut String, command: &Command) -> Result<(), Fail> {
+    match command {
+        Command::Table { columns, .. } => Ok(write!(line, " {columns}")?),
+        Command::Insert { values, .. } => push_words(line, values),
+        Command::Update { key, columns, .. } => {
+            push_word(line, key)?;
+            push_columns(line, columns)
+        }
+        Command::Delete { key, .. } => push_word(line, key),
+        Command::Crash { crash, .. } => push_crash(line, crash),
+        _ => Ok(()),
+    }
+}
+
+/// Adds a word, if there is one.
+fn push_some(line: &mut String, word: Option<&Text>) -> Result<(), Fail> {
+    match word {
+        Some(word) => push_word(line, word),
+        None => Ok(()),
+    }
+}
+
+/// Writes a command in its one spelling.
+fn spell(line: &mut String, command: &Command) -> Result<(), Fail> {
+    line.push_str(verb(command))?;
+    push_word(line, command.database())?;
+    push_some(line, command.transaction())?;
+    push_some(line, command.table())?;
+    push_rest(line, command)
+}
+
+/// Writes what a line says, in its one spelling; nothing, or that it is bad.
+fn tell(line: &mut String, read: &Result<Option<Command>, LineFault>) -> Result<(), Fail> {
+    match read {
+        Ok(Some(command)) => spell(line, command),
+        Ok(None) => Ok(()),
+        Err(fault) => Ok(write!(line, "{fault}")?),
+    }
+}
+
+/// Writes what the line of number 7 says.
+fn tell_line(seen: &mut String, alloc: Global, line: &[u8]) -> Result<(), Fail> {
+    let read = read_command(alloc, line, 7);
+    tell(seen, &read)
+}
+
+/// The line of number 7 says this.
+fn expect_reading(rt: &HostRuntime, line: &[u8], wanted: &str) -> Result<(), Fail> {
+    let mut seen = String::new(rt.alloc());
+    tell_line(&mut seen, rt.alloc(), line)?;
+    expect(wanted, seen.as_str(), wanted)
 }
 
 /// Each of the lines is bad.
-fn expect_bad(rt: &(impl AllocGlobal + Abort), table: &[&str]) -> Result<(), Fail> {
-    for line in table {
-        assert_eq!(rt;
-            reading(rt.alloc(), line.as_bytes())?.as_str(),
-            "line 7 is bad",
-            "{line:?}"
-        );
+fn expect_bad(rt: &HostRuntime, lines: &[&str]) -> Result<(), Fail> {
+    for line in lines {
+        expect_reading(rt, line.as_bytes(), "line 7 is bad")?;
     }
     Ok(())
 }
@@ -135,94 +160,92 @@ const COMMANDS: &[(&str, &str)] = &[
 #[test]
 fn commands_are_read(rt: HostRuntime) -> Result<(), Fail> {
     for (line, said) in COMMANDS {
-        assert_eq!(rt;
-            reading(rt.alloc(), line.as_bytes())?.as_str(),
-            *said,
-            "{line:?}"
-        );
+        expect_reading(&rt, line.as_bytes(), said)?;
     }
     Ok(())
 }
+
+/// Lines that are no commands.
+const BAD_LINES: &[&str] = &[
+    "Database a",
+    "databases a",
+    "database",
+    "database a b",
+    "database\ta",
+    "database a#",
+    "database abcdefghijklmnopqrstuvwxyz012345",
+    "table a s.t",
+    "table a s.t 0",
+    "table a s.t 17",
+    "table a s.t 01",
+    "table a s.t 1x",
+    "table a s.t 99999999999999999999999",
+    "table a st 1",
+    "table a s.t.u 1",
+    "table a s. 1",
+    "table a .t 1",
+    "table a 1s.t 1",
+    "table a S.t 1",
+    "table a s.abcdefghijklmnopqrstuvwxyz_01234x 1",
+    "begin a",
+    "begin a t u",
+    "insert a t s.t",
+    "insert a t s.t k,v",
+    "insert a t s.t k=v",
+    "commit a é",
+    "rows a s.t x",
+    "x # y",
+    "insert a t s.t vvvvvvvvvvvvvvvvvvvvvvvvvvvvvvvvvvvvvvvvvvvvvvvvvvvvvvvvvvvvvvvvv",
+];
 
 #[test]
 fn bad_lines_are_refused(rt: HostRuntime) -> Result<(), Fail> {
-    let table = [
-        "Database a",
-        "databases a",
-        "database",
-        "database a b",
-        "database\ta",
-        "database a#",
-        "database abcdefghijklmnopqrstuvwxyz012345",
-        "table a s.t",
-        "table a s.t 0",
-        "table a s.t 17",
-        "table a s.t 01",
-        "table a s.t 1x",
-        "table a s.t 99999999999999999999999",
-        "table a st 1",
-        "table a s.t.u 1",
-        "table a s. 1",
-        "table a .t 1",
-        "table a 1s.t 1",
-        "table a S.t 1",
-        "table a s.abcdefghijklmnopqrstuvwxyz_01234x 1",
-        "begin a",
-        "begin a t u",
-        "insert a t s.t",
-        "insert a t s.t k,v",
-        "insert a t s.t k=v",
-        "commit a é",
-        "rows a s.t x",
-        "x # y",
-        "insert a t s.t vvvvvvvvvvvvvvvvvvvvvvvvvvvvvvvvvvvvvvvvvvvvvvvvvvvvvvvvvvvvvvvvv",
-    ];
-    expect_bad(&rt, &table)
+    expect_bad(&rt, BAD_LINES)
 }
+
+/// Writes, crashes and other commands with too few words, too many or wrong ones.
+const BAD_WRITES: &[&str] = &[
+    "update a x s.t k",
+    "update a x s.t k 3=5 2=6",
+    "update a x s.t k 2=5 2=6",
+    "update a x s.t k 1=",
+    "update a x s.t k =1",
+    "update a x s.t k 0=1",
+    "update a x s.t k 100=1",
+    "update a x s.t k 2=5=6",
+    "update a x s.t k 2",
+    "update a x s.t 2=5",
+    "delete a x s.t",
+    "delete a x s.t k 1",
+    "abort a",
+    "status",
+    "status a b",
+    "crash",
+    "crash a now",
+    "crash a commit",
+    "crash a commit kept",
+    "crash a after 1 ",
+    "crash a after 1000001 keep",
+    "crash a after 01 keep",
+    "crash a commit 1 keep",
+    "crash a after 1 keep keep",
+    "up",
+    "up a b",
+];
 
 #[test]
 fn bad_writes_and_crashes_are_refused(rt: HostRuntime) -> Result<(), Fail> {
-    let table = [
-        "update a x s.t k",
-        "update a x s.t k 3=5 2=6",
-        "update a x s.t k 2=5 2=6",
-        "update a x s.t k 1=",
-        "update a x s.t k =1",
-        "update a x s.t k 0=1",
-        "update a x s.t k 100=1",
-        "update a x s.t k 2=5=6",
-        "update a x s.t k 2",
-        "update a x s.t 2=5",
-        "delete a x s.t",
-        "delete a x s.t k 1",
-        "abort a",
-        "status",
-        "status a b",
-        "crash",
-        "crash a now",
-        "crash a commit",
-        "crash a commit kept",
-        "crash a after 1 ",
-        "crash a after 1000001 keep",
-        "crash a after 01 keep",
-        "crash a commit 1 keep",
-        "crash a after 1 keep keep",
-        "up",
-        "up a b",
-    ];
-    expect_bad(&rt, &table)
+    expect_bad(&rt, BAD_WRITES)
 }
+
+/// Numbers of spaces, and what a line of them says.
+const LONG_LINES: &[(usize, &str)] = &[(8192, ""), (8193, "line 7 is bad")];
 
 #[test]
 fn long_lines_are_refused(rt: HostRuntime) -> Result<(), Fail> {
-    for (len, said) in [(8192, ""), (8193, "line 7 is bad")] {
-        let line = vec![in rt.alloc(); b' '; len]?;
-        assert_eq!(rt;
-            reading(rt.alloc(), line.as_slice())?.as_str(),
-            said,
-            "{len}"
-        );
+    for (len, said) in LONG_LINES {
+        let line = vec![in rt.alloc(); b' '; *len]?;
+        expect_reading(&rt, line.as_slice(), said)?;
     }
-    assert_eq!(rt; reading(rt.alloc(), b"# \xff")?.as_str(), "line 7 is bad");
-    Ok(())
+    expect_reading(&rt, b"# \xff", "line 7 is bad")
 }

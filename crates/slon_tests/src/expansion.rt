@@ -1,4 +1,5 @@
 // What comes out of scripts, and how a file is read.
+use crate::expecting::{expect, require};
 use crate::served::Served;
 use crate::telling::tell_tokens;
 use slon_base::Text;
@@ -41,6 +42,12 @@ const SCRIPTS: &[(&str, &str)] = &[
     ("a ; INCLUDE <here ; b", "the files failed"),
 ];
 
+/// The file of these scripts.
+const HERE: &[(&str, &str)] = &[("here", "a")];
+
+/// A file of five bytes.
+const LONG: &[(&str, &str)] = &[("here", "abcde")];
+
 /// The token that is spelled so: `@`, `<` and `'` stand before names, paths and quoted texts.
 fn token_of(alloc: Global, spelled: &str) -> Result<Token, AllocError> {
     if let Some(name) = spelled.strip_prefix('@') {
@@ -69,28 +76,51 @@ fn script_of(alloc: Global, script: &str) -> Result<Vec<Token>, AllocError> {
     Ok(tokens)
 }
 
-/// What comes out of a script over these files with this number of bytes left, or why none does.
-fn expanded(
-    rt: &HostRuntime,
+/// Writes what comes out of a script over these files with this number of bytes left.
+fn tell_expanded(
+    line: &mut String,
+    alloc: Global,
     script: &str,
     files: &mut Served,
     mut left: u64,
-) -> Result<String, Fail> {
-    let tokens = script_of(rt.alloc(), script)?;
-    let mut line = String::new(rt.alloc());
-    tell_tokens(&mut line, &expand(rt.alloc(), tokens, files, &mut left))?;
-    Ok(line)
+) -> Result<(), Fail> {
+    let out = expand(alloc, script_of(alloc, script)?, files, &mut left);
+    tell_tokens(line, &out)
+}
+
+/// This comes out of a script.
+fn expect_out(
+    alloc: Global,
+    script: &str,
+    files: &mut Served,
+    left: u64,
+    wanted: &str,
+) -> Result<(), Fail> {
+    let mut line = String::new(alloc);
+    tell_expanded(&mut line, alloc, script, files, left)?;
+    expect(script, line.as_str(), wanted)
+}
+
+/// This comes out of a script over a file, and the file is left. A read hands over so many bytes, and so many reads
+/// succeed.
+fn expect_over(
+    rt: &HostRuntime,
+    file: &[(&str, &str)],
+    piece: usize,
+    reads: u64,
+    script: &str,
+    left: u64,
+    wanted: &str,
+) -> Result<(), Fail> {
+    let mut files = Served::new(file, piece, reads);
+    expect_out(rt.alloc(), script, &mut files, left, wanted)?;
+    require(files.all_left(), script)
 }
 
 #[test]
 fn names_are_replaced(rt: HostRuntime) -> Result<(), Fail> {
     for (script, wanted) in SCRIPTS {
-        let mut files = Served::new(&[("here", "a")], 1, 0);
-        assert_eq!(rt;
-            expanded(&rt, script, &mut files, 1000)?.as_str(),
-            *wanted,
-            "{script}"
-        );
+        expect_over(&rt, HERE, 1, 0, script, 1000, wanted)?;
     }
     Ok(())
 }
@@ -110,46 +140,53 @@ fn chain(rt: &HostRuntime, names: u32, behind: &str, end: &str) -> Result<String
     Ok(script)
 }
 
+/// The number of names, what stands behind each, the end of the script, and the first bytes and the number of all
+/// bytes that come out.
+const CHAINS: &[(u32, &str, &str, usize, &str)] = &[
+    (15, "@last", "@n15", 131_072, "x|"),
+    (15, "@last", "@n15 y", 2, "96"),
+    (15, "@last", "@n14 @n14", 131_072, "x|"),
+    (15, "@last", "@n14 @n14 @n0", 2, "96"),
+    (15, "@last", "DEFINE n @n15 y ; z", 2, "z|"),
+    (15, "@last", "DEFINE n @n15 @n15 ; @n", 2, "96"),
+    (70, "@last", "@n70", 2, "96"),
+    (70, "@last", "z", 2, "z|"),
+    (1000, "y", "@n1000", 2004, "x|x|y|"),
+];
+
+/// So many bytes come out of a script, and these are the first.
+fn expect_long(rt: &HostRuntime, script: &str, len: usize, front: &str) -> Result<(), Fail> {
+    let mut files = Served::new(&[], 1, 0);
+    let mut out = String::new(rt.alloc());
+    tell_expanded(&mut out, rt.alloc(), script, &mut files, 0)?;
+    require(out.len() == len && out.as_str().starts_with(front), script)
+}
+
 #[test]
 fn definitions_may_grow(rt: HostRuntime) -> Result<(), Fail> {
-    let table = [
-        (15, "@last", "@n15", 131_072, "x|"),
-        (15, "@last", "@n15 y", 2, "96"),
-        (15, "@last", "@n14 @n14", 131_072, "x|"),
-        (15, "@last", "@n14 @n14 @n0", 2, "96"),
-        (15, "@last", "DEFINE n @n15 y ; z", 2, "z|"),
-        (15, "@last", "DEFINE n @n15 @n15 ; @n", 2, "96"),
-        (70, "@last", "@n70", 2, "96"),
-        (70, "@last", "z", 2, "z|"),
-        (1000, "y", "@n1000", 2004, "x|x|y|"),
-    ];
-    for (names, behind, end, len, front) in table {
-        let script = chain(&rt, names, behind, end)?;
-        let mut files = Served::new(&[], 1, 0);
-        let out = expanded(&rt, script.as_str(), &mut files, 0)?;
-        assert_eq!(rt; out.len(), len, "{end}");
-        assert!(rt; out.as_str().starts_with(front), "{end}");
+    for (names, behind, end, len, front) in CHAINS {
+        let script = chain(&rt, *names, behind, end)?;
+        expect_long(&rt, script.as_str(), *len, front)?;
     }
     Ok(())
 }
 
+/// Scripts, how many bytes are left, how many reads succeed, and what comes out.
+const INCLUDES: &[(&str, u64, u64, &str)] = &[
+    ("INCLUDE <here ;", 5, 100, "abcde|"),
+    ("INCLUDE <there ;", 5, 100, "89 there"),
+    ("INCLUDE <here ;", 4, 100, "the included files are too long"),
+    ("INCLUDE <here ;", 5, 1, "the files failed"),
+];
+
+/// How many bytes a read hands over.
+const SIZES: &[usize] = &[1, 2, 100];
+
 #[test]
 fn files_are_read_whole_and_left(rt: HostRuntime) -> Result<(), Fail> {
-    let table = [
-        ("INCLUDE <here ;", 5, 100, "abcde|"),
-        ("INCLUDE <there ;", 5, 100, "89 there"),
-        ("INCLUDE <here ;", 4, 100, "the included files are too long"),
-        ("INCLUDE <here ;", 5, 1, "the files failed"),
-    ];
-    for (script, left, reads, wanted) in table {
-        for piece in [1, 2, 100] {
-            let mut files = Served::new(&[("here", "abcde")], piece, reads);
-            assert_eq!(rt;
-                expanded(&rt, script, &mut files, left)?.as_str(),
-                wanted,
-                "{script} {left} by {piece}"
-            );
-            assert!(rt; files.all_left());
+    for (script, left, reads, wanted) in INCLUDES {
+        for piece in SIZES {
+            expect_over(&rt, LONG, *piece, *reads, script, *left, wanted)?;
         }
     }
     Ok(())

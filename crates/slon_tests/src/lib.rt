@@ -6,11 +6,21 @@ mod codec;
 #[cfg(test)]
 mod commands;
 #[cfg(test)]
+mod crashes;
+#[cfg(test)]
 mod expansion;
+#[cfg(test)]
+mod expecting;
+#[cfg(test)]
+mod known;
 #[cfg(test)]
 mod lines;
 #[cfg(test)]
+mod outside;
+#[cfg(test)]
 mod printed;
+#[cfg(test)]
+mod running;
 #[cfg(test)]
 mod scripts;
 #[cfg(test)]

@@ -1,7 +1,8 @@
 // The reader over a file that comes in pieces.
 ghost use Rattle.std.specs.Prelude.{◌<◌, length};
 
-use session_text::{LineReader, NextLine};
+use crate::expecting::expect;
+use session_text::{LineReader, NextLine, ReadStop};
 use slon_base::{Files, OutFault};
 use std::test::Fail;
 
@@ -51,7 +52,19 @@ impl Files for Pieces<'_> {
     }
 }
 
-/// The lines of the file in brackets, `*` for one that is too long, and how the reading ended.
+/// Writes a line in brackets, `*` for one that is too long, `.` for the end of the file, or why reading stopped.
+/// Answers whether it goes on.
+fn tell(seen: &mut String, next: Result<NextLine, ReadStop>, line: &[u8]) -> Result<bool, Fail> {
+    match next {
+        Ok(NextLine::Line) => write!(seen, "[{}]", str::from_utf8(line)?)?,
+        Ok(NextLine::TooLong) => seen.push('*')?,
+        Ok(NextLine::End) => seen.push('.')?,
+        Err(stop) => write!(seen, "{stop}")?,
+    }
+    Ok(matches!(next, Ok(NextLine::Line | NextLine::TooLong)))
+}
+
+/// The lines of the file, and how the reading ended.
 fn lines_of<F: Files>(rt: &HostRuntime, files: &mut F) -> Result<String, Fail>
     requires { 0 < length (F.filed files.old).stack }
 {
@@ -59,20 +72,9 @@ fn lines_of<F: Files>(rt: &HostRuntime, files: &mut F) -> Result<String, Fail>
     let mut line = Vec::new(rt.alloc());
     let mut seen = String::new(rt.alloc());
     for _ in 0..3000 {
-        match reader.next_line(files, &mut line) {
-            Ok(NextLine::Line) => {
-                let text = str::from_utf8(line.as_slice())?;
-                write!(seen, "[{text}]")?;
-            }
-            Ok(NextLine::TooLong) => seen.push('*')?,
-            Ok(NextLine::End) => {
-                seen.push('.')?;
-                break;
-            }
-            Err(stop) => {
-                write!(seen, "{stop}")?;
-                break;
-            }
+        let next = reader.next_line(files, &mut line);
+        if !tell(&mut seen, next, line.as_slice())? {
+            break;
         }
     }
     Ok(seen)
@@ -91,6 +93,18 @@ fn read_all(rt: &HostRuntime, bytes: &[u8], piece: usize, fails_at: usize) -> Re
     lines_of(rt, &mut files)
 }
 
+/// The file of these bytes has these lines.
+fn expect_lines(
+    rt: &HostRuntime,
+    text: &str,
+    piece: usize,
+    fails_at: usize,
+    wanted: &str,
+) -> Result<(), Fail> {
+    let seen = read_all(rt, text.as_bytes(), piece, fails_at)?;
+    expect(text, seen.as_str(), wanted)
+}
+
 /// Files and their lines.
 const FILES: &[(&str, &str)] = &[
     ("", "."),
@@ -103,15 +117,14 @@ const FILES: &[(&str, &str)] = &[
     ("\r\n\r\n", "[][]."),
 ];
 
+/// How many bytes a read hands over.
+const SIZES: &[usize] = &[1, 2, 3, 100];
+
 #[test]
 fn lines_come_whole(rt: HostRuntime) -> Result<(), Fail> {
     for (text, seen) in FILES {
-        for piece in [1, 2, 3, 100] {
-            assert_eq!(rt;
-                read_all(&rt, text.as_bytes(), piece, 1000)?.as_str(),
-                *seen,
-                "{text:?} by {piece}"
-            );
+        for piece in SIZES {
+            expect_lines(&rt, text, *piece, 1000, seen)?;
         }
     }
     Ok(())
@@ -143,32 +156,27 @@ const LONG_LINES: &[(usize, &str, &str)] = &[
 
 #[test]
 fn long_lines_are_told_apart(rt: HostRuntime) -> Result<(), Fail> {
-    for (len, end, seen) in LONG_LINES {
-        assert_eq!(rt;
-            read_long(&rt, *len, end)?.as_str(),
-            *seen,
-            "{len} and {end:?}"
-        );
+    for (len, end, wanted) in LONG_LINES {
+        let seen = read_long(&rt, *len, end)?;
+        assert!(rt; seen.as_str() == *wanted, "{len} and {end:?}");
     }
     Ok(())
 }
 
+/// The bytes at which a read fails, and what is seen then.
+const FAILING: &[(usize, &str)] = &[
+    (0, "the file failed"),
+    (2, "[a]the file failed"),
+    (3, "[a]the file failed"),
+    (5, "[a][bc]the file failed"),
+    (6, "[a][bc]the file failed"),
+    (7, "[a][bc][d]."),
+];
+
 #[test]
 fn a_failing_read_is_told(rt: HostRuntime) -> Result<(), Fail> {
-    let table = [
-        (0, "the file failed"),
-        (2, "[a]the file failed"),
-        (3, "[a]the file failed"),
-        (5, "[a][bc]the file failed"),
-        (6, "[a][bc]the file failed"),
-        (7, "[a][bc][d]."),
-    ];
-    for (fails_at, seen) in table {
-        assert_eq!(rt;
-            read_all(&rt, b"a\nbc\nd", 1, fails_at)?.as_str(),
-            seen,
-            "at {fails_at}"
-        );
+    for (fails_at, seen) in FAILING {
+        expect_lines(&rt, "a\nbc\nd", 1, *fails_at, seen)?;
     }
     Ok(())
 }

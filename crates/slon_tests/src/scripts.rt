@@ -1,4 +1,5 @@
 // Scripts and what they are read as.
+use crate::expecting::expect;
 use crate::served::Served;
 use crate::telling::tell_fault;
 use slonik_parse::{Command, ParseFault, Script, Statement, parse, tokens};
@@ -190,73 +191,37 @@ fn read(rt: &HostRuntime, text: &str, reads: u64, left: &mut u64) -> Result<Scri
     parse(rt.alloc(), found, &mut files, left)
 }
 
-/// What a text gives, in short: the number of statements, or the refusal.
-fn given_by(rt: &HostRuntime, text: &str, reads: u64, left: &mut u64) -> Result<String, Fail> {
+/// Writes what a script is read as, in short: the number of statements, or the refusal.
+fn tell(line: &mut String, script: &Result<Script, ParseFault>) -> Result<(), Fail> {
+    match script {
+        Ok(script) => Ok(write!(line, "ok {}", script.statements.len())?),
+        Err(fault) => tell_fault(line, fault),
+    }
+}
+
+/// Writes what a text is read as.
+fn tell_text(
+    line: &mut String,
+    rt: &HostRuntime,
+    text: &str,
+    reads: u64,
+    left: &mut u64,
+) -> Result<(), Fail> {
+    let script = read(rt, text, reads, left);
+    tell(line, &script)
+}
+
+/// A text gives this.
+fn expect_given(
+    rt: &HostRuntime,
+    text: &str,
+    reads: u64,
+    left: &mut u64,
+    wanted: &str,
+) -> Result<(), Fail> {
     let mut seen = String::new(rt.alloc());
-    match read(rt, text, reads, left) {
-        Ok(script) => write!(seen, "ok {}", script.statements.len())?,
-        Err(fault) => tell_fault(&mut seen, &fault)?,
-    }
-    Ok(seen)
-}
-
-/// What the head with statements behind it gives.
-fn given_behind_head(rt: &HostRuntime, statements: &str) -> Result<String, Fail> {
-    let mut text = String::from_str(rt.alloc(), HEAD)?;
-    text.push_str(statements)?;
-    given_by(rt, text.as_str(), 0, &mut 0)
-}
-
-#[test]
-fn commands_are_read_in_either_case(rt: HostRuntime) -> Result<(), Fail> {
-    for command in COMMANDS {
-        let upper = command.to_ascii_uppercase(rt.alloc())?;
-        assert_eq!(rt;
-            given_behind_head(&rt, command)?.as_str(),
-            "ok 1",
-            "{command}"
-        );
-        assert_eq!(rt;
-            given_behind_head(&rt, upper.as_str())?.as_str(),
-            "ok 1",
-            "{command}"
-        );
-    }
-    Ok(())
-}
-
-#[test]
-fn statements_are_read_or_refused(rt: HostRuntime) -> Result<(), Fail> {
-    for (statements, said) in STATEMENTS {
-        assert_eq!(rt;
-            given_behind_head(&rt, statements)?.as_str(),
-            *said,
-            "{statements}"
-        );
-    }
-    Ok(())
-}
-
-#[test]
-fn names_and_files_are_read(rt: HostRuntime) -> Result<(), Fail> {
-    for (text, said) in SCRIPTS {
-        let seen = given_by(&rt, text, 1000, &mut 1000)?;
-        assert_eq!(rt; seen.as_str(), *said, "{text}");
-    }
-    let twice = "cluster name = c; include <names>; include <names>; include <z>;";
-    for (reads, before, said, after) in [
-        (1000, 100, "89 z", 74),
-        (1000, 26, "89 z", 0),
-        (1000, 25, "the included files are too long", 12),
-        (0, 100, "the files failed", 100),
-        (3, 100, "the files failed", 87),
-    ] {
-        let mut left = before;
-        let seen = given_by(&rt, twice, reads, &mut left)?;
-        assert_eq!(rt; seen.as_str(), said, "{reads} {before}");
-        assert_eq!(rt; left, after, "{reads} {before}");
-    }
-    Ok(())
+    tell_text(&mut seen, rt, text, reads, left)?;
+    expect(text, seen.as_str(), wanted)
 }
 
 /// A text with a part of it repeated.
@@ -275,18 +240,74 @@ fn repeated(
     Ok(text)
 }
 
+/// The head with statements behind it gives this.
+fn expect_behind_head(rt: &HostRuntime, statements: &str, wanted: &str) -> Result<(), Fail> {
+    let text = repeated(rt, HEAD, statements, 1, "")?;
+    expect_given(rt, text.as_str(), 0, &mut 0, wanted)
+}
+
+#[test]
+fn commands_are_read_in_either_case(rt: HostRuntime) -> Result<(), Fail> {
+    for command in COMMANDS {
+        let upper = command.to_ascii_uppercase(rt.alloc())?;
+        expect_behind_head(&rt, command, "ok 1")?;
+        expect_behind_head(&rt, upper.as_str(), "ok 1")?;
+    }
+    Ok(())
+}
+
+#[test]
+fn statements_are_read_or_refused(rt: HostRuntime) -> Result<(), Fail> {
+    for (statements, wanted) in STATEMENTS {
+        expect_behind_head(&rt, statements, wanted)?;
+    }
+    Ok(())
+}
+
+#[test]
+fn scripts_are_read_or_refused(rt: HostRuntime) -> Result<(), Fail> {
+    for (text, wanted) in SCRIPTS {
+        expect_given(&rt, text, 1000, &mut 1000, wanted)?;
+    }
+    Ok(())
+}
+
+/// A file twice, and one that is missing.
+const TWICE: &str = "cluster name = c; include <names>; include <names>; include <z>;";
+
+/// How many reads succeed, how many bytes are left before, what that script gives, and how many bytes are left then.
+const BOUNDS: &[(u64, u64, &str, u64)] = &[
+    (1000, 100, "89 z", 74),
+    (1000, 26, "89 z", 0),
+    (1000, 25, "the included files are too long", 12),
+    (0, 100, "the files failed", 100),
+    (3, 100, "the files failed", 87),
+];
+
+#[test]
+fn files_are_read_within_bounds(rt: HostRuntime) -> Result<(), Fail> {
+    for (reads, before, wanted, after) in BOUNDS {
+        let mut left = *before;
+        expect_given(&rt, TWICE, *reads, &mut left, wanted)?;
+        assert!(rt; left == *after, "{left} bytes are left of {before}");
+    }
+    Ok(())
+}
+
+const DEFINE: &str = "cluster name = c; define a sync; ";
+
+/// What a text begins with, what is repeated and how often, its end, and what it gives.
+const LONG_TEXTS: &[(&str, &str, u32, &str, &str)] = &[
+    (HEAD, "{", 8000, "", "81 6"),
+    (DEFINE, "define a @a @a; ", 17, "", "ok 0"),
+    (DEFINE, "define a @a @a; ", 17, "@a;", "96"),
+];
+
 #[test]
 fn long_texts_are_read(rt: HostRuntime) -> Result<(), Fail> {
-    let define = "cluster name = c; define a sync; ";
-    let table = [
-        (HEAD, "{", 8000, "", "81 6"),
-        (define, "define a @a @a; ", 17, "", "ok 0"),
-        (define, "define a @a @a; ", 17, "@a;", "96"),
-    ];
-    for (front, part, times, end, said) in table {
-        let text = repeated(&rt, front, part, times, end)?;
-        let seen = given_by(&rt, text.as_str(), 0, &mut 0)?;
-        assert_eq!(rt; seen.as_str(), said, "{front} {end}");
+    for (front, part, times, end, wanted) in LONG_TEXTS {
+        let text = repeated(&rt, front, part, *times, end)?;
+        expect_given(&rt, text.as_str(), 0, &mut 0, wanted)?;
     }
     Ok(())
 }
@@ -299,14 +320,15 @@ fn last_sync(script: &Script) -> Option<u32> {
     }
 }
 
+/// Two values of one thing each.
+const LATER: &str = "cluster name = c; node 7 admin conninfo = 'a'; node 7 admin conninfo = 'b'; \
+    sync (id = 1, id = 2);";
+
 #[test]
 fn later_values_count(rt: HostRuntime) -> Result<(), Fail> {
-    let text =
-        "cluster name = c; node 7 admin conninfo = 'a'; node 7 admin conninfo = 'b'; sync (id = 1, id = 2);";
-    let script = read(&rt, text, 0, &mut 0)?;
-    let conninfo = script.nodes.conninfo(7).map(|text| text.as_str());
-    assert_eq!(rt; script.nodes.len(), 1);
-    assert!(rt; conninfo == Some("b"));
+    let script = read(&rt, LATER, 0, &mut 0)?;
+    assert!(rt; script.nodes.len() == 1);
+    assert!(rt; script.nodes.conninfo(7).map(|text| text.as_str()) == Some("b"));
     assert!(rt; last_sync(&script) == Some(2));
     Ok(())
 }

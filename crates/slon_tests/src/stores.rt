@@ -1,266 +1,339 @@
 // Stores, shelves and outputs in memory, used through their traits.
-ghost use Rattle.std.specs.Prelude.{◌≡◌, is_some, false};
+ghost use Rattle.std.specs.Prelude.{◌≡◌, is_some, true, false, OnOk};
 
+use crate::outside::{Piece, answers, enters, named, reads};
 use node_keeper::{Files, Fuse, Keeper, MemFiles, MemKeeper, MemShelf, MemSink, Shelf, Sink};
-use slon_base::{Bytes, KeepFault, OutFault, Text};
+use slon_base::{Bytes, KeepFault, OutFault};
 use std::alloc::Global;
-use std::process::Abort;
 use std::test::Fail;
 
-fn is_value(found: Option<Bytes>, value: &[u8]) -> bool {
+/// A key, and the value at it.
+type Pair = (&'static str, &'static str);
+
+/// A space, a key, and the value that is put at it, or none where its pair is taken away.
+type Change = (u8, &'static str, Option<&'static str>);
+
+/// What a transaction changes, which pairs its reads find in the space 3, whether it commits, and which pairs are
+/// there behind it.
+type Transaction = (&'static [Change], &'static [Pair], bool, &'static [Pair]);
+
+fn is_value(found: Option<Bytes>, value: &str) -> bool {
     match found {
-        Some(found) => found.as_slice() == value,
+        Some(found) => found.as_slice() == value.as_bytes(),
         None => false,
     }
 }
 
-fn has_key(found: Option<(Bytes, Bytes)>, key: &[u8]) -> bool {
+fn is_pair(found: Option<(Bytes, Bytes)>, key: &str, value: &str) -> bool {
     match found {
-        Some((found, _)) => found.as_slice() == key,
+        Some((is, held)) => is.as_slice() == key.as_bytes() && held.as_slice() == value.as_bytes(),
         None => false,
     }
 }
 
-/// A store that keeps three pairs in two spaces.
-fn kept(rt: &impl Abort, alloc: Global) -> Result<Fuse<MemKeeper>, Fail> {
-    let mut keeper = Fuse::new(MemKeeper::new(alloc, Vec::new(alloc), false)?);
+/// Whether this pair is behind a key, and its value at its own key.
+fn is_behind<K: Keeper>(
+    keeper: &mut K,
+    space: u8,
+    last: &[u8],
+    pair: &Pair,
+) -> Result<bool, KeepFault>
+    ensures { is_some (K.kept keeper.new).pending ≡ is_some (K.kept keeper.old).pending }
+{
+    let (key, value) = pair;
+    let next = keeper.next_after(space, last)?;
+    let found = keeper.get(space, key.as_bytes())?;
+    Ok(is_pair(next, key, value) && is_value(found, value))
+}
+
+/// Whether reads find these pairs in a space, and no others.
+fn holds<K: Keeper>(keeper: &mut K, space: u8, pairs: &[Pair]) -> Result<bool, KeepFault>
+    ensures { is_some (K.kept keeper.new).pending ≡ is_some (K.kept keeper.old).pending }
+{
+    let mut last: &[u8] = b"";
+    for pair in pairs {
+        if !is_behind(keeper, space, last, pair)? {
+            return Ok(false);
+        }
+        last = pair.0.as_bytes();
+    }
+    let count = keeper.count(space)?;
+    let next = keeper.next_after(space, last)?;
+    Ok(next.is_none() && count == pairs.len() as u64)
+}
+
+/// Begins a transaction and makes these changes.
+fn change<K: Keeper>(keeper: &mut K, changes: &[Change]) -> Result<(), KeepFault>
+    requires { is_some (K.kept keeper.old).pending ≡ false }
+    ensures { OnOk result (is_some (K.kept keeper.new).pending ≡ true) }
+{
     keeper.begin()?;
-    keeper.put(3, b"b", b"2")?;
-    keeper.put(3, b"a", b"1")?;
-    keeper.put(4, b"b", b"other")?;
-    assert!(rt; is_value(keeper.get(3, b"b")?, b"2"));
-    keeper.commit()?;
-    Ok(keeper)
-}
-
-#[test]
-fn keeps(rt: HostRuntime) -> Result<(), Fail> {
-    let mut keeper = kept(&rt, rt.alloc())?;
-    assert!(rt; has_key(keeper.next_after(3, b"a")?, b"b"));
-    assert!(rt; keeper.next_after(3, b"b")?.is_none());
-    assert_eq!(rt;
-        (keeper.count(3)?, keeper.count(4)?, keeper.count(5)?),
-        (2, 1, 0)
-    );
+    for (space, key, value) in changes {
+        match value {
+            Some(value) => keeper.put(*space, key.as_bytes(), value.as_bytes())?,
+            None => keeper.del(*space, key.as_bytes())?,
+        }
+    }
     Ok(())
 }
 
-#[test]
-fn rolls_back(rt: HostRuntime) -> Result<(), Fail> {
-    let alloc = rt.alloc();
-    let mut keeper = MemKeeper::new(alloc, Vec::new(alloc), false)?;
-    keeper.begin()?;
-    keeper.put(3, b"a", b"1")?;
-    keeper.commit()?;
-    keeper.begin()?;
-    keeper.del(3, b"a")?;
-    keeper.put(3, b"a", b"2")?;
-    keeper.put(3, b"ab", b"3")?;
-    keeper.del(3, b"a")?;
-    assert!(rt; has_key(keeper.next_after(3, b"")?, b"ab"));
-    assert_eq!(rt; keeper.count(3)?, 1);
+/// Makes the changes of a transaction and ends it. Answers whether its reads found its pairs.
+fn attempt<K: Keeper>(keeper: &mut K, transaction: &Transaction) -> Result<bool, KeepFault>
+    requires { is_some (K.kept keeper.old).pending ≡ false }
+{
+    let (changes, seen, commits, _) = transaction;
+    change(keeper, changes)?;
+    let found = holds(keeper, 3, seen)?;
+    if *commits {
+        keeper.commit()?;
+    }
+    Ok(found)
+}
+
+/// The same, and what is left of the transaction is rolled back.
+fn transact<K: Keeper>(keeper: &mut K, transaction: &Transaction) -> Result<bool, KeepFault>
+    requires { is_some (K.kept keeper.old).pending ≡ false }
+    ensures { is_some (K.kept keeper.new).pending ≡ false }
+{
+    let found = attempt(keeper, transaction);
     keeper.rollback()?;
-    assert!(rt; is_value(keeper.get(3, b"a")?, b"1"));
-    assert_eq!(rt; keeper.count(3)?, 1);
+    found
+}
+
+/// Whether a store with no pairs makes these transactions, and reads find what is to be there behind each.
+fn makes<K: Keeper>(keeper: &mut K, transactions: &[Transaction]) -> Result<bool, KeepFault>
+    requires { is_some (K.kept keeper.old).pending ≡ false }
+{
+    for transaction in transactions {
+        let found = transact(keeper, transaction)?;
+        if !found || !holds(keeper, 3, transaction.3)? {
+            return Ok(false);
+        }
+    }
+    Ok(true)
+}
+
+const TRANSACTIONS: &[Transaction] = &[
+    (
+        &[
+            (3, "b", Some("2")),
+            (3, "a", Some("1")),
+            (4, "b", Some("other")),
+        ],
+        &[("a", "1"), ("b", "2")],
+        true,
+        &[("a", "1"), ("b", "2")],
+    ),
+    (
+        &[
+            (3, "a", None),
+            (3, "a", Some("2")),
+            (3, "ab", Some("3")),
+            (3, "a", None),
+        ],
+        &[("ab", "3"), ("b", "2")],
+        false,
+        &[("a", "1"), ("b", "2")],
+    ),
+    (
+        &[(3, "b", None), (3, "a", Some("2")), (3, "c", None)],
+        &[("a", "2")],
+        true,
+        &[("a", "2")],
+    ),
+];
+
+#[test]
+fn transactions_are_made(rt: HostRuntime) -> Result<(), Fail> {
+    let alloc = rt.alloc();
+    let mut keeper = Fuse::new(MemKeeper::new(alloc, Vec::new(alloc), false)?);
+    assert!(rt; makes(&mut keeper, TRANSACTIONS)?);
+    assert!(rt; holds(&mut keeper, 4, &[("b", "other")])?);
+    assert!(rt; holds(&mut keeper, 5, &[])?);
     Ok(())
+}
+
+const A: &[Pair] = &[("a", "1")];
+
+/// Puts a pair. Its calls are, in order, `begin`, `put`, `next_after`, `get`, `count`, `next_after`, `commit` and
+/// `rollback`.
+const PUT: Transaction = (&[(3, "a", Some("1"))], A, true, A);
+
+/// Which of three transactions that put the pair are made.
+fn made<K: Keeper>(keeper: &mut K) -> [bool; 3]
+    requires { is_some (K.kept keeper.old).pending ≡ false }
+{
+    [
+        transact(keeper, &PUT).is_ok(),
+        transact(keeper, &PUT).is_ok(),
+        transact(keeper, &PUT).is_ok(),
+    ]
+}
+
+/// Which calls fail, whether a commit that fails stands, which transactions are made, the pairs that are there then,
+/// and how many calls and how many commits failed.
+const FAILING: &[(&[u64], bool, [bool; 3], &[Pair], (u64, u64))] = &[
+    (&[], false, [true, true, true], A, (0, 0)),
+    (&[1, 4, 8], false, [false, false, false], &[], (3, 0)),
+    (&[4, 9, 16], false, [false, false, false], &[], (3, 0)),
+    (&[6, 12], true, [false, false, true], A, (2, 0)),
+    (&[1, 4, 12], false, [false, false, false], &[], (3, 1)),
+    (&[1, 4, 12], true, [false, false, false], A, (3, 1)),
+    (&[8], false, [false, true, true], A, (1, 0)),
+];
+
+/// Whether the store counted so many failures of calls and of commits, and holds just these pairs.
+fn ends<K: Keeper>(keeper: &mut K, counts: (u64, u64), pairs: &[Pair]) -> Result<bool, KeepFault>
+    ensures { is_some (K.kept keeper.new).pending ≡ is_some (K.kept keeper.old).pending }
+{
+    let counted = keeper.faults() == counts.0 && keeper.doubts() == counts.1;
+    Ok(counted && holds(keeper, 3, pairs)?)
 }
 
 #[test]
 fn fails_as_listed(rt: HostRuntime) -> Result<(), Fail> {
     let alloc = rt.alloc();
-    for keep in [false, true] {
-        let mut keeper = MemKeeper::new(alloc, vec![in alloc; 1, 3, 6]?, keep)?;
-        assert_eq!(rt; keeper.begin(), Err(KeepFault::Failed));
-        keeper.begin()?;
-        assert_eq!(rt; keeper.put(1, b"a", b"1"), Err(KeepFault::Failed));
-        keeper.rollback()?;
-        keeper.begin()?;
-        assert_eq!(rt; keeper.put(1, b"a", b"1"), Err(KeepFault::Failed));
-        keeper.rollback()?;
-        keeper.begin()?;
-        keeper.put(1, b"a", b"1")?;
-        keeper.commit()?;
-        assert_eq!(rt; (keeper.faults(), keeper.doubts()), (3, 0));
-        assert_eq!(rt; keeper.count(1)?, 1);
+    for (fails, keep, each, pairs, counts) in FAILING {
+        let mut keeper = MemKeeper::new(alloc, Vec::from_slice(alloc, fails)?, *keep)?;
+        assert!(rt; made(&mut keeper) == *each, "{fails:?}");
+        assert!(rt; ends(&mut keeper, *counts, pairs)?, "{fails:?}");
     }
     Ok(())
 }
 
-#[test]
-fn commits_in_doubt(rt: HostRuntime) -> Result<(), Fail> {
-    let alloc = rt.alloc();
-    for (keep, count) in [(false, 0), (true, 1)] {
-        let mut keeper = MemKeeper::new(alloc, vec![in alloc; 3]?, keep)?;
-        keeper.begin()?;
-        keeper.put(1, b"a", b"1")?;
-        assert_eq!(rt; keeper.commit(), Err(KeepFault::Failed));
-        keeper.rollback()?;
-        assert_eq!(rt; keeper.count(1)?, count);
-        assert_eq!(rt; (keeper.faults(), keeper.doubts()), (1, 1));
+/// Lets a fuse fail from a call on, or from the next commit on.
+fn arm<K: Keeper>(fuse: &mut Fuse<K>, calls: Option<u64>, keep: bool)
+    ensures { (K.kept fuse.new.keeper).pending ≡ (K.kept fuse.old.keeper).pending }
+{
+    match calls {
+        Some(calls) => fuse.arm(calls, keep),
+        None => fuse.arm_commit(keep),
     }
-    Ok(())
 }
 
-/// An empty store in a fuse that is off.
-fn fused(alloc: Global) -> Result<Fuse<MemKeeper>, Fail> {
-    Ok(Fuse::new(MemKeeper::new(alloc, Vec::new(alloc), false)?))
-}
-
-/// Which of four calls fail.
-fn failures(keeper: &mut Fuse<MemKeeper>) -> [bool; 4] {
-    [
-        keeper.get(1, b"a").is_err(),
-        keeper.next_after(1, b"a").is_err(),
-        keeper.count(1).is_err(),
-        keeper.rollback().is_err(),
-    ]
-}
-
-/// How many calls succeed, which of four fail then, and how many failed, also behind four more that fail.
-const FROM_A_CALL_ON: &[(u64, [bool; 4], u64, u64)] = &[
-    (0, [true, true, true, true], 4, 8),
-    (1, [false, true, true, true], 3, 7),
-    (2, [false, false, true, true], 2, 6),
-    (3, [false, false, false, true], 1, 5),
-    (4, [false, false, false, false], 0, 4),
+/// How many calls succeed, or none where the next commit is the first that fails; whether a commit that fails stands,
+/// the pairs that are there then, and how many calls and how many commits failed.
+const FUSES: &[(Option<u64>, bool, &[Pair], (u64, u64))] = &[
+    (Some(0), false, &[], (2, 0)),
+    (Some(1), true, &[], (2, 0)),
+    (Some(2), false, &[], (2, 0)),
+    (Some(3), true, &[], (2, 0)),
+    (Some(4), false, &[], (2, 0)),
+    (Some(5), true, &[], (2, 0)),
+    (Some(6), false, &[], (2, 1)),
+    (Some(6), true, A, (2, 1)),
+    (Some(7), false, A, (1, 0)),
+    (Some(8), false, A, (0, 0)),
+    (None, false, &[], (2, 1)),
+    (None, true, A, (2, 1)),
 ];
+
+/// Whether the fuse fails every call from now on, and counts it.
+fn is_blown<K: Keeper>(fuse: &mut Fuse<K>) -> bool {
+    let before = fuse.faults();
+    fuse.arm(0, false);
+    fuse.count(3).is_err()
+        && fuse.get(3, b"a").is_err()
+        && fuse.faults() == before.saturating_add(2)
+}
 
 #[test]
 fn fails_from_a_call_on(rt: HostRuntime) -> Result<(), Fail> {
-    for (calls, seen, faults, last) in FROM_A_CALL_ON {
-        let mut keeper = fused(rt.alloc())?;
-        keeper.arm_commit(true);
-        keeper.arm(*calls, false);
-        assert_eq!(rt; failures(&mut keeper), *seen);
+    let alloc = rt.alloc();
+    for (calls, keep, pairs, counts) in FUSES {
+        let mut keeper = Fuse::new(MemKeeper::new(alloc, Vec::new(alloc), false)?);
+        arm(&mut keeper, *calls, *keep);
+        assert!(rt; transact(&mut keeper, &PUT).is_ok() == (counts.0 == 0));
         keeper.disarm();
-        assert_eq!(rt; failures(&mut keeper), [false; 4]);
-        keeper.arm_commit(true);
-        assert_eq!(rt; failures(&mut keeper), [false; 4]);
-        assert_eq!(rt; (keeper.faults(), keeper.doubts()), (*faults, 0));
-        keeper.arm(0, false);
-        assert_eq!(rt; failures(&mut keeper), [true; 4]);
-        assert_eq!(rt; (keeper.faults(), keeper.doubts()), (*last, 0));
+        assert!(rt; ends(&mut keeper, *counts, pairs)?, "{calls:?}");
+        assert!(rt; is_blown(&mut keeper));
     }
     Ok(())
 }
 
-fn change<K: Keeper>(keeper: &mut K) -> Result<(), KeepFault>
-    requires { is_some (K.kept keeper.old).pending ≡ false }
-{
-    keeper.begin()?;
-    keeper.put(1, b"a", b"1")?;
-    keeper.commit()
+/// Whether a store is given of which the first call fails.
+fn gives_failing<S: Shelf>(shelf: &mut S) -> Result<bool, OutFault> {
+    let mut store = shelf.give(None, 0)?;
+    let fails = store.rollback() == Err(KeepFault::Failed);
+    Ok(fails && store.begin() == Ok(()))
 }
 
-/// What a change and a rollback answer, and how many pairs there are afterwards, and faults, and doubts.
-fn changed<K: Keeper>(
-    keeper: &mut Fuse<K>,
-) -> Result<(Result<(), KeepFault>, Result<(), KeepFault>, u64, u64, u64), Fail>
-    requires { is_some (K.kept keeper.old.keeper).pending ≡ false }
-{
-    let change = change(keeper);
-    let rollback = keeper.rollback();
-    keeper.disarm();
-    Ok((
-        change,
-        rollback,
-        keeper.count(1)?,
-        keeper.faults(),
-        keeper.doubts(),
-    ))
-}
-
-#[test]
-fn fails_commits(rt: HostRuntime) -> Result<(), Fail> {
-    let failed = Err(KeepFault::Failed);
-    for (keep, count) in [(false, 0), (true, 1)] {
-        let mut keeper = fused(rt.alloc())?;
-        keeper.rollback()?;
-        keeper.arm(2, keep);
-        assert_eq!(rt; changed(&mut keeper)?, (failed, failed, count, 2, 1));
-        let mut keeper = fused(rt.alloc())?;
-        keeper.rollback()?;
-        keeper.arm_commit(keep);
-        assert_eq!(rt; changed(&mut keeper)?, (failed, failed, count, 2, 1));
-    }
-    Ok(())
+/// Whether an empty store is given for a folder.
+fn gives_empty<S: Shelf>(shelf: &mut S) -> Result<bool, OutFault> {
+    let mut store = shelf.give(Some(b"folder"), 1)?;
+    Ok(store.rollback() == Ok(()) && store.count(0) == Ok(0))
 }
 
 #[test]
 fn gives(rt: HostRuntime) -> Result<(), Fail> {
     let alloc = rt.alloc();
-    let mut shelf = MemShelf::new(
-        alloc,
-        vec![in alloc; 2]?,
-        vec![in alloc; (vec![in alloc; 1]?, false)]?,
-    );
-    let mut first = shelf.give(None, 0)?;
-    assert_eq!(rt; first.rollback(), Err(KeepFault::Failed));
-    first.begin()?;
-    assert!(rt; shelf.give(None, 1).is_err());
-    let mut second = shelf.give(Some(b"folder"), 1)?;
-    second.rollback()?;
-    assert_eq!(rt; second.count(0)?, 0);
-    assert_eq!(rt; shelf.faults(), 1);
+    let stores = vec![in alloc; (vec![in alloc; 1]?, false)]?;
+    let mut shelf = MemShelf::new(alloc, vec![in alloc; 2]?, stores);
+    assert!(rt; gives_failing(&mut shelf)?);
+    assert!(rt; shelf.give(None, 1).err() == Some(OutFault::Failed));
+    assert!(rt; gives_empty(&mut shelf)?);
+    assert!(rt; shelf.faults() == 1);
     Ok(())
 }
+
+/// Pieces, and whether the output fails at each.
+const PIECES: &[(&[u8], Result<(), OutFault>)] = &[
+    (b"one,", Ok(())),
+    (b"two", Err(OutFault::Failed)),
+    (b"3", Err(OutFault::Failed)),
+    (b"", Ok(())),
+];
 
 #[test]
 fn writes(rt: HostRuntime) -> Result<(), Fail> {
     let alloc = rt.alloc();
     let mut sink = MemSink::new(alloc, vec![in alloc; 2, 3]?, 2);
-    sink.write(b"one,")?;
-    assert_eq!(rt; sink.write(b"two"), Err(OutFault::Failed));
-    assert_eq!(rt; sink.write(b"3"), Err(OutFault::Failed));
-    sink.write(b"")?;
+    assert!(rt; answers(&mut sink, PIECES));
     assert_eq!(rt; sink.written(), b"one,tw3".as_slice());
     assert_eq!(rt; sink.faults(), 2);
     Ok(())
 }
 
-/// A file of this name and these bytes.
-fn file(alloc: Global, name: &str, bytes: &[u8]) -> Result<(Text, Bytes), Fail> {
-    let name = Text::from_str(alloc, name)?;
-    Ok((name, Bytes::from_slice(alloc, bytes)?))
-}
-
 /// The files `outer` and `inner`, of whose calls this one fails.
 fn two_files(alloc: Global, fails: u64) -> Result<MemFiles, Fail> {
-    let mut files = Vec::new(alloc);
-    files.push(file(alloc, "outer", b"abcde")?)?;
-    files.push(file(alloc, "inner", b"x")?)?;
-    let fails = vec![in alloc; fails]?;
-    Ok(MemFiles::new(alloc, files, fails))
+    let files = named(alloc, &[("outer", b"abcde"), ("inner", b"x")])?;
+    Ok(MemFiles::new(alloc, files, vec![in alloc; fails]?))
+}
+
+const OUTER: &[Piece] = &[(4, b"abcd")];
+
+const INNER: &[Piece] = &[(1, b"x\0\0\0"), (0, b"x\0\0\0")];
+
+const REST: &[Piece] = &[(1, b"e\0\0\0")];
+
+/// Whether a file is entered inside another one and left, and one that is missing is not entered.
+fn enters_both<F: Files>(files: &mut F) -> Result<bool, OutFault> {
+    if !enters(files, "outer", OUTER)? || !enters(files, "inner", INNER)? {
+        return Ok(false);
+    }
+    files.leave();
+    Ok(!files.enter(b"missing")? && reads(files, REST)?)
 }
 
 #[test]
-fn reads(rt: HostRuntime) -> Result<(), Fail> {
+fn files_are_entered_and_left(rt: HostRuntime) -> Result<(), Fail> {
     let mut files = two_files(rt.alloc(), 0)?;
-    let mut buffer = [0u8; 4];
-    assert!(rt; files.enter(b"outer")?);
-    assert_eq!(rt; files.read(&mut buffer)?, 4);
-    assert_eq!(rt; buffer.as_slice(), b"abcd".as_slice());
-    assert!(rt; files.enter(b"inner")?);
-    assert_eq!(rt; files.read(&mut buffer)?, 1);
-    assert_eq!(rt; files.read(&mut buffer)?, 0);
-    files.leave();
-    assert!(rt; !files.enter(b"missing")?);
-    assert_eq!(rt; files.read(&mut buffer)?, 1);
-    assert_eq!(rt; buffer.as_slice(), b"ebcd".as_slice());
-    assert_eq!(rt; files.faults(), 0);
+    assert!(rt; enters_both(&mut files)?);
+    assert!(rt; files.faults() == 0);
     Ok(())
 }
 
+/// Whether the inner file is entered where the first try fails.
+fn enters_again<F: Files>(files: &mut F) -> Result<bool, OutFault> {
+    let outer = enters(files, "outer", OUTER)?;
+    let fails = files.enter(b"inner") == Err(OutFault::Failed);
+    Ok(outer && fails && enters(files, "inner", INNER)?)
+}
+
 #[test]
-fn reads_on_behind_a_fault(rt: HostRuntime) -> Result<(), Fail> {
+fn files_are_read_behind_a_fault(rt: HostRuntime) -> Result<(), Fail> {
     let mut files = two_files(rt.alloc(), 3)?;
-    let mut buffer = [0u8; 4];
-    assert!(rt; files.enter(b"outer")?);
-    assert_eq!(rt; files.read(&mut buffer)?, 4);
-    assert!(rt; files.enter(b"inner").is_err());
-    assert!(rt; files.enter(b"inner")?);
-    assert_eq!(rt; files.read(&mut buffer)?, 1);
-    assert_eq!(rt; buffer.as_slice(), b"xbcd".as_slice());
-    assert_eq!(rt; files.faults(), 1);
+    assert!(rt; enters_again(&mut files)?);
+    assert!(rt; files.faults() == 1);
     Ok(())
 }

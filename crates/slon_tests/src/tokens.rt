@@ -1,6 +1,8 @@
 // Texts and what they are cut into.
+use crate::expecting::expect;
 use crate::telling::tell_tokens;
 use slonik_tokens::tokens;
+use std::alloc::Global;
 use std::test::Fail;
 
 /// Texts, and their tokens or the refusal with the line where the text begins none.
@@ -27,12 +29,23 @@ const TEXTS: &[(&[u8], &str)] = &[
     (b"a\n\n\xff", "80 3"),
 ];
 
+/// Writes what a text is cut into.
+fn tell_text(line: &mut String, alloc: Global, text: &[u8]) -> Result<(), Fail> {
+    let read = tokens(alloc, text);
+    tell_tokens(line, &read)
+}
+
+/// A text is cut into these tokens.
+fn expect_tokens(alloc: Global, text: &[u8], wanted: &str) -> Result<(), Fail> {
+    let mut line = String::new(alloc);
+    tell_text(&mut line, alloc, text)?;
+    expect(wanted, line.as_str(), wanted)
+}
+
 #[test]
 fn texts_are_cut_or_refused(rt: HostRuntime) -> Result<(), Fail> {
-    for (text, said) in TEXTS {
-        let mut line = String::new(rt.alloc());
-        tell_tokens(&mut line, &tokens(rt.alloc(), text))?;
-        assert_eq!(rt; line.as_str(), *said);
+    for (text, wanted) in TEXTS {
+        expect_tokens(rt.alloc(), text, wanted)?;
     }
     Ok(())
 }
