@@ -1,5 +1,6 @@
 // Lines and what they say.
 use crate::expecting::expect;
+use crate::telling::keeping;
 use session_text::{LineFault, read_command};
 use slon_base::{Text, TextList};
 use slon_model::{ColumnList, Command, Crash};
@@ -10,11 +11,6 @@ use std::test::Fail;
 fn push_word(line: &mut String, word: &Text) -> Result<(), Fail> {
     write!(line, " {}", word.as_str())?;
     Ok(())
-}
-
-/// `keep` or `lose`.
-fn keeping(keep: bool) -> &'static str {
-    if keep { "keep" } else { "lose" }
 }
 
 /// The word that a command begins with.

@@ -2,6 +2,7 @@
 use crate::expecting::require;
 use crate::known::{Known, NO_TABLE, Step};
 use crate::running::{Fails, NOTHING, run};
+use crate::telling::keeping;
 use node_keeper::MemSink;
 use slon_main::Status;
 use std::alloc::Global;
@@ -113,11 +114,6 @@ fn is_told(
     let mut known = Known::new(call, keep);
     walk_all(&mut known, rt, alloc, order, str::from_utf8(out.written())?)?;
     Ok(known.told)
-}
-
-/// `keep` or `lose`.
-fn keeping(keep: bool) -> &'static str {
-    if keep { "keep" } else { "lose" }
 }
 
 /// Whether the crash at this call is told, where a commit that fails stands or not.

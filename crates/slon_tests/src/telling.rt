@@ -1,6 +1,11 @@
-// Tokens and faults in short, as the tables of the tests have them.
+// Tokens, faults and crashes in short, as the tables of the tests have them.
 use slonik_tokens::{ParseFault, ScriptRefusal, Sign, Token};
 use std::test::Fail;
+
+/// `keep` or `lose`.
+pub fn keeping(keep: bool) -> &'static str {
+    if keep { "keep" } else { "lose" }
+}
 
 /// The character of a sign.
 fn sign_char(sign: Sign) -> char {
