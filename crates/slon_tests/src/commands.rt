@@ -103,17 +103,17 @@ fn tell_line(seen: &mut String, alloc: Global, line: &[u8]) -> Result<(), Fail> 
     tell(seen, &read)
 }
 
-/// The line of number 7 says this.
-fn expect_reading(rt: &HostRuntime, line: &[u8], wanted: &str) -> Result<(), Fail> {
-    let mut seen = String::new(rt.alloc());
-    tell_line(&mut seen, rt.alloc(), line)?;
-    expect(wanted, seen.as_str(), wanted)
+/// The line of number 7, which is called so, says this.
+fn expect_reading(alloc: Global, of: &str, line: &[u8], wanted: &str) -> Result<(), Fail> {
+    let mut seen = String::new(alloc);
+    tell_line(&mut seen, alloc, line)?;
+    expect(of, seen.as_str(), wanted)
 }
 
 /// Each of the lines is bad.
-fn expect_bad(rt: &HostRuntime, lines: &[&str]) -> Result<(), Fail> {
+fn expect_bad(alloc: Global, lines: &[&str]) -> Result<(), Fail> {
     for line in lines {
-        expect_reading(rt, line.as_bytes(), "line 7 is bad")?;
+        expect_reading(alloc, line, line.as_bytes(), "line 7 is bad")?;
     }
     Ok(())
 }
@@ -156,7 +156,7 @@ const COMMANDS: &[(&str, &str)] = &[
 #[test]
 fn commands_are_read(rt: HostRuntime) -> Result<(), Fail> {
     for (line, said) in COMMANDS {
-        expect_reading(&rt, line.as_bytes(), said)?;
+        expect_reading(rt.alloc(), line, line.as_bytes(), said)?;
     }
     Ok(())
 }
@@ -196,7 +196,7 @@ const BAD_LINES: &[&str] = &[
 
 #[test]
 fn bad_lines_are_refused(rt: HostRuntime) -> Result<(), Fail> {
-    expect_bad(&rt, BAD_LINES)
+    expect_bad(rt.alloc(), BAD_LINES)
 }
 
 /// Writes, crashes and other commands with too few words, too many or wrong ones.
@@ -231,7 +231,7 @@ const BAD_WRITES: &[&str] = &[
 
 #[test]
 fn bad_writes_and_crashes_are_refused(rt: HostRuntime) -> Result<(), Fail> {
-    expect_bad(&rt, BAD_WRITES)
+    expect_bad(rt.alloc(), BAD_WRITES)
 }
 
 /// Numbers of spaces, and what a line of them says.
@@ -241,7 +241,7 @@ const LONG_LINES: &[(usize, &str)] = &[(8192, ""), (8193, "line 7 is bad")];
 fn long_lines_are_refused(rt: HostRuntime) -> Result<(), Fail> {
     for (len, said) in LONG_LINES {
         let line = vec![in rt.alloc(); b' '; *len]?;
-        expect_reading(&rt, line.as_slice(), said)?;
+        expect_reading(rt.alloc(), "a long line", line.as_slice(), said)?;
     }
-    expect_reading(&rt, b"# \xff", "line 7 is bad")
+    expect_reading(rt.alloc(), "no text", b"# \xff", "line 7 is bad")
 }

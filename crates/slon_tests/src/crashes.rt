@@ -1,7 +1,7 @@
 // A session that crashes, or whose store fails, at each call.
 use crate::expecting::require;
 use crate::known::{Known, NO_TABLE, Step};
-use crate::running::{Fails, NOTHING, run};
+use crate::running::{Fails, NOTHING, failing_at, run};
 use crate::telling::keeping;
 use node_keeper::MemSink;
 use slon_main::Status;
@@ -141,12 +141,7 @@ fn crashes_at_every_call(rt: HostRuntime) -> Result<(), Fail> {
 
 /// Whether the failure of this call is told.
 fn is_failure_told(rt: &impl Abort, alloc: Global, store: u64, keep: bool) -> Result<bool, Fail> {
-    let fails = Fails {
-        store,
-        keep,
-        ..NOTHING
-    };
-    is_told(rt, alloc, "", fails, store, keep)
+    is_told(rt, alloc, "", failing_at(store, keep), store, keep)
 }
 
 /// Whether this call of 311 is no rollback. Rollbacks begin the making of the database and each `up`.

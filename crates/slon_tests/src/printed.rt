@@ -26,7 +26,7 @@ fn listed(rt: &HostRuntime, all: &[(&str, &[&str])]) -> Result<Reply, Fail> {
 /// The reply prints as this line, with and without its newline.
 fn expect_line(rt: &HostRuntime, reply: &Reply, line: &str) -> Result<(), Fail> {
     let printed = print_reply(rt.alloc(), reply)?;
-    expect(line, printed.as_str(), line)?;
+    expect("a reply", printed.as_str(), line)?;
     let whole = print_line(rt.alloc(), reply)?;
     require(whole.as_str().strip_suffix('\n') == Some(line), line)
 }
@@ -89,64 +89,51 @@ fn rows_are_printed(rt: HostRuntime) -> Result<(), Fail> {
 
 #[test]
 fn a_doubt_is_printed(rt: HostRuntime) -> Result<(), Fail> {
-    let database = Text::from_str(rt.alloc(), "a")?;
+    let database = name(&rt, "a")?;
     let answer = Answer::Committed { actions: 1 };
     let reply = Reply::InDoubt { database, answer };
     expect_line(&rt, &reply, "doubt a ok actions 1")
 }
 
-/// The refusals that name a database, in the order of their numbers.
-fn of_database(number: u32, database: Text) -> Refusal {
-    match number {
-        10 => Refusal::Fault { database, count: 3 },
-        15 => Refusal::NotEmpty { database },
-        16 => Refusal::Down { database },
-        17 => Refusal::NoDatabase { database },
-        _ => Refusal::IsUp { database },
-    }
+/// A name.
+fn name(rt: &HostRuntime, name: &str) -> Result<Text, Fail> {
+    Ok(Text::from_str(rt.alloc(), name)?)
 }
-
-/// Numbers of refusals that name the database `a`, and their lines.
-const OF_DATABASES: &[(u32, &str)] = &[
-    (10, "no 10 fault a 3"),
-    (15, "no 15 notempty a"),
-    (16, "no 16 down a"),
-    (17, "no 17 nodatabase a"),
-    (19, "no 19 isup a"),
-];
 
 #[test]
 fn names_of_databases_are_printed(rt: HostRuntime) -> Result<(), Fail> {
-    for (number, line) in OF_DATABASES {
-        let name = Text::from_str(rt.alloc(), "a")?;
-        expect_refusal(&rt, of_database(*number, name), line)?;
-    }
-    Ok(())
+    let database = name(&rt, "a")?;
+    expect_refusal(
+        &rt,
+        Refusal::Fault { database, count: 3 },
+        "no 10 fault a 3",
+    )?;
+    let database = name(&rt, "a")?;
+    expect_refusal(&rt, Refusal::NotEmpty { database }, "no 15 notempty a")?;
+    let database = name(&rt, "a")?;
+    expect_refusal(&rt, Refusal::Down { database }, "no 16 down a")?;
+    let database = name(&rt, "a")?;
+    expect_refusal(&rt, Refusal::NoDatabase { database }, "no 17 nodatabase a")?;
+    let database = name(&rt, "a")?;
+    expect_refusal(&rt, Refusal::IsUp { database }, "no 19 isup a")
 }
-
-/// The refusals that name a table or a transaction, in the order of their numbers.
-fn of_table(number: u32, name: Text) -> Refusal {
-    match number {
-        50 => Refusal::TableExists { table: name },
-        51 => Refusal::NameUsed { name },
-        52 => Refusal::NoTable { table: name },
-        _ => Refusal::NoTransaction { transaction: name },
-    }
-}
-
-/// Numbers of refusals that name a table or a transaction, the name, and their lines.
-const OF_TABLES: &[(u32, &str, &str)] = &[
-    (50, "s.t", "no 50 tableexists s.t"),
-    (51, "x", "no 51 nameused x"),
-    (52, "s.t", "no 52 notable s.t"),
-    (53, "x", "no 53 notransaction x"),
-];
 
 #[test]
 fn names_of_tables_and_transactions_are_printed(rt: HostRuntime) -> Result<(), Fail> {
-    for (number, name, line) in OF_TABLES {
-        let name = Text::from_str(rt.alloc(), name)?;
-        expect_refusal(&rt, of_table(*number, name), line)?;
-    }
-    Ok(())
+    let table = name(&rt, "s.t")?;
+    expect_refusal(&rt, Refusal::TableExists { table }, "no 50 tableexists s.t")?;
+    let table = name(&rt, "s.t")?;
+    expect_refusal(&rt, Refusal::NoTable { table }, "no 52 notable s.t")?;
+    let name_used = name(&rt, "x")?;
+    expect_refusal(
+        &rt,
+        Refusal::NameUsed { name: name_used },
+        "no 51 nameused x",
+    )?;
+    let transaction = name(&rt, "x")?;
+    expect_refusal(
+        &rt,
+        Refusal::NoTransaction { transaction },
+        "no 53 notransaction x",
+    )
 }

@@ -26,6 +26,15 @@ pub const NOTHING: Fails = Fails {
     out: 0,
 };
 
+/// This call of a store fails, and a commit that fails stands or not.
+pub fn failing_at(store: u64, keep: bool) -> Fails {
+    Fails {
+        store,
+        keep,
+        ..NOTHING
+    }
+}
+
 /// The files of a session `s` of these bytes.
 fn files_of(alloc: Global, session: &[u8], fails: u64) -> Result<MemFiles, Fail> {
     let names = named(alloc, &[("s", session)])?;

@@ -1,6 +1,6 @@
 // Whole sessions over files, stores and an output in memory.
 use crate::expecting::{expect, require};
-use crate::running::{Fails, NOTHING, run};
+use crate::running::{Fails, NOTHING, failing_at, run};
 use slon_main::Status;
 use std::alloc::Global;
 use std::test::Fail;
@@ -198,6 +198,11 @@ fn expect_end(
     require(is == status, session)
 }
 
+/// The session of the file `s` is run to its end, with these replies.
+fn expect_done(alloc: Global, session: &[u8], fails: Fails, written: &[u8]) -> Result<(), Fail> {
+    expect_end(alloc, Some("s"), session, fails, Status::Done, written)
+}
+
 /// Each of the sessions ends with its status and its output.
 fn expect_all(alloc: Global, sessions: &[Session]) -> Result<(), Fail> {
     for (word, session, fails, status, written) in sessions {
@@ -251,42 +256,22 @@ fn stops_at_a_long_line(rt: HostRuntime) -> Result<(), Fail> {
     )
 }
 
-const REPLIES: &[Session] = &[
-    (
-        Some("s"),
-        ROW_LOCKS,
-        NOTHING,
-        Status::Done,
-        ROW_LOCKS_REPLIES,
-    ),
-    (Some("s"), REFUSALS, NOTHING, Status::Done, REFUSALS_REPLIES),
-    (
-        Some("s"),
-        DUPLICATE,
-        NOTHING,
-        Status::Done,
-        DUPLICATE_REPLIES,
-    ),
-    (
-        Some("s"),
-        KEPT_COMMIT,
-        NOTHING,
-        Status::Done,
-        KEPT_COMMIT_REPLIES,
-    ),
-    (Some("s"), FULL, NOTHING, Status::Done, FULL_REPLIES),
-    (
-        Some("s"),
-        TWO_DATABASES,
-        NOTHING,
-        Status::Done,
-        TWO_DATABASES_REPLIES,
-    ),
+/// Sessions in which no call fails, and their replies.
+const REPLIES: &[(&[u8], &[u8])] = &[
+    (ROW_LOCKS, ROW_LOCKS_REPLIES),
+    (REFUSALS, REFUSALS_REPLIES),
+    (DUPLICATE, DUPLICATE_REPLIES),
+    (KEPT_COMMIT, KEPT_COMMIT_REPLIES),
+    (FULL, FULL_REPLIES),
+    (TWO_DATABASES, TWO_DATABASES_REPLIES),
 ];
 
 #[test]
 fn replies(rt: HostRuntime) -> Result<(), Fail> {
-    expect_all(rt.alloc(), REPLIES)
+    for (session, written) in REPLIES {
+        expect_done(rt.alloc(), session, NOTHING, written)?;
+    }
+    Ok(())
 }
 
 /// Sessions that stop at a fault of a file, of the shelf and of the output.
@@ -331,83 +316,27 @@ const ONE_UP: &[u8] = b"database a\ntable a public.t 2\nup a\nrows a public.t\n"
 /// The replies where the making of the table fails.
 const ONE_FAULT: &[u8] = b"no 10 fault a 1\nno 16 down a\nok\nno 52 notable public.t\n";
 
-/// A store that fails at a rollback, which takes nothing down, at a count, a begin, a put and a commit.
-const FAILING_STORES: &[Session] = &[
-    (
-        Some("s"),
-        ONE_UP,
-        Fails {
-            store: 1,
-            ..NOTHING
-        },
-        Status::Done,
-        b"ok\nok\nno 19 isup a\nok rows 0\n",
-    ),
-    (
-        Some("s"),
-        ONE_UP,
-        Fails {
-            store: 2,
-            ..NOTHING
-        },
-        Status::Done,
-        ONE_FAULT,
-    ),
-    (
-        Some("s"),
-        ONE_UP,
-        Fails {
-            store: 257,
-            ..NOTHING
-        },
-        Status::Done,
-        ONE_FAULT,
-    ),
-    (
-        Some("s"),
-        ONE_UP,
-        Fails {
-            store: 258,
-            ..NOTHING
-        },
-        Status::Done,
-        ONE_FAULT,
-    ),
-    (
-        Some("s"),
-        ONE_UP,
-        Fails {
-            store: 259,
-            keep: true,
-            ..NOTHING
-        },
-        Status::Done,
-        ONE_FAULT,
-    ),
-    (
-        Some("s"),
-        ONE_UP,
-        Fails {
-            store: 263,
-            ..NOTHING
-        },
-        Status::Done,
-        b"doubt a ok\nno 16 down a\nok lost\nno 52 notable public.t\n",
-    ),
-    (
-        Some("s"),
-        ONE_UP,
-        Fails {
-            store: 263,
-            keep: true,
-            ..NOTHING
-        },
-        Status::Done,
-        b"doubt a ok\nno 16 down a\nok kept\nno 52 notable public.t\n",
-    ),
+/// The replies where its commit is in doubt and stands, or does not.
+const ONE_KEPT: &[u8] = b"doubt a ok\nno 16 down a\nok kept\nno 52 notable public.t\n";
+
+const ONE_LOST: &[u8] = b"doubt a ok\nno 16 down a\nok lost\nno 52 notable public.t\n";
+
+/// Which call of a store fails, whether a commit that fails stands, and the replies: a rollback, which takes nothing
+/// down, counts, a begin, a put and a commit.
+const FAILING_STORES: &[(u64, bool, &[u8])] = &[
+    (1, false, b"ok\nok\nno 19 isup a\nok rows 0\n"),
+    (2, false, ONE_FAULT),
+    (257, false, ONE_FAULT),
+    (258, false, ONE_FAULT),
+    (259, true, ONE_FAULT),
+    (263, false, ONE_LOST),
+    (263, true, ONE_KEPT),
 ];
 
 #[test]
 fn stores_fail(rt: HostRuntime) -> Result<(), Fail> {
-    expect_all(rt.alloc(), FAILING_STORES)
+    for (store, keep, written) in FAILING_STORES {
+        expect_done(rt.alloc(), ONE_UP, failing_at(*store, *keep), written)?;
+    }
+    Ok(())
 }

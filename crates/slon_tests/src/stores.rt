@@ -159,27 +159,38 @@ const A: &[Pair] = &[("a", "1")];
 /// `rollback`.
 const PUT: Transaction = (&[(3, "a", Some("1"))], A, true, A);
 
-/// Which of three transactions that put the pair are made.
-fn made<K: Keeper>(keeper: &mut K) -> [bool; 3]
+/// The transaction was made, and its reads found its pairs.
+const MADE: Result<bool, KeepFault> = Ok(true);
+
+const FAILED: Result<bool, KeepFault> = Err(KeepFault::Failed);
+
+/// What becomes of three transactions that put the pair.
+fn made<K: Keeper>(keeper: &mut K) -> [Result<bool, KeepFault>; 3]
     requires { is_some (K.kept keeper.old).pending ≡ false }
 {
     [
-        transact(keeper, &PUT).is_ok(),
-        transact(keeper, &PUT).is_ok(),
-        transact(keeper, &PUT).is_ok(),
+        transact(keeper, &PUT),
+        transact(keeper, &PUT),
+        transact(keeper, &PUT),
     ]
 }
 
-/// Which calls fail, whether a commit that fails stands, which transactions are made, the pairs that are there then,
-/// and how many calls and how many commits failed.
-const FAILING: &[(&[u64], bool, [bool; 3], &[Pair], (u64, u64))] = &[
-    (&[], false, [true, true, true], A, (0, 0)),
-    (&[1, 4, 8], false, [false, false, false], &[], (3, 0)),
-    (&[4, 9, 16], false, [false, false, false], &[], (3, 0)),
-    (&[6, 12], true, [false, false, true], A, (2, 0)),
-    (&[1, 4, 12], false, [false, false, false], &[], (3, 1)),
-    (&[1, 4, 12], true, [false, false, false], A, (3, 1)),
-    (&[8], false, [false, true, true], A, (1, 0)),
+/// Which calls fail, whether a commit that fails stands, what becomes of three transactions, the pairs that are there
+/// then, and how many calls and how many commits failed.
+const FAILING: &[(
+    &[u64],
+    bool,
+    [Result<bool, KeepFault>; 3],
+    &[Pair],
+    (u64, u64),
+)] = &[
+    (&[], false, [MADE, MADE, MADE], A, (0, 0)),
+    (&[1, 4, 8], false, [FAILED, FAILED, FAILED], &[], (3, 0)),
+    (&[4, 9, 16], false, [FAILED, FAILED, FAILED], &[], (3, 0)),
+    (&[6, 12], true, [FAILED, FAILED, MADE], A, (2, 0)),
+    (&[1, 4, 12], false, [FAILED, FAILED, FAILED], &[], (3, 1)),
+    (&[1, 4, 12], true, [FAILED, FAILED, FAILED], A, (3, 1)),
+    (&[8], false, [FAILED, MADE, MADE], A, (1, 0)),
 ];
 
 /// Whether the store counted so many failures of calls and of commits, and holds just these pairs.
@@ -212,20 +223,26 @@ fn arm<K: Keeper>(fuse: &mut Fuse<K>, calls: Option<u64>, keep: bool)
 }
 
 /// How many calls succeed, or none where the next commit is the first that fails; whether a commit that fails stands,
-/// the pairs that are there then, and how many calls and how many commits failed.
-const FUSES: &[(Option<u64>, bool, &[Pair], (u64, u64))] = &[
-    (Some(0), false, &[], (2, 0)),
-    (Some(1), true, &[], (2, 0)),
-    (Some(2), false, &[], (2, 0)),
-    (Some(3), true, &[], (2, 0)),
-    (Some(4), false, &[], (2, 0)),
-    (Some(5), true, &[], (2, 0)),
-    (Some(6), false, &[], (2, 1)),
-    (Some(6), true, A, (2, 1)),
-    (Some(7), false, A, (1, 0)),
-    (Some(8), false, A, (0, 0)),
-    (None, false, &[], (2, 1)),
-    (None, true, A, (2, 1)),
+/// what becomes of the transaction, the pairs that are there then, and how many calls and how many commits failed.
+const FUSES: &[(
+    Option<u64>,
+    bool,
+    Result<bool, KeepFault>,
+    &[Pair],
+    (u64, u64),
+)] = &[
+    (Some(0), false, FAILED, &[], (2, 0)),
+    (Some(1), true, FAILED, &[], (2, 0)),
+    (Some(2), false, FAILED, &[], (2, 0)),
+    (Some(3), true, FAILED, &[], (2, 0)),
+    (Some(4), false, FAILED, &[], (2, 0)),
+    (Some(5), true, FAILED, &[], (2, 0)),
+    (Some(6), false, FAILED, &[], (2, 1)),
+    (Some(6), true, FAILED, A, (2, 1)),
+    (Some(7), false, FAILED, A, (1, 0)),
+    (Some(8), false, MADE, A, (0, 0)),
+    (None, false, FAILED, &[], (2, 1)),
+    (None, true, FAILED, A, (2, 1)),
 ];
 
 /// Whether the fuse fails every call from now on, and counts it.
@@ -234,19 +251,22 @@ fn is_blown<K: Keeper>(fuse: &mut Fuse<K>) -> bool {
     fuse.arm(0, false);
     fuse.count(3).is_err()
         && fuse.get(3, b"a").is_err()
-        && fuse.faults() == before.saturating_add(2)
+        && fuse.next_after(3, b"").is_err()
+        && fuse.rollback().is_err()
+        && fuse.faults() == before.saturating_add(4)
 }
 
 #[test]
 fn fails_from_a_call_on(rt: HostRuntime) -> Result<(), Fail> {
     let alloc = rt.alloc();
-    for (calls, keep, pairs, counts) in FUSES {
+    for (calls, keep, ended, pairs, counts) in FUSES {
         let mut keeper = Fuse::new(MemKeeper::new(alloc, Vec::new(alloc), false)?);
+        keeper.arm_commit(!*keep);
         arm(&mut keeper, *calls, *keep);
-        assert!(rt; transact(&mut keeper, &PUT).is_ok() == (counts.0 == 0));
+        assert!(rt; transact(&mut keeper, &PUT) == *ended, "{calls:?}");
         keeper.disarm();
         assert!(rt; ends(&mut keeper, *counts, pairs)?, "{calls:?}");
-        assert!(rt; is_blown(&mut keeper));
+        assert!(rt; is_blown(&mut keeper), "{calls:?}");
     }
     Ok(())
 }

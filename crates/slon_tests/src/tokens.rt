@@ -39,7 +39,7 @@ fn tell_text(line: &mut String, alloc: Global, text: &[u8]) -> Result<(), Fail> 
 fn expect_tokens(alloc: Global, text: &[u8], wanted: &str) -> Result<(), Fail> {
     let mut line = String::new(alloc);
     tell_text(&mut line, alloc, text)?;
-    expect(wanted, line.as_str(), wanted)
+    expect("a text", line.as_str(), wanted)
 }
 
 #[test]
