@@ -22,6 +22,7 @@ use Rattle.slon_model.specs.Rows.{Rows}
 use Rattle.slon_model.specs.declared.numbering.Numbering.{Numbering}
 use Rattle.slon_model.specs.declared.numbering.Numbering.TheVariants.{Xids, Actions}
 use Rattle.slon_model.specs.Place.{Place, counter, with_counter, lifted, stamped, standing_rows}
+use Rattle.slon_model.specs.Deeds.{Node}
 use Rattle.slon_model.specs.Moves.{tabled}
 use Rattle.app_store.specs.declared.look.Numbers.{Numbers}
 use Rattle.app_store.specs.Spelled.{Holds, AreRows, AreTables, IsMeta, IsSmall, Writes, over, meta, tables, rows}
@@ -175,6 +176,7 @@ pub record Stored : Type 0 where
   pub number_ceiling : ℕ
   pub tables : Named ℕ
   pub standing : List ℕ → Rows
+  pub node : Option Node
 
 abbrev pub stored_of : Place → Stored
 stored_of p = record {
@@ -183,6 +185,7 @@ stored_of p = record {
   number_ceiling = p.numbers.ceiling;
   tables = p.tables;
   standing = standing_rows p;
+  node = p.node;
 }
 
 -- the meta numbers among it, by the numbers of their keys
@@ -196,6 +199,7 @@ holds_same p q m same holds = record {
   table_rows = same_space holds.table_rows (λ name one. ap (λ s. find_named name s.tables) same);
   rows_held = same_space holds.rows_held (λ i one. ap (λ s. get (s.standing i.0) i.1) same);
   others = holds.others;
+  alone = ap (λ s. s.node) same ∙ holds.alone;
 }
 
 pub holds_table : (p : Place) (m : Store) (name : List ℕ) (columns : ℕ) → 0 < p.stamp → Holds p m →
@@ -208,6 +212,7 @@ holds_table p m name columns some holds = record {
   others = λ space unused. put_other meta stamp_key (number_bytes (p.stamp + 1)) (put_at tables (text_bytes name)
       (number_bytes columns) m) space refl unused ∙ put_other tables (text_bytes name)
       (number_bytes columns) m space refl unused ∙ holds.others space unused;
+  alone = holds.alone;
 }
 
 -- a ceiling that rises, with the stamp of its transaction
@@ -225,6 +230,7 @@ holds_xids p m some holds = record {
   table_rows = holds.table_rows;
   rows_held = holds.rows_held;
   others = λ space unused. ceiling_others p m xid_ceiling_key _ _ holds space unused ∙ holds.others space unused;
+  alone = holds.alone;
 }
 
 pub holds_numbers : (p : Place) (m : Store) → 0 < p.stamp → Holds p m →
@@ -236,6 +242,7 @@ holds_numbers p m some holds = record {
   table_rows = holds.table_rows;
   rows_held = holds.rows_held;
   others = λ space unused. ceiling_others p m action_ceiling_key _ _ holds space unused ∙ holds.others space unused;
+  alone = holds.alone;
 }
 
 -- the key of a ceiling
@@ -266,6 +273,7 @@ holds_first p q m none same holds = record {
       (put_at meta log_status_key (0 ∷ []) m)) space refl unused
       ∙ put_other meta action_ceiling_key (number_bytes 65) (put_at meta log_status_key (0 ∷ []) m) space refl unused
       ∙ put_other meta log_status_key (0 ∷ []) m space refl unused ∙ holds.others space unused;
+  alone = ap (λ s. s.node) same ∙ holds.alone;
 }
 
 -- ---- the writes of a transaction
@@ -316,6 +324,7 @@ holds_rows p q m writes some same are holds = record {
   others = λ space unused. put_other meta stamp_key (number_bytes (p.stamp + 1))
       (write_all (entries writes) m) space refl unused
       ∙ write_all-other (entries writes) m space (unused_other space rows refl unused) ∙ holds.others space unused;
+  alone = ap (λ s. s.node) same ∙ holds.alone;
 }
 
 pub get-written : (writes : Writes) (m : Store) (q : List ℕ) → get (write_all (entries writes) m rows) q ≡ over

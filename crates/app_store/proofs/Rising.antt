@@ -24,7 +24,7 @@ use Rattle.slon_model.specs.Place.{Place, Standing, IsRunning, IsFallen, IsDoubt
 use Rattle.slon_model.specs.Place.{surely, downed, fallen}
 use Rattle.slon_model.specs.Moves.{Stays, Founds, Falls, Rises, first_rows as with_first_rows, done}
 use Rattle.slon_model.specs.Moves.{risen}
-use Rattle.slon_model.specs.Deciding.{Decision, Refuses, Accepts, AsDue, decide_by, decide, limited, settled, may_call}
+use Rattle.slon_model.specs.Deciding.{Accepts, decide_by, decide, limited, settled, may_call}
 use Rattle.slon_laws.specs.Spelled.{IsSpelled}
 use Rattle.store_rows.specs.declared.stop.Stop.{Stop}
 use Rattle.store_rows.specs.declared.stop.Stop.TheVariants.{Failed as StopFailed, NoMemory as StopNoMemory}
@@ -58,6 +58,7 @@ holds_bare = record {
   table_rows = empty_space (λ name. refl);
   rows_held = empty_space (λ i. get-empty key_cmp i.1);
   others = λ space unused. refl;
+  alone = refl;
 }
 
 holds_founded : Holds (founded bare_place) (with_first nothing)

@@ -1,7 +1,7 @@
 -- The tasks on tables and transactions: each way out leads by a step of the rules to a place that fits.
 use Rattle.std.proofs.Common.{◌≡◌, ℕ, ◌+◌, ◌<◌, ◌≤◌, Bool, true, false, cond, List, [], ◌∷◌, Option, Some, None, Ok}
 use Rattle.std.proofs.Common.{Err, refl, sym, ap, subst, ◌∙◌, arith, is_some}
-use Rattle.std.specs.Prelude.{◌==◌, ◌||◌, ◌&&◌, not}
+use Rattle.std.specs.Prelude.{◌==◌, ◌||◌, ◌&&◌, not, option_map}
 use Rattle.std.specs.List.{AllByRecursion}
 use Rattle.std.specs.Str.{bytes_eq}
 use Rattle.std.specs.Cmp.Lexicographic.{nat_list_cmp_total}
@@ -21,7 +21,7 @@ use Rattle.slon_model.specs.Rows.{Action, member, holder_in}
 use Rattle.slon_model.specs.Tasks.{Task, ToMake, ToOpen, ToCommit, ToAbort, ToList}
 use Rattle.slon_model.specs.Place.{Place, open_xids, holder, standing_rows, own_count, raised, drawn}
 use Rattle.slon_model.specs.Moves.{Move, Stays, Tables, Begins, Commits, Aborts, tabled, begun, committed, aborted}
-use Rattle.slon_model.specs.Moves.{is_beyond, is_last_stamp, stored_limit}
+use Rattle.slon_model.specs.Moves.{with_commit, is_beyond, is_last_stamp, stored_limit}
 use Rattle.slon_model.specs.Deciding.{Decision, Refuses, Accepts, Overflows, refused_if, with_found, limited, decide}
 use Rattle.slon_model.proofs.Names.{bytes_same, find-without, find-behind}
 use Rattle.slon_laws.specs.Sound.{Sound, ids_of}
@@ -41,7 +41,7 @@ use Rattle.app_store.proofs.Holding.{holds_same, holds_table, holds_rows, get-wr
 use Rattle.app_store.proofs.Openings.{opened_same, opened_new, opened_committed}
 use Rattle.app_store.proofs.Places.{member_snoc, holders_agree, counted_none, rows_agree, all_or, released, freed}
 use Rattle.app_store.proofs.Places.{ended_names}
-use Rattle.app_store.proofs.Standing.{up_running, fits_running, carried, fell, wavers, IsInDoubt, looked, opens_same}
+use Rattle.app_store.proofs.Standing.{up_running, fits_running, carried, fell, wavers, looked, opens_same}
 use Rattle.app_store.proofs.Standing.{crashed_fits}
 use Rattle.app_store.proofs.Upright.{UpAt, running, IsLooked, WentDown, IsChanged, LeftInDoubt, is_up}
 
@@ -547,6 +547,12 @@ commit_limit name xid p b is = ap (λ t. cond t Overflows (Accepts (Committed (o
 not_zero : (n : ℕ) → 0 < n → (n == 0) ≡ false
 not_zero n lt = false_from_ne_true _ (λ is. let same = eqb-true n 0 is in absurd (omega (arith, same, lt)))
 
+-- a database that is no node stays none
+commit_alone : (name : List ℕ) (x : ℕ) (p : Place) → p.node ≡ None → (committed name x p).node ≡ p.node
+commit_alone name x p alone =
+    ap (λ n. cond (own_count x p == 0) n (option_map (with_commit x p) n)) alone
+    ∙ elim (own_count x p == 0) as (λ b. cond b None None ≡ p.node) [ true ↦ sym alone | false ↦ sym alone ]
+
 pub commits_none : {p : Place} {b : Base} (name : List ℕ) (new : Base) → UpAt p b → (ends : Ending name b.memory) →
     ends.transaction.actions ≡ 0 → new ≡ record b { memory = without_one name b.memory.stamp ends.locks b.memory } →
     Comes (ToCommit name) p (Ok (Sure (Committed ends.transaction.actions))) new
@@ -575,6 +581,7 @@ commits_none {p} {b} name new at ends zero new_is =
     ready.fits.told ready.fits.held.1
     (holds_same p q ready.fits.held.0 (λ i. record (stored_of p) {
       stamp = stamp_same i;
+      node = commit_alone name e.xid p ready.fits.held.2.alone i;
       standing =
           λ u. rows_agree _ _ u p.actions
           (all_or e.xid p.commits p.actions (counted_none e.xid p.actions none)) i;
@@ -595,7 +602,10 @@ committed_holds {p} name x t at o some =
     let fits = at.ready.fits in
     subst (λ n. Holds (committed name x p) (new_rows t.writes (number_bytes (n + 1)) fits.held.0)) (sym runs.stamp)
     (holds_rows p (committed name x p) fits.held.0 t.writes runs.founded
-    (λ i. record (stored_of (committed name x p)) { stamp = commit_stamp name x p some i })
+    (λ i. record (stored_of (committed name x p)) {
+      stamp = commit_stamp name x p some i;
+      node = commit_alone name x p fits.held.2.alone i;
+    })
     (rows_after p x name fits.held.0 t o fits.held.2) fits.held.2)
 
 commit_accepted : {p : Place} {b : Base} (name : List ℕ) (x : ℕ) → UpAt p b → find_named name p.opens ≡ Some x →

@@ -23,10 +23,11 @@ use Rattle.slon_model.specs.Tasks.{Write, ToWrite, key_of, row_of}
 use Rattle.slon_model.specs.Spoken.{most_columns, IsValue, AreValues}
 use Rattle.slon_model.proofs.Spoken.{value_text, value_texts}
 use Rattle.slon_model.specs.Place.{Place, Counter, holder, seen_rows, standing_rows, raised, drawn}
+use Rattle.slon_model.specs.Deeds.{Node}
 use Rattle.slon_model.specs.Moves.{Stays, Writes, written, done, is_last}
 use Rattle.slon_model.specs.Deciding.{Decision, Refuses, Accepts, Overflows, refused_if, with_found, limited}
-use Rattle.slon_model.specs.Deciding.{unless_held, by_row, decide_row, decide_write, fits as fits_width, decide_up}
-use Rattle.slon_model.specs.Deciding.{result_of}
+use Rattle.slon_model.specs.Deciding.{unless_held, by_row, decide_row, decide_write, fits as fits_width}
+use Rattle.slon_model.specs.Deciding.{result_of, closed_at, unless_closed}
 use Rattle.slon_model.proofs.Names.{bytes_same, all_found}
 use Rattle.slon_laws.specs.Sound.{Sound}
 use Rattle.slon_laws.specs.Keys.{change_at}
@@ -474,16 +475,20 @@ write_followed {b} w p d result new u is follows =
     followed (ToWrite w) p result new running refl
     (subst (λ d. Follows d p result new) (sym (decided_up (ToWrite w) p d running is)) follows)
 
+-- the decision on a row of a table that is open to writes
+abbrev by_node : Write → Place → ℕ → Option Node → Decision
+by_node w p xid n = unless_closed (closed_at w.table n) (decide_row xid w p)
+
 -- the decision, by what is found under the name of the transaction
 abbrev by_xid : Write → Place → Option ℕ → Decision
 by_xid w p o = with_found o NoTransaction
     (λ xid. with_found (find_named w.table p.tables) NoTable
-    (λ width. refused_if (not (fits_width w.change width)) (BadWidth width) (decide_row xid w p)))
+    (λ width. refused_if (not (fits_width w.change width)) (BadWidth width) (by_node w p xid p.node)))
 
 -- and by what is found under the name of the table
 abbrev by_width : Write → Place → ℕ → Option ℕ → Decision
 by_width w p xid o = with_found o NoTable
-    (λ width. refused_if (not (fits_width w.change width)) (BadWidth width) (decide_row xid w p))
+    (λ width. refused_if (not (fits_width w.change width)) (BadWidth width) (by_node w p xid p.node))
 
 pub width_stopped : (w : Write) (p : Place) (b new : Base) (fault : DbFault) → IsUp p b →
     FoundWidth w.name w.table p (Err fault) new → Comes (ToWrite w) p (Err fault) new
@@ -524,7 +529,8 @@ wide_decision : (w : Write) (xid width : ℕ) (p : Place) (new : Base) (b : Bool
     decide_write w p ≡ refused_if (not b) (BadWidth width) (decide_row xid w p)
 wide_decision w xid width p new b wide fit =
     ap (by_xid w p) wide.named ∙ ap (by_width w p xid) wide.found
-    ∙ ap (λ f. refused_if (not f) (BadWidth width) (decide_row xid w p)) fit
+    ∙ ap (λ f. refused_if (not f) (BadWidth width) (by_node w p xid p.node)) fit
+    ∙ ap (λ n. refused_if (not b) (BadWidth width) (by_node w p xid n)) wide.fits.held.2.alone
 
 pub bad_width : {xid width : ℕ} (w : Write) (p : Place) (b new : Base) → IsUp p b →
     IsWide w.name w.table xid width p new → fits_width w.change width ≡ false →

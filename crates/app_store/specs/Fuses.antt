@@ -2,7 +2,7 @@
 use Rattle.std.specs.Prelude.{◌≡◌, true, false}
 use Rattle.slon_base.specs.Keeper.{Kept}
 use Rattle.slon_base.specs.declared.keeper.Keeper.{Ghosts}
-use Rattle.slon_model.specs.Tasks.{Task, ToCrash, ToRise, Subject, OnNew, OnOne}
+use Rattle.slon_model.specs.Tasks.{Task, ToCrash, ToRise, Subject, OnOne}
 use Rattle.node_keeper.specs.Fused.{fuse_kept}
 use Rattle.app_store.specs.declared.database.Database.{Database}
 use Rattle.app_store.specs.Serves.{armed_by}
@@ -17,5 +17,5 @@ Arms kept ToRise old new =
 Arms kept others old new = Unit {0}
 
 abbrev pub ArmsOn : {K : Type 0} {g : Ghosts K} → (K → Kept) → Subject → Database K g → Database K g → Type 0
-ArmsOn kept (OnNew name) old new = Unit {0}
 ArmsOn kept (OnOne database task) old new = Arms kept task old new
+ArmsOn kept others old new = Unit {0}

@@ -8,7 +8,7 @@ use Rattle.slon_base.specs.declared.fault.Halt.TheVariants.{Fault, NoMemory, Bad
 use Rattle.slon_model.specs.declared.fault.DbFault.{DbFault}
 use Rattle.slon_model.specs.declared.reply.Answered.{Answered}
 use Rattle.slon_model.specs.Rows.{Change, Set, change_key}
-use Rattle.slon_model.specs.Tasks.{Task, Write, write_by, ToMake, ToWrite, ToList, ToRise, Subject, OnNew, OnOne}
+use Rattle.slon_model.specs.Tasks.{Task, Write, write_by, ToMake, ToWrite, ToList, ToRise, Subject, OnOne}
 use Rattle.slon_model.specs.Deciding.{are_columns}
 use Rattle.slon_model.specs.World.{halt_in}
 use Rattle.txn_core.specs.Locks.{holder_of, without}
@@ -85,8 +85,8 @@ Hands task old result = Told old (λ m. Tells (λ space. (old.memory.up ≡ not 
     × Handed task old.memory m space) (trouble result))
 
 abbrev pub HandsOn : Subject → Base → Result Answered DbFault → Type 0
-HandsOn (OnNew name) old result = Unit {0}
 HandsOn (OnOne database task) old result = Hands task old result
+HandsOn others old result = Unit {0}
 
 -- ---- the parts of a write
 

@@ -16,8 +16,7 @@ use Rattle.slon_model.specs.declared.command.Crash.TheVariants.{Now, After, AtCo
 use Rattle.slon_model.specs.declared.reply.Answer.TheVariants.{Done}
 use Rattle.slon_model.specs.declared.reply.Answered.{Answered}
 use Rattle.slon_model.specs.declared.reply.Answered.TheVariants.{Sure, InDoubt}
-use Rattle.slon_model.specs.Tasks.{Task, ToFound, ToMake, ToOpen, ToWrite, ToCommit, ToCrash, ToRise, Subject, OnNew}
-use Rattle.slon_model.specs.Tasks.{OnOne}
+use Rattle.slon_model.specs.Tasks.{Task, ToFound, ToMake, ToOpen, ToWrite, ToCommit, ToCrash, ToRise, Subject, OnOne}
 use Rattle.slon_model.specs.Place.{Place, Counter, bare_place, block}
 use Rattle.slon_model.specs.Moves.{stored_limit}
 use Rattle.slon_model.specs.Deciding.{Choice, Takes, place_by}
@@ -171,8 +170,8 @@ pub record Serves (task : Task) (old : Base) (result : Result Answered DbFault) 
 
 -- what a database promises of a command; the making of one is none of its tasks
 abbrev pub ServesOn : Subject → Base → Result Answered DbFault → Base → Type 0
-ServesOn (OnNew name) old result new = Unit {0}
 ServesOn (OnOne database task) old result new = Serves task old result new
+ServesOn others old result new = Unit {0}
 
 -- ---- the making of a database
 

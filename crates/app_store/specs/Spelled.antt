@@ -92,6 +92,8 @@ pub record Holds (p : Place) (m : Store) : Type 0 where
   pub table_rows : AreTables p.tables (m tables)
   pub rows_held : AreRows (standing_rows p) (m rows)
   pub others : (space : ℕ) → is_unused space ≡ true → m space ≡ empty
+  -- no database is a node yet
+  pub alone : p.node ≡ None
 
 -- the rows that a transaction puts, and those that it takes away
 abbrev pub Writes : Type 0

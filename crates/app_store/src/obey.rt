@@ -11,7 +11,7 @@ ghost use Rattle.app_store.specs.Handed.{Hands, HandsOn};
 use crate::database::Database;
 use node_keeper::Keeper;
 use slon_base::Halt;
-use slon_model::{Answer, Answered, Command, DbFault, TableRows};
+use slon_model::{Answer, Answered, Command, DbFault, KeptList, ProgressList, TableRows};
 
 /// The answer to a transaction that was opened.
 fn opened(method: Result<u64, DbFault>) -> Result<Answered, DbFault>
@@ -129,7 +129,7 @@ impl<K: Keeper> Database<K> {
         }
     }
 
-    /// The node of the database and the rows of its log, both 0 before there is a cluster.
+    /// The node that the database is, with its logs, and how far it is: 0 and nothing, as no database is a node yet.
     fn status(&mut self) -> Result<Answered, DbFault>
         ensures serves { Serves ToTell (base_of K.kept self.old) result (base_of K.kept self.new) }
         ensures hands { Hands ToTell (base_of K.kept self.old) result }
@@ -137,6 +137,11 @@ impl<K: Keeper> Database<K> {
         if !self.state.up {
             return Err(DbFault::Down);
         }
-        Ok(Answered::Sure(Answer::Status { node: 0, log: 0 }))
+        Ok(Answered::Sure(Answer::Status {
+            node: 0,
+            log: 0,
+            progress: ProgressList::new(self.alloc),
+            kept: KeptList::new(self.alloc),
+        }))
     }
 }

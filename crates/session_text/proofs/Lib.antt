@@ -1,8 +1,11 @@
+pub mod AnswersBack
 pub mod Columns
 pub mod Joins
 pub mod Lines
 pub mod Moving
 pub mod Numbers
+pub mod Parting
+pub mod RefusalsBack
 pub mod Said
 pub mod Unprinting
 pub mod WordForms

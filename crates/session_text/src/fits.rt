@@ -1,29 +1,89 @@
 // That the numbers of a reply are of their types.
-ghost use Rattle.session_text.specs.Replies.{AnswerFits, RefusalFits, NumbersFit};
+ghost use Rattle.std.specs.Prelude.{◌<◌, ◌^◌};
+ghost use Rattle.std.specs.List.{AllByRecursion};
+ghost use Rattle.session_text.specs.Replies.{ProgressFits, KeptFits, AnswerFits, ScriptFits, RefusalFits, NumbersFit};
 
+use slon_base::Text;
 use slon_model::{Answer, Refusal, Reply};
+use slonik_script::ScriptRefusal;
+
+/// A number is of its type.
+fn number_fits(number: &u64)
+    ensures { number.now < 2 ^ 64 }
+{
+    let _number = *number;
+}
+
+/// An id is of its type.
+fn id_fits(id: &u32)
+    ensures { id.now < 2 ^ 32 }
+{
+    let _id = *id;
+}
+
+/// A space or a status is of its type.
+fn space_fits(space: &u8)
+    ensures { space.now < 256 }
+{
+    let _space = *space;
+}
+
+/// The nodes and numbers of a progress are of their types.
+fn progress_fits(progress: &[(u32, u64)])
+    ensures { AllByRecursion ProgressFits progress.now }
+{
+    for (node, number) in progress {
+        let _numbers = (*node, *number);
+    }
+}
+
+/// The sets and eras of which progress is kept are of their types.
+fn kept_fits(kept: &[(u32, u64, Text)])
+    ensures { AllByRecursion KeptFits kept.now }
+{
+    for (set, era, _) in kept {
+        let _numbers = (*set, *era);
+    }
+}
 
 /// The numbers of an answer are of their types.
 fn answer_fits(answer: &Answer)
     ensures { AnswerFits answer.now }
 {
     match answer {
-        Answer::Opened { xid } => {
-            let _xid = *xid;
-        }
-        Answer::Acted { number } => {
-            let _number = *number;
-        }
-        Answer::Committed { actions } => {
-            let _actions = *actions;
-        }
+        Answer::Opened { xid } => number_fits(xid),
+        Answer::Acted { number } => number_fits(number),
+        Answer::Committed { actions } => number_fits(actions),
         Answer::Listed { rows } => {
             let _count = rows.len();
         }
-        Answer::Status { node, log } => {
+        Answer::Status {
+            node,
+            log,
+            progress,
+            kept,
+        } => {
             let _numbers = (*node, *log);
+            progress_fits(progress.as_slice());
+            kept_fits(kept.as_slice());
         }
-        Answer::Done | Answer::Unchanged | Answer::Kept | Answer::Lost => {}
+        Answer::Statements { count } => number_fits(count),
+        Answer::Emitted { node, number } => {
+            let _numbers = (*node, *number);
+        }
+        Answer::Ended { status } => space_fits(status),
+        Answer::Done | Answer::Unchanged | Answer::Kept | Answer::Lost | Answer::Echoed { .. } => {}
+    }
+}
+
+/// The numbers of what is wrong with a script are of their types.
+fn script_fits(refusal: &ScriptRefusal)
+    ensures { ScriptFits refusal.now }
+{
+    match refusal {
+        ScriptRefusal::BadToken { line } => number_fits(line),
+        ScriptRefusal::BadSyntax { place } => number_fits(place),
+        _ => {}
     }
 }
 
@@ -32,24 +92,24 @@ fn refusal_fits(refusal: &Refusal)
     ensures { RefusalFits refusal.now }
 {
     match refusal {
-        Refusal::Fault { count, .. } => {
-            let _count = *count;
+        Refusal::Fault { count, .. } => number_fits(count),
+        Refusal::Locked { xid } | Refusal::Busy { xid } => number_fits(xid),
+        Refusal::BadWidth { columns } => number_fits(columns),
+        Refusal::Full { limit } => id_fits(limit),
+        Refusal::IdUsed { id } => id_fits(id),
+        Refusal::NotInitialised { node }
+        | Refusal::OtherNode { node }
+        | Refusal::AlreadyNode { node }
+        | Refusal::NoNode { node }
+        | Refusal::NoConninfo { node }
+        | Refusal::HasReceivers { node }
+        | Refusal::NoPath { node }
+        | Refusal::SameNode { node } => id_fits(node),
+        Refusal::NoSet { set } | Refusal::NotOrigin { set } | Refusal::SetLocked { set } => {
+            id_fits(set)
         }
-        Refusal::Locked { xid } => {
-            let _xid = *xid;
-        }
-        Refusal::Full { limit } => {
-            let _limit = *limit;
-        }
-        Refusal::BadRow { space } => {
-            let _space = *space;
-        }
-        Refusal::TooBig { space } => {
-            let _space = *space;
-        }
-        Refusal::BadWidth { columns } => {
-            let _columns = *columns;
-        }
+        Refusal::BadRow { space } | Refusal::TooBig { space } => space_fits(space),
+        Refusal::Script(script) => script_fits(script),
         _ => {}
     }
 }

@@ -1,12 +1,14 @@
 // The printed form of a reply.
 ghost use Rattle.std.specs.Prelude.{◌≡◌, ◌++◌, List, ℕ, IfOk, OnOk, string_bytes, codes};
-ghost use Rattle.slon_model.specs.Printed.{joined, row_text, rows_text, answer_text, refusal_text, reply_text};
-ghost use Rattle.slon_model.specs.Printed.{reply_line};
+ghost use Rattle.slon_model.specs.declared.reply.Refusal.TheVariants.{Fault};
+ghost use Rattle.slon_model.specs.Printed.{joined, row_text, rows_text, progress_text, kept_text, answer_text};
+ghost use Rattle.slon_model.specs.Printed.{script_text, refusal_text, reply_text, reply_line};
 ghost use Rattle.std.specs.Fmt.{decimal};
 ghost use Rattle.session_text.specs.Joining.{behind_commas};
 
 use slon_base::{Text, TextList};
 use slon_model::{Answer, Refusal, Reply};
+use slonik_script::ScriptRefusal;
 use std::alloc::{AllocError, Global};
 
 /// For how many bytes a line has room before it grows. Most replies are shorter.
@@ -56,6 +58,35 @@ fn push_number(line: &mut String, front: &str, number: u64) -> Result<(), AllocE
     write!(line, "{front}{number}")
 }
 
+/// Adds how far the node is in each stream.
+fn push_progress(line: &mut String, progress: &[(u32, u64)]) -> Result<(), AllocError>
+    ensures { OnOk result (string_bytes line.new ≡ string_bytes line.old ++ progress_text progress.now) }
+{
+    for (node, number) in progress {
+        write!(line, " progress {node} {number}")?;
+    }
+    Ok(())
+}
+
+/// Adds each set of which progress is kept.
+fn push_kept(line: &mut String, kept: &[(u32, u64, Text)]) -> Result<(), AllocError>
+    ensures { OnOk result (string_bytes line.new ≡ string_bytes line.old ++ kept_text kept.now) }
+{
+    for (set, era, snapshot) in kept {
+        write!(line, " set {set} era {era} at ")?;
+        line.push_str(snapshot.as_str())?;
+    }
+    Ok(())
+}
+
+/// Adds what stands in front of a name or a text, and it.
+fn push_named(line: &mut String, front: &str, name: &Text) -> Result<(), AllocError>
+    ensures { OnOk result (string_bytes line.new ≡ string_bytes line.old ++ (front.now ++ name.now)) }
+{
+    line.push_str(front)?;
+    line.push_str(name.as_str())
+}
+
 /// Adds what an accepted command answers.
 fn push_answer(line: &mut String, answer: &Answer) -> Result<(), AllocError>
     ensures { OnOk result (string_bytes line.new ≡ string_bytes line.old ++ answer_text answer.now) }
@@ -72,16 +103,62 @@ fn push_answer(line: &mut String, answer: &Answer) -> Result<(), AllocError>
         }
         Answer::Kept => line.push_str("ok kept"),
         Answer::Lost => line.push_str("ok lost"),
-        Answer::Status { node, log } => write!(line, "ok node {node} log {log}"),
+        Answer::Status {
+            node,
+            log,
+            progress,
+            kept,
+        } => {
+            write!(line, "ok node {node} log {log}")?;
+            push_progress(line, progress.as_slice())?;
+            push_kept(line, kept.as_slice())
+        }
+        Answer::Statements { count } => push_number(line, "ok statements ", *count),
+        Answer::Emitted { node, number } => write!(line, "ok event {node} {number}"),
+        Answer::Echoed { text } => push_named(line, "ok echo ", text),
+        Answer::Ended { status } => push_number(line, "ok ended ", u64::from(*status)),
     }
 }
 
-/// Adds what stands in front of a name, and the name.
-fn push_named(line: &mut String, front: &str, name: &Text) -> Result<(), AllocError>
-    ensures { OnOk result (string_bytes line.new ≡ string_bytes line.old ++ (front.now ++ name.now)) }
+/// Adds what stands in front of the number of a space, and the number.
+fn push_space(line: &mut String, front: &str, space: u8) -> Result<(), AllocError>
+    ensures { OnOk result (string_bytes line.new ≡ string_bytes line.old ++ (front.now ++ decimal space)) }
 {
-    line.push_str(front)?;
-    line.push_str(name.as_str())
+    push_number(line, front, u64::from(space))
+}
+
+/// Adds what stands in front of an id or a limit, and it.
+fn push_id(line: &mut String, front: &str, id: u32) -> Result<(), AllocError>
+    ensures { OnOk result (string_bytes line.new ≡ string_bytes line.old ++ (front.now ++ decimal id)) }
+{
+    push_number(line, front, u64::from(id))
+}
+
+/// Adds that the store of a database failed, and its count of faults.
+fn push_fault(line: &mut String, database: &Text, count: u64) -> Result<(), AllocError>
+    ensures { OnOk result (string_bytes line.new ≡ string_bytes line.old ++ refusal_text (Fault database.now count)) }
+{
+    push_named(line, "no 10 fault ", database)?;
+    push_number(line, " ", count)
+}
+
+/// Adds what is wrong with a script.
+fn push_script(line: &mut String, refusal: &ScriptRefusal) -> Result<(), AllocError>
+    ensures { OnOk result (string_bytes line.new ≡ string_bytes line.old ++ script_text refusal.now) }
+{
+    match refusal {
+        ScriptRefusal::BadToken { line: number } => push_number(line, "no 80 badtoken ", *number),
+        ScriptRefusal::BadSyntax { place } => push_number(line, "no 81 badsyntax ", *place),
+        ScriptRefusal::UnknownOption { word } => push_named(line, "no 82 unknownoption ", word),
+        ScriptRefusal::MissingOption { words } => push_named(line, "no 83 missingoption ", words),
+        ScriptRefusal::NoPreamble => line.push_str("no 84 nopreamble"),
+        ScriptRefusal::NotInProfile { word } => push_named(line, "no 85 notinprofile ", word),
+        ScriptRefusal::NotInTry { word } => push_named(line, "no 86 notintry ", word),
+        ScriptRefusal::Undefined { name } => push_named(line, "no 87 undefined ", name),
+        ScriptRefusal::Depth { path } => push_named(line, "no 88 depth ", path),
+        ScriptRefusal::NoFile { path } => push_named(line, "no 89 nofile ", path),
+        ScriptRefusal::TooMany => line.push_str("no 96 toomany"),
+    }
 }
 
 /// Adds why a command was not accepted.
@@ -89,26 +166,41 @@ fn push_refusal(line: &mut String, refusal: &Refusal) -> Result<(), AllocError>
     ensures { OnOk result (string_bytes line.new ≡ string_bytes line.old ++ refusal_text refusal.now) }
 {
     match refusal {
-        Refusal::Fault { database, count } => {
-            push_named(line, "no 10 fault ", database)?;
-            push_number(line, " ", *count)
-        }
+        Refusal::Fault { database, count } => push_fault(line, database, *count),
         Refusal::Locked { xid } => push_number(line, "no 12 locked ", *xid),
-        Refusal::Full { limit } => push_number(line, "no 13 full ", u64::from(*limit)),
-        Refusal::BadRow { space } => push_number(line, "no 14 badrow ", u64::from(*space)),
+        Refusal::Full { limit } => push_id(line, "no 13 full ", *limit),
+        Refusal::BadRow { space } => push_space(line, "no 14 badrow ", *space),
         Refusal::NotEmpty { database } => push_named(line, "no 15 notempty ", database),
         Refusal::Down { database } => push_named(line, "no 16 down ", database),
         Refusal::NoDatabase { database } => push_named(line, "no 17 nodatabase ", database),
+        Refusal::IdUsed { id } => push_id(line, "no 18 idused ", *id),
         Refusal::IsUp { database } => push_named(line, "no 19 isup ", database),
-        Refusal::TooBig { space } => push_number(line, "no 21 toobig ", u64::from(*space)),
+        Refusal::TooBig { space } => push_space(line, "no 21 toobig ", *space),
+        Refusal::NotInitialised { node } => push_id(line, "no 41 notinitialised ", *node),
+        Refusal::OtherNode { node } => push_id(line, "no 42 othernode ", *node),
+        Refusal::AlreadyNode { node } => push_id(line, "no 43 alreadynode ", *node),
+        Refusal::NoNode { node } => push_id(line, "no 44 nonode ", *node),
+        Refusal::NoConninfo { node } => push_id(line, "no 45 noconninfo ", *node),
+        Refusal::HasReceivers { node } => push_id(line, "no 46 hasreceivers ", *node),
+        Refusal::NoSet { set } => push_id(line, "no 47 noset ", *set),
         Refusal::TableExists { table } => push_named(line, "no 50 tableexists ", table),
         Refusal::NameUsed { name } => push_named(line, "no 51 nameused ", name),
         Refusal::NoTable { table } => push_named(line, "no 52 notable ", table),
         Refusal::NoTransaction { transaction } => {
             push_named(line, "no 53 notransaction ", transaction)
         }
-        Refusal::Duplicate => write!(line, "no 54 duplicate"),
+        Refusal::Duplicate => line.push_str("no 54 duplicate"),
+        Refusal::NotOrigin { set } => push_id(line, "no 55 notorigin ", *set),
+        Refusal::SetLocked { set } => push_id(line, "no 56 setlocked ", *set),
         Refusal::BadWidth { columns } => push_number(line, "no 57 badwidth ", *columns),
+        Refusal::TableUsed { table } => push_named(line, "no 58 tableused ", table),
+        Refusal::Busy { xid } => push_number(line, "no 66 busy ", *xid),
+        Refusal::NoPath { node } => push_id(line, "no 75 nopath ", *node),
+        Refusal::SameNode { node } => push_id(line, "no 78 samenode ", *node),
+        Refusal::Script(script) => push_script(line, script),
+        Refusal::ScriptUsed { name } => push_named(line, "no 93 scriptused ", name),
+        Refusal::NoScript { name } => push_named(line, "no 94 noscript ", name),
+        Refusal::NotBuilt { word } => push_named(line, "no 98 notbuilt ", word),
     }
 }
 

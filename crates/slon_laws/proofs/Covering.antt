@@ -6,7 +6,7 @@ use Rattle.std.specs.Str.{bytes_eq}
 use Rattle.std.proofs.lemmas.Bool.{false≢true, false_from_ne_true, lt-ltb, ltb-true, eqb-true, eq-eqb, or_cases}
 use Rattle.slon_model.specs.declared.numbering.Numbering.{Numbering}
 use Rattle.slon_model.specs.declared.numbering.Numbering.TheVariants.{Xids, Actions}
-use Rattle.slon_model.specs.Names.{find_named, put_named}
+use Rattle.slon_model.specs.Names.{Named, find_named, put_named}
 use Rattle.slon_model.specs.Rows.{member}
 use Rattle.slon_model.specs.Snapshots.{Covers, first_or, Rising}
 use Rattle.slon_model.specs.Tasks.{Task}
@@ -14,14 +14,16 @@ use Rattle.slon_model.specs.Place.{Place, open_xids, taken, founded, raised}
 use Rattle.slon_model.specs.Moves.{Move, Founds, Begins, Writes, Commits, Aborts, Falls, Rises, prepared}
 use Rattle.slon_model.specs.Moves.{moved, begun, done}
 use Rattle.slon_model.specs.Deciding.{Choice, place_by}
-use Rattle.slon_model.specs.World.{World, stand, Step, Grants, Denies, Misses, Asks, Happening, Leads}
+use Rattle.slon_model.specs.World.{World, Step, Grants, Denies, Misses, Asks, Acts, Happening, Leads}
 use Rattle.slon_model.proofs.Names.{bytes_same, found_behind, put_found, put_other, all_found, one_found}
 use Rattle.slon_laws.specs.Sound.{Sound, ids_of}
 use Rattle.slon_laws.specs.Worlds.{AllPlaces}
 use Rattle.slon_laws.specs.Laws.{SnapshotsCover}
 use Rattle.slon_laws.specs.Keeps.{Keeps}
 use Rattle.slon_laws.proofs.Decides.{raised_same}
-use Rattle.slon_laws.proofs.Keeps.{kept}
+use Rattle.slon_laws.specs.Turning.{Turned}
+use Rattle.slon_laws.proofs.Keeps.{kept, turned_keeps}
+use Rattle.slon_laws.proofs.Acting.{acting_carries}
 use Rattle.slon_laws.proofs.Opens.{member_behind, member_without, member_all}
 use Rattle.slon_laws.proofs.Sounds.{sound_prepared}
 use Rattle.slon_laws.proofs.Worlds.{sound_world, sound_world_step}
@@ -106,6 +108,8 @@ keeps_outlasting first = record {
   moves = λ task move p one may s. outlasts_on first p (done move p) s.1 (done_outlasts move p s.0);
   falls = λ count p lasts. outlasts_on first p _ lasts (none_open p _ (omega arith) (omega arith) refl);
   wavers = λ stands p lasts. outlasts_on first p _ lasts (none_open p _ (omega arith) (omega arith) refl);
+  commits = λ c p within lasts. record { later = lasts.later; numbers = lasts.numbers; still = lasts.still };
+  promises = λ node p lasts. record { later = lasts.later; numbers = lasts.numbers; still = lasts.still };
 }
 
 pub outlasts_step : (task : Task) (p : Place) (choice : Choice) → Sound p → Outlasts p (place_by task p choice)
@@ -114,8 +118,29 @@ outlasts_step task p choice s = kept (keeps_outlasting p) task p choice (tt, (s,
 -- ---- each history
 
 -- what a database became
+abbrev pub IsLaterIn : List ℕ → Place → Named Place → Type 0
+IsLaterIn name p ps = (q : Place) × (find_named name ps ≡ Some q) × Outlasts p q
+
 abbrev pub IsLater : List ℕ → Place → World → Type 0
-IsLater name p w = (q : Place) × (find_named name w.places ≡ Some q) × Outlasts p q
+IsLater name p w = IsLaterIn name p w.places
+
+-- a database becomes one that outlasts it
+later_put : (name : List ℕ) (p : Place) (other : List ℕ) (r q : Place) (ps : Named Place) →
+    find_named other ps ≡ Some r → Outlasts r q → IsLaterIn name p ps → IsLaterIn name p (put_named other q ps)
+later_put name p other r q ps at on (s, found, lasts) = by (bytes_eq name other) refl
+  where
+    by : (b : Bool) → bytes_eq name other ≡ b → IsLaterIn name p (put_named other q ps)
+    by true same =
+        let here : name ≡ other = bytes_same name other same in
+        let one : s ≡ r = one_found s r (sym found ∙ ap (λ k. find_named k ps) here ∙ at) in (
+          q,
+          ap (λ k. find_named k (put_named other q ps)) here ∙ put_found other q r ps at,
+          outlasts_on p s q lasts (subst (λ o. Outlasts o q) (sym one) on),
+        )
+    by false differ = (s, put_other name other q ps differ ∙ found, lasts)
+
+turned_outlasts : (p q : Place) → Turned p q → Outlasts p q
+turned_outlasts p q turned = turned_keeps (keeps_outlasting p) p q turned (outlasts_itself p)
 
 later_step : (name : List ℕ) (p : Place) (w v : World) (h : Happening) → Step w h v → AllPlaces Sound w →
     IsLater name p w → IsLater name p v
@@ -123,23 +148,13 @@ later_step name p w v h (Grants other result about granted takes told is) all (r
     subst (IsLater name p) (sym is) (r, found_behind name other _ r w.places found, lasts)
 later_step name p w v h (Denies other about denied sure told is) all later = subst (IsLater name p) (sym is) later
 later_step name p w v h (Misses other task about none sure told is) all later = subst (IsLater name p) (sym is) later
-later_step name p w v h (Asks t) all (r, found, lasts) =
-    subst (IsLater name p) (sym t.is) (by (bytes_eq name t.name) refl)
-  where
-    q : Place
-    q = place_by t.task t.place h.choice
-
-    by : (b : Bool) → bytes_eq name t.name ≡ b → IsLater name p (stand ((t.name, q) ∷ []) w)
-    by true same =
-        let at : name ≡ t.name = bytes_same name t.name same in
-        let one : r ≡ t.place = one_found r t.place (sym found ∙ ap (λ k. find_named k w.places) at ∙ t.found) in
-        let sound = all_found Sound t.name t.place w.places all t.found in
-        let on : Outlasts t.place q = outlasts_step t.task t.place h.choice sound in (
-          q,
-          ap (λ k. find_named k (put_named t.name q w.places)) at ∙ put_found t.name q t.place w.places t.found,
-          outlasts_on p r q lasts (subst (λ o. Outlasts o q) (sym one) on),
-        )
-    by false differ = (r, put_other name t.name q w.places differ ∙ found, lasts)
+later_step name p w v h (Asks t) all later =
+    subst (IsLater name p) (sym t.is)
+    (later_put name p t.name t.place (place_by t.task t.place h.choice) w.places t.found
+    (outlasts_step t.task t.place h.choice (all_found Sound t.name t.place w.places all t.found)) later)
+later_step name p w v h (Acts t) all later =
+    acting_carries (λ other r q ps at turned. later_put name p other r q ps at (turned_outlasts r q turned)) w v h t
+    later
 
 pub later_place : (later : List Happening) (w v : World) → AllPlaces Sound w → Leads w later v →
     (name : List ℕ) (p : Place) → find_named name w.places ≡ Some p → AllPlaces Sound v × IsLater name p v

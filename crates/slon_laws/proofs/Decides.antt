@@ -16,12 +16,13 @@ use Rattle.slon_model.specs.Rows.{Row, Change, Put, Set, Remove, change_key}
 use Rattle.slon_lemmas.proofs.Tests.{none_of}
 use Rattle.slon_model.specs.Tasks.{Write, Task, ToFound, ToMake, ToOpen, ToWrite, ToCommit, ToAbort, ToList, ToTell}
 use Rattle.slon_model.specs.Tasks.{ToCrash, ToRise}
+use Rattle.slon_model.specs.Deeds.{Node}
 use Rattle.slon_model.specs.Place.{Place, Standing, IsRunning, IsFallen, IsDoubtful, counter, with_counter, lifted}
 use Rattle.slon_model.specs.Place.{stamped, raised, holder, seen_rows}
 use Rattle.slon_model.specs.Moves.{Move, Stays, Writes, done, is_beyond}
 use Rattle.slon_model.specs.Deciding.{Decision, Refuses, Accepts, Overflows, limited, refused_if, with_found, fits}
 use Rattle.slon_model.specs.Deciding.{unless_held, by_row, decide_row, decide_write, decide_up, decide_down, decide_by}
-use Rattle.slon_model.specs.Deciding.{decide, settled, move_of}
+use Rattle.slon_model.specs.Deciding.{decide, settled, move_of, closed_at, unless_closed, status_of}
 use Rattle.slon_laws.specs.Allowed.{IsFree, Allows, MayMove, IsNext}
 
 -- ---- numbers that rise
@@ -102,11 +103,17 @@ rowed task p (Set key columns) d (Some old) is = is
 rowed task p (Remove key) d None is = record { allowed = tt; next = tt }
 rowed task p (Remove key) d (Some old) is = is
 
+closed : (task : Task) (p : Place) (o : Option DbFault) (d : Decision) → Decides task p d →
+    Decides task p (unless_closed o d)
+closed task p None d is = is
+closed task p (Some fault) d is = tt
+
 decides_write : (w : Write) (p : Place) → Decides (ToWrite w) p (decide_write w p)
 decides_write w p =
     when_found (ToWrite w) p (find_named w.name p.opens) NoTransaction _ (λ xid opened.
     when_found (ToWrite w) p (find_named w.table p.tables) NoTable _ (λ width found.
-    unless (ToWrite w) p (not (fits w.change width)) (BadWidth width) (decide_row xid w p) (λ fit.
+    unless (ToWrite w) p (not (fits w.change width)) (BadWidth width) _ (λ fit.
+    closed (ToWrite w) p (closed_at w.table p.node) (decide_row xid w p) (
     held (ToWrite w) p xid (holder w.table (change_key w.change) p) _ (λ free.
     rowed (ToWrite w) p w.change (Accepts (Acted p.numbers.next) (Writes xid w.table w.change))
     (get (seen_rows xid p w.table) (change_key w.change)) (record {
@@ -120,10 +127,14 @@ decides_write w p =
         formed = λ formed. (formed.1, formed.2);
       };
       next = let same = (raised_same Actions p).number in omega (arith, same);
-    })))))
+    }))))))
 
 plain : (task : Task) (p : Place) (answer : Answer) → IsNext p answer → Decides task p (Accepts answer Stays)
 plain task p answer next = record { allowed = tt; next = next }
+
+status_next : (q : Place) (n : Option Node) → IsNext q (status_of n)
+status_next q None = tt
+status_next q (Some n) = tt
 
 decides_up : (task : Task) (p : Place) → Decides task p (decide_up task p)
 decides_up (ToMake table columns) p =
@@ -143,7 +154,7 @@ decides_up (ToAbort name) p =
     when_found (ToAbort name) p (find_named name p.opens) _ _ (λ xid found. record { allowed = tt; next = tt })
 decides_up (ToList table) p =
     when_found (ToList table) p (find_named table p.tables) _ _ (λ width found. record { allowed = tt; next = tt })
-decides_up ToTell p = record { allowed = tt; next = tt }
+decides_up ToTell p = record { allowed = tt; next = status_next p p.node }
 decides_up (ToCrash Now) p = record { allowed = tt; next = tt }
 decides_up (ToCrash (After calls keep)) p = record { allowed = tt; next = tt }
 decides_up (ToCrash (AtCommit keep)) p = record { allowed = tt; next = tt }

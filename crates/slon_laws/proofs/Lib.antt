@@ -1,3 +1,4 @@
+pub mod Acting
 pub mod Committing
 pub mod Covering
 pub mod Decides

@@ -316,4 +316,6 @@ keeps_sound = record {
   moves = λ task move p one may s. sound_done task move p may.allows s;
   falls = λ count p s. sound_closed s;
   wavers = λ stands p s. sound_closed s;
+  commits = λ c p first s. s;
+  promises = λ node p s. s;
 }

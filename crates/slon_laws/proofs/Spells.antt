@@ -225,4 +225,15 @@ keeps_spelled = record {
       λ count p s. (keeps_sound.falls count p s.0, spelled_same p _ (refl, refl, omega arith, refl, refl, refl) s.1);
   wavers =
       λ stands p s. (keeps_sound.wavers stands p s.0, spelled_same p _ (refl, refl, omega arith, refl, refl, refl) s.1);
+  commits = λ c p within s. (
+    keeps_sound.commits c p within s.0,
+    spelled_stamped p _ refl refl refl (omega arith)
+        (record {
+          stamp = below_limit (p.stamp + 1) within;
+          xids = s.1.small.xids;
+          numbers = s.1.small.numbers;
+        }) s.1,
+  );
+  promises =
+      λ node p s. (keeps_sound.promises node p s.0, spelled_same p _ (refl, refl, omega arith, refl, refl, refl) s.1);
 }

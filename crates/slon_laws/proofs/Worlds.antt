@@ -4,13 +4,14 @@ use Rattle.std.specs.List.{AllByRecursion}
 use Rattle.slon_model.specs.Tasks.{Task, ToFound, OnOne, subject_of}
 use Rattle.slon_model.specs.Spoken.{IsTask, IsSubject, IsSpoken}
 use Rattle.slon_model.specs.Place.{Place, bare_place}
-use Rattle.slon_model.specs.World.{World, start, Happening, Step, Grants, Denies, Misses, Asks, Leads}
+use Rattle.slon_model.specs.World.{World, start, Happening, Step, Grants, Denies, Misses, Asks, Acts, Leads}
 use Rattle.slon_model.proofs.Names.{all_map, all_put, all_behind, all_found}
 use Rattle.slon_laws.specs.Sound.{Sound}
 use Rattle.slon_laws.specs.Spelled.{IsSpelled}
 use Rattle.slon_laws.specs.Keeps.{Keeps}
 use Rattle.slon_laws.specs.Worlds.{AllPlaces, AllSpoken}
-use Rattle.slon_laws.proofs.Keeps.{kept}
+use Rattle.slon_laws.proofs.Keeps.{kept, carried}
+use Rattle.slon_laws.proofs.Acting.{acting_carries}
 use Rattle.slon_laws.proofs.Sounds.{sound_bare, keeps_sound}
 use Rattle.slon_laws.proofs.Spells.{spelled_bare, keeps_spelled}
 
@@ -51,6 +52,7 @@ all_step {IsOne} {P} {Q} l s one all = by s.step
         (all_put Q t.name _ s.old.places
         (kept l.keeps t.task t.place s.happening.choice
         (one t.name t.task t.about, all_found P t.name t.place s.old.places all t.found)) still)
+    by (Acts t) = acting_carries (carried l.keeps) s.old s.new s.happening t still
 
 -- ---- sound
 

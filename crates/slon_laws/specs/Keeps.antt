@@ -1,8 +1,9 @@
 -- What every way in which a database goes on leads to.
-use Rattle.std.specs.Prelude.{ℕ, Bool}
+use Rattle.std.specs.Prelude.{◌≡◌, ℕ, Bool, false, Option}
 use Rattle.slon_model.specs.Tasks.{Task}
 use Rattle.slon_model.specs.Place.{Place, fallen, doubted}
-use Rattle.slon_model.specs.Moves.{Move, prepared, done}
+use Rattle.slon_model.specs.Moves.{Move, prepared, done, is_last_stamp}
+use Rattle.slon_model.specs.Sessions.{Commit, committing}
 use Rattle.slon_laws.specs.Allowed.{MayMove}
 
 -- From P each allowed move of such a task, and what comes before it, leads to Q, and a fault and a doubt keep Q.
@@ -12,3 +13,6 @@ pub record Keeps (IsOne : Task → Type 0) (P Q : Place → Type 0) : Type 0 whe
   pub moves : (task : Task) (move : Move) (p : Place) → IsOne task → MayMove task p move → P p → Q (done move p)
   pub falls : (count : ℕ) (p : Place) → Q p → Q (fallen count p)
   pub wavers : (stands : Bool) (p : Place) → Q p → Q (doubted stands p)
+  -- and so do a commit of a script, and a promise of one that is in doubt
+  pub commits : (c : Commit) (p : Place) → is_last_stamp p ≡ false → Q p → Q (committing c p)
+  pub promises : (node : Option ℕ) (p : Place) → Q p → Q (record p { promised = node })

@@ -6,7 +6,7 @@ use Rattle.slon_model.specs.declared.reply.Answer.TheVariants.{Opened, Acted}
 use Rattle.slon_model.specs.declared.reply.Reply.{Reply}
 use Rattle.slon_model.specs.declared.reply.Reply.TheVariants.{Accepted}
 use Rattle.slon_model.specs.Names.{find_named}
-use Rattle.slon_model.specs.Tasks.{subject_of, database_named}
+use Rattle.slon_model.specs.Tasks.{Subject, OnNew, OnOne, subject_of}
 use Rattle.slon_model.specs.Rows.{Action, member, play_rows}
 use Rattle.slon_model.specs.Place.{Place, open_xids, standing_rows, taken}
 use Rattle.slon_model.specs.Moves.{committed}
@@ -76,12 +76,19 @@ abbrev pub IsReplyBelow : Place → Reply → Type 0
 IsReplyBelow p (Accepted answer) = IsAnswerBelow p answer
 IsReplyBelow p others = Unit {0}
 
+-- the command is about the database of this name
+abbrev pub IsAbout : List ℕ → Subject → Type 0
+IsAbout name (OnNew other) = name ≡ other
+IsAbout name (OnOne database task) = name ≡ database
+IsAbout name others = ⊥
+
 -- Every id and every number that a database gave in a reply is below its ceilings ever after.
 abbrev pub RepliesStayBelow : Type 0
 RepliesStayBelow =
     (limit : ℕ) (history later : List Happening) (h : Happening) (w v : World) → Leads (start limit) (h ∷ history) w →
     Leads w later v →
-    (p : Place) → find_named (database_named (subject_of h.command)) v.places ≡ Some p → IsReplyBelow p h.reply
+    (name : List ℕ) (p : Place) → IsAbout name (subject_of h.command) → find_named name v.places ≡ Some p →
+    IsReplyBelow p h.reply
 
 -- Every snapshot ends at most at the ceilings ever after.
 abbrev pub SnapshotsStayBelow : Type 0

@@ -4,4 +4,5 @@ pub mod Keys
 pub mod Laws
 pub mod Sound
 pub mod Spelled
+pub mod Turning
 pub mod Worlds

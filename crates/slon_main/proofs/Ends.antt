@@ -200,7 +200,7 @@ ends_short shelf bytes unread written status has is empty =
     subst (λ s. EndsRun shelf s bytes written unread has) (sym is) (
       bare,
       ran_nothing shelf database_limit (session_of bytes).commands written bare empty (record {
-        agrees = record { limit = refl; fits = tt };
+        agrees = record { limit = refl; fits = tt; memory = refl };
         given = refl;
       }),
     )

@@ -15,10 +15,10 @@ use Rattle.slon_base.specs.Keeper.{key_cmp}
 use Rattle.slon_base.proofs.Order.{same_keys, equal_of, tied}
 use Rattle.slon_model.specs.declared.fault.DbFault.{DbFault}
 use Rattle.slon_model.specs.declared.fault.DbFault.TheVariants.{Locked, TableExists, NameUsed, NoTable}
-use Rattle.slon_model.specs.declared.fault.DbFault.TheVariants.{NoTransaction, BadWidth}
+use Rattle.slon_model.specs.declared.fault.DbFault.TheVariants.{NoTransaction, BadWidth, NotOrigin, SetLocked}
 use Rattle.slon_model.specs.declared.command.Crash.TheVariants.{Now}
 use Rattle.slon_model.specs.declared.reply.Answer.{Answer}
-use Rattle.slon_model.specs.declared.reply.Answer.TheVariants.{Done, Listed, Opened, Acted, Committed, Status}
+use Rattle.slon_model.specs.declared.reply.Answer.TheVariants.{Done, Listed, Opened, Acted, Committed, Status, Echoed}
 use Rattle.slon_model.specs.declared.reply.Refusal.{Refusal}
 use Rattle.slon_model.specs.declared.reply.Refusal.TheVariants as refused
 use Rattle.slon_model.specs.declared.reply.Reply.{Reply}
@@ -30,29 +30,37 @@ use Rattle.slon_model.specs.Spoken.{IsName, IsTableName, IsValue, AreValues, IsC
 use Rattle.slon_model.specs.Tasks.{Write, Task, ToFound, ToMake, ToOpen, ToWrite, ToCommit, ToAbort, ToList, ToTell}
 use Rattle.slon_model.specs.Tasks.{ToCrash, ToRise, OnNew, OnOne, Words, words_of}
 use Rattle.slon_model.specs.Names.{find_named}
+use Rattle.slon_model.specs.Config.{set_of, is_origin, is_locked}
+use Rattle.slon_model.specs.Deeds.{Node, Knowledge, knowledge, view_of}
 use Rattle.slon_model.specs.Place.{Place, Standing, IsRunning, IsDoubtful, standing_rows, own_count, holder}
 use Rattle.slon_model.specs.Place.{seen_rows, bare_place}
 use Rattle.slon_model.specs.Moves.{Move, Stays, Tables, Begins, Writes, Commits, Aborts, is_beyond}
 use Rattle.slon_model.specs.Deciding.{Decision, Refuses, Accepts, Overflows, refused_if, with_found, unless_held}
 use Rattle.slon_model.specs.Deciding.{by_row, fits, decide_row, decide_write, decide_up, decide_down, decide_by}
-use Rattle.slon_model.specs.Deciding.{limited, decide, result_of, sure, unsure, Choice, AsDue, AtFault, Wavers}
-use Rattle.slon_model.specs.Deciding.{result_by, settled}
-use Rattle.slon_model.specs.World.{World, start, Happening, Step, Grants, Denies, Misses, Asks, Leads, refusal_of}
+use Rattle.slon_model.specs.Deciding.{limited, decide, result_of, sure, unsure, Choice, AtFault, Wavers}
+use Rattle.slon_model.specs.Deciding.{result_by, settled, closed_set, closed_at, unless_closed}
+use Rattle.slon_model.specs.Deciding.{status_of}
+use Rattle.slon_model.specs.World.{World, start, Happening, Step, Grants, Denies, Misses, Asks, Acts, Leads}
+use Rattle.slon_model.specs.World.{refusal_of}
 use Rattle.slon_model.specs.World.{reply_of, is_accepted, replies_of}
 use Rattle.slon_model.proofs.Names.{all_found}
+use Rattle.slon_model.proofs.Subjects.{no_act}
+use Rattle.slon_main.proofs.Alone.{IsAlone, alone_world}
 use Rattle.slon_laws.specs.Keys.{change_at}
 use Rattle.slon_laws.specs.Spelled.{IsSpelled, IsWritten}
 use Rattle.slon_laws.specs.Worlds.{AllPlaces, AllSpoken}
 use Rattle.slon_laws.proofs.Keys.{get-played}
 use Rattle.slon_laws.proofs.Worlds.{spelled_world}
-use Rattle.session_text.specs.Replies.{RowHasForm, HasForm, NumbersFit, RefusalHasForm, RefusalFits, AnswerHasForm}
-use Rattle.session_text.specs.Replies.{AnswerFits}
+use Rattle.session_text.specs.Replies.{RowHasForm, KeptHasForm, ScriptHasForm, HasForm, NumbersFit, RefusalHasForm}
+use Rattle.session_text.specs.Replies.{RefusalFits, AnswerHasForm, AnswerFits, is_line}
 
 -- ---- words and numbers
 
 -- the words of a reply have their forms
 abbrev AnswerReads : Answer → Type 0
 AnswerReads (Listed rows) = AllByRecursion RowHasForm rows
+AnswerReads (Status node log progress kept) = AllByRecursion KeptHasForm kept
+AnswerReads (Echoed text) = is_line text ≡ true
 AnswerReads others = Unit {0}
 
 abbrev RefusalReads : Refusal → Type 0
@@ -65,6 +73,11 @@ RefusalReads (refused.TableExists table) = IsTableName table
 RefusalReads (refused.NameUsed name) = IsName name
 RefusalReads (refused.NoTable table) = IsTableName table
 RefusalReads (refused.NoTransaction transaction) = IsName transaction
+RefusalReads (refused.TableUsed table) = is_line table ≡ true
+RefusalReads (refused.Script refusal) = ScriptHasForm refusal
+RefusalReads (refused.ScriptUsed name) = IsName name
+RefusalReads (refused.NoScript name) = IsName name
+RefusalReads (refused.NotBuilt word) = is_line word ≡ true
 RefusalReads others = Unit {0}
 
 abbrev Reads : Reply → Type 0
@@ -74,21 +87,13 @@ Reads (InDoubt database answer) = IsName database × AnswerReads answer
 
 answer_form : (a : Answer) → AnswerReads a → AnswerFits a → AnswerHasForm a
 answer_form (Listed rows) words numbers = (numbers, words)
-answer_form (Opened xid) words numbers = numbers
-answer_form (Acted number) words numbers = numbers
-answer_form (Committed actions) words numbers = numbers
-answer_form (Status node log) words numbers = numbers
-answer_form others words numbers = tt
+answer_form (Status node log progress kept) words numbers = (numbers, words)
+answer_form (Echoed text) words numbers = words
+answer_form others words numbers = numbers
 
 refusal_form : (r : Refusal) → RefusalReads r → RefusalFits r → RefusalHasForm r
 refusal_form (refused.Fault database count) words numbers = (words, numbers)
-refusal_form (refused.Locked xid) words numbers = numbers
-refusal_form (refused.Full limit) words numbers = numbers
-refusal_form (refused.BadRow space) words numbers = numbers
-refusal_form (refused.TooBig space) words numbers = numbers
-refusal_form (refused.BadWidth columns) words numbers = numbers
-refusal_form refused.Duplicate words numbers = tt
-refusal_form others words numbers = words
+refusal_form others words numbers = search
 
 has_form : (r : Reply) → Reads r → NumbersFit r → HasForm r
 has_form (Accepted answer) words numbers = answer_form answer words numbers
@@ -234,21 +239,45 @@ row_reads words (Put key row) number move (Some old) = tt
 row_reads words others number move None = tt
 row_reads words others number move (Some old) = tt
 
+closed_reads : (words : Words) (own : ℕ) (k : Knowledge) (o : Option ℕ) (d : Decision) → Decides words d →
+    Decides words (unless_closed (closed_set own k o) d)
+closed_reads words own k None d holds = holds
+closed_reads words own k (Some set) d holds =
+    elim (is_some (view_of set k)) as (λ b. Decides words (unless_closed (cond b (Some (NotOrigin set))
+    (cond (is_origin own set k.config && is_locked set k.config) (Some (SetLocked set)) None)) d)) [
+      | true ↦ tt
+      | false ↦ elim (is_origin own set k.config && is_locked set k.config)
+          as (λ b. Decides words (unless_closed (cond b (Some (SetLocked set)) None) d)) [
+            | true ↦ tt
+            | false ↦ holds
+          ]
+    ]
+
+node_reads : (words : Words) (table : List ℕ) (n : Option Node) (d : Decision) → Decides words d →
+    Decides words (unless_closed (closed_at table n) d)
+node_reads words table None d holds = holds
+node_reads words table (Some n) d holds =
+    closed_reads words n.id (knowledge n) (set_of table (knowledge n).config) d holds
+
 write_reads : (name : List ℕ) (w : Write) (p : Place) → IsTask (ToWrite w) →
     Decides (words_of (OnOne name (ToWrite w))) (decide_write w p)
 write_reads name w p formed =
     let words = words_of (OnOne name (ToWrite w)) in
     let key = change_key w.change in
     found_reads words (find_named w.name p.opens) NoTransaction (λ xid. with_found (find_named w.table p.tables) NoTable
-    (λ width. refused_if (not (fits w.change width)) (BadWidth width) (decide_row xid w p))) formed.0 (λ xid.
+    (λ width. refused_if (not (fits w.change width)) (BadWidth width)
+    (unless_closed (closed_at w.table p.node) (decide_row xid w p)))) formed.0 (λ xid.
     found_reads words (find_named w.table p.tables) NoTable
-    (λ width. refused_if (not (fits w.change width)) (BadWidth width) (decide_row xid w p)) formed.1 (λ width.
-    refused_reads words (not (fits w.change width)) (BadWidth width) (decide_row xid w p) tt
+    (λ width. refused_if (not (fits w.change width)) (BadWidth width)
+    (unless_closed (closed_at w.table p.node) (decide_row xid w p))) formed.1 (λ width.
+    refused_reads words (not (fits w.change width)) (BadWidth width)
+    (unless_closed (closed_at w.table p.node) (decide_row xid w p)) tt
+    (node_reads words w.table p.node (decide_row xid w p)
     (held_reads words xid (holder w.table key p)
     (by_row w.change (Accepts (Acted p.numbers.next) (Writes xid w.table w.change)) (get (seen_rows xid p w.table) key))
-    (row_reads words w.change p.numbers.next (Writes xid w.table w.change) (get (seen_rows xid p w.table) key)))))
+    (row_reads words w.change p.numbers.next (Writes xid w.table w.change) (get (seen_rows xid p w.table) key))))))
 
-up_reads : (name : List ℕ) (task : Task) (p : Place) → IsName name → IsTask task → IsSpelled p →
+up_reads : (name : List ℕ) (task : Task) (p : Place) → IsName name → IsTask task → IsSpelled p × IsAlone p →
     Decides (words_of (OnOne name task)) (decide_up task p)
 up_reads name (ToMake table columns) p named formed spelled =
     refused_reads (words_of (OnOne name (ToMake table columns))) (is_some (find_named table p.tables)) TableExists
@@ -263,10 +292,11 @@ up_reads name (ToCommit one) p named formed spelled =
 up_reads name (ToAbort one) p named formed spelled =
     found_reads (words_of (OnOne name (ToAbort one))) (find_named one p.opens) NoTransaction
     (λ xid. Accepts Done (Aborts one)) formed (λ xid. tt)
-up_reads name (ToList table) p named formed spelled =
+up_reads name (ToList table) p named formed (spelled, alone) =
     found_reads (words_of (OnOne name (ToList table))) (find_named table p.tables) NoTable
     (λ width. Accepts (Listed (entries (standing_rows p table))) Stays) formed (λ width. rows_formed p table spelled)
-up_reads name ToTell p named formed spelled = tt
+up_reads name ToTell p named formed (spelled, alone) =
+    subst (λ n. Decides (words_of (OnOne name ToTell)) (Accepts (status_of n) Stays)) (sym alone) tt
 up_reads name (ToCrash Now) p named formed spelled = tt
 up_reads name (ToCrash others) p named formed spelled = tt
 up_reads name others p named formed spelled = named
@@ -282,8 +312,8 @@ down_reads name ToFound s named = tt
 down_reads name ToRise s named = settled_reads s
 down_reads name others s named = named
 
-standing_reads : (name : List ℕ) (task : Task) (p : Place) (s : Standing) → IsName name → IsTask task → IsSpelled p →
-    Decides (words_of (OnOne name task)) (decide_by s task p)
+standing_reads : (name : List ℕ) (task : Task) (p : Place) (s : Standing) → IsName name → IsTask task →
+    IsSpelled p × IsAlone p → Decides (words_of (OnOne name task)) (decide_by s task p)
 standing_reads name task p IsRunning named formed spelled = up_reads name task p named formed spelled
 standing_reads name task p others named formed spelled = down_reads name task others named
 
@@ -308,9 +338,9 @@ unsure_reads words Overflows named holds = tt
 
 chosen_reads : (words : Words) (task : Task) (p : Place) (choice : Choice) → IsName words.database →
     Decides words (decide task p) → Reads (reply_of words (result_by task p choice))
-chosen_reads words task p AsDue named holds = sure_reads words (decide task p) holds
 chosen_reads words task p (AtFault count also) named holds = named
 chosen_reads words task p (Wavers stands) named holds = unsure_reads words (decide task p) named holds
+chosen_reads words task p others named holds = sure_reads words (decide task p) holds
 
 -- ---- a step
 
@@ -323,8 +353,8 @@ denied_reads true room name limit named denied = named
 denied_reads false true name limit named denied = absurd (true≢false denied)
 denied_reads false false name limit named denied = tt
 
-pub step_reads : (w v : World) (h : Happening) → Step w h v → AllPlaces IsSpelled w → IsSpoken h.command →
-    Reads h.reply
+pub step_reads : (w v : World) (h : Happening) → Step w h v → AllPlaces IsSpelled w × AllPlaces IsAlone w →
+    IsSpoken h.command → Reads h.reply
 step_reads w v h (Grants name result about done takes told same) all spoken =
     let named : IsName name = subst IsSubject about spoken in
     subst Reads (sym (told ∙ ap (reply_of (words_of (OnNew name))) takes.told))
@@ -339,11 +369,13 @@ step_reads w v h (Asks t) all spoken =
     let p = t.place in
     let words = words_of (OnOne t.name t.task) in
     let formed = subst IsSubject t.about spoken in
-    let spelled = all_found IsSpelled t.name p w.places all t.found in
+    let spelled = all_found IsSpelled t.name p w.places all.0 t.found in
+    let alone = all_found IsAlone t.name p w.places all.1 t.found in
     subst Reads (sym (t.told ∙ ap (reply_of words) t.takes.told))
     (chosen_reads words t.task p h.choice formed.0
     (limited_reads words p (decide_by p.standing t.task p)
-    (standing_reads t.name t.task p p.standing formed.0 formed.1 spelled)))
+    (standing_reads t.name t.task p p.standing formed.0 formed.1 (spelled, alone))))
+step_reads w v h (Acts t) all spoken = absurd (no_act h.command t.act t.about)
 
 -- ---- a history
 
@@ -363,4 +395,5 @@ formed_by limit [] w leads spoken fits = tt
 formed_by limit (h ∷ hs) w (v, before, step) (said, others) fits =
     let parts = behind NumbersFit (replies_of hs) h.reply fits in
     all_with HasForm (replies_of hs) h.reply (formed_by limit hs v before others parts.0)
-    (has_form h.reply (step_reads v w h step (spelled_world limit hs v others before) said) parts.1)
+    (has_form h.reply
+    (step_reads v w h step (spelled_world limit hs v others before, alone_world limit hs v before) said) parts.1)

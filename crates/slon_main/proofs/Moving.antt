@@ -19,8 +19,9 @@ use Rattle.slon_model.specs.declared.reply.Refusal.TheVariants as refused
 use Rattle.slon_model.specs.declared.reply.Reply.{Reply}
 use Rattle.slon_model.specs.declared.reply.Reply.TheVariants.{Accepted, Refused}
 use Rattle.slon_model.specs.Names.{find_named}
-use Rattle.slon_model.specs.Tasks.{Subject, OnNew, OnOne, subject_of, database_named, transaction_named, table_named}
-use Rattle.slon_model.specs.Tasks.{Words, words_of}
+use Rattle.slon_model.specs.Tasks.{Subject, OnNew, OnOne, OnAll, subject_of, database_named, transaction_named}
+use Rattle.slon_model.specs.Tasks.{table_named, Words, words_of}
+use Rattle.slon_model.proofs.Subjects.{no_act}
 use Rattle.slon_model.specs.World.{halt_in, refusal_of, reply_of, is_accepted}
 use Rattle.app_store.specs.Base.{Base}
 use Rattle.app_store.specs.Handed.{HandsOn}
@@ -92,6 +93,7 @@ moves_none command c word name names same none = go (subject_of command) refl na
     go : (s : Subject) → subject_of command ≡ s → word ≡ database_named s → is_making s ≡ false →
         Moves command c (Refused (refused.NoDatabase name)) c
     go (OnNew made) about named other = absurd (true≢false other)
+    go (OnAll act) about named other = absurd (no_act command act about)
     go (OnOne one task) about named other =
         Misses one task about (ap (λ w. find_named w c.bases) (sym named) ∙ none)
         (ap (λ w. Refused (refused.NoDatabase w)) (same ∙ named)) refl
@@ -131,6 +133,7 @@ moves_at f command c items t asked = go
         ServesOn s (f t.x).1 t.result (f t.y).1 → HandsOn s (f t.x).1 t.result →
         Moves command old (reply_of (words_of s) t.result) new
     go (OnNew made) about named other serves hands = absurd (true≢false other)
+    go (OnAll act) about named other serves hands = absurd (no_act command act about)
     go (OnOne one task) about named other serves hands =
         Asks (record {
           name = one;

@@ -1,6 +1,6 @@
 -- From what the calls on the databases of a session do follow steps that the rules allow.
-use Rattle.std.proofs.Common.{◌≡◌, ◌∙◌, ℕ, Bool, true, false, cond, List, Some, Result, Ok, Err, refl, sym, ap, subst}
-use Rattle.std.proofs.Common.{true≢false}
+use Rattle.std.proofs.Common.{◌≡◌, ◌∙◌, ℕ, Bool, true, false, cond, List, Option, Some, None, Result, Ok, Err, refl}
+use Rattle.std.proofs.Common.{sym, ap, subst, true≢false}
 use Rattle.slon_base.specs.Keeper.{Kept, nothing}
 use Rattle.slon_model.specs.declared.fault.DbFault.{DbFault}
 use Rattle.slon_model.specs.declared.fault.DbFault.TheVariants.{NotEmpty}
@@ -12,13 +12,15 @@ use Rattle.slon_model.specs.declared.reply.Answered.TheVariants.{Sure}
 use Rattle.slon_model.specs.declared.reply.Reply.{Reply}
 use Rattle.slon_model.specs.declared.reply.Reply.TheVariants.{Accepted}
 use Rattle.slon_model.specs.Tasks.{Task, ToFound, Subject, OnNew, OnOne, Words, words_of}
-use Rattle.slon_model.specs.Place.{Place, bare_place}
+use Rattle.slon_model.specs.Place.{Place, is_running, node_id, bare_place}
 use Rattle.slon_model.specs.Moves.{commits_at}
 use Rattle.slon_model.specs.Deciding.{Decision, Refuses, Accepts, Overflows, decide, result_of, move_of, sure, unsure}
 use Rattle.slon_model.specs.Deciding.{Choice, AsDue, AtFault, Wavers, result_by, place_by, Takes}
 use Rattle.slon_model.specs.World.{World, Happening, Step, Grants as StepGrants, Denies as StepDenies}
 use Rattle.slon_model.specs.World.{Misses as StepMisses, Asks as StepAsks, database_due, due, due_on, ask, asked, after}
-use Rattle.slon_model.specs.World.{after_on, adopted, changed, is_accepted, reply_of}
+use Rattle.slon_model.specs.World.{Acts as StepActs, after_on, adopted, changed, is_accepted, reply_of}
+use Rattle.slon_model.specs.Sessions.{Memory, no_memory, forgotten, remembered}
+use Rattle.slon_model.proofs.Subjects.{no_act}
 use Rattle.slon_model.proofs.Names.{all_found}
 use Rattle.slon_laws.specs.Sound.{Sound}
 use Rattle.slon_laws.specs.Spelled.{IsSpelled}
@@ -50,6 +52,19 @@ ready_place name b w c follows fit = record {
   sound = all_found Sound name fit.place w.places follows.sound fit.found;
   spelled = all_found IsSpelled name fit.place w.places follows.spelled fit.found;
 }
+
+-- where nothing is remembered, nothing is forgotten
+none_forgotten : (node : Option ℕ) → forgotten node no_memory ≡ no_memory
+none_forgotten None = refl
+none_forgotten (Some node) = refl
+
+still_none : (q : Place) (m : Memory) → m ≡ no_memory → remembered q m ≡ no_memory
+still_none q m none =
+    ap (remembered q) none
+    ∙ elim (is_running q.standing) as (λ b. cond b no_memory (forgotten (node_id q) no_memory) ≡ no_memory) [
+      | true ↦ refl
+      | false ↦ none_forgotten (node_id q)
+    ]
 
 pub steps : (command : Command) (old : Clustered) (reply : Reply) (new : Clustered) → Moves command old reply new →
     Steps command old reply new
@@ -84,7 +99,11 @@ steps command old reply new (Asks s) w follows =
         is = refl;
       });
       agrees = subst (Agrees (changed s.name place w)) (sym s.same)
-          (record { limit = follows.agrees.limit; fits = fit.puts place s.behind comes.2 });
+          (record {
+            limit = follows.agrees.limit;
+            fits = fit.puts place s.behind comes.2;
+            memory = still_none place w.memory follows.agrees.memory;
+          });
     })
 
 -- ---- a step whose reply tells of no fault is the one that is due
@@ -99,12 +118,12 @@ sure_choice : (task : Task) (p : Place) (choice : Choice) (result : Result Answe
     Takes task p choice result →
     is_sure_reply (reply_of words result) ≡ true →
     (result ≡ sure (result_of (decide task p))) × (place_by task p choice ≡ place_by task p AsDue)
-sure_choice task p AsDue result words takes certain = (takes.told, refl)
 sure_choice task p (AtFault count also) result words takes certain =
     absurd (true≢false (sym certain ∙ ap (λ r. is_sure_reply (reply_of words r)) takes.told))
 sure_choice task p (Wavers stands) result words takes certain =
     absurd (true≢false (sym certain ∙ ap (λ r. is_sure_reply (reply_of words r)) takes.told
     ∙ wavers_unsure (decide task p) p words takes.may))
+sure_choice task p others result words takes certain = (takes.told, refl)
 
 accepted_after : (b : Bool) → b ≡ true → (w v : World) → v ≡ cond b v w
 accepted_after true is w v = refl
@@ -145,13 +164,13 @@ sure_step w v h (StepAsks t) certain =
       t.told ∙ ap (reply_of words) place.0 ∙ sym (ap (ask words t.task) t.found),
       t.is ∙ ap (λ q. changed t.name q w) place.1 ∙ sym (ap (λ o. asked t.name t.task o w) t.found),
     )
+sure_step w v h (StepActs t) certain = absurd (no_act h.command t.act t.about)
 
 -- ---- a new database
 
 never_not_empty : (choice : Choice) → Err NotEmpty ≡ result_by ToFound bare_place choice → ⊥
-never_not_empty AsDue is = cc
 never_not_empty (AtFault count also) is = cc
-never_not_empty (Wavers stands) is = cc
+never_not_empty others is = cc
 
 -- an empty store is not refused
 pub never_empty : (kept : Kept) (b : Base) → Founds (fused kept) (Err NotEmpty) b → kept.held ≡ Some nothing → ⊥
@@ -173,17 +192,18 @@ makes name kept old reply new (Keeps b result made memory kept_it told same) emp
             limit = agrees.limit;
             fits = fits_more name
                 (place_by ToFound bare_place comes.0) b w.places old.bases agrees.fits comes.2;
+            memory = agrees.memory;
           });
     }
 
 -- over a store that is empty and cannot fail it is made
 sure_begun : (choice : Choice) (result : Result Answered DbFault) → result ≡ result_by ToFound bare_place choice →
     is_failure (trouble result) ≡ false → result ≡ Ok (Sure Done)
-sure_begun AsDue result told certain = told
 sure_begun (AtFault count also) result told certain = absurd
     (true≢false (sym (ap (λ r. is_failure (trouble r)) told) ∙ certain))
 sure_begun (Wavers stands) result told certain = absurd
     (true≢false (sym (ap (λ r. is_failure (trouble r)) told) ∙ certain))
+sure_begun others result told certain = told
 
 pub adopts_done : (name : List ℕ) (kept : Kept) (old : Clustered) (reply : Reply) (new : Clustered) →
     Adopts name kept old reply new → kept.held ≡ Some nothing →

@@ -2,7 +2,7 @@
 use Rattle.std.specs.Prelude.{◌≡◌, ℕ, [], ◌∷◌}
 use Rattle.slon_model.specs.Names.{Named}
 use Rattle.slon_model.specs.Place.{Place}
-use Rattle.slon_model.specs.World.{World}
+use Rattle.slon_model.specs.Sessions.{World, no_memory}
 use Rattle.slon_laws.specs.Sound.{Sound}
 use Rattle.slon_laws.specs.Spelled.{IsSpelled}
 use Rattle.slon_laws.specs.Worlds.{AllPlaces}
@@ -26,6 +26,8 @@ FitsAll places bases = ⊥
 pub record Agrees (w : World) (c : Clustered) : Type 0 where
   pub limit : w.limit ≡ c.limit
   pub fits : FitsAll w.places c.bases
+  -- the code keeps nothing besides its databases yet
+  pub memory : w.memory ≡ no_memory
 
 -- They do, and each database has what each one of a legal history has.
 pub record Follows (w : World) (c : Clustered) : Type 0 where

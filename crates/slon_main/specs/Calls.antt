@@ -33,8 +33,8 @@ is_making others = false
 
 -- it has the store of its database fail later, or not any more
 abbrev pub arms_on : Subject → Bool
-arms_on (OnNew name) = false
 arms_on (OnOne database task) = arms task
+arms_on others = false
 
 abbrev pub arms_later : Command → Bool
 arms_later command = arms_on (subject_of command)
@@ -90,7 +90,7 @@ pub record GoesOn (command : Command) (w : World) (reply : Reply) (new : Cluster
 -- that the rules allow to a world that agrees.
 abbrev pub StepsOn : Subject → Command → World → Reply → Clustered → Type 0
 StepsOn (OnNew name) command w reply new = (reply ≡ due w command) × Agrees w new
-StepsOn (OnOne name task) command w reply new = GoesOn command w reply new
+StepsOn others command w reply new = GoesOn command w reply new
 
 abbrev pub Steps : Command → Clustered → Reply → Clustered → Type 0
 Steps command old reply new = (w : World) → Follows w old → StepsOn (subject_of command) command w reply new

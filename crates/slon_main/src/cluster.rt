@@ -114,6 +114,8 @@ fn refused(
             transaction: copied(alloc, transaction)?,
         },
         DbFault::Duplicate => Refusal::Duplicate,
+        DbFault::NotOrigin { set } => Refusal::NotOrigin { set },
+        DbFault::SetLocked { set } => Refusal::SetLocked { set },
         DbFault::BadWidth { columns } => Refusal::BadWidth { columns },
         DbFault::Halt(halt) => return halted(alloc, database, halt),
     };

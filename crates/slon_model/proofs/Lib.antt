@@ -1,3 +1,4 @@
 pub mod Names
 pub mod Spoken
+pub mod Subjects
 pub mod WordBytes

@@ -1,5 +1,5 @@
 -- What a database decides on a task: a refusal, or an answer with the move that is its effect.
-use Rattle.std.specs.Prelude.{◌≡◌, ℕ, ◌==◌, ◌&&◌, if◌then◌else◌, not, nat_le, is_some, Bool, true, false, List, ◌∷◌}
+use Rattle.std.specs.Prelude.{◌≡◌, ℕ, ◌==◌, ◌&&◌, if◌then◌else◌, not, nat_le, is_some, Bool, true, false, List, [], ◌∷◌}
 use Rattle.std.specs.Prelude.{length, Option, Some, None, Result, Ok, Err}
 use Rattle.std.specs.List.{list_all}
 use Rattle.std.specs.FinMap.{get, entries}
@@ -7,7 +7,8 @@ use Rattle.slon_base.specs.Counts.{Rose}
 use Rattle.slon_base.specs.declared.fault.Halt.TheVariants.{Fault, TooBig}
 use Rattle.slon_model.specs.declared.fault.DbFault.{DbFault}
 use Rattle.slon_model.specs.declared.fault.DbFault.TheVariants.{Locked, Down, IsUp, TableExists, NameUsed, NoTable}
-use Rattle.slon_model.specs.declared.fault.DbFault.TheVariants.{NoTransaction, Duplicate, BadWidth, Halt}
+use Rattle.slon_model.specs.declared.fault.DbFault.TheVariants.{NoTransaction, Duplicate, NotOrigin, SetLocked}
+use Rattle.slon_model.specs.declared.fault.DbFault.TheVariants.{BadWidth, Halt}
 use Rattle.slon_model.specs.declared.command.Crash.TheVariants.{Now}
 use Rattle.slon_model.specs.declared.reply.Answer.{Answer}
 use Rattle.slon_model.specs.declared.reply.Answer.TheVariants.{Done, Opened, Acted, Unchanged, Committed, Listed, Kept}
@@ -18,8 +19,10 @@ use Rattle.slon_model.specs.Names.{find_named}
 use Rattle.slon_model.specs.Rows.{Row, Change, Put, Set, Remove, change_key}
 use Rattle.slon_model.specs.Tasks.{Write, Task, ToFound, ToMake, ToOpen, ToWrite, ToCommit, ToAbort, ToList, ToTell}
 use Rattle.slon_model.specs.Tasks.{ToCrash, ToRise}
+use Rattle.slon_model.specs.Config.{set_of, is_origin, is_locked}
+use Rattle.slon_model.specs.Deeds.{Node, Knowledge, knowledge, view_of}
 use Rattle.slon_model.specs.Place.{Place, Standing, IsRunning, IsDoubtful, standing_rows, seen_rows, holder}
-use Rattle.slon_model.specs.Place.{own_count, fallen, doubted}
+use Rattle.slon_model.specs.Place.{own_count, progress_of, kept_of, fallen, doubted}
 use Rattle.slon_model.specs.Moves.{Move, Stays, Founds, Tables, Begins, Writes, Commits, Aborts, Falls, Rises, prepared}
 use Rattle.slon_model.specs.Moves.{done, commits_at, is_beyond}
 
@@ -51,6 +54,21 @@ fits (Put key row) width = length (key ∷ row) == width
 fits (Set key columns) width = are_columns columns width
 fits (Remove key) width = true
 
+-- no write on a table of a set that the node subscribes to, nor on one of its own set that is locked
+abbrev pub closed_set : ℕ → Knowledge → Option ℕ → Option DbFault
+closed_set own k None = None
+closed_set own k (Some set) =
+    if is_some (view_of set k) then Some (NotOrigin set)
+    else (if is_origin own set k.config && is_locked set k.config then Some (SetLocked set) else None)
+
+abbrev pub closed_at : List ℕ → Option Node → Option DbFault
+closed_at table None = None
+closed_at table (Some n) = let k = knowledge n in closed_set n.id k (set_of table k.config)
+
+abbrev pub unless_closed : Option DbFault → Decision → Decision
+unless_closed None d = d
+unless_closed (Some fault) d = Refuses fault
+
 -- refused where another open transaction wrote the row
 abbrev pub unless_held : ℕ → Option ℕ → Decision → Decision
 unless_held xid None d = d
@@ -74,9 +92,15 @@ abbrev pub decide_write : Write → Place → Decision
 decide_write w p =
     with_found (find_named w.name p.opens) NoTransaction
     (λ xid. with_found (find_named w.table p.tables) NoTable
-    (λ width. refused_if (not (fits w.change width)) (BadWidth width) (decide_row xid w p)))
+    (λ width. refused_if (not (fits w.change width)) (BadWidth width)
+    (unless_closed (closed_at w.table p.node) (decide_row xid w p))))
 
 -- ---- each task
+
+-- the node that a database is, with its log, how far it is, and of which sets it keeps progress
+abbrev pub status_of : Option Node → Answer
+status_of None = StatusIs 0 0 [] []
+status_of (Some n) = StatusIs n.id (knowledge n).log (progress_of n) (kept_of n)
 
 -- while the database is up
 abbrev pub decide_up : Task → Place → Decision
@@ -90,7 +114,7 @@ decide_up (ToCommit name) p =
 decide_up (ToAbort name) p = with_found (find_named name p.opens) NoTransaction (λ xid. Accepts Done (Aborts name))
 decide_up (ToList table) p =
     with_found (find_named table p.tables) NoTable (λ width. Accepts (Listed (entries (standing_rows p table))) Stays)
-decide_up ToTell p = Accepts (StatusIs 0 0) Stays
+decide_up ToTell p = Accepts (status_of p.node) Stays
 decide_up (ToCrash Now) p = Accepts Done Falls
 decide_up (ToCrash later) p = Accepts Done Stays
 decide_up others p = Refuses IsUp
@@ -132,12 +156,22 @@ move_of Overflows = Falls
 
 -- ---- what may come of it
 
+-- What comes of a step on several databases: all its commits stand; or the store of this database fails, with this
+-- count of faults, and none stands; or the commit behind this number of others is in doubt: those stand, those behind
+-- it do not, and it stands or not.
+pub data Fate : Type 0 where
+  AllStand : Fate
+  Breaks : (name : List ℕ) (count : ℕ) → Fate
+  DoubtsAt : (before : ℕ) (stands : Bool) → Fate
+
 -- What comes of a command: what is due; or its store fails, with this count of faults, and what comes before the effect
--- stands or not; or the commit of the effect is in doubt, and stands or not.
+-- stands or not; or the commit of the effect is in doubt, and stands or not; or what comes of a step on several
+-- databases.
 pub data Choice : Type 0 where
   AsDue : Choice
   AtFault : (count : ℕ) (also : Bool) → Choice
   Wavers : (stands : Bool) → Choice
+  Among : (fate : Fate) → Choice
 
 -- the task may call on the store of a database that stands so
 abbrev pub calls_up : Task → Bool
@@ -161,6 +195,7 @@ abbrev pub May : Task → Place → Choice → Type 0
 May task p AsDue = Unit {0}
 May task p (AtFault count also) = (may_call p.standing task ≡ true) × Rose p.told count
 May task p (Wavers stands) = commits_at (move_of (decide task p)) p ≡ true
+May task p (Among fate) = ⊥
 
 abbrev pub sure : Result Answer DbFault → Result Answered DbFault
 sure (Ok answer) = Ok (Sure answer)
@@ -171,14 +206,14 @@ unsure (Ok answer) = Ok (InDoubt answer)
 unsure (Err fault) = Err fault
 
 abbrev pub result_by : Task → Place → Choice → Result Answered DbFault
-result_by task p AsDue = sure (result_of (decide task p))
 result_by task p (AtFault count also) = Err (Halt (Fault count))
 result_by task p (Wavers stands) = unsure (result_of (decide task p))
+result_by task p others = sure (result_of (decide task p))
 
 abbrev pub place_by : Task → Place → Choice → Place
-place_by task p AsDue = done (move_of (decide task p)) p
 place_by task p (AtFault count also) = fallen count (if also then prepared (move_of (decide task p)) p else p)
 place_by task p (Wavers stands) = doubted stands (if stands then done (move_of (decide task p)) p else p)
+place_by task p others = done (move_of (decide task p)) p
 
 -- How a database goes on at a task.
 pub record Takes (task : Task) (p : Place) (choice : Choice) (result : Result Answered DbFault) : Type 0 where

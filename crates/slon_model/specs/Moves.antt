@@ -1,12 +1,14 @@
 -- The few ways in which a command changes what the rules know of a database.
 use Rattle.std.specs.Prelude.{ℕ, ◌+◌, ◌^◌, ◌==◌, ◌&&◌, ◌||◌, nat_le, if◌then◌else◌, not, Bool, true, false, List, []}
-use Rattle.std.specs.Prelude.{◌∷◌, ◌++◌}
+use Rattle.std.specs.Prelude.{◌∷◌, ◌++◌, None, option_map}
 use Rattle.slon_model.specs.declared.numbering.Numbering.{Numbering}
 use Rattle.slon_model.specs.declared.numbering.Numbering.TheVariants.{Xids, Actions}
 use Rattle.slon_model.specs.Names.{without}
 use Rattle.slon_model.specs.Rows.{Change}
+use Rattle.slon_model.specs.Deeds.{Node, Deed, Commits as CommitsRows, knowledge, with_deeds}
+use Rattle.slon_model.specs.Logs.{own_logs}
 use Rattle.slon_model.specs.Place.{Place, IsRunning, IsFallen, block, counter, drawn, resumed, stamped, raised, founded}
-use Rattle.slon_model.specs.Place.{own_count}
+use Rattle.slon_model.specs.Place.{own_actions, own_count, deed}
 
 pub data Move : Type 0 where
   Stays : Move
@@ -46,13 +48,21 @@ written xid table change p =
       numbers = drawn p.numbers;
     }
 
--- without actions there is no transaction of the store
+-- what the node of a database does as a transaction commits: it logs the actions on the tables of its sets
+abbrev pub commit_deed : ℕ → Place → Node → Deed
+commit_deed xid p n = deed p [] (own_logs n.id (knowledge n) (own_actions xid p)) (CommitsRows xid)
+
+abbrev pub with_commit : ℕ → Place → Node → Node
+with_commit xid p n = with_deeds (commit_deed xid p n ∷ []) n
+
+-- without actions there is no transaction of the store, and no deed
 abbrev pub committed : List ℕ → ℕ → Place → Place
 committed name xid p =
     record p {
       commits = xid ∷ p.commits;
       opens = without name p.opens;
       stamp = if own_count xid p == 0 then p.stamp else p.stamp + 1;
+      node = if own_count xid p == 0 then p.node else option_map (with_commit xid p) p.node;
     }
 
 abbrev pub aborted : List ℕ → Place → Place
@@ -62,7 +72,14 @@ abbrev pub crashed : Place → Place
 crashed p = record p { standing = IsFallen; opens = [] }
 
 abbrev pub risen : Place → Place
-risen p = record p { standing = IsRunning; opens = []; xids = resumed p.xids; numbers = resumed p.numbers }
+risen p =
+    record p {
+      standing = IsRunning;
+      opens = [];
+      xids = resumed p.xids;
+      numbers = resumed p.numbers;
+      promised = None;
+    }
 
 abbrev pub moved : Move → Place → Place
 moved Stays p = p

@@ -1,11 +1,15 @@
 -- What the rules know of one database.
 use Rattle.std.specs.Prelude.{ℕ, ◌+◌, ◌==◌, if◌then◌else◌, Bool, true, false, List, [], ◌∷◌, length, filter, map}
-use Rattle.std.specs.Prelude.{Option}
+use Rattle.std.specs.Prelude.{Option, None, option_map}
+use Rattle.std.specs.Option.{option_or}
 use Rattle.slon_model.specs.declared.numbering.Numbering.{Numbering}
 use Rattle.slon_model.specs.declared.numbering.Numbering.TheVariants.{Xids, Actions}
 use Rattle.slon_model.specs.Names.{Named}
 use Rattle.slon_model.specs.Rows.{Action, member, rows_by, holder_in, Rows as TableOf}
-use Rattle.slon_model.specs.Snapshots.{Snapshot, first_or}
+use Rattle.slon_model.specs.Snapshots.{Snapshot, first_or, snapshot_text}
+use Rattle.slon_model.specs.Config.{live_nodes}
+use Rattle.slon_model.specs.Views.{View}
+use Rattle.slon_model.specs.Deeds.{Node, Deed, Doing, Portion, knowledge, progress}
 
 -- How a database stands: it is up; it is down; or it is down and a commit of it is in doubt, which stands or not.
 pub data Standing : Type 0 where
@@ -39,6 +43,10 @@ pub record Place : Type 0 where
   pub stamp : ℕ
   -- the greatest count of faults that was told
   pub told : ℕ
+  -- the node that it is
+  pub node : Option Node
+  -- the id of the node that a commit in doubt would make it
+  pub promised : Option ℕ
 
 -- ---- numbers that are drawn
 
@@ -97,9 +105,12 @@ seen_rows xid p table = rows_by (λ a. member a.xid (xid ∷ p.commits)) table p
 abbrev pub holder : List ℕ → List ℕ → Place → Option ℕ
 holder table key p = holder_in table key (open_xids p) p.actions
 
--- how many actions are a transaction's own
+-- the actions that are a transaction's own, and how many they are
+abbrev pub own_actions : ℕ → Place → List Action
+own_actions xid p = filter (λ a. a.xid == xid) p.actions
+
 abbrev pub own_count : ℕ → Place → ℕ
-own_count xid p = length (filter (λ a. a.xid == xid) p.actions)
+own_count xid p = length (own_actions xid p)
 
 -- the snapshot that is taken now
 abbrev pub taken : Place → Snapshot
@@ -120,6 +131,8 @@ bare_place =
       numbers = first_counter;
       stamp = 0;
       told = 0;
+      node = None;
+      promised = None;
     }
 
 -- a commit in doubt that stands after all
@@ -143,3 +156,24 @@ fallen count p = record p { standing = downed p.standing; opens = []; told = cou
 -- after a commit in doubt, which stands or not
 abbrev pub doubted : Bool → Place → Place
 doubted stands p = record p { standing = IsDoubtful stands; opens = [] }
+
+-- ---- a database among nodes
+
+-- a deed of the node, as it is done now
+abbrev pub deed : Place → List (List ℕ × TableOf) → List Portion → Doing → Deed
+deed p rows logs doing = record { first = p.numbers.next; rows = rows; logs = logs; doing = doing }
+
+-- the id of the node that it is, or that a commit in doubt would make it
+abbrev pub node_id : Place → Option ℕ
+node_id p = option_or (option_map (λ n. n.id) p.node) p.promised
+
+-- how far the node is in the stream of each live node
+abbrev pub progress_of : Node → List (ℕ × ℕ)
+progress_of n = let k = knowledge n in map (λ x. (x, progress x k)) (live_nodes k.config)
+
+-- a set of which it keeps progress, with the era and the snapshot
+abbrev pub kept_text : ℕ × View → ℕ × ℕ × List ℕ
+kept_text v = (v.0, v.1.era, snapshot_text v.1.seen)
+
+abbrev pub kept_of : Node → List (ℕ × ℕ × List ℕ)
+kept_of n = map kept_text (knowledge n).views

@@ -40,6 +40,7 @@ IsTask others = Unit {0}
 abbrev pub IsSubject : Subject → Type 0
 IsSubject (OnNew name) = IsName name
 IsSubject (OnOne database task) = IsName database × IsTask task
+IsSubject others = Unit {0}
 
 -- Its names, tables, keys and values have their forms, and a table has at most 16 columns.
 abbrev pub IsSpoken : Command → Type 0

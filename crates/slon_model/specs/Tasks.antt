@@ -1,9 +1,10 @@
--- What a command is about: a new database, or a task of one database.
+-- What a command is about: a new database, a task of one database, or a script, which concerns the whole session.
 use Rattle.std.specs.Prelude.{ℕ, List, [], ◌∷◌, Option, Some, None}
 use Rattle.slon_model.specs.declared.command.Crash.{Crash as CrashKind}
 use Rattle.slon_model.specs.declared.command.Command.{Command}
 use Rattle.slon_model.specs.declared.command.Command.TheVariants.{Database, Table, Begin, Insert, Update, Delete}
 use Rattle.slon_model.specs.declared.command.Command.TheVariants.{Commit, Abort, Rows, Status, Crash, Up}
+use Rattle.slon_model.specs.declared.reading.Reading.{Reading}
 use Rattle.slon_model.specs.Rows.{Row, Change, Put, Set, Remove}
 
 -- A write of the transaction of this name.
@@ -25,9 +26,16 @@ pub data Task : Type 0 where
   ToCrash : (crash : CrashKind) → Task
   ToRise : Task
 
+-- What a session is to do with its scripts.
+pub data Act : Type 0 where
+  ToRead : (name : List ℕ) (reading : Reading) → Act
+  ToStep : (name : List ℕ) → Act
+  ToForget : (name : List ℕ) → Act
+
 pub data Subject : Type 0 where
   OnNew : (name : List ℕ) → Subject
   OnOne : (database : List ℕ) (task : Task) → Subject
+  OnAll : (act : Act) → Subject
 
 -- the first value of a new row is its key
 abbrev pub key_of : List (List ℕ) → List ℕ
@@ -61,6 +69,7 @@ subject_of (Up database) = OnOne database ToRise
 abbrev pub database_named : Subject → List ℕ
 database_named (OnNew name) = name
 database_named (OnOne database task) = database
+database_named others = []
 
 abbrev pub transaction_named : Subject → Option (List ℕ)
 transaction_named (OnOne database (ToOpen name)) = Some name

@@ -1,12 +1,14 @@
 -- What the rules know after a history, the one reply that they give to a command, and the histories that they allow.
-use Rattle.std.specs.Prelude.{◌≡◌, ℕ, if◌then◌else◌, nat_lt, is_some, Bool, true, false, List, [], ◌∷◌, ◌++◌, length}
-use Rattle.std.specs.Prelude.{Option, Some, None, Result, Ok, Err, unwrap_or}
+use Rattle.std.specs.Prelude.{◌≡◌, ◌<◌, ℕ, if◌then◌else◌, nat_lt, is_some, Bool, true, false, List, [], ◌∷◌, ◌++◌}
+use Rattle.std.specs.Prelude.{length, take, drop, Option, Some, None, Result, Ok, Err, unwrap_or}
+use Rattle.slon_base.specs.Counts.{Rose}
 use Rattle.slon_base.specs.declared.fault.Halt.{Halt as HaltOf}
 use Rattle.slon_base.specs.declared.fault.Halt.TheVariants.{Doubt, NoMemory, Fault as HaltFault, BadRow as HaltBadRow}
 use Rattle.slon_base.specs.declared.fault.Halt.TheVariants.{TooBig as HaltTooBig}
 use Rattle.slon_model.specs.declared.fault.DbFault.{DbFault}
 use Rattle.slon_model.specs.declared.fault.DbFault.TheVariants.{Locked, NotEmpty, Down, IsUp, TableExists, NameUsed}
-use Rattle.slon_model.specs.declared.fault.DbFault.TheVariants.{NoTable, NoTransaction, Duplicate, BadWidth, Halt}
+use Rattle.slon_model.specs.declared.fault.DbFault.TheVariants.{NoTable, NoTransaction, Duplicate, NotOrigin, SetLocked}
+use Rattle.slon_model.specs.declared.fault.DbFault.TheVariants.{BadWidth, Halt}
 use Rattle.slon_model.specs.declared.command.Command.{Command}
 use Rattle.slon_model.specs.declared.reply.Answer.TheVariants.{Done}
 use Rattle.slon_model.specs.declared.reply.Answered.{Answered}
@@ -14,19 +16,16 @@ use Rattle.slon_model.specs.declared.reply.Answered.TheVariants.{Sure, InDoubt a
 use Rattle.slon_model.specs.declared.reply.Refusal.TheVariants as refused
 use Rattle.slon_model.specs.declared.reply.Reply.{Reply}
 use Rattle.slon_model.specs.declared.reply.Reply.TheVariants.{Accepted, Refused, InDoubt}
-use Rattle.slon_model.specs.Names.{Named, find_named, put_named}
-use Rattle.slon_model.specs.Tasks.{Task, ToFound, Subject, OnNew, OnOne, subject_of, Words, words_of}
-use Rattle.slon_model.specs.Place.{Place, bare_place}
-use Rattle.slon_model.specs.Deciding.{Choice, AsDue, decide, result_of, sure, place_by, Takes}
+use Rattle.slon_model.specs.Names.{find_named}
+use Rattle.slon_model.specs.Tasks.{Task, ToFound, Act, ToRead, ToStep, ToForget, Subject, OnNew, OnOne, OnAll}
+use Rattle.slon_model.specs.Tasks.{subject_of, Words, words_of}
+use Rattle.slon_model.specs.Place.{Place, is_running, bare_place, fallen}
+use Rattle.slon_model.specs.Deciding.{Choice, AsDue, Among, Fate, AllStand, Breaks, DoubtsAt, decide, result_of, sure}
+use Rattle.slon_model.specs.Deciding.{place_by, Takes}
+pub use Rattle.slon_model.specs.Sessions.{World, start, changed, adopted}
+use Rattle.slon_model.specs.Sessions.{Memory, Running, Commit, in_doubt, stand, with_memory, Outcome, after_outcome}
+use Rattle.slon_model.specs.Scripts.{slonik_outcome, step_outcome, kill_outcome, without_script}
 use Rattle.slon_model.specs.Printed.{reply_line}
-
--- What the rules know of a session: how many databases it allows, and its databases in the order of their making.
-pub record World : Type 0 where
-  pub limit : ℕ
-  pub places : Named Place
-
-abbrev pub start : ℕ → World
-start limit = record { limit = limit; places = [] }
 
 -- ---- replies
 
@@ -53,6 +52,8 @@ refusal_of w NameUsed = Refused (refused.NameUsed (unwrap_or w.transaction []))
 refusal_of w NoTable = Refused (refused.NoTable (unwrap_or w.table []))
 refusal_of w NoTransaction = Refused (refused.NoTransaction (unwrap_or w.transaction []))
 refusal_of w Duplicate = Refused refused.Duplicate
+refusal_of w (NotOrigin set) = Refused (refused.NotOrigin set)
+refusal_of w (SetLocked set) = Refused (refused.SetLocked set)
 refusal_of w (BadWidth columns) = Refused (refused.BadWidth columns)
 refusal_of w (Halt halt) = halted w.database halt
 
@@ -75,9 +76,16 @@ abbrev pub ask : Words → Task → Option Place → Reply
 ask words task None = Refused (refused.NoDatabase words.database)
 ask words task (Some p) = reply_of words (sure (result_of (decide task p)))
 
+-- What a script comes to.
+abbrev pub outcome : Act → World → Outcome
+outcome (ToRead name reading) = slonik_outcome name reading
+outcome (ToStep name) = step_outcome name
+outcome (ToForget name) = kill_outcome name
+
 abbrev pub due_on : Subject → World → Reply
 due_on (OnNew name) w = database_due name w
 due_on (OnOne name task) w = ask (words_of (OnOne name task)) task (find_named name w.places)
+due_on (OnAll act) w = (outcome act w).reply
 
 -- The one reply that the rules give to a command.
 abbrev pub due : World → Command → Reply
@@ -88,30 +96,83 @@ abbrev pub is_accepted : Reply → Bool
 is_accepted (Accepted answer) = true
 is_accepted others = false
 
--- a new database behind the others
-abbrev pub adopted : List ℕ → Place → World → World
-adopted name p w = record { limit = w.limit; places = w.places ++ (name, p) ∷ [] }
-
-abbrev pub changed : List ℕ → Place → World → World
-changed name q w = record { limit = w.limit; places = put_named name q w.places }
-
--- what a step makes of databases, one after the other
-abbrev pub stand : Named Place → World → World
-stand [] w = w
-stand (e ∷ es) w = stand es (changed e.0 e.1 w)
-
 abbrev pub asked : List ℕ → Task → Option Place → World → World
 asked name task None w = w
-asked name task (Some p) w = stand ((name, place_by task p AsDue) ∷ []) w
+asked name task (Some p) w = changed name (place_by task p AsDue) w
 
 abbrev pub after_on : Subject → World → World
 after_on (OnNew name) w =
     if is_accepted (database_due name w) then adopted name (place_by ToFound bare_place AsDue) w else w
 after_on (OnOne name task) w = asked name task (find_named name w.places) w
+after_on (OnAll act) w = after_outcome (outcome act w) w
 
 -- What the rules know after a command that is answered with what is due.
 abbrev pub after : World → Command → World
 after w command = after_on (subject_of command) w
+
+-- ---- where a database fails in a script
+
+abbrev pub is_left : {X : Type 0} → List X → Bool
+is_left [] = false
+is_left (x ∷ xs) = true
+
+-- something is left to do
+abbrev pub has_todo : Option Running → Bool
+has_todo None = false
+has_todo (Some run) = is_left run.todo
+
+-- a step may call on the store of each database, where something is left to do
+abbrev pub may_break : Act → World → Bool
+may_break (ToStep name) w = has_todo (find_named name w.memory.scripts)
+may_break others w = false
+
+-- the script ends
+abbrev pub memory_after : Act → Memory → Memory
+memory_after (ToStep name) m = without_script name m
+memory_after others m = m
+
+-- the session after these commits, where a database failed then
+abbrev pub spoilt : Act → List Commit → World → World
+spoilt act commits w = stand commits (with_memory (memory_after act w.memory) w)
+
+abbrev pub broken_at : List ℕ → ℕ → Option Place → World → World
+broken_at name count None w = w
+broken_at name count (Some p) w = changed name (fallen count p) w
+
+abbrev pub wavering_at : Commit → Bool → Option Place → World → World
+wavering_at c stands None w = w
+wavering_at c stands (Some p) w = changed c.name (in_doubt c stands p) w
+
+-- the first of these commits is in doubt, and the others are not made
+abbrev pub wavering : List Commit → Bool → World → World
+wavering [] stands w = w
+wavering (c ∷ cs) stands w = wavering_at c stands (find_named c.name w.places) w
+
+abbrev pub doubt_reply : List Commit → Reply → Reply
+doubt_reply (c ∷ cs) (Accepted answer) = InDoubt c.name answer
+doubt_reply others reply = reply
+
+-- a database that is up fails with a count that rose
+abbrev pub CanFail : ℕ → Option Place → Type 0
+CanFail count None = ⊥
+CanFail count (Some p) = (is_running p.standing ≡ true) × Rose p.told count
+
+abbrev pub MayEnd : Act → Fate → World → Type 0
+MayEnd act AllStand w = Unit {0}
+MayEnd act (Breaks name count) w = (may_break act w ≡ true) × CanFail count (find_named name w.places)
+MayEnd act (DoubtsAt before stands) w = before < length (outcome act w).commits
+
+abbrev pub reply_by : Act → Fate → World → Reply
+reply_by act AllStand w = (outcome act w).reply
+reply_by act (Breaks name count) w = Refused (refused.Fault name count)
+reply_by act (DoubtsAt before stands) w = doubt_reply (drop before (outcome act w).commits) (outcome act w).reply
+
+abbrev pub world_by : Act → Fate → World → World
+world_by act AllStand w = after_outcome (outcome act w) w
+world_by act (Breaks name count) w = broken_at name count (find_named name w.places) (spoilt act [] w)
+world_by act (DoubtsAt before stands) w =
+    let commits = (outcome act w).commits in
+    wavering (drop before commits) stands (spoilt act (take before commits) w)
 
 -- ---- histories
 
@@ -131,10 +192,20 @@ pub record Serving (w : World) (h : Happening) (v : World) : Type 0 where
   pub found : find_named name w.places ≡ Some place
   pub takes : Takes task place h.choice result
   pub told : h.reply ≡ reply_of (words_of (OnOne name task)) result
-  pub is : v ≡ stand ((name, place_by task place h.choice) ∷ []) w
+  pub is : v ≡ changed name (place_by task place h.choice) w
+
+-- A script goes on, on all databases.
+pub record Acting (w : World) (h : Happening) (v : World) : Type 0 where
+  pub act : Act
+  pub fate : Fate
+  pub about : subject_of h.command ≡ OnAll act
+  pub chosen : h.choice ≡ Among fate
+  pub may : MayEnd act fate w
+  pub told : h.reply ≡ reply_by act fate w
+  pub is : v ≡ world_by act fate w
 
 -- How a history goes on: a new database is granted and begins, or is refused; a command finds no database of the name;
--- or that database goes on.
+-- or that database goes on; or a script does.
 pub data Step (w : World) (h : Happening) (v : World) : Type 0 where
   Grants : (name : List ℕ) (result : Result Answered DbFault) → subject_of h.command ≡ OnNew name →
       database_due name w ≡ Accepted Done →
@@ -145,6 +216,7 @@ pub data Step (w : World) (h : Happening) (v : World) : Type 0 where
   Misses : (name : List ℕ) (task : Task) → subject_of h.command ≡ OnOne name task → find_named name w.places ≡ None →
       h.choice ≡ AsDue → h.reply ≡ Refused (refused.NoDatabase name) → v ≡ w → Step w h v
   Asks : Serving w h v → Step w h v
+  Acts : Acting w h v → Step w h v
 
 -- A history, the newest happening first, may have happened since the start and leads to this world.
 abbrev pub Leads : World → List Happening → World → Type 0

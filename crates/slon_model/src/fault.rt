@@ -32,6 +32,12 @@ pub enum DbFault {
     /// 54: the table has a row with the key.
     #[error("there is a row with the key")]
     Duplicate,
+    /// 55: the database subscribes to this set.
+    #[error("it subscribes to set {set}")]
+    NotOrigin { set: u32 },
+    /// 56: this set of the table is locked.
+    #[error("set {set} is locked")]
+    SetLocked { set: u32 },
     /// 57: the values or columns do not fit a table with this number of columns.
     #[error("the table has {columns} columns")]
     BadWidth { columns: u64 },

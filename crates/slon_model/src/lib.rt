@@ -5,10 +5,14 @@ mod columns;
 mod command;
 mod fault;
 mod numbering;
+mod reading;
 mod reply;
+mod standing;
 
 pub use columns::ColumnList;
 pub use command::{Command, Crash};
 pub use fault::DbFault;
 pub use numbering::Numbering;
+pub use reading::Reading;
 pub use reply::{Answer, Answered, Refusal, Reply, TableRows};
+pub use standing::{KeptList, ProgressList};

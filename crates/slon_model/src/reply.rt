@@ -1,6 +1,8 @@
 ghost use Rattle.std.specs.Prelude.{◌≡◌, ◌++◌, [], ◌∷◌, length, OnOk, OnErr};
 
+use crate::{KeptList, ProgressList};
 use slon_base::{Text, TextList};
+use slonik_script::ScriptRefusal;
 use std::alloc::{AllocError, Global};
 use std::marker::Model;
 
@@ -66,21 +68,52 @@ pub enum Answer {
     /// It was done.
     Done,
     /// The id of the transaction that was opened.
-    Opened { xid: u64 },
+    Opened {
+        xid: u64,
+    },
     /// The number of the action that was taken.
-    Acted { number: u64 },
+    Acted {
+        number: u64,
+    },
     /// There was no row to change.
     Unchanged,
     /// How many actions the commit made stand.
-    Committed { actions: u64 },
+    Committed {
+        actions: u64,
+    },
     /// The rows of a table.
-    Listed { rows: TableRows },
+    Listed {
+        rows: TableRows,
+    },
     /// The database is up, and the commit that was in doubt stands.
     Kept,
     /// The database is up, and the commit that was in doubt does not stand.
     Lost,
-    /// The node that the database is, 0 for none, and the status of its logs.
-    Status { node: u32, log: u8 },
+    /// The node that the database is, 0 for none, the status of its logs, how far it is in the stream of each live
+    /// node, and the sets of which it keeps progress.
+    Status {
+        node: u32,
+        log: u8,
+        progress: ProgressList,
+        kept: KeptList,
+    },
+    /// How many statements a script has.
+    Statements {
+        count: u64,
+    },
+    /// The node that emitted, and the number of its last event.
+    Emitted {
+        node: u32,
+        number: u64,
+    },
+    /// A text of the script.
+    Echoed {
+        text: Text,
+    },
+    /// The script ended with this status.
+    Ended {
+        status: u8,
+    },
 }
 
 /// What one database answers to a command that it accepted.
@@ -109,10 +142,26 @@ pub enum Refusal {
     Down { database: Text },
     /// 17: the session has no database of the name.
     NoDatabase { database: Text },
+    /// 18: some node knows a node, a set or a table of this id.
+    IdUsed { id: u32 },
     /// 19: the database is up.
     IsUp { database: Text },
     /// 21: a number above the limit would be stored in this space.
     TooBig { space: u8 },
+    /// 41: the database that was reached for this id is no node.
+    NotInitialised { node: u32 },
+    /// 42: the database that was reached for this id is another node, or one of another cluster.
+    OtherNode { node: u32 },
+    /// 43: the database is this node.
+    AlreadyNode { node: u32 },
+    /// 44: there is no node of this id.
+    NoNode { node: u32 },
+    /// 45: no NODE line has this id.
+    NoConninfo { node: u32 },
+    /// 46: this node receives the set, or receives from one that would not provide any more.
+    HasReceivers { node: u32 },
+    /// 47: there is no set of this id.
+    NoSet { set: u32 },
     /// 50: there is a table of the name.
     TableExists { table: Text },
     /// 51: the name is taken, of a database or of an open transaction.
@@ -123,8 +172,28 @@ pub enum Refusal {
     NoTransaction { transaction: Text },
     /// 54: the table has a row with the key.
     Duplicate,
+    /// 55: the node is not the origin of this set.
+    NotOrigin { set: u32 },
+    /// 56: this set is locked.
+    SetLocked { set: u32 },
     /// 57: the values or columns do not fit a table with this number of columns.
     BadWidth { columns: u64 },
+    /// 58: some node knows a table of this name in a set.
+    TableUsed { table: Text },
+    /// 66: the open transaction of this id wrote a table of the set.
+    Busy { xid: u64 },
+    /// 75: the node has no path to this server.
+    NoPath { node: u32 },
+    /// 78: this node is named twice.
+    SameNode { node: u32 },
+    /// 80 to 89, and 96: what is wrong with a script.
+    Script(ScriptRefusal),
+    /// 93: a script of this name runs.
+    ScriptUsed { name: Text },
+    /// 94: no script of this name runs.
+    NoScript { name: Text },
+    /// 98: a statement that begins with this word, in lower case, cannot be run yet.
+    NotBuilt { word: Text },
 }
 
 /// The reply to a command.

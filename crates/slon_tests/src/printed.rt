@@ -2,7 +2,8 @@
 use crate::expecting::{expect, require};
 use session_text::{print_line, print_reply};
 use slon_base::{Text, TextList};
-use slon_model::{Answer, Refusal, Reply, TableRows};
+use slon_model::{Answer, KeptList, ProgressList, Refusal, Reply, TableRows};
+use slonik_script::ScriptRefusal;
 use std::test::Fail;
 
 /// A list of these texts.
@@ -54,18 +55,100 @@ fn answers_are_printed(rt: HostRuntime) -> Result<(), Fail> {
     expect_answer(&rt, Answer::Unchanged, "ok none")?;
     expect_answer(&rt, Answer::Committed { actions: 1 }, "ok actions 1")?;
     expect_answer(&rt, Answer::Kept, "ok kept")?;
-    expect_answer(&rt, Answer::Lost, "ok lost")?;
-    expect_answer(&rt, Answer::Status { node: 0, log: 3 }, "ok node 0 log 3")
+    expect_answer(&rt, Answer::Lost, "ok lost")
 }
 
 #[test]
+fn answers_of_scripts_are_printed(rt: HostRuntime) -> Result<(), Fail> {
+    expect_answer(&rt, Answer::Statements { count: 6 }, "ok statements 6")?;
+    expect_answer(&rt, Answer::Emitted { node: 1, number: 4 }, "ok event 1 4")?;
+    expect_answer(&rt, Answer::Ended { status: 255 }, "ok ended 255")
+}
+
+/// The refusal of this code, with the number 7 where it has one.
+fn numbered(code: u32) -> Refusal {
+    match code {
+        12 => Refusal::Locked { xid: 7 },
+        13 => Refusal::Full { limit: 7 },
+        14 => Refusal::BadRow { space: 7 },
+        18 => Refusal::IdUsed { id: 7 },
+        21 => Refusal::TooBig { space: 7 },
+        41 => Refusal::NotInitialised { node: 7 },
+        42 => Refusal::OtherNode { node: 7 },
+        43 => Refusal::AlreadyNode { node: 7 },
+        44 => Refusal::NoNode { node: 7 },
+        45 => Refusal::NoConninfo { node: 7 },
+        46 => Refusal::HasReceivers { node: 7 },
+        47 => Refusal::NoSet { set: 7 },
+        54 => Refusal::Duplicate,
+        55 => Refusal::NotOrigin { set: 7 },
+        56 => Refusal::SetLocked { set: 7 },
+        57 => Refusal::BadWidth { columns: 7 },
+        66 => Refusal::Busy { xid: 7 },
+        75 => Refusal::NoPath { node: 7 },
+        78 => Refusal::SameNode { node: 7 },
+        80 => Refusal::Script(ScriptRefusal::BadToken { line: 7 }),
+        81 => Refusal::Script(ScriptRefusal::BadSyntax { place: 7 }),
+        84 => Refusal::Script(ScriptRefusal::NoPreamble),
+        _ => Refusal::Script(ScriptRefusal::TooMany),
+    }
+}
+
+/// The codes of these refusals, and their lines.
+const NUMBERED: &[(u32, &str)] = &[
+    (12, "no 12 locked 7"),
+    (13, "no 13 full 7"),
+    (14, "no 14 badrow 7"),
+    (18, "no 18 idused 7"),
+    (21, "no 21 toobig 7"),
+    (41, "no 41 notinitialised 7"),
+    (42, "no 42 othernode 7"),
+    (43, "no 43 alreadynode 7"),
+    (44, "no 44 nonode 7"),
+    (45, "no 45 noconninfo 7"),
+    (46, "no 46 hasreceivers 7"),
+    (47, "no 47 noset 7"),
+    (54, "no 54 duplicate"),
+    (55, "no 55 notorigin 7"),
+    (56, "no 56 setlocked 7"),
+    (57, "no 57 badwidth 7"),
+    (66, "no 66 busy 7"),
+    (75, "no 75 nopath 7"),
+    (78, "no 78 samenode 7"),
+    (80, "no 80 badtoken 7"),
+    (81, "no 81 badsyntax 7"),
+    (84, "no 84 nopreamble"),
+    (96, "no 96 toomany"),
+];
+
+#[test]
 fn refusals_are_printed(rt: HostRuntime) -> Result<(), Fail> {
-    expect_refusal(&rt, Refusal::Locked { xid: 7 }, "no 12 locked 7")?;
-    expect_refusal(&rt, Refusal::Full { limit: 64 }, "no 13 full 64")?;
-    expect_refusal(&rt, Refusal::BadRow { space: 3 }, "no 14 badrow 3")?;
-    expect_refusal(&rt, Refusal::TooBig { space: 1 }, "no 21 toobig 1")?;
-    expect_refusal(&rt, Refusal::Duplicate, "no 54 duplicate")?;
-    expect_refusal(&rt, Refusal::BadWidth { columns: 2 }, "no 57 badwidth 2")
+    for (code, line) in NUMBERED {
+        expect_refusal(&rt, numbered(*code), line)?;
+    }
+    Ok(())
+}
+
+/// What `status` answers of a node that is in the streams of two and keeps progress of one set.
+fn status(rt: &HostRuntime) -> Result<Reply, Fail> {
+    let mut progress = ProgressList::new(rt.alloc());
+    progress.push(1, 4)?;
+    progress.push(2, 0)?;
+    let mut kept = KeptList::new(rt.alloc());
+    kept.push(1, 2, name(rt, "3:5:3,4")?)?;
+    let answer = Answer::Status {
+        node: 2,
+        log: 3,
+        progress,
+        kept,
+    };
+    Ok(Reply::Accepted(answer))
+}
+
+#[test]
+fn status_is_printed(rt: HostRuntime) -> Result<(), Fail> {
+    let line = "ok node 2 log 3 progress 1 4 progress 2 0 set 1 era 2 at 3:5:3,4";
+    expect_line(&rt, &status(&rt)?, line)
 }
 
 /// Rows, and their line.
@@ -136,4 +219,45 @@ fn names_of_tables_and_transactions_are_printed(rt: HostRuntime) -> Result<(), F
         Refusal::NoTransaction { transaction },
         "no 53 notransaction x",
     )
+}
+
+/// The refusal of this code, with this text.
+fn worded(code: u32, text: Text) -> Refusal {
+    match code {
+        58 => Refusal::TableUsed { table: text },
+        82 => Refusal::Script(ScriptRefusal::UnknownOption { word: text }),
+        83 => Refusal::Script(ScriptRefusal::MissingOption { words: text }),
+        85 => Refusal::Script(ScriptRefusal::NotInProfile { word: text }),
+        86 => Refusal::Script(ScriptRefusal::NotInTry { word: text }),
+        87 => Refusal::Script(ScriptRefusal::Undefined { name: text }),
+        88 => Refusal::Script(ScriptRefusal::Depth { path: text }),
+        89 => Refusal::Script(ScriptRefusal::NoFile { path: text }),
+        93 => Refusal::ScriptUsed { name: text },
+        94 => Refusal::NoScript { name: text },
+        _ => Refusal::NotBuilt { word: text },
+    }
+}
+
+/// The codes of these refusals, their texts, and their lines.
+const WORDED: &[(u32, &str, &str)] = &[
+    (58, "s.t", "no 58 tableused s.t"),
+    (82, "colour", "no 82 unknownoption colour"),
+    (83, "event node", "no 83 missingoption event node"),
+    (85, "clone", "no 85 notinprofile clone"),
+    (86, "echo", "no 86 notintry echo"),
+    (87, "n", "no 87 undefined n"),
+    (88, "a b", "no 88 depth a b"),
+    (89, "", "no 89 nofile "),
+    (93, "s", "no 93 scriptused s"),
+    (94, "s", "no 94 noscript s"),
+    (98, "move", "no 98 notbuilt move"),
+];
+
+#[test]
+fn texts_are_printed(rt: HostRuntime) -> Result<(), Fail> {
+    for (code, text, line) in WORDED {
+        expect_refusal(&rt, worded(*code, name(&rt, text)?), line)?;
+    }
+    let text = name(&rt, "two words")?;
+    expect_answer(&rt, Answer::Echoed { text }, "ok echo two words")
 }

@@ -1,5 +1,6 @@
 // Tokens, faults and crashes in short, as the tables of the tests have them.
-use slonik_tokens::{ParseFault, ScriptRefusal, Sign, Token};
+use slonik_script::ScriptRefusal;
+use slonik_tokens::{ParseFault, Sign, Token};
 use std::test::Fail;
 
 /// `keep` or `lose`.

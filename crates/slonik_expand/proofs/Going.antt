@@ -6,7 +6,7 @@ use borrow.Author.Tests.{ltb-false}
 use Rattle.std.specs.Borrow.{Bor}
 use Rattle.std.specs.Result.{IsErrOf}
 use Rattle.slon_base.specs.Outside.{Filed}
-use Rattle.slonik_tokens.specs.declared.fault.ScriptRefusal.TheVariants.{Depth}
+use Rattle.slonik_script.specs.declared.refusal.ScriptRefusal.TheVariants.{Depth}
 use Rattle.slonik_tokens.specs.declared.fault.ParseFault.{ParseFault}
 use Rattle.slonik_tokens.specs.declared.fault.ParseFault.TheVariants.{Refused, ReadFault, TooLong, NoMemory}
 use Rattle.slonik_tokens.specs.declared.token.Token.{Token}

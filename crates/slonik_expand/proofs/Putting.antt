@@ -1,7 +1,7 @@
 -- Tokens come out, and names are defined.
 use Rattle.std.proofs.Common.{◌≡◌, ℕ, ◌<◌, ◌≤◌, List, length, Some, Result, Ok, Err, sym, ap, subst, ◌∙◌, arith}
 use Rattle.std.proofs.lemmas.Bool.Decides.{nat_tests}
-use Rattle.slonik_tokens.specs.declared.fault.ScriptRefusal.TheVariants.{TooMany}
+use Rattle.slonik_script.specs.declared.refusal.ScriptRefusal.TheVariants.{TooMany}
 use Rattle.slonik_tokens.specs.declared.fault.ParseFault.{ParseFault}
 use Rattle.slonik_tokens.specs.declared.fault.ParseFault.TheVariants.{Refused, ReadFault, TooLong, NoMemory}
 use Rattle.slonik_tokens.specs.declared.token.Token.{Token}

@@ -5,7 +5,7 @@ use Rattle.std.specs.List.{All}
 use Rattle.std.specs.Str.{bytes_eq}
 use Rattle.std.proofs.lemmas.List.Elements.{All-nil, All-cons, All-append}
 use Rattle.slonik_tokens.specs.Cut.{cut_of}
-use Rattle.slonik_tokens.specs.declared.fault.ScriptRefusal.TheVariants.{TooMany}
+use Rattle.slonik_script.specs.declared.refusal.ScriptRefusal.TheVariants.{TooMany}
 use Rattle.slonik_tokens.specs.declared.token.Token.{Token}
 use Rattle.slonik_tokens.specs.declared.token.Token.TheVariants.{Word, Number, Quoted, Mark, NameUse, Path}
 use Rattle.slonik_expand.specs.Expansion.{Making, Ending, Made, Wrong, Long, and_then, put_all, within_limit, joined}

@@ -5,8 +5,8 @@ use Rattle.std.specs.Option.{option_map}
 use Rattle.std.specs.Str.{bytes_eq}
 use Rattle.slonik_tokens.specs.Cut.{cut_of}
 use Rattle.slonik_tokens.specs.Tokens.{is_word, is_sign}
-use Rattle.slonik_tokens.specs.declared.fault.ScriptRefusal.{ScriptRefusal}
-use Rattle.slonik_tokens.specs.declared.fault.ScriptRefusal.TheVariants.{BadToken, Undefined, Depth, NoFile, TooMany}
+use Rattle.slonik_script.specs.declared.refusal.ScriptRefusal.{ScriptRefusal}
+use Rattle.slonik_script.specs.declared.refusal.ScriptRefusal.TheVariants.{BadToken, Undefined, Depth, NoFile, TooMany}
 use Rattle.slonik_tokens.specs.declared.token.Sign.TheVariants.{Semicolon, OpenBrace, CloseBrace}
 use Rattle.slonik_tokens.specs.declared.token.Token.{Token}
 use Rattle.slonik_expand.specs.declared.place.Place.{Place}

@@ -5,8 +5,8 @@ use Rattle.std.specs.Option.{option_map}
 use Rattle.std.specs.Str.{bytes_eq}
 use Rattle.std.specs.Borrow.{Bor}
 use Rattle.indexmap.specs.IndexMap.{get_by_text}
-use Rattle.slonik_tokens.specs.declared.fault.ScriptRefusal.{ScriptRefusal}
-use Rattle.slonik_tokens.specs.declared.fault.ScriptRefusal.TheVariants.{Undefined, TooMany}
+use Rattle.slonik_script.specs.declared.refusal.ScriptRefusal.{ScriptRefusal}
+use Rattle.slonik_script.specs.declared.refusal.ScriptRefusal.TheVariants.{Undefined, TooMany}
 use Rattle.slonik_tokens.specs.declared.fault.ParseFault.{ParseFault}
 use Rattle.slonik_tokens.specs.declared.fault.ParseFault.TheVariants.{Refused, ReadFault, TooLong, NoMemory}
 use Rattle.slonik_tokens.specs.declared.token.Token.{Token}

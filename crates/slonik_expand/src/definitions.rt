@@ -6,7 +6,8 @@ ghost use Rattle.slonik_expand.specs.Shared.{capped, meanings, are_ordered};
 use crate::definition::{Definition, Part};
 use indexmap::IndexMap;
 use slon_base::Text;
-use slonik_tokens::{ParseFault, ScriptRefusal, Token};
+use slonik_script::ScriptRefusal;
+use slonik_tokens::{ParseFault, Token};
 use std::alloc::{AllocError, Global};
 
 /// What names stand for. A definition that uses another shares it, so what is kept grows with the text of the

@@ -9,7 +9,8 @@ use crate::file::read_file;
 use crate::forms::closed_len;
 use crate::progress::Progress;
 use slon_base::{Files, OutFault, Text};
-use slonik_tokens::{ParseFault, ScriptRefusal, Token, tokens as tokens_of};
+use slonik_script::ScriptRefusal;
+use slonik_tokens::{ParseFault, Token, tokens as tokens_of};
 use std::alloc::Global;
 
 /// How many levels of files may be included.

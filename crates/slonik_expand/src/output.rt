@@ -7,7 +7,8 @@ ghost use Rattle.slonik_expand.specs.Steps.{IsBehind, Puts};
 use crate::definition::Part;
 use crate::definitions::Definitions;
 use crate::place::Place;
-use slonik_tokens::{ParseFault, ScriptRefusal, Token};
+use slonik_script::ScriptRefusal;
+use slonik_tokens::{ParseFault, Token};
 use std::alloc::{AllocError, Global};
 
 /// The greatest number of tokens of a script.

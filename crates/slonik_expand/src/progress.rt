@@ -8,7 +8,8 @@ use crate::definitions::Definitions;
 use crate::forms::{Form, form_at};
 use crate::output::Output;
 use slon_base::Text;
-use slonik_tokens::{ParseFault, ScriptRefusal, Token};
+use slonik_script::ScriptRefusal;
+use slonik_tokens::{ParseFault, Token};
 use std::alloc::Global;
 
 /// What was made so far, and how many bytes the included files may still hold. Contracts see it by `making_of`.

@@ -3,8 +3,8 @@ use Rattle.std.proofs.Common.{◌≡◌, ℕ, ◌+◌, ◌-◌, ◌&&◌, ◌||�
 use Rattle.std.proofs.Common.{None, Err, cond, refl, ap, sym, ◌∙◌, subst, arith}
 use Rattle.std.proofs.lemmas.Bool.{and_right}
 use Rattle.std.specs.Str.{bytes_eq, str_to_ascii_lowercase}
-use Rattle.slonik_tokens.specs.declared.fault.ScriptRefusal.{ScriptRefusal}
-use Rattle.slonik_tokens.specs.declared.fault.ScriptRefusal.TheVariants as refusal
+use Rattle.slonik_script.specs.declared.refusal.ScriptRefusal.{ScriptRefusal}
+use Rattle.slonik_script.specs.declared.refusal.ScriptRefusal.TheVariants as refusal
 use Rattle.slonik_tokens.specs.declared.token.Sign.TheVariants.{Comma, CloseBracket}
 use Rattle.slonik_tokens.specs.declared.token.Token.{Token}
 use Rattle.slonik_tokens.specs.declared.token.Token.TheVariants.{Word, Mark}
@@ -14,8 +14,8 @@ use Rattle.slonik_parse.specs.declared.form.Verb.TheVariants as verb
 use Rattle.slonik_parse.specs.declared.misparse.Misparse.{Misparse}
 use Rattle.slonik_parse.specs.declared.misparse.Misparse.TheVariants.{UnknownOption, MissingOption, NotInProfile}
 use Rattle.slonik_parse.specs.declared.misparse.Misparse.TheVariants.{NotInTry}
-use Rattle.slonik_parse.specs.declared.script.Command.{Command}
-use Rattle.slonik_parse.specs.declared.script.Script.{Script}
+use Rattle.slonik_script.specs.declared.script.Command.{Command}
+use Rattle.slonik_script.specs.declared.script.Script.{Script}
 use Rattle.slonik_parse.specs.declared.given.Given.{Given}
 use Rattle.slonik_parse.specs.declared.state.Block.{Block}
 use Rattle.slonik_parse.specs.declared.state.Block.TheVariants.{Outside, Try as InTry, Handler as InHandler}

@@ -6,8 +6,8 @@ use Rattle.slonik_tokens.specs.declared.token.Token.{Token}
 use Rattle.slonik_tokens.specs.declared.token.Token.TheVariants.{Word}
 use Rattle.slonik_tokens.specs.Tokens.{is_word, is_sign}
 use Rattle.slonik_parse.specs.declared.form.Verb.{Verb}
-use Rattle.slonik_parse.specs.declared.script.Command.{Command}
-use Rattle.slonik_parse.specs.declared.script.Command.TheVariants.{Echo, Exit}
+use Rattle.slonik_script.specs.declared.script.Command.{Command}
+use Rattle.slonik_script.specs.declared.script.Command.TheVariants.{Echo, Exit}
 use Rattle.slonik_parse.specs.declared.state.Block.{Block}
 use Rattle.slonik_parse.specs.declared.state.Block.TheVariants.{Outside, Try as InTry, Handler as InHandler}
 use Rattle.slonik_parse.specs.declared.state.Goal.{Goal}

@@ -10,9 +10,9 @@ use Rattle.slonik_parse.specs.declared.form.Verb.{Verb}
 use Rattle.slonik_parse.specs.declared.form.OptionName.{OptionName}
 use Rattle.slonik_parse.specs.declared.given.Given.{Given}
 use Rattle.slonik_parse.specs.declared.misparse.Misparse.{Misparse}
-use Rattle.slonik_parse.specs.declared.script.Command.{Command}
-use Rattle.slonik_parse.specs.declared.script.Script.{Script}
-use Rattle.slonik_parse.specs.declared.script.TryBlock.{TryBlock}
+use Rattle.slonik_script.specs.declared.script.Command.{Command}
+use Rattle.slonik_script.specs.declared.script.Script.{Script}
+use Rattle.slonik_script.specs.declared.script.TryBlock.{TryBlock}
 use Rattle.slonik_parse.specs.declared.state.Block.{Block}
 use Rattle.slonik_parse.specs.declared.state.Block.TheVariants.{Try as InTry}
 use Rattle.slonik_parse.specs.declared.state.Goal.{Goal}

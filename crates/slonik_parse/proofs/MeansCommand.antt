@@ -14,7 +14,7 @@ use Rattle.slonik_parse.specs.declared.form.Verb.TheVariants.{CreateSet, DropSet
 use Rattle.slonik_parse.specs.declared.form.Verb.TheVariants.{UnsubscribeSet, LockSet, UnlockSet, MoveSet, Failover}
 use Rattle.slonik_parse.specs.declared.form.Verb.TheVariants.{Sync, WaitForEvent, Sleep}
 use Rattle.slonik_parse.specs.declared.misparse.Misparse.TheVariants.{Misfit, NotInProfile, NotInTry}
-use Rattle.slonik_parse.specs.declared.script.Script.{Script}
+use Rattle.slonik_script.specs.declared.script.Script.{Script}
 use Rattle.slonik_parse.specs.declared.state.Block.{Block}
 use Rattle.slonik_parse.specs.declared.state.Block.TheVariants.{Outside, Try as InTry, Handler as InHandler}
 use Rattle.slonik_parse.specs.declared.state.Goal.TheVariants as goal

@@ -9,11 +9,11 @@ use Rattle.slonik_tokens.specs.declared.token.Token.TheVariants.{Word, Number, Q
 use Rattle.slonik_parse.specs.declared.form.Verb.{Verb}
 use Rattle.slonik_parse.specs.declared.form.OptionName.{OptionName}
 use Rattle.slonik_parse.specs.declared.given.Given.{Given}
-use Rattle.slonik_parse.specs.declared.script.Command.{Command}
-use Rattle.slonik_parse.specs.declared.script.Command.TheVariants.{Echo, Exit}
-use Rattle.slonik_parse.specs.declared.script.Script.{Script}
-use Rattle.slonik_parse.specs.declared.script.Statement.TheVariants.{Try as Tried}
-use Rattle.slonik_parse.specs.declared.script.TryBlock.{TryBlock}
+use Rattle.slonik_script.specs.declared.script.Command.{Command}
+use Rattle.slonik_script.specs.declared.script.Command.TheVariants.{Echo, Exit}
+use Rattle.slonik_script.specs.declared.script.Script.{Script}
+use Rattle.slonik_script.specs.declared.script.Statement.TheVariants.{Try as Tried}
+use Rattle.slonik_script.specs.declared.script.TryBlock.{TryBlock}
 use Rattle.slonik_parse.specs.declared.state.Block.{Block}
 use Rattle.slonik_parse.specs.declared.state.Block.TheVariants.{Outside, Handler as InHandler}
 use Rattle.slonik_parse.specs.declared.state.Goal.{Goal}

@@ -6,11 +6,11 @@ use Rattle.std.proofs.lemmas.Bool.{and_parts}
 use Rattle.slonik_tokens.specs.declared.token.Sign.TheVariants.{Semicolon, OpenBrace}
 use Rattle.slonik_tokens.specs.declared.token.Token.{Token}
 use Rattle.slonik_tokens.specs.Tokens.{is_word, is_sign}
-use Rattle.slonik_parse.specs.declared.script.Command.{Command}
-use Rattle.slonik_parse.specs.declared.script.Command.TheVariants.{Echo, Exit}
-use Rattle.slonik_parse.specs.declared.script.Script.{Script}
-use Rattle.slonik_parse.specs.declared.script.Statement.TheVariants.{Try as Tried}
-use Rattle.slonik_parse.specs.declared.script.TryBlock.{TryBlock}
+use Rattle.slonik_script.specs.declared.script.Command.{Command}
+use Rattle.slonik_script.specs.declared.script.Command.TheVariants.{Echo, Exit}
+use Rattle.slonik_script.specs.declared.script.Script.{Script}
+use Rattle.slonik_script.specs.declared.script.Statement.TheVariants.{Try as Tried}
+use Rattle.slonik_script.specs.declared.script.TryBlock.{TryBlock}
 use Rattle.slonik_parse.specs.declared.state.Block.{Block}
 use Rattle.slonik_parse.specs.declared.state.Block.TheVariants.{Outside, Handler as InHandler}
 use Rattle.slonik_parse.specs.declared.state.Goal.{Goal}

@@ -11,10 +11,10 @@ use Rattle.slonik_parse.specs.declared.form.OptionName.{OptionName}
 use Rattle.slonik_parse.specs.declared.misparse.Misparse.{Misparse}
 use Rattle.slonik_parse.specs.declared.misparse.Misparse.TheVariants.{Misfit, UnknownOption, MissingOption}
 use Rattle.slonik_parse.specs.declared.misparse.Misparse.TheVariants.{NotInProfile, NotInTry, NoMemory}
-use Rattle.slonik_parse.specs.declared.script.Command.{Command}
-use Rattle.slonik_parse.specs.declared.script.Script.{Script}
-use Rattle.slonik_parse.specs.declared.script.Statement.TheVariants.{Try as Tried}
-use Rattle.slonik_parse.specs.declared.script.TryBlock.{TryBlock}
+use Rattle.slonik_script.specs.declared.script.Command.{Command}
+use Rattle.slonik_script.specs.declared.script.Script.{Script}
+use Rattle.slonik_script.specs.declared.script.Statement.TheVariants.{Try as Tried}
+use Rattle.slonik_script.specs.declared.script.TryBlock.{TryBlock}
 use Rattle.slonik_parse.specs.declared.state.Block.{Block}
 use Rattle.slonik_parse.specs.declared.state.Block.TheVariants.{Outside, Try as InTry, Handler as InHandler}
 use Rattle.slonik_parse.specs.declared.state.Goal.{Goal}
@@ -39,7 +39,7 @@ use Rattle.slonik_parse.proofs.Pieces.{first_of, awaited-by}
 use Rattle.slonik_parse.specs.Places.{BeforeOption, BehindOption}
 use Rattle.slonik_parse.proofs.Means.{HasTried, Leads, Means, BeforeTried, if_is}
 use Rattle.slonik_parse.proofs.MeansStep.{stands_tried}
-use Rattle.slonik_tokens.specs.declared.fault.ScriptRefusal.TheVariants as refusal
+use Rattle.slonik_script.specs.declared.refusal.ScriptRefusal.TheVariants as refusal
 use Rattle.slonik_parse.specs.Refusals.{IsRefused, command_left_out, option_left_out, unknown_option, not_in_try}
 use Rattle.slonik_parse.specs.Refusals.{missing_option, missing_option_there}
 use Rattle.slonik_parse.proofs.MeansMade.{fit_wrong, and_then_wrong, set_wrong, made_wrong}

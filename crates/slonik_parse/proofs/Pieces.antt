@@ -18,7 +18,7 @@ use Rattle.slonik_parse.specs.declared.state.State.TheVariants.{Awaits, At}
 use Rattle.slonik_parse.specs.declared.form.Verb.{Verb}
 use Rattle.slonik_parse.specs.declared.given.Given.{Given}
 use Rattle.slonik_parse.specs.declared.form.OptionName.{OptionName}
-use Rattle.slonik_parse.specs.declared.script.Command.{Command}
+use Rattle.slonik_script.specs.declared.script.Command.{Command}
 use Rattle.slonik_parse.specs.Answered.{and_then}
 use Rattle.slonik_parse.specs.Choices.{option_at}
 use Rattle.slonik_parse.specs.Forms.{option_words}

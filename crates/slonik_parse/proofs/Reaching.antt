@@ -5,10 +5,10 @@ use Rattle.slonik_tokens.specs.declared.token.Sign.TheVariants.{Semicolon, Equal
 use Rattle.slonik_tokens.specs.declared.token.Token.{Token}
 use Rattle.slonik_tokens.specs.declared.token.Token.TheVariants.{Word, Number, Quoted, Mark, NameUse, Path}
 use Rattle.slonik_tokens.specs.Tokens.{is_word, is_sign}
-use Rattle.slonik_parse.specs.declared.script.Command.{Command}
-use Rattle.slonik_parse.specs.declared.script.Script.{Script}
-use Rattle.slonik_parse.specs.declared.script.Statement.TheVariants.{Single, Try as Tried}
-use Rattle.slonik_parse.specs.declared.script.TryBlock.{TryBlock}
+use Rattle.slonik_script.specs.declared.script.Command.{Command}
+use Rattle.slonik_script.specs.declared.script.Script.{Script}
+use Rattle.slonik_script.specs.declared.script.Statement.TheVariants.{Single, Try as Tried}
+use Rattle.slonik_script.specs.declared.script.TryBlock.{TryBlock}
 use Rattle.slonik_parse.specs.declared.state.Block.TheVariants.{Outside}
 use Rattle.slonik_parse.specs.declared.state.Goal.TheVariants as goal
 use Rattle.slonik_parse.specs.declared.state.Phrase.TheVariants as phrase

@@ -3,11 +3,11 @@ use Rattle.std.proofs.Common.{◌≡◌, ℕ, ◌+◌, ◌-◌, List, [], ◌∷
 use Rattle.std.proofs.Common.{arith}
 use Rattle.slonik_tokens.specs.declared.fault.ParseFault.{ParseFault}
 use Rattle.slonik_tokens.specs.declared.fault.ParseFault.TheVariants.{NoMemory as OutOfMemory}
-use Rattle.slonik_tokens.specs.declared.fault.ScriptRefusal.{ScriptRefusal}
+use Rattle.slonik_script.specs.declared.refusal.ScriptRefusal.{ScriptRefusal}
 use Rattle.slonik_tokens.specs.declared.token.Token.{Token}
 use Rattle.slonik_parse.specs.declared.misparse.Misparse.{Misparse}
 use Rattle.slonik_parse.specs.declared.misparse.Misparse.TheVariants.{NoMemory}
-use Rattle.slonik_parse.specs.declared.script.Script.{Script}
+use Rattle.slonik_script.specs.declared.script.Script.{Script}
 use Rattle.slonik_parse.specs.declared.state.State.{State}
 use Rattle.slonik_parse.specs.Answered.{FailsSo}
 use Rattle.slonik_parse.specs.Machine.{Wrong, go_on, step, end_of, run}

@@ -2,10 +2,10 @@
 use Rattle.std.proofs.Common.{◌≡◌, ℕ, List, Result, Ok, Err, IfOk, sym, ◌∙◌, subst}
 use Rattle.slonik_tokens.specs.declared.fault.ParseFault.{ParseFault}
 use Rattle.slonik_tokens.specs.declared.fault.ParseFault.TheVariants.{Refused, ReadFault, TooLong, NoMemory}
-use Rattle.slonik_tokens.specs.declared.fault.ScriptRefusal.{ScriptRefusal}
+use Rattle.slonik_script.specs.declared.refusal.ScriptRefusal.{ScriptRefusal}
 use Rattle.slonik_tokens.specs.declared.token.Token.{Token}
 use Rattle.slonik_expand.specs.Expansion.{Making, Ending, Made, Wrong, Long}
-use Rattle.slonik_parse.specs.declared.script.Script.{Script}
+use Rattle.slonik_script.specs.declared.script.Script.{Script}
 use Rattle.slonik_parse.specs.Grammar.{IsScript}
 use Rattle.slonik_parse.specs.Outcomes.{script_in, Parses}
 use Rattle.slonik_parse.specs.Refusals.{Refuses}

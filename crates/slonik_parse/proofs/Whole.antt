@@ -6,7 +6,7 @@ use Rattle.slonik_tokens.specs.declared.token.Token.{Token}
 use Rattle.slonik_tokens.specs.Tokens.{is_word}
 use Rattle.slonik_parse.specs.declared.misparse.Misparse.{Misparse}
 use Rattle.slonik_parse.specs.declared.misparse.Misparse.TheVariants.{Misfit}
-use Rattle.slonik_parse.specs.declared.script.Script.{Script}
+use Rattle.slonik_script.specs.declared.script.Script.{Script}
 use Rattle.slonik_parse.specs.declared.state.Block.TheVariants.{Outside}
 use Rattle.slonik_parse.specs.declared.state.Goal.TheVariants as goal
 use Rattle.slonik_parse.specs.declared.state.State.{State}

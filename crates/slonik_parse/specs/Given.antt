@@ -12,8 +12,8 @@ use Rattle.slonik_parse.specs.declared.form.OptionName.TheVariants.{Timeout, Sec
 use Rattle.slonik_parse.specs.declared.given.Given.{Given}
 use Rattle.slonik_parse.specs.declared.misparse.Misparse.{Misparse}
 use Rattle.slonik_parse.specs.declared.misparse.Misparse.TheVariants.{Misfit, MissingOption}
-use Rattle.slonik_parse.specs.declared.script.Command.{Command}
-use Rattle.slonik_parse.specs.declared.script.Command.TheVariants as command
+use Rattle.slonik_script.specs.declared.script.Command.{Command}
+use Rattle.slonik_script.specs.declared.script.Command.TheVariants as command
 use Rattle.slonik_parse.specs.Answered.{and_then}
 use Rattle.slonik_parse.specs.Values.{id_in, string_in, seconds_in, answer_in, choice_in}
 

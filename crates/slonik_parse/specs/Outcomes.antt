@@ -3,15 +3,15 @@ use Rattle.std.specs.Prelude.{◌≡◌, ℕ, ◌+◌, ◌-◌, ◌&&◌, if◌t
 use Rattle.slonik_tokens.specs.declared.fault.ParseFault.{ParseFault}
 use Rattle.slonik_tokens.specs.declared.fault.ParseFault.TheVariants.{Refused, ReadFault, TooLong}
 use Rattle.slonik_tokens.specs.declared.fault.ParseFault.TheVariants.{NoMemory as OutOfMemory}
-use Rattle.slonik_tokens.specs.declared.fault.ScriptRefusal.{ScriptRefusal}
-use Rattle.slonik_tokens.specs.declared.fault.ScriptRefusal.TheVariants as refusal
+use Rattle.slonik_script.specs.declared.refusal.ScriptRefusal.{ScriptRefusal}
+use Rattle.slonik_script.specs.declared.refusal.ScriptRefusal.TheVariants as refusal
 use Rattle.slonik_tokens.specs.declared.token.Token.{Token}
 use Rattle.slonik_tokens.specs.Tokens.{is_word}
 use Rattle.slonik_expand.specs.Expansion.{Ending, Made, Wrong as Refuses, Long}
 use Rattle.slonik_parse.specs.declared.misparse.Misparse.{Misparse}
 use Rattle.slonik_parse.specs.declared.misparse.Misparse.TheVariants.{Misfit, UnknownOption, MissingOption}
 use Rattle.slonik_parse.specs.declared.misparse.Misparse.TheVariants.{NotInProfile, NotInTry, NoMemory}
-use Rattle.slonik_parse.specs.declared.script.Script.{Script}
+use Rattle.slonik_script.specs.declared.script.Script.{Script}
 use Rattle.slonik_parse.specs.Forms.{option_text}
 use Rattle.slonik_parse.specs.Machine.{Wrong, run, behind_preamble}
 

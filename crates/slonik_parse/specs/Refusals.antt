@@ -1,17 +1,17 @@
 -- What is wrong with tokens that are no script.
 use Rattle.std.specs.Prelude.{◌≡◌, ℕ, ◌+◌, true, false, List, [], ◌∷◌, ◌++◌, length, codes, None, Err}
-use Rattle.slonik_tokens.specs.declared.fault.ScriptRefusal.{ScriptRefusal}
-use Rattle.slonik_tokens.specs.declared.fault.ScriptRefusal.TheVariants.{BadToken, BadSyntax, UnknownOption}
-use Rattle.slonik_tokens.specs.declared.fault.ScriptRefusal.TheVariants.{MissingOption, NoPreamble, NotInProfile}
-use Rattle.slonik_tokens.specs.declared.fault.ScriptRefusal.TheVariants.{NotInTry, Undefined, Depth, NoFile, TooMany}
+use Rattle.slonik_script.specs.declared.refusal.ScriptRefusal.{ScriptRefusal}
+use Rattle.slonik_script.specs.declared.refusal.ScriptRefusal.TheVariants.{BadToken, BadSyntax, UnknownOption}
+use Rattle.slonik_script.specs.declared.refusal.ScriptRefusal.TheVariants.{MissingOption, NoPreamble, NotInProfile}
+use Rattle.slonik_script.specs.declared.refusal.ScriptRefusal.TheVariants.{NotInTry, Undefined, Depth, NoFile, TooMany}
 use Rattle.slonik_tokens.specs.declared.token.Sign.TheVariants.{CloseBracket}
 use Rattle.slonik_tokens.specs.declared.token.Token.{Token}
 use Rattle.slonik_tokens.specs.declared.token.Token.TheVariants.{Word}
 use Rattle.slonik_tokens.specs.Tokens.{is_sign}
 use Rattle.slonik_parse.specs.declared.form.OptionName.{OptionName}
 use Rattle.slonik_parse.specs.declared.misparse.Misparse.TheVariants as misparse
-use Rattle.slonik_parse.specs.declared.script.Command.{Command}
-use Rattle.slonik_parse.specs.declared.script.Script.{Script}
+use Rattle.slonik_script.specs.declared.script.Command.{Command}
+use Rattle.slonik_script.specs.declared.script.Script.{Script}
 use Rattle.slonik_parse.specs.declared.state.Block.{Block}
 use Rattle.slonik_parse.specs.declared.state.Block.TheVariants.{Try as InTry}
 use Rattle.slonik_parse.specs.Choices.{begins_with, is_left_out, is_not_in_try, is_option_left_out, option_at}

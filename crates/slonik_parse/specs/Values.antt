@@ -8,8 +8,8 @@ use Rattle.slonik_tokens.specs.declared.token.Token.{Token}
 use Rattle.slonik_tokens.specs.declared.token.Token.TheVariants.{Word, Number, Quoted, Mark, NameUse, Path}
 use Rattle.slonik_tokens.specs.Spelling.{is_identifier}
 use Rattle.slonik_tokens.specs.Tokens.{is_word}
-use Rattle.slonik_parse.specs.declared.script.NodeChoice.{NodeChoice}
-use Rattle.slonik_parse.specs.declared.script.NodeChoice.TheVariants.{All, Node}
+use Rattle.slonik_script.specs.declared.script.NodeChoice.{NodeChoice}
+use Rattle.slonik_script.specs.declared.script.NodeChoice.TheVariants.{All, Node}
 
 -- a word, or a string that is one
 abbrev pub name_in : Token → Option (List ℕ)

@@ -2,14 +2,14 @@
 ghost use Rattle.std.specs.Prelude.{◌≡◌, Ok};
 ghost use Rattle.slonik_parse.specs.Answered.{Answers, Sets, and_then};
 ghost use Rattle.slonik_parse.specs.declared.form.OptionName.TheVariants.{FullyQualifiedName};
-ghost use Rattle.slonik_parse.specs.declared.script.Command.TheVariants.{SetAddTable};
+ghost use Rattle.slonik_script.specs.declared.script.Command.TheVariants.{SetAddTable};
 ghost use Rattle.slonik_parse.specs.Given.{nothing_given, needed, set_option, made};
 
 use crate::form::{OptionName, Verb};
 use crate::misparse::Misparse;
-use crate::script::{Command, NodeChoice};
 use crate::values::{answer_value, choice_value, id_value, seconds_value, string_value};
 use slon_base::Text;
+use slonik_script::{Command, NodeChoice};
 use slonik_tokens::Token;
 use std::alloc::Global;
 

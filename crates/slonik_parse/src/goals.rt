@@ -9,10 +9,10 @@ use crate::choose::{is_left_out, is_not_in_try, is_option_left_out, option_at, v
 use crate::form::{OptionName, Verb};
 use crate::given::Given;
 use crate::misparse::Misparse;
-use crate::script::{Command, CommandList, NodeLines, Script, Statement, StatementList, TryBlock};
 use crate::state::{Block, Goal, Handler, Phrase, State};
 use crate::values::{id_value, lower_text, name_value, status_value, string_value};
 use slon_base::Text;
+use slonik_script::{Command, CommandList, NodeLines, Script, Statement, StatementList, TryBlock};
 use slonik_tokens::{Sign, Token};
 use std::alloc::Global;
 

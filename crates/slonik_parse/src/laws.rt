@@ -1,8 +1,8 @@
 // What the grammar of scripts leaves no choice in.
 ghost use Rattle.std.specs.Prelude.{◌≡◌, List};
-ghost use Rattle.slonik_tokens.specs.declared.fault.ScriptRefusal.{ScriptRefusal};
+ghost use Rattle.slonik_script.specs.declared.refusal.ScriptRefusal.{ScriptRefusal};
 ghost use Rattle.slonik_tokens.specs.declared.token.Token.{Token};
-ghost use Rattle.slonik_parse.specs.declared.script.Script.{Script};
+ghost use Rattle.slonik_script.specs.declared.script.Script.{Script};
 ghost use Rattle.slonik_parse.specs.Grammar.{IsScript};
 ghost use Rattle.slonik_parse.specs.Refusals.{Refuses};
 

@@ -9,13 +9,13 @@ mod laws;
 mod machine;
 mod misparse;
 mod parsing;
-mod script;
 mod state;
 mod values;
 
 pub use laws::one_reading;
 pub use parsing::parse;
-pub use script::{
-    Command, CommandList, NodeChoice, NodeLines, Script, Statement, StatementList, TryBlock,
+pub use slonik_script::{
+    Command, CommandList, NodeChoice, NodeLines, Script, ScriptRefusal, Statement, StatementList,
+    TryBlock,
 };
-pub use slonik_tokens::{ParseFault, ScriptRefusal, Sign, Token, tokens};
+pub use slonik_tokens::{ParseFault, Sign, Token, tokens};

@@ -9,10 +9,10 @@ ghost use Rattle.slonik_parse.specs.Scripts.{with_statement};
 use crate::form::OptionName;
 use crate::goals::{goal_step, sign_then};
 use crate::misparse::Misparse;
-use crate::script::{Script, Statement, TryBlock};
 use crate::state::{Block, Goal, Phrase, State};
 use slon_base::Text;
-use slonik_tokens::{ParseFault, ScriptRefusal, Sign, Token};
+use slonik_script::{Script, ScriptRefusal, Statement, TryBlock};
+use slonik_tokens::{ParseFault, Sign, Token};
 use std::alloc::Global;
 
 /// The next word of a phrase is there, or its sign.

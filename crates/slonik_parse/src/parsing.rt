@@ -1,20 +1,20 @@
 // A script is read: its names are replaced, its files included, and then its tokens are read.
 ghost use Rattle.std.specs.Prelude.{◌≡◌, List, ℕ, Option, Some, Ok, IfOk, IsErrOf};
 ghost use Rattle.slon_base.specs.Counts.{Rose};
-ghost use Rattle.slonik_tokens.specs.declared.fault.ScriptRefusal.{ScriptRefusal as ARefusal};
+ghost use Rattle.slonik_script.specs.declared.refusal.ScriptRefusal.{ScriptRefusal as ARefusal};
 ghost use Rattle.slonik_tokens.specs.declared.token.Token.{Token as AToken};
 ghost use Rattle.slonik_expand.specs.Ends.{Stays};
 ghost use Rattle.slonik_expand.specs.Expansion.{Making, Made, expansion_of};
-ghost use Rattle.slonik_parse.specs.declared.script.Script.{Script as AScript};
+ghost use Rattle.slonik_script.specs.declared.script.Script.{Script as AScript};
 ghost use Rattle.slonik_parse.specs.Grammar.{IsScript};
 ghost use Rattle.slonik_parse.specs.Outcomes.{Parses, script_in};
 ghost use Rattle.slonik_parse.specs.Refusals.{Refuses};
 ghost use Rattle.slonik_parse.specs.Said.{Says, IsAccepted, IsRefusal};
 
 use crate::machine::read_script;
-use crate::script::Script;
 use slon_base::Files;
 use slonik_expand::expand;
+use slonik_script::Script;
 use slonik_tokens::{ParseFault, Token};
 use std::alloc::Global;
 

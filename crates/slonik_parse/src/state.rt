@@ -1,7 +1,7 @@
 // What the tokens so far have made, and what may come next.
 use crate::form::{OptionName, Verb};
 use crate::given::Given;
-use crate::script::{CommandList, Script, TryBlock};
+use slonik_script::{CommandList, Script, TryBlock};
 use slonik_tokens::Sign;
 
 /// When the commands of a block come.

@@ -7,8 +7,8 @@ ghost use Rattle.slonik_tokens.specs.Spelling.{is_identifier, is_word_byte};
 ghost use Rattle.slonik_parse.specs.Values as value;
 
 use crate::misparse::Misparse;
-use crate::script::NodeChoice;
 use slon_base::Text;
+use slonik_script::NodeChoice;
 use slonik_tokens::Token;
 use std::alloc::{AllocError, Global};
 

@@ -6,7 +6,7 @@ use Rattle.slonik_tokens.specs.Cut.{cut_of}
 use Rattle.slonik_tokens.specs.Faults.{Cuts, EndsCut}
 use Rattle.slonik_tokens.specs.declared.fault.ParseFault.{ParseFault}
 use Rattle.slonik_tokens.specs.declared.fault.ParseFault.TheVariants.{Refused}
-use Rattle.slonik_tokens.specs.declared.fault.ScriptRefusal.TheVariants.{BadToken}
+use Rattle.slonik_script.specs.declared.refusal.ScriptRefusal.TheVariants.{BadToken}
 use Rattle.slonik_tokens.specs.declared.token.Token.{Token}
 use Rattle.slonik_tokens.proofs.Readings.{read, only}
 

@@ -2,10 +2,10 @@
 use Rattle.std.specs.Prelude.{◌≡◌, ℕ, List, Result, Ok, Err}
 use Rattle.slon_base.specs.declared.fault.OutFault.{OutFault}
 use Rattle.slon_base.specs.declared.fault.OutFault.TheVariants.{Failed, NoMemory as OutOfMemory}
-use Rattle.slonik_tokens.specs.declared.fault.ScriptRefusal.{ScriptRefusal}
-use Rattle.slonik_tokens.specs.declared.fault.ScriptRefusal.TheVariants.{BadToken, BadSyntax, UnknownOption}
-use Rattle.slonik_tokens.specs.declared.fault.ScriptRefusal.TheVariants.{MissingOption, NoPreamble, NotInProfile}
-use Rattle.slonik_tokens.specs.declared.fault.ScriptRefusal.TheVariants.{NotInTry, Undefined, Depth, NoFile, TooMany}
+use Rattle.slonik_script.specs.declared.refusal.ScriptRefusal.{ScriptRefusal}
+use Rattle.slonik_script.specs.declared.refusal.ScriptRefusal.TheVariants.{BadToken, BadSyntax, UnknownOption}
+use Rattle.slonik_script.specs.declared.refusal.ScriptRefusal.TheVariants.{MissingOption, NoPreamble, NotInProfile}
+use Rattle.slonik_script.specs.declared.refusal.ScriptRefusal.TheVariants.{NotInTry, Undefined, Depth, NoFile, TooMany}
 use Rattle.slonik_tokens.specs.declared.fault.ParseFault.{ParseFault}
 use Rattle.slonik_tokens.specs.declared.fault.ParseFault.TheVariants.{Refused, ReadFault, TooLong, NoMemory}
 use Rattle.slonik_tokens.specs.declared.token.Token.{Token}

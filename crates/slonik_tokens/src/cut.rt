@@ -7,7 +7,8 @@ ghost use Rattle.slonik_tokens.specs.Spelling as spelled;
 
 use crate::lexeme::token_at;
 use crate::scan::blank_len;
-use crate::{ParseFault, ScriptRefusal, Token};
+use crate::{ParseFault, Token};
+use slonik_script::ScriptRefusal;
 use std::alloc::Global;
 
 /// How many lines the byte ends.

@@ -1,4 +1,4 @@
-//! The tokens of a slonik script: what its bytes are cut into, and the refusals of scripts.
+//! The tokens of a slonik script: what its bytes are cut into, and why a script is not read.
 #![tactic(auto)]
 
 mod cut;
@@ -8,5 +8,5 @@ mod scan;
 mod token;
 
 pub use cut::tokens;
-pub use fault::{ParseFault, ScriptRefusal};
+pub use fault::ParseFault;
 pub use token::{Sign, Token};

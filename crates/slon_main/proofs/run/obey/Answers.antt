@@ -1,6 +1,7 @@
 use Rattle.std.proofs.Common.{sym, subst, rules, IfOk}
 use Rattle.slon_main.specs.Clustered.{cluster_of}
 use Rattle.slon_main.specs.Failing.{Pays}
+use Rattle.slon_main.specs.Running.{Obeys}
 use Rattle.slon_main.proofs.Asks.{asked_so, asks_no_more}
 use Rattle.slon_main.proofs.Charges.{moves_tells}
 use Rattle.slon_main.proofs.Failing.{moves_pays}
@@ -13,6 +14,13 @@ returns-in-Database-clause-pays g c tells =
     (cluster_of g.S.Store.Keeper.kept c.args.cluster.now) reply
     (cluster_of g.S.Store.Keeper.kept c.make_named.new.cluster)))
     (sym c.in-Database.is) (c.make_named.ensures.pays tells)
+
+pub returns-in-Database-clause-obeys : goal.returns-in-Database-clause-obeys
+returns-in-Database-clause-obeys g c tells =
+    subst (λ command. IfOk c.make_named.result (λ reply. Obeys command
+    (cluster_of g.S.Store.Keeper.kept c.args.cluster.now) reply
+    (cluster_of g.S.Store.Keeper.kept c.make_named.new.cluster)))
+    (sym c.in-Database.is) (c.make_named.ensures.obeys tells)
 
 pub returns-in-Ok : goal.returns-in-Ok
 returns-in-Ok g c =

@@ -1,0 +1,165 @@
+-- What each way in which a database is changed keeps is kept by every step of a script, whichever stores fail.
+use Rattle.std.proofs.Common.{◌≡◌, ℕ, zero, suc, Bool, true, false, cond, List, [], ◌∷◌, Option, Some, None, refl, sym}
+use Rattle.std.proofs.Common.{subst}
+use Rattle.std.specs.Prelude.{take, drop, is_some, Result, Ok, Err}
+use Rattle.slonik_script.specs.declared.script.Command.{Command as Order}
+use Rattle.slonik_script.specs.declared.script.Command.TheVariants as order
+use Rattle.slonik_script.specs.declared.script.Statement.{Statement}
+use Rattle.slonik_script.specs.declared.script.Statement.TheVariants.{Single, Try as Tries}
+use Rattle.slon_model.specs.declared.reading.Reading.{Reading}
+use Rattle.slon_model.specs.declared.reading.Reading.TheVariants.{Read, Wrong}
+use Rattle.slon_model.specs.declared.reply.Refusal.{Refusal}
+use Rattle.slon_model.specs.declared.reply.Refusal.TheVariants as refused
+use Rattle.slon_model.specs.declared.reply.Reply.TheVariants.{Refused}
+use Rattle.slon_model.specs.Names.{Named, find_named, put_named}
+use Rattle.slon_model.specs.Tasks.{Act, ToRead, ToStep, ToForget}
+use Rattle.slon_model.specs.Place.{Place, fallen}
+use Rattle.slon_model.specs.Moves.{is_last_stamp}
+use Rattle.slon_model.specs.Deciding.{Fate, AllStand, Breaks, DoubtsAt}
+use Rattle.slon_model.specs.Sessions.{World, Running, Commit, Stated, committing, in_doubt, stood_at, stood, felled}
+use Rattle.slon_model.specs.Sessions.{felled_at, beyond_at, first_beyond, no_change}
+use Rattle.slon_model.specs.Scripts.{Stepping, done_by, single, order_step, statement_step, step_todo, step_of, read_as}
+use Rattle.slon_model.specs.Scripts.{ordered, kill_of}
+use Rattle.slon_model.specs.World.{Happening, Acting, outcome, broken_at, wavering, wavering_at}
+use Rattle.slon_model.specs.World.{world_by}
+use Rattle.slon_laws.specs.Turning.{Commits, Falls, Doubts, Carries}
+
+-- ---- the commits of a script are within the limit
+
+-- the commits and the first one beyond the limit
+abbrev AreWithin : List Commit → Named Place → Type 0
+AreWithin cs ps = first_beyond cs ps ≡ None
+
+done_within : (s : Stepping) (w : World) (stated : Stated) (o : Option (List ℕ)) →
+    first_beyond stated.commits w.places ≡ o → AreWithin (done_by s w stated o).commits w.places
+done_within s w stated None is = is
+done_within s w stated (Some name) is = refl
+
+single_within : (s : Stepping) (w : World) (r : Result Stated Refusal) → AreWithin (single s w r).commits w.places
+single_within s w (Err refusal) = refl
+single_within s w (Ok stated) = done_within s w stated (first_beyond stated.commits w.places) refl
+
+order_within : (s : Stepping) (w : World) (o : Order) → AreWithin (order_step s w o).commits w.places
+order_within s w (order.Echo text) = refl
+order_within s w (order.Exit status) = refl
+order_within s w others = single_within s w (ordered others s.run w)
+
+statement_within : (s : Stepping) (w : World) (t : Statement) → AreWithin (statement_step s w t).commits w.places
+statement_within s w (Single o) = order_within s w o
+statement_within s w (Tries block) = refl
+
+todo_within : (name : List ℕ) (run : Running) (todo : List Statement) (w : World) →
+    AreWithin (step_todo name run todo w).commits w.places
+todo_within name run [] w = refl
+todo_within name run (t ∷ rest) w = statement_within (record { name = name; run = run; rest = rest }) w t
+
+step_within : (name : List ℕ) (o : Option Running) (w : World) → AreWithin (step_of name o w).commits w.places
+step_within name None w = refl
+step_within name (Some run) w = todo_within name run run.todo w
+
+read_within : (name : List ℕ) (reading : Reading) (w : World) → AreWithin (read_as name reading w).commits w.places
+read_within name (Wrong refusal) w = refl
+read_within name (Read s) w = refl
+
+kill_within : (name : List ℕ) (o : Option Running) (w : World) → AreWithin (kill_of name o w).commits w.places
+kill_within name None w = refl
+kill_within name (Some run) w = refl
+
+outcome_within : (act : Act) (w : World) → AreWithin (outcome act w).commits w.places
+outcome_within (ToRead name reading) w = by (is_some (find_named name w.memory.scripts))
+  where
+    by : (b : Bool) →
+        AreWithin (cond b (no_change w (Refused (refused.ScriptUsed name))) (read_as name reading w)).commits w.places
+    by true = refl
+    by false = read_within name reading w
+outcome_within (ToStep name) w = step_within name (find_named name w.memory.scripts) w
+outcome_within (ToForget name) w = kill_within name (find_named name w.memory.scripts) w
+
+-- ---- commits that stand
+
+-- a commit within the limit, and the others
+within_parts : (c : Commit) (p : Place) (more : Option (List ℕ)) → beyond_at c (Some p) more ≡ None →
+    (is_last_stamp p ≡ false) × (more ≡ None)
+within_parts c p more is = by (is_last_stamp p) refl is
+  where
+    by : (b : Bool) → is_last_stamp p ≡ b → cond b (Some c.name) more ≡ None → (is_last_stamp p ≡ false) × (more ≡ None)
+    by true last none = absurd cc
+    by false first none = (first, none)
+
+stood_carries : {R : Named Place → Type 0} → Carries R → (cs : List Commit) (ps : Named Place) → AreWithin cs ps →
+    R ps → R (stood cs ps)
+stood_carries k [] ps within is = is
+stood_carries {R} k (c ∷ cs) ps within is =
+    by (λ qs more on. stood_carries k cs qs more on) (find_named c.name ps) refl within
+  where
+    by : ((qs : Named Place) → AreWithin cs qs → R qs → R (stood cs qs)) → (o : Option Place) →
+        find_named c.name ps ≡ o → beyond_at c o (first_beyond cs (stood_at c o ps)) ≡ None →
+        R (stood cs (stood_at c o ps))
+    by on None found within = on ps within is
+    by on (Some p) found within =
+        let parts = within_parts c p _ within in
+        on (put_named c.name (committing c p) ps) parts.1
+        (k c.name p (committing c p) ps found (Commits c parts.0 refl) is)
+
+-- ---- a database that goes down
+
+felled_carries : {R : Named Place → Type 0} → Carries R → (o : Option (List ℕ)) (w : World) → R w.places →
+    R (felled o w).places
+felled_carries k None w is = is
+felled_carries {R} k (Some name) w is = by (find_named name w.places) refl
+  where
+    by : (o : Option Place) → find_named name w.places ≡ o → R (felled_at name o w).places
+    by None found = is
+    by (Some p) found = k name p (fallen p.told p) w.places found (Falls p.told refl) is
+
+broken_carries : {R : Named Place → Type 0} → Carries R → (name : List ℕ) (count : ℕ) (o : Option Place) (w : World) →
+    find_named name w.places ≡ o → R w.places → R (broken_at name count o w).places
+broken_carries k name count None w found is = is
+broken_carries k name count (Some p) w found is = k name p (fallen count p) w.places found (Falls count refl) is
+
+-- ---- a commit in doubt
+
+wavering_carries : {R : Named Place → Type 0} → Carries R → (n : ℕ) (cs : List Commit) (stands : Bool) (w : World)
+    (ps : Named Place) → AreWithin cs ps × R ps → w.places ≡ stood (take n cs) ps →
+    R (wavering (drop n cs) stands w).places
+wavering_carries {R} k zero [] stands w ps is same = subst R (sym same) is.1
+wavering_carries {R} k zero (c ∷ cs) stands w ps is same =
+    by (find_named c.name w.places) refl
+    (subst (λ qs. beyond_at c (find_named c.name qs) (first_beyond cs (stood_at c (find_named c.name qs) qs)) ≡ None)
+    (sym same) is.0)
+  where
+    by : (o : Option Place) → find_named c.name w.places ≡ o →
+        beyond_at c o (first_beyond cs (stood_at c o w.places)) ≡ None → R (wavering_at c stands o w).places
+    by None found within = subst R (sym same) is.1
+    by (Some p) found within =
+        k c.name p (in_doubt c stands p) w.places found (Doubts c stands (within_parts c p _ within).0 refl)
+        (subst R (sym same) is.1)
+wavering_carries {R} k (suc n) [] stands w ps is same = subst R (sym same) is.1
+wavering_carries {R} k (suc n) (c ∷ cs) stands w ps is same =
+    by (λ qs on at. wavering_carries k n cs stands w qs on at) (find_named c.name ps) refl is.0 same
+  where
+    by : ((qs : Named Place) → AreWithin cs qs × R qs → w.places ≡ stood (take n cs) qs →
+        R (wavering (drop n cs) stands w).places) → (o : Option Place) →
+        find_named c.name ps ≡ o → beyond_at c o (first_beyond cs (stood_at c o ps)) ≡ None →
+        w.places ≡ stood (take n cs) (stood_at c o ps) → R (wavering (drop n cs) stands w).places
+    by on None found within at = on ps (within, is.1) at
+    by on (Some p) found within at =
+        let parts = within_parts c p _ within in
+        on (put_named c.name (committing c p) ps)
+        (parts.1, k c.name p (committing c p) ps found (Commits c parts.0 refl) is.1) at
+
+-- ---- a step of a script
+
+pub acting_carries : {R : Named Place → Type 0} → Carries R → (w v : World) (h : Happening) → Acting w h v →
+    R w.places → R v.places
+acting_carries {R} k w v h t is = subst (λ u. R u.places) (sym t.is) (by t.fate)
+  where
+    within : AreWithin (outcome t.act w).commits w.places
+    within = outcome_within t.act w
+
+    by : (fate : Fate) → R (world_by t.act fate w).places
+    by AllStand =
+        felled_carries k (outcome t.act w).falls _ (stood_carries k (outcome t.act w).commits w.places within is)
+    by (Breaks name count) = broken_carries k name count (find_named name w.places) _ refl is
+    by (DoubtsAt before stands) =
+        wavering_carries k before (outcome t.act w).commits stands _ w.places (within, is) refl

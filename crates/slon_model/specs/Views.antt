@@ -1,0 +1,34 @@
+-- How far a node is in a set that it subscribes to: the era and the snapshot that it keeps of it.
+use Rattle.std.specs.Prelude.{ℕ, pred, List, [], ◌∷◌}
+use Rattle.slon_model.specs.Maps.{Map, with_entry, without_entry}
+use Rattle.slon_model.specs.Snapshots.{Snapshot}
+use Rattle.slon_model.specs.Events.{Event, Body, Feed, MoveSet, FailoverSet}
+
+pub record View : Type 0 where
+  pub era : ℕ
+  -- the origin of the set in that era, and the number of its event that was taken last
+  pub origin : ℕ
+  pub number : ℕ
+  pub seen : Snapshot
+  -- from where on the node has logged what it applied, if it forwards
+  pub base_era : ℕ
+  pub base : Snapshot
+
+abbrev pub Views : Type 0
+Views = Map View
+
+-- a view that begins here
+abbrev pub first_view : ℕ → ℕ → ℕ → Snapshot → View
+first_view era origin number seen =
+    record { era = era; origin = origin; number = number; seen = seen; base_era = era; base = seen }
+
+abbrev pub without_sets : List (ℕ × ℕ × List Feed) → Views → Views
+without_sets [] views = views
+without_sets (s ∷ more) views = without_entry s.0 (without_sets more views)
+
+-- The views of a node after an event of its own: who hands a set over begins to subscribe, and who takes over ends.
+abbrev pub views_emitted : Event → Body → Views → Views
+views_emitted e (MoveSet set old new era feeds) views =
+    with_entry set (first_view (pred era) old (pred e.number) e.taken) views
+views_emitted e (FailoverSet failed limit sets) views = without_sets sets views
+views_emitted e others views = views
