@@ -1,25 +1,17 @@
 -- A cluster of two nodes is made, a table comes into a set, and a commit on it is logged.
-use Rattle.std.proofs.Common.{◌≡◌, ℕ, List, [], ◌∷◌, codes, refl, None}
-use Rattle.slonik_script.specs.declared.script.Command.{Command as Order}
+use Rattle.std.proofs.Common.{◌≡◌, List, [], ◌∷◌, codes, refl, None}
 use Rattle.slonik_script.specs.declared.script.Command.TheVariants as order
 use Rattle.slon_model.specs.declared.reply.Answer.TheVariants as answer
 use Rattle.slon_model.specs.declared.reply.Refusal.TheVariants as refused
 use Rattle.slon_model.specs.declared.reply.Reply.{Reply}
 use Rattle.slon_model.specs.declared.reply.Reply.TheVariants.{Accepted, Refused}
 use Rattle.slon_model.specs.Rows.{Put}
-use Rattle.slon_model.specs.Tasks.{OnNew, OnOne, OnAll, ToMake, ToOpen, ToCommit, ToTell, ToStep}
+use Rattle.slon_model.specs.Tasks.{OnNew, OnOne, ToMake, ToOpen, ToCommit, ToTell}
 use Rattle.slon_model.specs.Sessions.{start}
-use Rattle.slon_worked.proofs.Running.{Worked, Asks, Takes, replies, reads}
+use Rattle.slon_worked.proofs.Running.{Worked, Asks, Takes, replies, Head, reads, step, refused_each}
 
-abbrev nodes : List (ℕ × List ℕ)
-nodes = (1, codes "dbname=a") ∷ (2, codes "dbname=b") ∷ []
-
-abbrev step : List ℕ → Worked
-step name = Asks (OnAll (ToStep name))
-
--- a script of this name that is refused at its one statement
-abbrev tried : List ℕ → Order → List Worked → List Worked
-tried name order more = reads name (codes "demo") nodes (order ∷ []) ∷ step name ∷ more
+abbrev head : Head
+head = record { cluster = codes "demo"; nodes = (1, codes "dbname=a") ∷ (2, codes "dbname=b") ∷ [] }
 
 abbrev session : List Worked
 session =
@@ -27,7 +19,7 @@ session =
     ∷ Asks (OnNew (codes "b"))
     ∷ Asks (OnOne (codes "a") (ToMake (codes "public.t") 2))
     ∷ Asks (OnOne (codes "b") (ToMake (codes "public.t") 2))
-    ∷ reads (codes "s") (codes "demo") nodes
+    ∷ reads (codes "s") head
     (order.InitCluster 1 None
     ∷ order.StoreNode 2 1 None
     ∷ order.StorePath 1 2 (codes "dbname=a") None
@@ -47,9 +39,10 @@ session =
     ∷ Asks (OnOne (codes "a") (ToCommit (codes "x")))
     ∷ Asks (OnOne (codes "a") ToTell)
     ∷ Asks (OnOne (codes "b") ToTell)
-    ∷ tried (codes "u") (order.CreateSet 1 1 None)
-    (tried (codes "v") (order.SetAddTable 1 1 2 (codes "public.t") None None)
-    (tried (codes "w") (order.MoveSet 1 1 2) []))
+    ∷ refused_each (codes "u") head
+    (order.CreateSet 1 1 None
+    ∷ order.SetAddTable 1 1 2 (codes "public.t") None None
+    ∷ order.MoveSet 1 1 2 ∷ []) []
 
 abbrev expected : List Reply
 expected =

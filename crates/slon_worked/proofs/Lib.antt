@@ -1,2 +1,4 @@
 pub mod Capture
+pub mod Doubts
+pub mod Refusals
 pub mod Running
