@@ -4,6 +4,8 @@ ghost use Rattle.std.specs.Char.{is_ascii_digit};
 ghost use Rattle.std.specs.List.{list_all, position};
 ghost use Rattle.slon_model.specs.Forms as form;
 
+use slon_model::is_part;
+
 /// The greatest length of a name, in bytes.
 const NAME_LIMIT: usize = 31;
 
@@ -29,39 +31,6 @@ pub fn is_name(word: &[u8]) -> bool
     ensures { result ≡ form.is_name word.now }
 {
     !word.is_empty() && word.len() <= NAME_LIMIT && are_name_bytes(word)
-}
-
-/// A lower-case letter or `_`.
-fn is_first_part_byte(byte: u8) -> bool
-    ensures { result ≡ form.is_first_part_byte byte }
-{
-    byte.is_ascii_lowercase() || byte == b'_'
-}
-
-/// A lower-case letter, a digit or `_`.
-fn is_part_byte(byte: u8) -> bool
-    ensures { result ≡ form.is_part_byte byte }
-{
-    byte.is_ascii_lowercase() || byte.is_ascii_digit() || byte == b'_'
-}
-
-/// Whether these are bytes of a part.
-fn are_part_bytes(bytes: &[u8]) -> bool
-    ensures { result ≡ list_all form.is_part_byte bytes.now }
-{
-    bytes.iter().all(|byte| is_part_byte(*byte))
-}
-
-/// Whether the word is one part of a table's name.
-fn is_part(word: &[u8]) -> bool
-    ensures { result ≡ form.is_part word.now }
-{
-    match word.split_first() {
-        None => false,
-        Some((first, rest)) => {
-            is_first_part_byte(*first) && rest.len() < NAME_LIMIT && are_part_bytes(rest)
-        }
-    }
 }
 
 /// Where the first `.` stands.

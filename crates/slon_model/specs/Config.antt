@@ -4,47 +4,16 @@ use Rattle.std.specs.Prelude.{filter, find, Option, Some, None, unwrap_or, optio
 use Rattle.std.specs.Str.{bytes_eq}
 use Rattle.slon_model.specs.Maps.{Map, Map2, entry_at, with_entry, without_entry, ids, row_at, pair_at, with_pair}
 use Rattle.slon_model.specs.Maps.{without_pair}
-use Rattle.slon_model.specs.Events.{Event, Body, Feed, Sync, StoreNode, DropNode, StorePath, DropPath, StoreSet}
-use Rattle.slon_model.specs.Events.{DropSet, SetAddTable, SubscribeSet, EnableSubscription, UnsubscribeSet, MoveSet}
-use Rattle.slon_model.specs.Events.{AcceptSet, FailoverSet}
-
--- A node that was heard of: it is live, or it was dropped.
-pub record NodeRow : Type 0 where
-  pub live : Bool
-  pub comment : List ℕ
-
-pub record SetRow : Type 0 where
-  pub origin : ℕ
-  pub era : ℕ
-  pub locked : Bool
-  pub live : Bool
-  pub comment : List ℕ
-
-pub record TableRow : Type 0 where
-  pub set_id : ℕ
-  pub name : List ℕ
-  pub live : Bool
-  pub comment : List ℕ
-
--- A receiver of a set. The mark is the number of the event that it has to confirm before it counts as active.
-pub record Subscription : Type 0 where
-  pub provider : ℕ
-  pub forward : Bool
-  pub mark : ℕ
-
-pub data FenceState : Type 0 where
-  IsSet : FenceState
-  IsOpened : FenceState
-  IsClosed : FenceState
-
--- A fence against a failed node: up to which of its events the node goes, and who takes over.
-pub record Fence : Type 0 where
-  pub limit : ℕ
-  pub backup : ℕ
-  pub state : FenceState
-  -- the sets for which the node is kept, and those that it gave up
-  pub kept : List ℕ
-  pub given_up : List ℕ
+use Rattle.node_rows.specs.declared.rows.NodeRow.{NodeRow}
+use Rattle.node_rows.specs.declared.rows.SetRow.{SetRow}
+use Rattle.node_rows.specs.declared.rows.TableRow.{TableRow}
+use Rattle.node_rows.specs.declared.rows.Subscription.{Subscription}
+use Rattle.node_rows.specs.declared.rows.Fence.{Fence}
+use Rattle.node_rows.specs.declared.body.Body.{Body}
+use Rattle.node_rows.specs.declared.body.Body.TheVariants.{Sync, StoreNode, DropNode, StorePath, DropPath, StoreSet}
+use Rattle.node_rows.specs.declared.body.Body.TheVariants.{DropSet, SetAddTable, SubscribeSet, EnableSubscription}
+use Rattle.node_rows.specs.declared.body.Body.TheVariants.{UnsubscribeSet, MoveSet, AcceptSet, FailoverSet}
+use Rattle.slon_model.specs.Events.{Event, Feed, Taken}
 
 pub record Config : Type 0 where
   pub nodes : Map NodeRow
@@ -153,7 +122,7 @@ dropped_tables set tables = map (λ e. if e.1.set_id == set then (e.0, record e.
 
 abbrev pub fed : List Feed → Map Subscription
 fed [] = []
-fed (f ∷ fs) = with_entry f.0 (record { provider = f.1; forward = f.2; mark = 0 }) (fed fs)
+fed (f ∷ fs) = with_entry f.0 (record { provider = f.1.0; forward = f.1.1; mark = 0 }) (fed fs)
 
 abbrev pub enabled : ℕ → ℕ → ℕ → Map2 Subscription → Option Subscription → Map2 Subscription
 enabled set receiver number subscriptions None = subscriptions
@@ -165,10 +134,11 @@ handed set origin era feeds c =
     changed_set set (λ row. record row { origin = origin; era = era })
     (record c { subscriptions = with_entry set (fed feeds) c.subscriptions })
 
-abbrev pub taken_over : ℕ → List (ℕ × ℕ × List Feed) → Config → Config
+abbrev pub taken_over : ℕ → List Taken → Config → Config
 taken_over backup [] c = c
 taken_over backup (s ∷ more) c =
-    if is_some (set_row s.0 c) then handed s.0 backup s.1 s.2 (taken_over backup more c) else taken_over backup more c
+    if is_some (set_row s.0 c) then handed s.0 backup s.1.0 s.1.1 (taken_over backup more c)
+    else taken_over backup more c
 
 -- the change that the body of an event with this origin and number names
 abbrev pub change_by : ℕ → ℕ → Body → Config → Config

@@ -1,28 +1,16 @@
 -- Events: what a node tells all others, in its own order.
 use Rattle.std.specs.Prelude.{ℕ, Bool, true, false, List}
+use Rattle.node_rows.specs.declared.body.Body.{Body}
+use Rattle.node_rows.specs.declared.body.Body.TheVariants.{Sync}
 use Rattle.slon_model.specs.Snapshots.{Snapshot}
 
 -- a receiver of a set with its provider, and whether it forwards
 abbrev pub Feed : Type 0
-Feed = ℕ × ℕ × Bool
+Feed = ℕ × (ℕ × Bool)
 
-pub data Body : Type 0 where
-  Sync : Body
-  StoreNode : (node : ℕ) (comment : List ℕ) → Body
-  DropNode : (node : ℕ) → Body
-  StorePath : (server client : ℕ) (conninfo : List ℕ) → Body
-  DropPath : (server client : ℕ) → Body
-  StoreSet : (set origin : ℕ) (comment : List ℕ) → Body
-  DropSet : (set : ℕ) → Body
-  SetAddTable : (set table : ℕ) (name comment : List ℕ) → Body
-  SubscribeSet : (set provider receiver : ℕ) (forward : Bool) → Body
-  EnableSubscription : (set provider receiver : ℕ) (forward : Bool) (era : ℕ) → Body
-  UnsubscribeSet : (set receiver : ℕ) → Body
-  MoveSet : (set old new era : ℕ) (feeds : List Feed) → Body
-  -- moved: the number of the MOVE_SET
-  AcceptSet : (set old new era moved : ℕ) → Body
-  -- each set with its new era and its feeds
-  FailoverSet : (failed limit : ℕ) (sets : List (ℕ × ℕ × List Feed)) → Body
+-- a set that is taken over: the set, its new era, and its feeds
+abbrev pub Taken : Type 0
+Taken = ℕ × (ℕ × List Feed)
 
 -- An event of a node: the first one has number 1. The snapshot was taken there as it was emitted.
 pub record Event : Type 0 where

@@ -5,8 +5,9 @@ use Rattle.slon_model.specs.declared.reply.Answer.TheVariants.{Done}
 use Rattle.slon_model.specs.declared.reply.Refusal.{Refusal}
 use Rattle.slon_model.specs.declared.reply.Refusal.TheVariants as refused
 use Rattle.slon_model.specs.Maps.{entry_at}
-use Rattle.slon_model.specs.Events.{StoreNode, StorePath, DropPath}
-use Rattle.slon_model.specs.Config.{NodeRow, has_path}
+use Rattle.node_rows.specs.declared.rows.NodeRow.{NodeRow}
+use Rattle.node_rows.specs.declared.body.Body.TheVariants.{StoreNode, StorePath, DropPath}
+use Rattle.slon_model.specs.Config.{has_path}
 use Rattle.slon_model.specs.Deeds.{Node, knowledge, with_deeds, held, first_knowledge, given_to}
 use Rattle.slon_model.specs.Place.{node_id}
 use Rattle.slon_model.specs.Sessions.{World, Running, Seat, Stated, Commit, bind, when, checked, tells}

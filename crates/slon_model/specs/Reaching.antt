@@ -10,7 +10,8 @@ use Rattle.slon_model.specs.declared.reply.Refusal.{Refusal}
 use Rattle.slon_model.specs.declared.reply.Refusal.TheVariants as refused
 use Rattle.slon_model.specs.Names.{Named, find_named}
 use Rattle.slon_model.specs.Maps.{entry_at}
-use Rattle.slon_model.specs.Config.{Config, Subscription, set_row, is_origin, receivers}
+use Rattle.node_rows.specs.declared.rows.Subscription.{Subscription}
+use Rattle.slon_model.specs.Config.{Config, set_row, is_origin, receivers}
 use Rattle.slon_model.specs.Deeds.{Knowledge, knowledge}
 use Rattle.slon_model.specs.Place.{Place, is_running, node_id}
 use Rattle.slon_model.specs.Sessions.{World, Running, Seat, Stated, Commit, Emission, bind, when, checked, seat_of}

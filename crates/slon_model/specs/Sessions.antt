@@ -11,8 +11,9 @@ use Rattle.slon_model.specs.declared.reply.Reply.{Reply}
 use Rattle.slon_model.specs.Names.{Named, find_named, put_named}
 use Rattle.slon_model.specs.Maps.{Map, Map2, without_entry}
 use Rattle.slon_model.specs.Rows.{Rows}
-use Rattle.slon_model.specs.Events.{Event, Body}
-use Rattle.slon_model.specs.Config.{Fence}
+use Rattle.node_rows.specs.declared.rows.Fence.{Fence}
+use Rattle.node_rows.specs.declared.body.Body.{Body}
+use Rattle.slon_model.specs.Events.{Event}
 use Rattle.slon_model.specs.Views.{View}
 use Rattle.slon_model.specs.Deeds.{Node, Deed, Emits, Knowledge, knowledge, with_deeds, progress}
 use Rattle.slon_model.specs.Logs.{named}

@@ -6,7 +6,7 @@ use Rattle.slon_model.specs.declared.reply.Refusal.{Refusal}
 use Rattle.slon_model.specs.declared.reply.Refusal.TheVariants as refused
 use Rattle.slon_model.specs.Names.{find_named}
 use Rattle.slon_model.specs.Maps.{entry_at}
-use Rattle.slon_model.specs.Events.{StoreSet, SetAddTable}
+use Rattle.node_rows.specs.declared.body.Body.TheVariants.{StoreSet, SetAddTable}
 use Rattle.slon_model.specs.Place.{standing_rows}
 use Rattle.slon_model.specs.Sessions.{World, Running, Seat, Stated, Emission, bind, when, checked, writer_of}
 use Rattle.slon_model.specs.Sessions.{tells}

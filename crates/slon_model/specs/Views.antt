@@ -2,7 +2,9 @@
 use Rattle.std.specs.Prelude.{ℕ, pred, List, [], ◌∷◌}
 use Rattle.slon_model.specs.Maps.{Map, with_entry, without_entry}
 use Rattle.slon_model.specs.Snapshots.{Snapshot}
-use Rattle.slon_model.specs.Events.{Event, Body, Feed, MoveSet, FailoverSet}
+use Rattle.node_rows.specs.declared.body.Body.{Body}
+use Rattle.node_rows.specs.declared.body.Body.TheVariants.{MoveSet, FailoverSet}
+use Rattle.slon_model.specs.Events.{Event, Taken}
 
 pub record View : Type 0 where
   pub era : ℕ
@@ -22,7 +24,7 @@ abbrev pub first_view : ℕ → ℕ → ℕ → Snapshot → View
 first_view era origin number seen =
     record { era = era; origin = origin; number = number; seen = seen; base_era = era; base = seen }
 
-abbrev pub without_sets : List (ℕ × ℕ × List Feed) → Views → Views
+abbrev pub without_sets : List Taken → Views → Views
 without_sets [] views = views
 without_sets (s ∷ more) views = without_entry s.0 (without_sets more views)
 

@@ -4,6 +4,7 @@
 mod columns;
 mod command;
 mod fault;
+mod forms;
 mod numbering;
 mod reading;
 mod reply;
@@ -12,6 +13,7 @@ mod standing;
 pub use columns::ColumnList;
 pub use command::{Command, Crash};
 pub use fault::DbFault;
+pub use forms::is_part;
 pub use numbering::Numbering;
 pub use reading::Reading;
 pub use reply::{Answer, Answered, Refusal, Reply, TableRows};

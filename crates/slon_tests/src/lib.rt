@@ -16,9 +16,13 @@ mod known;
 #[cfg(test)]
 mod lines;
 #[cfg(test)]
+mod logged;
+#[cfg(test)]
 mod outside;
 #[cfg(test)]
 mod printed;
+#[cfg(test)]
+mod rows_of_nodes;
 #[cfg(test)]
 mod running;
 #[cfg(test)]

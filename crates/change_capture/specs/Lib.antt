@@ -1,0 +1,4 @@
+pub mod Actions
+pub mod Capture
+pub mod Reading
+pub mod Spellings

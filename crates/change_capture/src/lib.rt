@@ -1,0 +1,15 @@
+//! How an accepted write of an application is logged as a row, and read back.
+//!
+//! A row of the log names the columns that the write is about by number and value. `log_row_of` makes the row of a
+//! write, and `action_of` reads the write from it. Each undoes the other: a row that no write makes is not read.
+#![tactic(auto)]
+
+mod action;
+mod capture;
+mod log_row;
+mod reading;
+
+pub use action::{Action, Change};
+pub use capture::log_row_of;
+pub use log_row::{LogCommand, LogRow};
+pub use reading::action_of;

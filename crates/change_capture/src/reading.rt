@@ -1,0 +1,186 @@
+// The action of a row.
+ghost use Rattle.std.specs.Prelude.{◌≡◌, ◌↔◌, IsTrue, IfOk, IfErr};
+ghost use Rattle.std.specs.Fmt.{decimal};
+ghost use Rattle.change_capture.specs.Reading.{IsPrinted, AreNamed, AreValues, IsLogOf, HasParts, IsLoggedBy};
+ghost use Rattle.change_capture.specs.Reading.{IsReadFault, Gives, Reads};
+
+use crate::{Action, Change, LogCommand, LogRow};
+use slon_base::{RowFault, Text, TextList};
+use slon_model::{ColumnList, is_part};
+use std::alloc::{AllocError, Global};
+
+/// The number of the column of the first value behind the key.
+const FIRST_VALUE_COLUMN: u64 = 2;
+
+/// Whether the text is what is printed for this number.
+fn is_number(alloc: Global, text: &Text, number: u64) -> Result<bool, AllocError>
+    ensures { IfOk result (λ is. IsTrue is ↔ (text.now ≡ decimal number)) }
+{
+    let printed = format!(in alloc; "{number}")?;
+    Ok(printed.as_str() == text.as_str())
+}
+
+/// Whether the text is the number of the column of the key.
+fn is_key_number(text: &Text) -> bool
+    ensures { IsTrue result ↔ (text.now ≡ decimal 1) }
+{
+    text.as_str() == "1"
+}
+
+/// The number that the text is printed for.
+fn number_of(alloc: Global, text: &Text) -> Result<u32, RowFault>
+    ensures { Reads (IsPrinted text.now) result }
+{
+    match text.as_str().parse::<u32>() {
+        Err(_) => Err(RowFault::NotCanonical),
+        Ok(number) => {
+            if is_number(alloc, text, u64::from(number))? {
+                Ok(number)
+            } else {
+                Err(RowFault::NotCanonical)
+            }
+        }
+    }
+}
+
+/// The table's name of these two parts.
+fn table_of(alloc: Global, namespace: &Text, name: &Text) -> Result<Text, RowFault>
+    ensures { Reads (HasParts namespace.now name.now) result }
+{
+    if !is_part(namespace.as_slice()) || !is_part(name.as_slice()) {
+        return Err(RowFault::NotCanonical);
+    }
+    let (namespace, name) = (namespace.as_str(), name.as_str());
+    Ok(Text::from_string(format!(in alloc; "{namespace}.{name}")?))
+}
+
+/// The columns that are named one after another.
+fn columns_of(alloc: Global, arguments: &[Text]) -> Result<ColumnList, RowFault>
+    ensures { Reads (AreNamed arguments.now) result }
+{
+    let mut columns = ColumnList::new(alloc);
+    let mut rest = arguments;
+    while let [number, value, behind @ ..] = rest {
+        columns.push(number_of(alloc, number)?, value.copy(alloc)?)?;
+        rest = behind;
+    }
+    if rest.is_empty() {
+        Ok(columns)
+    } else {
+        Err(RowFault::NotCanonical)
+    }
+}
+
+/// The values of the columns from 2 on, which are named in their order.
+fn values_of(alloc: Global, arguments: &[Text]) -> Result<TextList, RowFault>
+    ensures { Reads (AreValues arguments.now) result }
+{
+    let mut values = TextList::new(alloc);
+    let mut rest = arguments;
+    while let [number, value, behind @ ..] = rest {
+        let column = values.len() as u64 + FIRST_VALUE_COLUMN;
+        if !is_number(alloc, number, column)? {
+            return Err(RowFault::NotCanonical);
+        }
+        values.push(value.copy(alloc)?)?;
+        rest = behind;
+    }
+    if rest.is_empty() {
+        Ok(values)
+    } else {
+        Err(RowFault::NotCanonical)
+    }
+}
+
+/// The new row that the columns are those of.
+fn put_of(alloc: Global, columns: u64, arguments: &[Text]) -> Result<Change, RowFault>
+    ensures { Reads (IsLoggedBy LogCommand.Insert columns arguments.now) result }
+{
+    let [number, key, rest @ ..] = arguments else {
+        return Err(RowFault::NotCanonical);
+    };
+    if columns != 0 || !is_key_number(number) {
+        return Err(RowFault::NotCanonical);
+    }
+    Ok(Change::Put {
+        key: key.copy(alloc)?,
+        values: values_of(alloc, rest)?,
+    })
+}
+
+/// The changed columns, and the key behind them.
+fn set_of(alloc: Global, columns: u64, arguments: &[Text]) -> Result<Change, RowFault>
+    ensures { Reads (IsLoggedBy LogCommand.Update columns arguments.now) result }
+{
+    let [front @ .., number, key] = arguments else {
+        return Err(RowFault::NotCanonical);
+    };
+    if !is_key_number(number) {
+        return Err(RowFault::NotCanonical);
+    }
+    let changed = columns_of(alloc, front)?;
+    if changed.len() as u64 != columns {
+        return Err(RowFault::NotCanonical);
+    }
+    Ok(Change::Set {
+        key: key.copy(alloc)?,
+        columns: changed,
+    })
+}
+
+/// The key of a row that goes.
+fn remove_of(alloc: Global, columns: u64, arguments: &[Text]) -> Result<Change, RowFault>
+    ensures { Reads (IsLoggedBy LogCommand.Delete columns arguments.now) result }
+{
+    let [number, key] = arguments else {
+        return Err(RowFault::NotCanonical);
+    };
+    if columns != 0 || !is_key_number(number) {
+        return Err(RowFault::NotCanonical);
+    }
+    Ok(Change::Remove {
+        key: key.copy(alloc)?,
+    })
+}
+
+/// The change of a row.
+fn change_of(alloc: Global, row: &LogRow) -> Result<Change, RowFault>
+    ensures { Reads (IsLoggedBy row.now.command row.now.columns row.now.arguments) result }
+{
+    let arguments = row.arguments.as_slice();
+    match row.command {
+        LogCommand::Insert => put_of(alloc, row.columns, arguments),
+        LogCommand::Update => set_of(alloc, row.columns, arguments),
+        LogCommand::Delete => remove_of(alloc, row.columns, arguments),
+    }
+}
+
+/// The action with this number that the row is that of.
+fn read_action(alloc: Global, number: u64, row: &LogRow) -> Result<Action, RowFault>
+    ensures { Reads (IsLogOf number row.now) result }
+{
+    let table = table_of(alloc, &row.namespace, &row.name)?;
+    let change = change_of(alloc, row)?;
+    Ok(Action {
+        number,
+        table,
+        change,
+    })
+}
+
+/// The action with this number that is logged as this row. The row is read only if it is the row of an action, byte
+/// by byte: the names of the table's two parts have their form, the numbers of columns have no 0 in front, a new row
+/// has all of its columns in order, and behind changed columns the key stands as column 1.
+///
+/// # Errors
+///
+/// `NotCanonical` where the row is that of no action, and `NoMemory`.
+pub fn action_of(alloc: Global, number: u64, row: &LogRow) -> Result<Action, RowFault>
+    // What is answered is logged as this row,
+    ensures found { IfOk result (IsLogOf number row.now) }
+    // and every action that is logged as this row is the one that is answered.
+    ensures again { (action : Action) → IsLogOf number row.now action → Gives action result }
+    ensures refused { IfErr result IsReadFault }
+{
+    read_action(alloc, number, row)
+}

@@ -1,0 +1,14 @@
+use Rattle.std.proofs.Common.{◌∷◌, ap}
+use Rattle.node_rows.proofs.Bodies.{read_ok, read_err, subscribe_set, subscribe_set_made}
+use Rattle.node_rows.proofs.body.read_subscribe_set.Goals as goal
+
+pub returns-in-Ok : goal.returns-in-Ok
+returns-in-Ok c =
+    let can = c.in-Ok.ensures.can in
+    read_ok 9 subscribe_set subscribe_set_made (can.0, can.1.0, can.1.1.0) (ap (λ bs. 9 ∷ bs) c.in-Ok.ensures.found)
+    (λ parts rest can. c.in-Ok.ensures.again parts rest (can.0, (can.1, (can.2, tt))))
+
+pub returns-in-Err : goal.returns-in-Err
+returns-in-Err c =
+    read_err 9 subscribe_set subscribe_set_made
+    (λ parts rest can. c.in-Err.ensures.again parts rest (can.0, (can.1, (can.2, tt))))
