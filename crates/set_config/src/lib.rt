@@ -1,0 +1,11 @@
+//! What an event changes in the rows by which a node's store holds what it knows of the cluster.
+#![tactic(auto)]
+
+mod config;
+mod layout;
+mod nodes;
+mod paths;
+mod sets;
+mod subscriptions;
+
+pub use config::change;
