@@ -124,20 +124,27 @@ IsLaterIn name p ps = (q : Place) × (find_named name ps ≡ Some q) × Outlasts
 abbrev pub IsLater : List ℕ → Place → World → Type 0
 IsLater name p w = IsLaterIn name p w.places
 
--- a database becomes one that outlasts it
-later_put : (name : List ℕ) (p : Place) (other : List ℕ) (r q : Place) (ps : Named Place) →
-    find_named other ps ≡ Some r → Outlasts r q → IsLaterIn name p ps → IsLaterIn name p (put_named other q ps)
-later_put name p other r q ps at on (s, found, lasts) = by (bytes_eq name other) refl
+-- A database of this name becomes one that outlasts it.
+record Becoming (ps : Named Place) : Type 0 where
+  name : List ℕ
+  before : Place
+  behind : Place
+  at : find_named name ps ≡ Some before
+  outlasts : Outlasts before behind
+
+later_put : (name : List ℕ) (p : Place) (ps : Named Place) (b : Becoming ps) → IsLaterIn name p ps →
+    IsLaterIn name p (put_named b.name b.behind ps)
+later_put name p ps b (s, found, lasts) = by (bytes_eq name b.name) refl
   where
-    by : (b : Bool) → bytes_eq name other ≡ b → IsLaterIn name p (put_named other q ps)
+    by : (c : Bool) → bytes_eq name b.name ≡ c → IsLaterIn name p (put_named b.name b.behind ps)
     by true same =
-        let here : name ≡ other = bytes_same name other same in
-        let one : s ≡ r = one_found s r (sym found ∙ ap (λ k. find_named k ps) here ∙ at) in (
-          q,
-          ap (λ k. find_named k (put_named other q ps)) here ∙ put_found other q r ps at,
-          outlasts_on p s q lasts (subst (λ o. Outlasts o q) (sym one) on),
+        let here : name ≡ b.name = bytes_same name b.name same in
+        let one : s ≡ b.before = one_found s b.before (sym found ∙ ap (λ k. find_named k ps) here ∙ b.at) in (
+          b.behind,
+          ap (λ k. find_named k (put_named b.name b.behind ps)) here ∙ put_found b.name b.behind b.before ps b.at,
+          outlasts_on p s b.behind lasts (subst (λ o. Outlasts o b.behind) (sym one) b.outlasts),
         )
-    by false differ = (s, put_other name other q ps differ ∙ found, lasts)
+    by false differ = (s, put_other name b.name b.behind ps differ ∙ found, lasts)
 
 turned_outlasts : (p q : Place) → Turned p q → Outlasts p q
 turned_outlasts p q turned = turned_keeps (keeps_outlasting p) p q turned (outlasts_itself p)
@@ -150,11 +157,21 @@ later_step name p w v h (Denies other about denied sure told is) all later = sub
 later_step name p w v h (Misses other task about none sure told is) all later = subst (IsLater name p) (sym is) later
 later_step name p w v h (Asks t) all later =
     subst (IsLater name p) (sym t.is)
-    (later_put name p t.name t.place (place_by t.task t.place h.choice) w.places t.found
-    (outlasts_step t.task t.place h.choice (all_found Sound t.name t.place w.places all t.found)) later)
+    (later_put name p w.places (record {
+      name = t.name;
+      before = t.place;
+      behind = place_by t.task t.place h.choice;
+      at = t.found;
+      outlasts = outlasts_step t.task t.place h.choice (all_found Sound t.name t.place w.places all t.found);
+    }) later)
 later_step name p w v h (Acts t) all later =
-    acting_carries (λ other r q ps at turned. later_put name p other r q ps at (turned_outlasts r q turned)) w v h t
-    later
+    acting_carries (λ other r q ps at turned. later_put name p ps (record {
+      name = other;
+      before = r;
+      behind = q;
+      at = at;
+      outlasts = turned_outlasts r q turned;
+    })) w v h t later
 
 pub later_place : (later : List Happening) (w v : World) → AllPlaces Sound w → Leads w later v →
     (name : List ℕ) (p : Place) → find_named name w.places ≡ Some p → AllPlaces Sound v × IsLater name p v

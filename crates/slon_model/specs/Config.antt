@@ -80,11 +80,13 @@ tables_of set c = filter (is_table_of set) c.tables
 abbrev pub names_of : ℕ → Config → List (List ℕ)
 names_of set c = map (λ e. e.1.name) (tables_of set c)
 
+-- the live table of this name, of a live set, with its id
+abbrev pub member_of : List ℕ → Config → Option (ℕ × TableRow)
+member_of table c = find (λ e. e.1.live && bytes_eq table e.1.name && is_some (set_row e.1.set_id c)) c.tables
+
 -- the live set that a table of this name is in
 abbrev pub set_of : List ℕ → Config → Option ℕ
-set_of table c =
-    option_map (λ e. e.1.set_id)
-    (find (λ e. e.1.live && bytes_eq table e.1.name && is_some (set_row e.1.set_id c)) c.tables)
+set_of table c = option_map (λ e. e.1.set_id) (member_of table c)
 
 -- the receivers of a set with their rows, ascending
 abbrev pub receivers : ℕ → Config → Map Subscription

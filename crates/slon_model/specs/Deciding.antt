@@ -173,27 +173,29 @@ pub data Choice : Type 0 where
   Wavers : (stands : Bool) → Choice
   Among : (fate : Fate) → Choice
 
--- the task may call on the store of a database that stands so
-abbrev pub calls_up : Task → Bool
-calls_up (ToMake table columns) = true
-calls_up (ToOpen name) = true
-calls_up (ToWrite w) = true
-calls_up (ToCommit name) = true
-calls_up (ToList table) = true
-calls_up others = false
+-- The task may call on the store of a database that stands so and is this node. What a database is that is no node is
+-- told without a call.
+abbrev pub calls_up : Task → Option Node → Bool
+calls_up (ToMake table columns) _ = true
+calls_up (ToOpen name) _ = true
+calls_up (ToWrite w) _ = true
+calls_up (ToCommit name) _ = true
+calls_up (ToList table) _ = true
+calls_up ToTell found = is_some found
+calls_up others _ = false
 
 abbrev pub calls_down : Task → Bool
 calls_down ToFound = true
 calls_down ToRise = true
 calls_down others = false
 
-abbrev pub may_call : Standing → Task → Bool
-may_call IsRunning task = calls_up task
-may_call others task = calls_down task
+abbrev pub may_call : Standing → Option Node → Task → Bool
+may_call IsRunning found task = calls_up task found
+may_call others found task = calls_down task
 
 abbrev pub May : Task → Place → Choice → Type 0
 May task p AsDue = Unit {0}
-May task p (AtFault count also) = (may_call p.standing task ≡ true) × Rose p.told count
+May task p (AtFault count also) = (may_call p.standing p.node task ≡ true) × Rose p.told count
 May task p (Wavers stands) = commits_at (move_of (decide task p)) p ≡ true
 May task p (Among fate) = ⊥
 

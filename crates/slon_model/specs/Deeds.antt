@@ -13,19 +13,20 @@ pub data Doing : Type 0 where
   -- a transaction of an application, with at least one action
   Commits : (xid : ℕ) → Doing
 
--- Actions of the origin of an era on the tables of its set, which a node logs at once.
-pub record Portion : Type 0 where
+-- An action of the origin of an era on a table of its set, as a node logs it.
+pub record Logged : Type 0 where
   pub set_id : ℕ
+  pub table_id : ℕ
   pub era : ℕ
   pub origin : ℕ
-  pub actions : List Action
+  pub action : Action
 
 -- A deed, with the number of the next action there as it was done, the rows that tables have as they come into a set by
--- it, and what it logs.
+-- it, and what it logs, the newest action first.
 pub record Deed : Type 0 where
   pub first : ℕ
   pub rows : List (List ℕ × Rows)
-  pub logs : List Portion
+  pub logs : List Logged
   pub doing : Doing
 
 -- What a node knows.

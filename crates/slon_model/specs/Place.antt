@@ -9,7 +9,7 @@ use Rattle.slon_model.specs.Rows.{Action, member, rows_by, holder_in, Rows as Ta
 use Rattle.slon_model.specs.Snapshots.{Snapshot, first_or, snapshot_text}
 use Rattle.slon_model.specs.Config.{live_nodes}
 use Rattle.slon_model.specs.Views.{View}
-use Rattle.slon_model.specs.Deeds.{Node, Deed, Doing, Portion, knowledge, progress}
+use Rattle.slon_model.specs.Deeds.{Node, Deed, Doing, Logged, knowledge, progress}
 
 -- How a database stands: it is up; it is down; or it is down and a commit of it is in doubt, which stands or not.
 pub data Standing : Type 0 where
@@ -160,7 +160,7 @@ doubted stands p = record p { standing = IsDoubtful stands; opens = [] }
 -- ---- a database among nodes
 
 -- a deed of the node, as it is done now
-abbrev pub deed : Place → List (List ℕ × TableOf) → List Portion → Doing → Deed
+abbrev pub deed : Place → List (List ℕ × TableOf) → List Logged → Doing → Deed
 deed p rows logs doing = record { first = p.numbers.next; rows = rows; logs = logs; doing = doing }
 
 -- the id of the node that it is, or that a commit in doubt would make it

@@ -1,6 +1,6 @@
 -- What the parts of a command are like that a line says.
-use Rattle.std.specs.Prelude.{◌≡◌, ◌≤◌, ℕ, true, List}
-use Rattle.std.specs.List.{list_all}
+use Rattle.std.specs.Prelude.{◌≡◌, ◌≤◌, ℕ, true, List, length}
+use Rattle.std.specs.List.{list_all, AllByRecursion}
 use Rattle.slon_model.specs.declared.command.Command.{Command}
 use Rattle.slon_model.specs.Forms.{is_name, is_table_name, is_value}
 use Rattle.slon_model.specs.Rows.{Change, Put, Set, Remove}
@@ -22,10 +22,18 @@ AreValues words = list_all is_value words ≡ true
 abbrev pub most_columns : ℕ
 most_columns = 16
 
+-- the greatest number of a column that a line names
+abbrev pub greatest_column : ℕ
+greatest_column = 99
+
+-- columns by their numbers: few, each of a number that a line can name
+abbrev pub AreFew : List (ℕ × List ℕ) → Type 0
+AreFew columns = (length columns ≤ greatest_column) × AllByRecursion (λ c. c.0 ≤ greatest_column) columns
+
 -- the key and the values of a change
 abbrev pub IsChange : Change → Type 0
 IsChange (Put key row) = IsValue key × AreValues row
-IsChange (Set key columns) = IsValue key × (list_all (λ c. is_value c.1) columns ≡ true)
+IsChange (Set key columns) = IsValue key × (list_all (λ c. is_value c.1) columns ≡ true) × AreFew columns
 IsChange (Remove key) = IsValue key
 
 abbrev pub IsTask : Task → Type 0

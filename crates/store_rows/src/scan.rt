@@ -58,6 +58,7 @@ pub fn scan_rows<K: Keeper, I: Spelled, X: Spelled>(
     ensures same { OnOk result ((K.kept keeper.new).pending ≡ (K.kept keeper.old).pending) }
     ensures within { IfErr result IsWithinLimit }
     ensures space { IfErr result (IsOfSpace space) }
+    ensures can { IfOk result (AllAre (λ e. I.Can e.0 × X.Can e.1)) }
     ensures found { (m : Store) → sight (K.kept keeper.old) ≡ Some m → IfOk result (λ rows.
         AllAre (λ e. I.Can e.0 × X.Can e.1) rows
         × (ranged prefix.now (after from.now (entries (m space))) ≡ spelled_rows prefix.now I.bytes X.bytes rows)) }

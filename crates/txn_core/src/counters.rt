@@ -60,6 +60,7 @@ impl Counters {
     pub fn draw(&mut self) -> u64
         requires { self.old.next ≢ self.old.ceiling }
         ensures value { result ≡ self.old.next }
+        ensures small { result < 2 ^ 63 }
         ensures next { self.new.next ≡ self.old.next + 1 }
         ensures ceiling { self.new.ceiling ≡ self.old.ceiling }
     {

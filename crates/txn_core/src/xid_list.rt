@@ -28,6 +28,13 @@ impl XidList {
         }
     }
 
+    /// The list of these ids.
+    pub fn from_vec(ids: Vec<u64>) -> XidList
+        ensures { result ≡ ids.items }
+    {
+        XidList { inner: ids }
+    }
+
     /// The ids in order.
     pub fn as_slice(&self) -> &[u64]
         ensures { result.now ≡ self.now }

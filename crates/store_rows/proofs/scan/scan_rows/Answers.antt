@@ -7,6 +7,7 @@ use Rattle.std.proofs.lemmas.Result.{err_from_is_err_and}
 use Rattle.slon_base.proofs.Order.{prefixed}
 use Rattle.store_rows.proofs.Spaces.{looked_on, looked_none, safe_on, sight_same, handed_safe}
 use Rattle.store_rows.specs.Scan.{key_of}
+use Rattle.store_rows.proofs.Reading.{all_snoc}
 use Rattle.store_rows.proofs.Scanning.{none_ahead, none_gone, comes, none_comes, lacking, at_end, all_in}
 use Rattle.store_rows.proofs.Scanning.{ahead_at, gone_at, next_row, gone_on, all_counted, counted_in}
 use Rattle.store_rows.proofs.scan.scan_rows.Goals as goal
@@ -15,6 +16,7 @@ pub loop-init : goal.loop-init
 loop-init g c =
     record {
       looked = looked_on looked_none c.in_ok-limit.ensures.safe c.in_ok-limit.ensures.same;
+      can = rw (c.new-found.ensures) tt;
       scanned = λ m rows seen can is. rw (c.new-found.ensures) (none_ahead rows can is);
       gone = λ m seen. rw (c.new-found.ensures) none_gone;
     }
@@ -79,6 +81,9 @@ loop-preserved g c =
     let at_is = sym (ap (λ o. key_of o c.args.from.now) c.in-Some.is) in
     record {
       looked = looked_on i.looked c.in_ok-last.ensures.safe c.in_ok-last.ensures.same;
+      can = rw c.in_ok-push-in-Ok.ensures.ok
+          (all_snoc (λ e. g.I.Spelled.Can e.0 × g.X.Spelled.Can e.1) c.loop.found c.in-Ok.row i.can
+          c.in-Ok.ensures.can);
       scanned = λ m rows seen can is.
           let next = comes _ _ (c.in-Some.key, c.in-Some.value) c.key_of.ensures c.in-Some.is
           (c.in_ok-last.ensures.gives m (sight_same i.looked ∙ seen)) in

@@ -11,6 +11,7 @@ abbrev pub invariant-loop : goal.invariant-loop
 invariant-loop g l =
     record {
       looked : Looked (g.K.Keeper.kept l.fn.keeper) (g.K.Keeper.kept l.keeper);
+      can : AllAre (λ e. g.I.Spelled.Can e.0 × g.X.Spelled.Can e.1) l.found;
       scanned : (m : Store) (rows : List _) → sight (g.K.Keeper.kept l.fn.keeper) ≡ Some m →
           AllAre (λ e. g.I.Spelled.Can e.0 × g.X.Spelled.Can e.1) rows →
           ranged l.prefix
