@@ -1,0 +1,12 @@
+pub mod Apart
+pub mod Clearing
+pub mod Copies
+pub mod Emitting
+pub mod Events
+pub mod Deeds
+pub mod Formed
+pub mod Holding
+pub mod Listed
+pub mod NewNodes
+pub mod Snapshots
+pub mod Turning

@@ -1,0 +1,58 @@
+-- What the deeds of a node change in its streams.
+use Rattle.std.specs.Prelude.{◌≡◌, ℕ, ◌<◌, true, List, [], ◌∷◌}
+use Rattle.std.specs.FinMap.{empty}
+use Rattle.slon_base.specs.Keeper.{Store}
+use Rattle.slon_model.specs.Maps.{number_at}
+use Rattle.slon_model.specs.Events.{Event}
+use Rattle.slon_model.specs.Deeds.{Node, Deed, Emits, Commits, knowledge, with_deeds}
+use Rattle.slon_model.specs.Views.{views_emitted}
+use Rattle.slon_model.specs.Sessions.{Running}
+use Rattle.slon_model.specs.Membership.{first_of_cluster, joining}
+use Rattle.set_config.specs.Built.{IsBuilt}
+use Rattle.event_store.specs.Streams.{Streams, streams_of, emitted, given}
+use Rattle.event_store.specs.Holds.{HoldsStreams, is_stream}
+use Rattle.event_store.specs.Giving.{HearsOfOthers}
+
+-- it is behind all that the node has deleted of its origin
+abbrev pub IsBehindLow : Event → Node → Type 0
+IsBehindLow e n = number_at e.origin (knowledge n).low < e.number
+
+-- Emitting adds the event to what the node has, and changes the views as the body of the event says.
+abbrev pub EmittingAdds : Type 0
+EmittingAdds = (n : Node) (d : Deed) (e : Event) → d.doing ≡ Emits e → IsBehindLow e n →
+    streams_of (with_deeds (d ∷ []) n)
+    ≡ record (emitted e (streams_of n)) { views = views_emitted e e.body (streams_of n).views }
+
+-- An event whose change is built changes no view.
+abbrev pub BuiltAdds : Type 0
+BuiltAdds = (n : Node) (d : Deed) (e : Event) → d.doing ≡ Emits e → IsBehindLow e n → IsBuilt e.body →
+    streams_of (with_deeds (d ∷ []) n) ≡ emitted e (streams_of n)
+
+-- What an application commits changes nothing of the streams.
+abbrev pub CommittingStays : Type 0
+CommittingStays = (n : Node) (d : Deed) (xid : ℕ) → d.doing ≡ Commits xid →
+    streams_of (with_deeds (d ∷ []) n) ≡ streams_of n
+
+-- Whatever it does, a node goes on hearing of others alone.
+abbrev pub HearingStays : Type 0
+HearingStays = (n : Node) (d : Deed) → HearsOfOthers (streams_of n) → HearsOfOthers (streams_of (with_deeds (d ∷ []) n))
+
+-- ---- nodes that begin
+
+-- The first node of a cluster has nothing of the streams, and an empty store holds that.
+abbrev pub FirstHasNone : Type 0
+FirstHasNone = (id : ℕ) (comment : List ℕ) (run : Running) (m : Store) →
+    ((space : ℕ) → is_stream space ≡ true → m space ≡ empty) →
+    HoldsStreams (streams_of (first_of_cluster id comment run)) m
+
+-- A node that joins a cluster has what it is given.
+abbrev pub JoiningGives : Type 0
+JoiningGives = (id : ℕ) (n : Node) (run : Running) → streams_of (joining id n run) ≡ given id (streams_of n)
+
+-- Both hear of others alone.
+abbrev pub FirstHears : Type 0
+FirstHears = (id : ℕ) (comment : List ℕ) (run : Running) →
+    HearsOfOthers (streams_of (first_of_cluster id comment run))
+
+abbrev pub GivenHears : Type 0
+GivenHears = (id : ℕ) (s : Streams) → HearsOfOthers (given id s)

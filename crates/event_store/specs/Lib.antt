@@ -1,0 +1,9 @@
+pub mod Apart
+pub mod Emitting
+pub mod Following
+pub mod Formed
+pub mod Giving
+pub mod Holds
+pub mod Seen
+pub mod Spellings
+pub mod Streams

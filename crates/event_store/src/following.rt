@@ -1,0 +1,28 @@
+// Laws of the streams of a node: how they follow how it began and what it did since, and what they leave as it was.
+ghost use Rattle.event_store.specs.Apart.{ConfigStays, StreamsStay};
+ghost use Rattle.event_store.specs.Following.{EmittingAdds, BuiltAdds, CommittingStays, HearingStays};
+ghost use Rattle.event_store.specs.Following.{FirstHasNone, FirstHears, JoiningGives, GivenHears};
+
+/// The streams of a node follow what it does: an event that it emits is added to them, and a transaction of an
+/// application changes nothing of them.
+pub fn streams_follow_deeds()
+    ensures adds { EmittingAdds }
+    ensures built { BuiltAdds }
+    ensures stays { CommittingStays }
+    ensures hears { HearingStays }
+{}
+
+/// The streams of a node begin with nothing, where it is the first of its cluster, or with what it is given.
+pub fn streams_begin()
+    ensures none { FirstHasNone }
+    ensures first { FirstHears }
+    ensures joining { JoiningGives }
+    ensures given { GivenHears }
+{}
+
+/// The streams of a node and what it knows of the cluster stand in spaces of their own, so a change of the one leaves
+/// the other.
+pub fn streams_stand_apart()
+    ensures config { ConfigStays }
+    ensures streams { StreamsStay }
+{}

@@ -1,0 +1,3 @@
+pub mod Logging
+pub mod Numbered
+pub mod Ranging

@@ -1,0 +1,10 @@
+pub mod Capturing
+pub mod Counting
+pub mod Formed
+pub mod Growing
+pub mod Joining
+pub mod Listing
+pub mod Locking
+pub mod Naming
+pub mod Nobody
+pub mod Staying

@@ -1,0 +1,63 @@
+// What a database keeps in memory of the node that it is.
+ghost use Rattle.node_state.specs.Known.{IsIdentified, AreMembers};
+
+use slon_base::{ByteMap, Text};
+use std::alloc::Global;
+
+/// Which node a database is.
+#[derive(Drop)]
+pub struct Identity {
+    /// The id of the node.
+    pub id: u32,
+    /// The name of its cluster.
+    pub cluster: Text,
+}
+
+/// A live table of a live set.
+#[derive(Clone, Copy, Debug, Drop, PartialEq, Eq)]
+pub struct Member {
+    /// The id of the table.
+    pub table: u32,
+    /// The id of its set.
+    pub set: u32,
+    /// Whether the node is the origin of the set.
+    pub leads: bool,
+}
+
+/// What a database keeps in memory of the node that it is: which one, and the tables of sets by their names. A database
+/// that is no node keeps nothing.
+#[derive(Drop)]
+pub struct NodeMemory {
+    pub identity: Option<Identity>,
+    pub members: ByteMap<Member>,
+    ghost identified: { IsIdentified identity },
+    ghost numbered: { AreMembers members },
+}
+
+impl NodeMemory {
+    ghost use Rattle.std.specs.Prelude.{◌≡◌, ℕ, Some, None};
+    ghost use Rattle.std.specs.Option.{option_map};
+    ghost use Rattle.store_rows.specs.Rows.{IsId};
+    ghost use Rattle.node_state.specs.Known.{IsKnown};
+
+    /// The memory of a database that is no node.
+    pub fn none(alloc: Global) -> NodeMemory
+        ensures { IsKnown None result.identity result.members }
+    {
+        NodeMemory {
+            identity: None,
+            members: ByteMap::new(alloc),
+        }
+    }
+
+    /// The id of the node, if the database is one.
+    pub fn id(&self) -> Option<u32>
+        ensures value { result ≡ option_map (λ i. i.id) self.now.identity }
+        ensures small { (id : ℕ) → result ≡ Some id → IsId id }
+    {
+        match &self.identity {
+            None => None,
+            Some(identity) => Some(identity.id),
+        }
+    }
+}
