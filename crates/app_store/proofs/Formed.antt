@@ -1,43 +1,14 @@
 -- What is read, and what is not in its form.
-use Rattle.std.proofs.Common.{◌≡◌, ℕ, List, Option, Some, None, Result, Err, sym, ap, subst, ◌∙◌, inl, inr}
+use Rattle.std.proofs.Common.{◌≡◌, ℕ, List, Option, Some, None, subst, inl, inr}
 use Rattle.slon_base.specs.Codec.{text_bytes}
-use Rattle.store_rows.specs.declared.stop.Stop.{Stop}
-use Rattle.store_rows.specs.declared.stop.Stop.TheVariants.{Failed, NoMemory, BadRow, TooBig}
-use Rattle.store_rows.specs.Steps.{IsOutside, IsOfSpace}
-use Rattle.app_store.specs.Formed.{IsNumber, IsCeiling, AreNumbers, NumbersStand, AreListed, Lacks, StopsAt, Reads}
+pub use Rattle.event_store.proofs.Formed.{none_lacks, stops_at, stops_as, passes_on}
+use Rattle.app_store.specs.Formed.{IsNumber, IsCeiling, AreNumbers, NumbersStand, AreListed, Lacks}
 use Rattle.app_store.specs.Formed.{HandedList, columns_at}
 use Rattle.app_store.specs.Spelled.{meta, tables, rows, stamp_key}
 use Rattle.app_store.specs.Works.{AreSmall}
 use Rattle.app_store.specs.declared.look.Numbers.{Numbers}
 use Rattle.std.specs.FinMap.{get}
 use Rattle.slon_base.specs.Keeper.{Store}
-
--- what was read is in its form
-pub none_lacks : {space : ℕ} {IsFormed : Type 0} → IsFormed → (other : ℕ) → Lacks space IsFormed other → ⊥
-none_lacks formed other lacks = lacks.1 formed
-
--- what stands would have been read, so it is not in its form
-pub stops_at : (space : ℕ) (IsFormed : Type 0) (stop : Stop) → IsOfSpace space stop → (IsFormed → IsOutside stop) →
-    StopsAt (Lacks space IsFormed) stop
-stops_at space IsFormed Failed of unless = tt
-stops_at space IsFormed NoMemory of unless = tt
-stops_at space IsFormed (BadRow other) of unless = (of, unless)
-stops_at space IsFormed (TooBig other) of unless = of
-
--- the caller is handed what was handed
-pub stops_as : (few many : ℕ → Type 0) (stop : Stop) → ((space : ℕ) → few space → many space) →
-    StopsAt few stop → StopsAt many stop
-stops_as few many Failed on stops = tt
-stops_as few many NoMemory on stops = tt
-stops_as few many (BadRow space) on stops = on space stops
-stops_as few many (TooBig space) on stops = stops
-
--- a stop that is passed on
-pub passes_on : {U : Type 0} (few many : ℕ → Type 0) {stop : Stop} (result : Result U Stop) →
-    (y : Stop) × (result ≡ Err y) × (y ≡ stop) → ((space : ℕ) → few space → many space) → StopsAt few stop →
-    Reads many result
-passes_on few many {stop} result (y, is, same) on stops =
-    subst (λ r. Reads many r) (sym (is ∙ ap (λ e. Err e) same)) (stops_as few many stop on stops)
 
 -- a ceiling is a number
 pub number_of : {entry : Option (List ℕ)} → IsCeiling entry → IsNumber entry

@@ -15,6 +15,7 @@ pub mod Scanning
 pub mod Serving
 pub mod Standing
 pub mod Taking
+pub mod Telling
 pub mod Transacting
 pub mod Upright
 pub mod Writing

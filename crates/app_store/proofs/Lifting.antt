@@ -57,6 +57,7 @@ lifted_runs Xids p m d stamp runs is same = record {
       λ name. opens_same p (lifted_place Xids p) (find_named name p.opens)
       (Rattle.std.specs.FinMap.get m.opens name) refl refl (runs.opened name);
   locked = runs.locked;
+  known = runs.known;
 }
 lifted_runs Actions p m d stamp runs is same = record {
   up = runs.up;
@@ -69,6 +70,7 @@ lifted_runs Actions p m d stamp runs is same = record {
       λ name. opens_same p (lifted_place Actions p) (find_named name p.opens)
       (Rattle.std.specs.FinMap.get m.opens name) refl refl (runs.opened name);
   locked = runs.locked;
+  known = runs.known;
 }
 
 lifted_standing : (kind : Numbering) (p : Place) → p.standing ≡ IsRunning → (lifted_place kind p).standing ≡ IsRunning

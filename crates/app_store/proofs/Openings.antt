@@ -1,6 +1,6 @@
 -- Open transactions in the code and by the rules, after each change of a place.
-use Rattle.std.proofs.Common.{◌≡◌, ℕ, ◌+◌, ◌-◌, ◌^◌, ◌<◌, ◌≤◌, Bool, true, false, cond, List, [], ◌∷◌, length, Option}
-use Rattle.std.proofs.Common.{Some, None, refl, sym, ap, subst, ◌∙◌, arith, is_some, min}
+use Rattle.std.proofs.Common.{◌≡◌, ℕ, Bool, true, false, cond, List, [], ◌∷◌, ◌++◌, length, Option}
+use Rattle.std.proofs.Common.{Some, None, refl, sym, ap, subst, ◌∙◌, arith, is_some}
 use Rattle.std.specs.Prelude.{◌==◌, ◌&&◌, ◌||◌, filter}
 use Rattle.std.specs.List.{AllByRecursion}
 use Rattle.std.specs.Option.{option_map}
@@ -14,19 +14,21 @@ use Rattle.slon_base.specs.Keeper.{key_cmp}
 use Rattle.slon_base.specs.Codec.{list_bytes, IsText}
 use Rattle.slon_base.proofs.Spelled.{text_front, text_bytes-same}
 use Rattle.slon_model.specs.Rows.{Rows, Action, Change, change_key, touches, is_on, member, apply, rows_by}
-use Rattle.slon_model.specs.Place.{Place, open_xids, seen_rows, standing_rows, own_count}
+use Rattle.slon_model.specs.Place.{Place, open_xids, seen_rows, standing_rows, own_actions}
 use Rattle.slon_model.specs.Moves.{written, committed}
 use Rattle.slon_model.proofs.Names.{bytes_same}
 use Rattle.slon_laws.specs.Sound.{Sound}
 use Rattle.slon_laws.specs.Keys.{change_at}
 use Rattle.slon_laws.proofs.Keys.{get-played, key_test}
+use Rattle.change_capture.specs.declared.action.Action.{Action as CapturedAction}
+use Rattle.node_state.specs.Held.{action_as, captured_all}
 use Rattle.app_store.specs.declared.opens.Transaction.{Transaction}
 use Rattle.app_store.specs.Fits.{IsOpened, has_written}
 use Rattle.app_store.specs.Spelled.{IsRowKey, row_key, over}
 use Rattle.app_store.specs.Targets.{Spot}
 use Rattle.app_store.specs.Written.{with_write}
 use Rattle.slon_base.proofs.Order.{same_keys, equal_of, apart, tied}
-use Rattle.app_store.proofs.Places.{NoneOf, none_written, none_counted, none_later, counted_at_most, unwritten}
+use Rattle.app_store.proofs.Places.{NoneOf, none_written, none_counted, none_later, unwritten}
 use Rattle.app_store.proofs.Places.{seen_unwritten, TwoOpen, written_by_one}
 
 -- ---- keys of rows
@@ -60,17 +62,21 @@ pub opened_same : (p q : Place) (x : ℕ) (t : Transaction) → q.actions ≡ p.
 opened_same p q x t actions commits o =
     subst (λ c. IsOpened (record q { commits = c }) x t) (sym commits)
     (subst (λ a. IsOpened (record q { commits = p.commits; actions = a }) x t) (sym actions)
-    (record { xid_is = o.xid_is; count = o.count; sees = o.sees; wrote = o.wrote; keys = o.keys }))
+    (record { xid_is = o.xid_is; actions = o.actions; sees = o.sees; wrote = o.wrote; keys = o.keys }))
+
+nothing : (actions : List Action) → length actions ≡ 0 → actions ≡ []
+nothing [] none = refl
+nothing (a ∷ rest) none = absurd (omega (arith, none))
 
 -- the transaction that takes the next id
 pub opened_new : (p q : Place) (y : ℕ) → Sound p → q.actions ≡ p.actions → q.commits ≡ p.commits → y ≡ p.xids.next →
-    IsOpened q p.xids.next (record { xid = y; actions = 0; writes = empty })
+    IsOpened q p.xids.next (record { xid = y; actions = []; writes = empty })
 opened_new p q y sound actions commits is =
     let x = p.xids.next in
     let none : NoneOf x p.actions = none_later x x p.actions sound.known (omega arith) in
     opened_same p q x _ actions commits (record {
       xid_is = is;
-      count = sym (none_counted x p.actions none);
+      actions = sym (ap captured_all (nothing (own_actions x p) (none_counted x p.actions none)));
       sees =
           λ table key text. ap (option_map list_bytes)
           (seen_unwritten x p.commits table key p.actions
@@ -99,10 +105,10 @@ opened_other {p} {y} {t} x table change differ open_still o =
     let a : Action = record { number = p.numbers.next; xid = x; table = table; change = change } in
     record {
       xid_is = o.xid_is;
-      count =
-          o.count
-          ∙ ap (λ b. length (cond b (a ∷ filter (λ a. a.xid == y) p.actions) (filter (λ a. a.xid == y) p.actions)))
-          (sym differ);
+      actions =
+          o.actions
+          ∙ ap (λ b. captured_all (cond b (a ∷ filter (λ a. a.xid == y) p.actions)
+          (filter (λ a. a.xid == y) p.actions))) (sym differ);
       sees =
           λ other key text. skipped ((x == y) || member x p.commits) other a key (seen_rows y p other)
           (ap (λ b. b || member x p.commits) differ ∙ open_still)
@@ -127,12 +133,16 @@ pub record IsWrite (s : Spot) (change : Change) (value : Option (List ℕ)) (p :
   pub table_text : IsText s.table
   pub key_text : IsText s.key
   pub is_key : change_key change ≡ s.key
-  pub room : length p.actions + 1 < 2 ^ 64
   pub value_is : value ≡ option_map list_bytes (change_at change (get (seen_rows s.xid p s.table) s.key))
+
+-- the action of a write, as it is captured
+abbrev pub action_of : Spot → Change → Place → CapturedAction
+action_of s change p = action_as (record { number = p.numbers.next; xid = s.xid; table = s.table; change = change })
 
 pub opened_own : {s : Spot} {change : Change} {value : Option (List ℕ)} {p : Place} (t : Transaction) →
     IsWrite s change value p → IsOpened p s.xid t →
-    IsOpened (written s.xid s.table change p) s.xid (with_write (row_key s.table s.key) value t)
+    IsOpened (written s.xid s.table change p) s.xid
+    (with_write (row_key s.table s.key) value (action_of s change p) t)
 opened_own {s} {change} {value} {p} t is o =
     let x = s.xid in
     let table = s.table in
@@ -145,10 +155,9 @@ opened_own {s} {change} {value} {p} t is o =
     λ other k. ap (λ b. bytes_eq other table && b) (ap (bytes_eq k) (sym is.is_key)) in
     record {
       xid_is = o.xid_is;
-      count = counted (own_count x p) t.actions o.count (omega (arith, counted_at_most x p.actions, is.room))
-          ∙ one_more a (filter (λ a. a.xid == x) p.actions)
-          ∙ ap (λ b. length (cond b (a ∷ filter (λ a. a.xid == x) p.actions) (filter (λ a. a.xid == x) p.actions)))
-          (sym own);
+      actions = ap (λ l. l ++ action_as a ∷ []) o.actions
+          ∙ ap (λ b. captured_all (cond b (a ∷ filter (λ a. a.xid == x) p.actions)
+          (filter (λ a. a.xid == x) p.actions))) (sym own);
       sees = λ other k text_other.
           let rows = seen_rows x p other in
           let standing_same : option_map list_bytes (get (standing_rows (written x table change p) other) k)
@@ -191,12 +200,6 @@ opened_own {s} {change} {value} {p} t is o =
           (sym (ap is_some (get-insert nat_list_cmp_total t.writes (row_key table key) value q)) ∙ has);
     }
   where
-    counted : (n m : ℕ) → m ≡ n → n + 1 ≤ 2 ^ 64 - 1 → min (2 ^ 64 - 1) (m + 1) ≡ n + 1
-    counted n m same fits = omega (arith, same, fits)
-
-    one_more : (a : Action) (xs : List Action) → length xs + 1 ≡ length (a ∷ xs)
-    one_more a xs = omega arith
-
     either : (b : Bool) (v : Option (List ℕ)) (w : Option (Option (List ℕ))) (h : Bool) → is_some w ≡ h →
         is_some (cond b (Some v) w) ≡ (b || h)
     either true v w h same = refl
@@ -214,7 +217,7 @@ pub opened_committed : (p : Place) (name : List ℕ) (two : TwoOpen (open_xids p
     IsOpened p two.other t → IsOpened (committed name two.one p) two.other t
 opened_committed p name two t sound o = record {
   xid_is = o.xid_is;
-  count = o.count;
+  actions = o.actions;
   sees = λ table key text. by_row table key text (has_written two.other table key p.actions) refl;
   wrote = o.wrote;
   keys = o.keys;

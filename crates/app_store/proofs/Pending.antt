@@ -1,12 +1,11 @@
 -- What the calls of a transaction and the reads of a step come to.
-use Rattle.std.proofs.Common.{◌≡◌, ℕ, ◌≤◌, Bool, true, false, Option, Some, None, Result, Ok, Err, List, [], ◌∷◌}
-use Rattle.std.proofs.Common.{length, refl, sym, ap, subst, ◌∙◌, inl, inr, arith, is_some}
+use Rattle.std.proofs.Common.{◌≡◌, ℕ, ◌≤◌, Bool, true, false, Option, Some, None, Result, Ok, Err}
+use Rattle.std.proofs.Common.{refl, sym, ap, subst, ◌∙◌, inl, inr, arith, is_some}
 use Rattle.std.specs.Prelude.{IfOk, IfErr}
 use Rattle.std.proofs.lemmas.Bool.{false≢true, true≢false}
 use Rattle.std.specs.Option.{option_map, unwrap_or}
-use Rattle.std.specs.FinMap.{empty, entries, len, len-entries, len-empty}
 use Rattle.slon_base.specs.Counts.{Rose}
-use Rattle.slon_base.specs.Keeper.{Kept, Store, HasCause, Begins, Commits, sight, key_cmp}
+use Rattle.slon_base.specs.Keeper.{Kept, Store, HasCause, Begins, Commits, sight}
 use Rattle.slon_base.specs.declared.fault.KeepFault.TheVariants.{Failed}
 use Rattle.store_rows.specs.Spending.{IsAtMost, Stays}
 use Rattle.store_rows.specs.Steps.{Safe, IsOutside, IsWithinLimit, is_failed}
@@ -15,7 +14,6 @@ use Rattle.store_rows.specs.declared.stop.Stop.TheVariants.{Failed as StopFailed
 use Rattle.store_rows.proofs.Causes.{stays, spends, rose, outside_within}
 use Rattle.app_store.specs.declared.transact.Made.{Made}
 use Rattle.app_store.specs.declared.transact.Made.TheVariants.{Done, InDoubt}
-use Rattle.app_store.specs.Spelled.{Writes}
 use Rattle.app_store.specs.Steps.{Knows, Starts, Transacts, Finishes, EndsAs, Leaves, Doubts, Looks, Says}
 
 -- ---- what is known of the failures of a store
@@ -192,20 +190,6 @@ not_changed {stop = stop} p s outside = record {
   doubts = s.doubts ∙ p.doubts;
   leaves = λ m was. (s.held ∙ p.held ∙ was, outside);
 }
-
--- no rows are written
-pub none_written : {writes : Writes} → writes ≡ empty → entries writes ≡ []
-none_written {writes} is = nil (entries writes) (omega (
-  arith,
-  len-entries writes,
-  ap len is,
-  len-empty key_cmp
-      (Option (List ℕ)),
-))
-  where
-    nil : (es : List (List ℕ × Option (List ℕ))) → length es ≡ 0 → es ≡ []
-    nil [] few = refl
-    nil (e ∷ es) few = absurd (omega (arith, few))
 
 -- ---- reads
 

@@ -28,6 +28,9 @@ use Rattle.slon_model.specs.Deciding.{Accepts, decide_by, decide, limited, settl
 use Rattle.slon_laws.specs.Spelled.{IsSpelled}
 use Rattle.store_rows.specs.declared.stop.Stop.{Stop}
 use Rattle.store_rows.specs.declared.stop.Stop.TheVariants.{Failed as StopFailed, NoMemory as StopNoMemory}
+use Rattle.node_state.specs.declared.memory.NodeMemory.{NodeMemory}
+use Rattle.node_state.specs.Known.{IsKnown}
+use Rattle.node_state.proofs.Nobody.{known_as}
 use Rattle.app_store.specs.declared.look.Numbers.{Numbers}
 use Rattle.app_store.specs.Base.{Memory, Base, IsFresh}
 use Rattle.app_store.specs.Fits.{Fits, Runs, StandsAs, OpensAs}
@@ -57,8 +60,8 @@ holds_bare = record {
   meta_numbers = empty_space (λ key. refl);
   table_rows = empty_space (λ name. refl);
   rows_held = empty_space (λ i. get-empty key_cmp i.1);
-  others = λ space unused. refl;
-  alone = refl;
+  node_held = λ space other. refl;
+  bare = λ none. refl;
 }
 
 holds_founded : Holds (founded bare_place) (with_first nothing)
@@ -76,6 +79,7 @@ fresh_runs m fresh = record {
       λ name. subst (λ o. OpensAs (done Founds bare_place) None o)
       (sym (ap (λ o. get o name) fresh.closed.opens_are ∙ get-empty key_cmp name)) tt;
   locked = λ table key text. fresh.closed.locks_are table key;
+  known = fresh.nobody;
 }
 
 pub begins_done : (b : Base) → IsFresh true None b.memory → b.kept.held ≡ Some (with_first nothing) →
@@ -205,10 +209,17 @@ record AreNumbersOf (p : Place) (n : Numbers) : Type 0 where
   numbers : n.number_ceiling ≡ p.numbers.ceiling
   founded : 0 < p.stamp
 
-starts_fits : (p : Place) (n : Numbers) (new : Base) → StartsWith n new.memory → AreNumbersOf p n →
-    p.told ≤ new.kept.faults → (m : Store) × (new.kept.held ≡ Some m) × Holds p m → Fits (risen p) new
-starts_fits p n new starts are told (m, held, holds) =
-    fits_running (risen p) new m refl runs told held (holds_same p (risen p) m refl holds)
+-- It is held, with the node that it is.
+record StandsIn (p : Place) (node : NodeMemory) (new : Base) : Type 0 where
+  told : p.told ≤ new.kept.faults
+  held : (m : Store) × (new.kept.held ≡ Some m) × Holds p m
+  known : IsKnown p.node node.identity node.members
+
+starts_fits : (p : Place) (n : Numbers) (node : NodeMemory) (new : Base) → StartsWith n node new.memory →
+    AreNumbersOf p n → StandsIn p node new → Fits (risen p) new
+starts_fits p n node new starts are stands =
+    fits_running (risen p) new stands.held.0 refl runs stands.told stands.held.1
+    (holds_same p (risen p) stands.held.0 refl stands.held.2)
   where
     runs : Runs (risen p) new.memory
     runs = record {
@@ -222,6 +233,7 @@ starts_fits p n new starts are told (m, held, holds) =
           λ name. subst (λ o. OpensAs (risen p) None o)
           (sym (ap (λ o. get o name) starts.closed.opens_are ∙ get-empty key_cmp name)) tt;
       locked = λ table key text. starts.closed.locks_are table key ∙ sym (no_holder table key p.actions);
+      known = known_as starts.identity starts.members stands.known;
     }
 
 -- what is held after the first rows are written where there was none
@@ -237,15 +249,17 @@ not_zero zero is = absurd (false≢true (sym is))
 not_zero (suc n) is = omega arith
 
 -- What a database that comes up goes on with, and what it says of a commit in doubt.
-pub record GoesOn (old new : Base) (found : Option ℕ) (n : Numbers) (answer : Answer) : Type 0 where
+pub record GoesOn (p : Place) (old new : Base) (found : Option ℕ) (n : Numbers) (answer : Answer) : Type 0 where
   pub later : old.kept.faults ≤ new.kept.faults
   pub answer_is : answer ≡ settled_as old.memory.doubt found
-  pub starts : StartsWith n new.memory
+  pub node : NodeMemory
+  pub starts : StartsWith n node new.memory
+  pub known : IsKnown p.node node.identity node.members
 
 pub rises_ok : {p : Place} {old : Base} {found : Option ℕ} {n : Numbers} (new : Base) (answer : Answer)
     (at : DownAt p old) →
     Recovered at.ready.fits.held.0 p.stamp p.xids.ceiling p.numbers.ceiling found n new.kept.held →
-    GoesOn old new found n answer → Comes ToRise p (Ok (Sure answer)) new
+    GoesOn p old new found n answer → Comes ToRise p (Ok (Sure answer)) new
 rises_ok {p} {old} {found} {n} new answer at (Was some found_is n_is held) on =
     let rows : with_first_rows p ≡ p = ap (λ t. cond t (founded p) p) some in
     let fits = at.ready.fits in
@@ -254,12 +268,16 @@ rises_ok {p} {old} {found} {n} new answer at (Was some found_is n_is held) on =
     (rises_as p old.memory answer fits.stands at.down (settles_was p.standing p old.memory fits.stands at.down
     ∙ sym (on.answer_is ∙ ap (settled_as old.memory.doubt) found_is)))
     (subst (λ q. Fits (risen q) new) (sym rows)
-    (starts_fits p n new on.starts (record {
+    (starts_fits p n on.node new on.starts (record {
       stamp = ap (λ k. k.stamp) n_is;
       xids = ap (λ k. k.xid_ceiling) n_is;
       numbers = ap (λ k. k.number_ceiling) n_is;
       founded = not_zero p.stamp some;
-    }) (omega (arith, fits.told, later)) (fits.held.0, held, fits.held.2)))
+    }) (record {
+      told = omega (arith, fits.told, later);
+      held = (fits.held.0, held, fits.held.2);
+      known = on.known;
+    })))
 rises_ok {p} {old} {found} {n} new answer at (Founded none found_is n_is held) on =
     let rows : with_first_rows p ≡ founded p = ap (λ t. cond t (founded p) p) (eq-eqb p.stamp 0 none) in
     let fits = at.ready.fits in
@@ -270,13 +288,16 @@ rises_ok {p} {old} {found} {n} new answer at (Founded none found_is n_is held) o
     (settles_none p.standing p old.memory none fits.stands at.down
     ∙ sym (on.answer_is ∙ ap (settled_as old.memory.doubt) found_is)))
     (subst (λ q. Fits (risen q) new) (sym rows)
-    (starts_fits (founded p) n new on.starts (record {
+    (starts_fits (founded p) n on.node new on.starts (record {
       stamp = ap (λ k. k.stamp) n_is;
       xids = ap (λ k. k.xid_ceiling) n_is ∙ sym (ap (λ n. n + 64) bare.0);
       numbers = ap (λ k. k.number_ceiling) n_is ∙ sym (ap (λ n. n + 64) bare.1);
       founded = omega arith;
-    }) (omega (arith, fits.told, later))
-    (with_first fits.held.0, held, rises_founded p fits.held.0 at.ready.spelled none fits.held.2)))
+    }) (record {
+      told = omega (arith, fits.told, later);
+      held = (with_first fits.held.0, held, rises_founded p fits.held.0 at.ready.spelled none fits.held.2);
+      known = on.known;
+    })))
 
 -- The memory of a database that stays down.
 record IsLeftDown (old new : Memory) : Type 0 where
@@ -335,7 +356,7 @@ rises_err {p} {old} new StopFailed fault at either s =
           }))
     ])
   where
-    calls : (s : Standing) → StandsAs s p old.memory → may_call s ToRise ≡ true
+    calls : (s : Standing) → StandsAs s p old.memory → may_call s p.node ToRise ≡ true
     calls IsRunning stands = absurd (false≢true (sym at.down ∙ stands.up))
     calls others stands = refl
 rises_err new StopNoMemory fault at either s =

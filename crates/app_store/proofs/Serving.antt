@@ -349,20 +349,22 @@ some_is y x true is = (refl, ap (λ o. unwrap_or o y) is)
 some_is y x false is = absurd cc
 
 -- what goes down does from wherever the transaction was taken away
-pub down_from : {old new : Memory} (from : Memory) → from.doubt ≡ old.doubt → from.stamp ≡ old.stamp →
-    from.xids ≡ old.xids → from.numbers ≡ old.numbers → GoesDown old new → GoesDown from new
-down_from from doubt stamp xids numbers down = record {
+pub down_from : {old new : Memory} (from : Memory) → old ≡ record from { opens = old.opens; locks = old.locks } →
+    GoesDown old new → GoesDown from new
+down_from from same down = record {
   up = down.up;
-  doubt = down.doubt ∙ sym doubt;
-  stamp = down.stamp ∙ sym stamp;
-  xids = down.xids ∙ sym xids;
-  numbers = down.numbers ∙ sym numbers;
+  doubt = down.doubt ∙ ap (λ m. m.doubt) same;
+  stamp = down.stamp ∙ ap (λ m. m.stamp) same;
+  xids = down.xids ∙ ap (λ m. m.xids) same;
+  numbers = down.numbers ∙ ap (λ m. m.numbers) same;
   closed = down.closed;
+  identity = down.identity ∙ ap (λ m. m.identity) same;
+  members = down.members ∙ ap (λ m. m.members) same;
 }
 
 -- a stop before anything was prepared
 pub plain_fell : {p : Place} {b : Base} (task : Task) (fault : DbFault) (new : Base) → UpAt p b →
-    calls_up task ≡ true → FellTo p p fault new → Comes task p (Err fault) new
+    calls_up task p.node ≡ true → FellTo p p fault new → Comes task p (Err fault) new
 plain_fell {p} task fault new at calls fell =
     followed task p (Err fault) new (running at).0 calls
     (StopsAt fault refl (fell_plain (decide task p) p fault new fell))

@@ -76,7 +76,8 @@ carried task p d new decided fits = (
 )
 
 -- the store failed before the effect
-pub fell : (task : Task) (p : Place) (d : Decision) (fault : DbFault) (new : Base) → may_call p.standing task ≡ true →
+pub fell : (task : Task) (p : Place) (d : Decision) (fault : DbFault) (new : Base) →
+    may_call p.standing p.node task ≡ true →
     decide task p ≡ d →
     FellTo p (prepared (move_of d) p) fault new → Comes task p (Err fault) new
 fell task p d fault new calls decided (Fell count stands same rose fits) = (
@@ -86,12 +87,12 @@ fell task p d fault new calls decided (Fell count stands same rose fits) = (
 )
 
 pub followed : (task : Task) (p : Place) (result : Result Answered DbFault) (new : Base) → p.standing ≡ IsRunning →
-    calls_up task ≡ true → Follows (decide task p) p result new → Comes task p result new
+    calls_up task p.node ≡ true → Follows (decide task p) p result new → Comes task p result new
 followed task p result new is calls (Carried told fits) =
     subst (λ r. Comes task p r new) (sym told) (carried task p (decide task p) new refl fits)
 followed task p result new is calls (StopsAt fault told stops) =
     subst (λ r. Comes task p r new) (sym told)
-    (fell task p (decide task p) fault new (ap (λ s. may_call s task) is ∙ calls) refl stops)
+    (fell task p (decide task p) fault new (ap (λ s. may_call s p.node task) is ∙ calls) refl stops)
 
 -- a stop before anything was prepared
 pub fell_plain : (d : Decision) (p : Place) (fault : DbFault) (new : Base) → FellTo p p fault new →

@@ -1,12 +1,13 @@
 -- The tasks on tables and transactions: each way out leads by a step of the rules to a place that fits.
 use Rattle.std.proofs.Common.{◌≡◌, ℕ, ◌+◌, ◌<◌, ◌≤◌, Bool, true, false, cond, List, [], ◌∷◌, Option, Some, None, Ok}
-use Rattle.std.proofs.Common.{Err, refl, sym, ap, subst, ◌∙◌, arith, is_some}
-use Rattle.std.specs.Prelude.{◌==◌, ◌||◌, ◌&&◌, not, option_map}
+use Rattle.std.proofs.Common.{Err, refl, sym, ap, subst, ◌∙◌, ◌++◌, arith, is_some, length}
+use Rattle.std.specs.Prelude.{◌==◌, ◌||◌, ◌&&◌, not, option_map, filter}
 use Rattle.std.specs.List.{AllByRecursion}
 use Rattle.std.specs.Str.{bytes_eq}
 use Rattle.std.specs.Cmp.Lexicographic.{nat_list_cmp_total}
 use Rattle.std.specs.FinMap.{get, insert, remove, empty, entries, get-insert, get-remove}
 use Rattle.std.proofs.lemmas.Bool.{false≢true, false_from_ne_true, eqb-true, le-leb, lt-leb}
+use Rattle.std.proofs.lemmas.List.{length-append}
 use Rattle.slon_base.specs.Keeper.{Kept, Store}
 use Rattle.slon_base.specs.Codec.{number_bytes, text_bytes, IsText}
 use Rattle.slon_base.specs.declared.fault.Halt.TheVariants.{TooBig}
@@ -19,7 +20,16 @@ use Rattle.slon_model.specs.declared.reply.Answered.TheVariants.{Sure, InDoubt}
 use Rattle.slon_model.specs.Names.{find_named, without as without_name}
 use Rattle.slon_model.specs.Rows.{Action, member, holder_in}
 use Rattle.slon_model.specs.Tasks.{Task, ToMake, ToOpen, ToCommit, ToAbort, ToList}
-use Rattle.slon_model.specs.Place.{Place, open_xids, holder, standing_rows, own_count, raised, drawn}
+use Rattle.slon_model.specs.Place.{Place, open_xids, holder, standing_rows, own_actions, own_count, raised}
+use Rattle.slon_model.specs.Place.{drawn}
+use Rattle.slon_model.specs.Deeds.{Node, knowledge}
+use Rattle.slon_model.specs.Logs.{own_logs, logged}
+use Rattle.log_switch.specs.Holds.{logged_more}
+use Rattle.node_state.specs.declared.memory.Identity.{Identity}
+use Rattle.node_state.specs.Held.{action_as, captured_all, items_of}
+use Rattle.node_state.specs.Known.{Members, IsKnown, member_at, log_rows_of}
+use Rattle.node_state.proofs.Growing.{AreOf, all_more}
+use Rattle.node_state.proofs.Nobody.{known_committed}
 use Rattle.slon_model.specs.Moves.{Move, Stays, Tables, Begins, Commits, Aborts, tabled, begun, committed, aborted}
 use Rattle.slon_model.specs.Moves.{with_commit, is_beyond, is_last_stamp, stored_limit}
 use Rattle.slon_model.specs.Deciding.{Decision, Refuses, Accepts, Overflows, refused_if, with_found, limited, decide}
@@ -35,6 +45,7 @@ use Rattle.app_store.specs.Base.{Memory, Base}
 use Rattle.app_store.specs.Fits.{Fits, Runs, OpensAs, IsOpened}
 use Rattle.app_store.specs.Serves.{Comes}
 use Rattle.app_store.specs.Parts.{FellTo, RaisedTo, Raises, Bursts, StopsRaise}
+use Rattle.app_store.specs.Works.{batch_of, CanLog}
 use Rattle.app_store.specs.Spelled.{Holds, AreRows, row_key, over, new_table, new_rows, write_all, rows}
 use Rattle.store_rows.proofs.Spaces.{any_of}
 use Rattle.app_store.proofs.Holding.{holds_same, holds_table, holds_rows, get-written, stored_of}
@@ -103,6 +114,7 @@ table_runs table columns stamp p m runs is = record {
   numbers = runs.numbers;
   opened = λ q. opens_same p (tabled table columns p) (find_named q p.opens) (get m.opens q) refl refl (runs.opened q);
   locked = runs.locked;
+  known = runs.known;
 }
 
 -- A table that is not there, and a stamp for the transaction that makes it.
@@ -246,7 +258,7 @@ abbrev pub with_opened : List ℕ → ℕ → Memory → Memory
 with_opened name xid m =
     record m {
       xids = drawn m.xids;
-      opens = insert m.opens name (record { xid = xid; actions = 0; writes = empty });
+      opens = insert m.opens name (record { xid = xid; actions = []; writes = empty });
     }
 
 begun_runs : {p : Place} {m : Memory} (name : List ℕ) (xid : ℕ) → Sound p → Runs p m →
@@ -268,10 +280,11 @@ begun_runs {p} {m} name xid sound runs none xid_is = record {
   locked =
       λ table key text. runs.locked table key text
       ∙ holders_agree table key (open_xids p) (open_xids (begun name p)) p.actions (older p.actions sound.known);
+  known = runs.known;
 }
   where
     new : Transaction
-    new = record { xid = xid; actions = 0; writes = empty }
+    new = record { xid = xid; actions = []; writes = empty }
 
     behind : List ℕ → Option ℕ → Option ℕ
     behind q o = cond (is_some o) o (cond (bytes_eq q name) (Some p.xids.next) None)
@@ -352,7 +365,7 @@ begin_stopped {p} {b} name new fault at none raises = by raises
     by (StopsRaise other less is stops) =
         let same : fault ≡ other = cc in
         fell (ToOpen name) p (Accepts (Opened p.xids.next) (Begins name)) fault new
-        (ap (λ s. Rattle.slon_model.specs.Deciding.may_call s (ToOpen name)) (running at).0)
+        (ap (λ s. Rattle.slon_model.specs.Deciding.may_call s p.node (ToOpen name)) (running at).0)
         (decided _ _ _ at accepted (within (Begins name) p (Opened p.xids.next) less))
         (subst (λ f. FellTo p (raised Xids p) f new) (sym same) stops)
 
@@ -373,6 +386,7 @@ same_opens p m name runs none = record {
       (sym (get-remove nat_list_cmp_total m.opens name q ∙ ap (λ t. cond t None (get m.opens q)) (key_test q name)
       ∙ unchanged q (bytes_eq q name) refl)) (runs.opened q);
   locked = runs.locked;
+  known = runs.known;
 }
   where
     unchanged : (q : List ℕ) (t : Bool) → bytes_eq q name ≡ t → cond t None (get m.opens q) ≡ get m.opens q
@@ -437,6 +451,8 @@ record IsEnded (p q : Place) (name : List ℕ) (x : ℕ) : Type 0 where
   numbers : q.numbers ≡ p.numbers
   founded : 0 < q.stamp
   keep : OthersStay p q x
+  known : (identity : Option Identity) (members : Members) → IsKnown p.node identity members →
+      IsKnown q.node identity members
 
 -- the memory without the transaction
 abbrev pub without_one : List ℕ → ℕ → Locks → Memory → Memory
@@ -465,6 +481,7 @@ ended_runs {p} {m} {name} q stamp ends sound runs e ended stamp_is = record {
       (ended_names e.xid name p.opens sound.named sound.running e.named) sound.locked)
       ∙ ap (λ os. holder_in table key (ids_of os) p.actions) (sym ended.opens)
       ∙ ap (holder_in table key (open_xids q)) (sym ended.actions);
+  known = ended.known m.identity m.members runs.known;
 }
   where
     other : (k : List ℕ) → bytes_eq k name ≡ false → (o : Option ℕ) (t : Option Transaction) →
@@ -506,6 +523,7 @@ aborts {p} {b} name new at ends new_is =
       numbers = refl;
       founded = runs.1.founded;
       keep = λ y u opened differ o. opened_same p q y u refl refl o;
+      known = λ identity members known. known;
     }) runs.1.stamp)
     ready.fits.told ready.fits.held.1
     (holds_same p q ready.fits.held.0 refl ready.fits.held.2)))
@@ -547,24 +565,31 @@ commit_limit name xid p b is = ap (λ t. cond t Overflows (Accepts (Committed (o
 not_zero : (n : ℕ) → 0 < n → (n == 0) ≡ false
 not_zero n lt = false_from_ne_true _ (λ is. let same = eqb-true n 0 is in absurd (omega (arith, same, lt)))
 
--- a database that is no node stays none
-commit_alone : (name : List ℕ) (x : ℕ) (p : Place) → p.node ≡ None → (committed name x p).node ≡ p.node
-commit_alone name x p alone =
-    ap (λ n. cond (own_count x p == 0) n (option_map (with_commit x p) n)) alone
-    ∙ elim (own_count x p == 0) as (λ b. cond b None None ≡ p.node) [ true ↦ sym alone | false ↦ sym alone ]
+-- how many actions are captured
+captured_length : (actions : List Action) → length (captured_all actions) ≡ length actions
+captured_length [] = refl
+captured_length (a ∷ rest) = length-append (captured_all rest) (action_as a ∷ []) ∙ omega (arith, captured_length rest)
 
-pub commits_none : {p : Place} {b : Base} (name : List ℕ) (new : Base) → UpAt p b → (ends : Ending name b.memory) →
-    ends.transaction.actions ≡ 0 → new ≡ record b { memory = without_one name b.memory.stamp ends.locks b.memory } →
-    Comes (ToCommit name) p (Ok (Sure (Committed ends.transaction.actions))) new
-commits_none {p} {b} name new at ends zero new_is =
+counted : {p : Place} {x : ℕ} {t : Transaction} → IsOpened p x t → length t.actions ≡ own_count x p
+counted {p} {x} o = ap length o.actions ∙ captured_length (own_actions x p)
+
+-- without actions the node does nothing
+same_node : (name : List ℕ) (x : ℕ) (p : Place) → own_count x p ≡ 0 → (committed name x p).node ≡ p.node
+same_node name x p none = ap (λ n. cond (n == 0) p.node (option_map (with_commit x p) p.node)) none
+
+pub commits_none : {p : Place} {b : Base} (name : List ℕ) (count : ℕ) (new : Base) → UpAt p b →
+    (ends : Ending name b.memory) → (count ≡ length ends.transaction.actions) × (count ≡ 0) →
+    new ≡ record b { memory = without_one name b.memory.stamp ends.locks b.memory } →
+    Comes (ToCommit name) p (Ok (Sure (Committed count))) new
+commits_none {p} {b} name told new at ends (told_is, zero) new_is =
     let runs = running at in
     let ready = at.ready in
     let e = ending ends.transaction runs.1 ends.there in
-    let count : ends.transaction.actions ≡ own_count e.xid p = e.opened.count in
-    let none : own_count e.xid p ≡ 0 = sym count ∙ zero in
+    let count : length ends.transaction.actions ≡ own_count e.xid p = counted e.opened in
+    let none : own_count e.xid p ≡ 0 = sym count ∙ sym told_is ∙ zero in
     let q = committed name e.xid p in
     let stamp_same : q.stamp ≡ p.stamp = ap (λ n. cond (n == 0) p.stamp (p.stamp + 1)) none in
-    subst (λ n. Comes (ToCommit name) p (Ok (Sure (Committed n))) new) (sym count)
+    subst (λ n. Comes (ToCommit name) p (Ok (Sure (Committed n))) new) (sym (told_is ∙ count))
     (carried (ToCommit name) p (Accepts (Committed (own_count e.xid p)) (Commits name e.xid)) new
     (ended_by (ToCommit name) name (λ xid. Accepts (Committed (own_count xid p)) (Commits name xid)) e.xid at e.named
     refl ∙ commit_limit name e.xid p false (ap (λ n. not (n == 0) && is_last_stamp p) none))
@@ -577,11 +602,13 @@ commits_none {p} {b} name new at ends zero new_is =
       numbers = refl;
       founded = omega (arith, runs.1.founded, stamp_same);
       keep = committed_others p name e.xid ready.sound e.named;
+      known =
+          λ identity members known. subst (λ n. IsKnown n identity members) (sym (same_node name e.xid p none)) known;
     }) (runs.1.stamp ∙ sym stamp_same))
     ready.fits.told ready.fits.held.1
     (holds_same p q ready.fits.held.0 (λ i. record (stored_of p) {
       stamp = stamp_same i;
-      node = commit_alone name e.xid p ready.fits.held.2.alone i;
+      node = same_node name e.xid p none i;
       standing =
           λ u. rows_agree _ _ u p.actions
           (all_or e.xid p.commits p.actions (counted_none e.xid p.actions none)) i;
@@ -591,22 +618,52 @@ commits_none {p} {b} name new at ends zero new_is =
 commit_stamp : (name : List ℕ) (x : ℕ) (p : Place) → 0 < own_count x p → (committed name x p).stamp ≡ p.stamp + 1
 commit_stamp name x p some = ap (λ b. cond b p.stamp (p.stamp + 1)) (not_zero (own_count x p) some)
 
--- the store with the rows of the transaction, and with the next stamp
+commit_node : (name : List ℕ) (x : ℕ) (p : Place) → 0 < own_count x p →
+    (committed name x p).node ≡ option_map (with_commit x p) p.node
+commit_node name x p some =
+    ap (λ b. cond b p.node (option_map (with_commit x p) p.node)) (not_zero (own_count x p) some)
+
+-- the store with the rows of the transaction and what is logged of them, and with the next stamp
 abbrev pub with_rows : Transaction → Base → Store → Store
-with_rows t b m = new_rows t.writes (number_bytes (b.memory.stamp + 1)) m
+with_rows t b m = new_rows (batch_of b.memory.identity b.memory.members t) (number_bytes (b.memory.stamp + 1)) m
+
+-- the actions of a transaction are its own
+all_own : (x : ℕ) (actions : List Action) → AreOf x (filter (λ a. a.xid == x) actions)
+all_own x [] = tt
+all_own x (a ∷ rest) =
+    elim (a.xid == x) as (λ b. (a.xid == x) ≡ b → AreOf x (cond b (a ∷ filter (λ a. a.xid == x) rest)
+    (filter (λ a. a.xid == x) rest))) [ true ↦ λ is. (is, all_own x rest) | false ↦ λ is. all_own x rest ] refl
+
+-- what the memory of a node logs is what the rules say
+logs_as : {p : Place} {x : ℕ} {t : Transaction} (members : Members) → IsOpened p x t →
+    ((name : List ℕ) → get members name ≡ member_at p.node name) → (n : Node) → p.node ≡ Some n →
+    logged_more n.id (log_rows_of members t.xid t.actions) (items_of (logged n))
+    ≡ items_of (own_logs n.id (knowledge n) (own_actions x p)) ++ items_of (logged n)
+logs_as {p} {x} {t} members o known n is =
+    ap (λ y. logged_more n.id (log_rows_of members y t.actions) (items_of (logged n))) o.xid_is
+    ∙ ap (λ as_is. logged_more n.id (log_rows_of members x as_is) (items_of (logged n))) o.actions
+    ∙ all_more n members x (own_actions x p) (items_of (logged n)) (all_own x p.actions)
+    (λ name. known name ∙ ap (λ own. member_at own name) is)
 
 committed_holds : {p : Place} {b : Base} (name : List ℕ) (x : ℕ) (t : Transaction) (at : UpAt p b) → IsOpened p x t →
-    0 < own_count x p → Holds (committed name x p) (with_rows t b at.ready.fits.held.0)
-committed_holds {p} name x t at o some =
+    0 < own_count x p → CanLog b.memory.members t →
+    Holds (committed name x p) (with_rows t b at.ready.fits.held.0)
+committed_holds {p} {b} name x t at o some can =
     let runs = (running at).1 in
     let fits = at.ready.fits in
-    subst (λ n. Holds (committed name x p) (new_rows t.writes (number_bytes (n + 1)) fits.held.0)) (sym runs.stamp)
-    (holds_rows p (committed name x p) fits.held.0 t.writes runs.founded
-    (λ i. record (stored_of (committed name x p)) {
-      stamp = commit_stamp name x p some i;
-      node = commit_alone name x p fits.held.2.alone i;
-    })
-    (rows_after p x name fits.held.0 t o fits.held.2) fits.held.2)
+    subst (λ n. Holds (committed name x p)
+    (new_rows (batch_of b.memory.identity b.memory.members t) (number_bytes (n + 1)) fits.held.0)) (sym runs.stamp)
+    (holds_rows (record {
+      founded = runs.founded;
+      stored = λ i. record (stored_of (committed name x p)) {
+        stamp = commit_stamp name x p some i;
+        node = commit_node name x p some i;
+      };
+      rows_are = rows_after p x name fits.held.0 t o fits.held.2;
+      known = runs.known.identity_is;
+      logs = logs_as b.memory.members o runs.known.members_are;
+      can = can;
+    }) fits.held.2)
 
 commit_accepted : {p : Place} {b : Base} (name : List ℕ) (x : ℕ) → UpAt p b → find_named name p.opens ≡ Some x →
     b.memory.stamp + 1 < stored_limit →
@@ -623,23 +680,28 @@ commit_accepted {p} {b} name x at named less =
 
 -- A transaction with actions, and a stamp for its commit.
 pub record HasActions (t : Transaction) (b : Base) : Type 0 where
-  pub some : 0 < t.actions
+  -- how many, as it is told
+  pub count : ℕ
+  pub count_is : count ≡ length t.actions
+  pub some : 0 < length t.actions
+  pub can : CanLog b.memory.members t
   pub less : b.memory.stamp + 1 < stored_limit
 
 pub commits_some : {p : Place} {b : Base} (name : List ℕ) (new : Base) (at : UpAt p b) (ends : Ending name b.memory) →
-    HasActions ends.transaction b → IsChanged (with_rows ends.transaction b at.ready.fits.held.0) b.kept new.kept →
+    (has : HasActions ends.transaction b) →
+    IsChanged (with_rows ends.transaction b at.ready.fits.held.0) b.kept new.kept →
     new.memory ≡ without_one name (b.memory.stamp + 1) ends.locks b.memory →
-    Comes (ToCommit name) p (Ok (Sure (Committed ends.transaction.actions))) new
+    Comes (ToCommit name) p (Ok (Sure (Committed has.count))) new
 commits_some {p} {b} name new at ends has changed memory_is =
     let runs = running at in
     let ready = at.ready in
     let e = ending ends.transaction runs.1 ends.there in
-    let count : ends.transaction.actions ≡ own_count e.xid p = e.opened.count in
+    let count : length ends.transaction.actions ≡ own_count e.xid p = counted e.opened in
     let some = has.some in
     let any : 0 < own_count e.xid p = omega (arith, some, count) in
     let q = committed name e.xid p in
     let stamped = commit_stamp name e.xid p any in
-    subst (λ n. Comes (ToCommit name) p (Ok (Sure (Committed n))) new) (sym count)
+    subst (λ n. Comes (ToCommit name) p (Ok (Sure (Committed n))) new) (sym (has.count_is ∙ count))
     (carried (ToCommit name) p (Accepts (Committed (own_count e.xid p)) (Commits name e.xid)) new
     (commit_accepted name e.xid at e.named has.less)
     (fits_running q new _ runs.0
@@ -652,21 +714,23 @@ commits_some {p} {b} name new at ends has changed memory_is =
       numbers = refl;
       founded = omega (arith, stamped);
       keep = committed_others p name e.xid ready.sound e.named;
+      known = λ identity members known. subst (λ n. IsKnown n identity members) (sym (commit_node name e.xid p any))
+          (known_committed p.node e.xid p identity members known);
     }) (ap (λ n. n + 1) runs.1.stamp ∙ sym stamped)))
     (omega (arith, ready.fits.told, changed.later)) changed.held
-    (committed_holds name e.xid ends.transaction at e.opened any)))
+    (committed_holds name e.xid ends.transaction at e.opened any has.can)))
 
 pub commit_doubted : {p : Place} {b : Base} (name : List ℕ) (new : Base) (t : Transaction) (at : UpAt p b) →
-    get b.memory.opens name ≡ Some t → HasActions t b →
+    get b.memory.opens name ≡ Some t → (has : HasActions t b) →
     LeftInDoubt at.ready.fits.held.0 (with_rows t b at.ready.fits.held.0) b new →
-    Comes (ToCommit name) p (Ok (InDoubt (Committed t.actions))) new
+    Comes (ToCommit name) p (Ok (InDoubt (Committed has.count))) new
 commit_doubted {p} name new t at there has waver =
     let runs = running at in
     let e = ending t runs.1 there in
     let some = has.some in
-    let count = e.opened.count in
+    let count = counted e.opened in
     let any : 0 < own_count e.xid p = omega (arith, some, count) in
-    subst (λ n. Comes (ToCommit name) p (Ok (InDoubt (Committed n))) new) (sym count)
+    subst (λ n. Comes (ToCommit name) p (Ok (InDoubt (Committed n))) new) (sym (has.count_is ∙ count))
     (wavers (ToCommit name) p (Committed (own_count e.xid p)) (Commits name e.xid) new
     (commit_accepted name e.xid at e.named has.less) (ap not (not_zero (own_count e.xid p) any)) (record {
       before = at.ready.fits.held.0;
@@ -679,17 +743,17 @@ commit_doubted {p} name new t at there has waver =
       };
       told = omega (arith, at.ready.fits.told, waver.later);
       holds = at.ready.fits.held.2;
-      holds_after = committed_holds name e.xid t at e.opened any;
+      holds_after = committed_holds name e.xid t at e.opened any has.can;
       either = waver.either;
     }))
 
 pub commit_at_limit : {p : Place} {b : Base} (name : List ℕ) (new : Base) (t : Transaction) → UpAt p b →
-    get b.memory.opens name ≡ Some t → 0 < t.actions → stored_limit ≤ b.memory.stamp + 1 → WentDown b new →
+    get b.memory.opens name ≡ Some t → 0 < length t.actions → stored_limit ≤ b.memory.stamp + 1 → WentDown b new →
     Comes (ToCommit name) p (Err (Halt (TooBig 1))) new
 commit_at_limit {p} {b} name new t at there some most went =
     let runs = (running at).1 in
     let e = ending t runs there in
-    let count = e.opened.count in
+    let count = counted e.opened in
     let any : 0 < own_count e.xid p = omega (arith, some, count) in
     overflows (ToCommit name) (Committed (own_count e.xid p)) (Commits name e.xid) new at
     (ap (λ o. with_found o NoTransaction (λ xid. Accepts (Committed (own_count xid p)) (Commits name xid))) e.named)

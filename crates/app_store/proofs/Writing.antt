@@ -1,13 +1,14 @@
 -- The parts of a write, and what they come to.
-use Rattle.std.proofs.Common.{◌≡◌, ℕ, ◌+◌, ◌^◌, ◌<◌, ◌≤◌, Bool, true, false, cond, List, [], ◌∷◌, length, take}
+use Rattle.std.proofs.Common.{◌≡◌, ℕ, ◌<◌, ◌≤◌, Bool, true, false, cond, List, [], ◌∷◌, length, take}
 use Rattle.std.proofs.Common.{drop, get_or, Option, Some, None, Result, Ok, Err, refl, sym, ap, subst, ◌∙◌, arith}
 use Rattle.std.proofs.Common.{is_some}
-use Rattle.std.specs.Prelude.{◌==◌, ◌&&◌, nat_le, not, unwrap_or}
+use Rattle.std.specs.Prelude.{◌==◌, ◌&&◌, nat_le, not, unwrap_or, map}
 use Rattle.std.specs.Option.{option_map}
 use Rattle.std.specs.Str.{bytes_eq}
 use Rattle.std.specs.Cmp.Lexicographic.{nat_list_cmp_total}
 use Rattle.std.specs.FinMap.{get, insert, remove, get-insert, get-remove}
-use Rattle.std.proofs.lemmas.Bool.{le-leb, false≢true, true≢false, false_from_ne_true, eqb-true, eq-eqb}
+use Rattle.std.proofs.lemmas.Bool.{and_from, and_parts, le-leb, leb-true, false≢true, true≢false, false_from_ne_true}
+use Rattle.std.proofs.lemmas.Bool.{eqb-true, eq-eqb}
 use Rattle.slon_base.specs.Keeper.{Kept, Store}
 use Rattle.slon_base.specs.Codec.{list_bytes, IsText, AllTexts}
 use Rattle.slon_base.specs.declared.fault.Halt.TheVariants.{TooBig}
@@ -18,11 +19,18 @@ use Rattle.slon_model.specs.declared.reply.Answer.TheVariants.{Acted}
 use Rattle.slon_model.specs.declared.reply.Answered.{Answered}
 use Rattle.slon_model.specs.declared.reply.Answered.TheVariants.{Sure}
 use Rattle.slon_model.specs.Names.{find_named}
-use Rattle.slon_model.specs.Rows.{Row, Change, change_key, Action, apply, member, is_on, touches}
+use Rattle.slon_model.specs.Rows.{Row, Change, Set, change_key, Action as RowsAction, apply, member, is_on, touches}
+use Rattle.slon_model.specs.Rows.{holder_in}
+use Rattle.change_capture.specs.declared.action.Action.{Action}
+use Rattle.node_state.specs.Held.{change_as}
 use Rattle.slon_model.specs.Tasks.{Write, ToWrite, key_of, row_of}
-use Rattle.slon_model.specs.Spoken.{most_columns, IsValue, AreValues}
+use Rattle.slon_model.specs.Spoken.{most_columns, greatest_column, IsValue, AreValues, IsChange}
+use Rattle.slon_model.specs.Forms.{is_value}
+use Rattle.change_capture.specs.declared.action.Change.TheVariants as captured
+use Rattle.node_state.specs.Known.{is_change}
+use Rattle.std.specs.List.{AllByRecursion, list_all}
 use Rattle.slon_model.proofs.Spoken.{value_text, value_texts}
-use Rattle.slon_model.specs.Place.{Place, Counter, holder, seen_rows, standing_rows, raised, drawn}
+use Rattle.slon_model.specs.Place.{Place, holder, seen_rows, standing_rows, raised, drawn}
 use Rattle.slon_model.specs.Deeds.{Node}
 use Rattle.slon_model.specs.Moves.{Stays, Writes, written, done, is_last}
 use Rattle.slon_model.specs.Deciding.{Decision, Refuses, Accepts, Overflows, refused_if, with_found, limited}
@@ -38,6 +46,7 @@ use Rattle.slon_laws.proofs.Opens.{found_member}
 use Rattle.slon_laws.proofs.Sounds.{sound_raised}
 use Rattle.txn_core.specs.Locks.{holder_of, Locks, without}
 use Rattle.app_store.specs.declared.opens.Transaction.{Transaction}
+use Rattle.app_store.specs.declared.writes.Addition.{Addition}
 use Rattle.app_store.specs.declared.writes.Target.{Target}
 use Rattle.app_store.specs.Answers.{acted}
 use Rattle.app_store.specs.Base.{Memory, Base}
@@ -54,6 +63,7 @@ use Rattle.app_store.specs.Parts.{halt_of}
 use Rattle.app_store.specs.Answers.{acted_or_not}
 use Rattle.app_store.specs.Serves.{trouble, halts, is_memory}
 use Rattle.app_store.specs.Targets.{Follows, Carried, StopsAt, FoundWidth, HasWidth, IsUnknown, HasNoTable, StopsWidth}
+use Rattle.app_store.specs.Targets.{FoundOpen, IsOpen, IsShut, StopsOpen}
 use Rattle.app_store.specs.Targets.{IsTarget, ReadTarget, HasTarget, StopsTarget, FoundRow, HasRow, IsHeld, StopsRow}
 use Rattle.app_store.specs.Targets.{AddedWrite, Adds, BurstsWrite, StopsWrite, MayAdd, Spot}
 use Rattle.app_store.specs.Written.{with_write, written_at}
@@ -188,20 +198,25 @@ record Adding (s : Spot) (change : Change) (value : Option (List ℕ)) (t : Tran
   write : IsWrite s change value p
 
 -- the memory with a write more
-abbrev pub with_more : List ℕ → List ℕ → Option (List ℕ) → Transaction → Counter → Locks → Memory → Memory
-with_more name spelled value t numbers locks m =
+abbrev pub with_more : Spot → Addition → Transaction → Locks → Memory → Memory
+with_more s d t locks m =
+    let action : Action = record { number = m.numbers.next; table = s.table; change = d.change } in
     record m {
-      numbers = numbers;
-      opens = insert (remove m.opens name) name (with_write spelled value t);
+      numbers = drawn m.numbers;
+      opens = insert (remove m.opens s.name) s.name (with_write d.key d.value action t);
       locks = locks;
     }
+
+-- a write of this row, as it is added
+abbrev addition_of : Spot → Change → Option (List ℕ) → Addition
+addition_of s change value = record { key = row_key s.table s.key; value = value; change = change_as change }
 
 wrote_runs : {s : Spot} {change : Change} {value : Option (List ℕ)} {t : Transaction} {p : Place} {m : Memory}
     (locks : Locks) → Adding s change value t p m →
     ((u k : List ℕ) → holder_of u k locks ≡ cond (bytes_eq s.table u && bytes_eq s.key k) (Some s.xid)
     (holder_of u k m.locks)) →
     Runs (written s.xid s.table change p)
-    (with_more s.name (row_key s.table s.key) value t (drawn m.numbers) locks m)
+    (with_more s (addition_of s change value) t locks m)
 wrote_runs {s} {change} {value} {t} {p} {m} locks a locks_are = record {
   up = a.runs.up;
   stamp = a.runs.stamp;
@@ -221,15 +236,21 @@ wrote_runs {s} {change} {value} {t} {p} {m} locks a locks_are = record {
       ∙ ap (cond (bytes_eq s.table u && bytes_eq s.key k) (Some s.xid)) (a.runs.locked u k text)
       ∙ ap (λ x. cond x (Some s.xid) (holder u k p)) (on u k ∙ sym (and_true (is_on u k action))
       ∙ ap (λ b. is_on u k action && b) (sym (found_member s.name s.xid p.opens a.named)));
+  known = a.runs.known;
 }
   where
     q : Place
     q = written s.xid s.table change p
 
-    new : Transaction
-    new = with_write (row_key s.table s.key) value t
+    with_number : ℕ → Transaction
+    with_number number =
+        with_write (row_key s.table s.key) value
+        (record { number = number; table = s.table; change = change_as change }) t
 
-    action : Action
+    new : Transaction
+    new = with_number m.numbers.next
+
+    action : RowsAction
     action = record { number = p.numbers.next; xid = s.xid; table = s.table; change = change }
 
     and_true : (b : Bool) → (b && true) ≡ b
@@ -259,11 +280,11 @@ wrote_runs {s} {change} {value} {t} {p} {m} locks a locks_are = record {
         OpensAs q (find_named k p.opens) (cond x (Some new) (cond x None (get m.opens k)))
     by_name k true same =
         subst (λ r. OpensAs q r (Some new)) (sym (ap (λ j. find_named j p.opens) (bytes_same k s.name same) ∙ a.named))
-        (opened_own t a.write a.opened)
+        (subst (λ c. IsOpened q s.xid (with_number c.next)) (sym a.runs.numbers) (opened_own t a.write a.opened))
     by_name k false differ = each k differ (find_named k p.opens) (get m.opens k) refl (a.runs.opened k)
 
 -- what the code has after a write was added
-pub record IsAdded (s : Spot) (spelled : List ℕ) (value : Option (List ℕ)) (number : ℕ) (mid new : Base) : Type 0 where
+pub record IsAdded (s : Spot) (d : Addition) (number : ℕ) (mid new : Base) : Type 0 where
   pub up : mid.memory.up ≡ true
   pub number_is : number ≡ mid.memory.numbers.next
   pub locks : Locks
@@ -272,35 +293,31 @@ pub record IsAdded (s : Spot) (spelled : List ℕ) (value : Option (List ℕ)) (
   pub locks_are : (u k : List ℕ) → holder_of u k locks
       ≡ cond (bytes_eq s.table u && bytes_eq s.key k) (Some s.xid) (holder_of u k mid.memory.locks)
   pub is : (t : Transaction) → get mid.memory.opens s.name ≡ Some t →
-      new ≡ record mid { memory = with_more s.name spelled value t (drawn mid.memory.numbers) locks mid.memory }
+      new ≡ record mid { memory = with_more s d t locks mid.memory }
 
-pub added : {s : Spot} {change : Change} {spelled : List ℕ} {value : Option (List ℕ)} {p : Place} {b mid new : Base}
-    (number : ℕ) → Ready p b → RaisedTo Actions p (Ok tt) mid → MayAdd s change spelled value p →
-    IsAdded s spelled value number mid new → AddedWrite s.xid s.table change p (Ok number) new
+pub added : {s : Spot} {change : Change} {d : Addition} {p : Place} {b mid new : Base} (number : ℕ) → Ready p b →
+    RaisedTo Actions p (Ok tt) mid → MayAdd s change d p → IsAdded s d number mid new →
+    AddedWrite s.xid s.table change p (Ok number) new
 added number ready (Bursts is most fits) may more = absurd cc
 added number ready (StopsRaise fault less is fell) may more = absurd cc
-added {s} {change} {spelled} {value} {p} {b} {mid} {new} number ready (Raises is less fits) may more =
+added {s} {change} {d} {p} {b} {mid} {new} number ready (Raises is less fits) may more =
     let q = raised Actions p in
     let same = raised_same Actions p in
     let runs = (up_running q mid fits more.up) in
     let named : find_named s.name q.opens ≡ Some s.xid = ap (find_named s.name) same.opens ∙ may.opened in
     let opened = named_opened q mid.memory s.name s.xid runs.1 named in
     let sound = sound_raised Actions p ready.sound in
-    let small = ready.spelled.small.numbers in
-    let room : length q.actions + 1 < 2 ^ 64 =
-    subst (λ a. length a + 1 < 2 ^ 64) (sym same.actions)
-    (omega (arith, ready.spelled.few, ready.sound.numbers_below, small)) in
-    let value_is : value ≡ option_map list_bytes (change_at change (get (seen_rows s.xid q s.table) s.key)) =
+    let value_is : d.value ≡ option_map list_bytes (change_at change (get (seen_rows s.xid q s.table) s.key)) =
     subst
-    (λ cs. value ≡ option_map list_bytes
+    (λ cs. d.value ≡ option_map list_bytes
     (change_at change (get (seen_rows s.xid (record q { commits = cs }) s.table) s.key))) (sym same.commits)
     (subst
-    (λ as_are. value ≡ option_map list_bytes
+    (λ as_are. d.value ≡ option_map list_bytes
     (change_at change (get (seen_rows s.xid (record q { commits = p.commits; actions = as_are }) s.table) s.key)))
     (sym same.actions) may.value_is) in
     let still : member s.xid q.commits ≡ false =
     false_from_ne_true _ (λ committed. sound.apart s.xid (found_member s.name s.xid q.opens named) committed) in
-    let a : Adding s change value opened.0 q mid.memory = record {
+    let a : Adding s change d.value opened.0 q mid.memory = record {
       sound = sound;
       runs = runs.1;
       named = named;
@@ -310,7 +327,6 @@ added {s} {change} {spelled} {value} {p} {b} {mid} {new} number ready (Raises is
         table_text = more.table_text;
         key_text = more.key_text;
         is_key = may.key_is;
-        room = room;
         value_is = value_is;
       };
     } in
@@ -321,14 +337,25 @@ added {s} {change} {spelled} {value} {p} {b} {mid} {new} number ready (Raises is
     (subst (Fits after)
     (sym
     (more.is opened.0 opened.1
-    ∙ ap
-    (λ k.
-    record mid {
-      memory = with_more s.name k value opened.0
-          (drawn mid.memory.numbers) more.locks mid.memory;
-    }) may.spelled_is))
+    ∙ (λ i. record mid {
+      memory = with_more s (record { key = may.spelled_is i; value = d.value; change = may.captured_is i }) opened.0
+          more.locks mid.memory;
+    })))
     (fits_running after _ fits.held.0 runs.0 (wrote_runs more.locks a more.locks_are) fits.told fits.held.1
     (holds_same q after fits.held.0 (λ i. record (stored_of q) { standing = λ u. rows_stay u i }) fits.held.2)))
+
+-- who holds a row that may be written is the transaction itself
+pub held_by : {s : Spot} {change : Change} {d : Addition} {p : Place} {mid : Base} (x : ℕ) →
+    RaisedTo Actions p (Ok tt) mid → MayAdd s change d p → mid.memory.up ≡ true → IsText s.table →
+    holder_of s.table s.key mid.memory.locks ≡ Some x → x ≡ s.xid
+held_by x (Bursts is most fits) may up text held = absurd cc
+held_by x (StopsRaise fault less is fell) may up text held = absurd cc
+held_by {s} {change} {d} {p} {mid = mid} x (Raises is less fits) may up text held =
+    let same = raised_same Actions p in
+    subst (IsFree s.xid)
+    (ap (λ k. holder s.table k p) may.key_is
+    ∙ (λ i. holder_in s.table s.key (map (λ o. o.1) (sym same.opens i)) (sym same.actions i))
+    ∙ sym ((up_running (raised Actions p) mid fits up).1.locked s.table s.key text) ∙ held) may.free
 
 -- the ceiling did not rise
 pub not_added : (xid : ℕ) (table : List ℕ) (change : Change) (p : Place) (fault : DbFault) (new : Base) →
@@ -526,11 +553,10 @@ width_parts name table p xid width new (StopsWidth other same fell) = absurd cc
 
 wide_decision : (w : Write) (xid width : ℕ) (p : Place) (new : Base) (b : Bool) →
     IsWide w.name w.table xid width p new → fits_width w.change width ≡ b →
-    decide_write w p ≡ refused_if (not b) (BadWidth width) (decide_row xid w p)
+    decide_write w p ≡ refused_if (not b) (BadWidth width) (by_node w p xid p.node)
 wide_decision w xid width p new b wide fit =
     ap (by_xid w p) wide.named ∙ ap (by_width w p xid) wide.found
     ∙ ap (λ f. refused_if (not f) (BadWidth width) (by_node w p xid p.node)) fit
-    ∙ ap (λ n. refused_if (not b) (BadWidth width) (by_node w p xid n)) wide.fits.held.2.alone
 
 pub bad_width : {xid width : ℕ} (w : Write) (p : Place) (b new : Base) → IsUp p b →
     IsWide w.name w.table xid width p new → fits_width w.change width ≡ false →
@@ -539,11 +565,46 @@ bad_width {xid} {width} w p b new u wide wrong =
     write_followed w p (Refuses (BadWidth width)) (Err (BadWidth width)) new u
     (wide_decision w xid width p new false wide wrong) (Carried refl wide.fits)
 
-pub write_comes : {xid width : ℕ} {b mid : Base} (w : Write) (p : Place) (result : Result Answered DbFault)
-    (new : Base) → IsUp p b → IsWide w.name w.table xid width p mid → fits_width w.change width ≡ true →
+-- the transaction and the table of a write, whose columns fit
+pub record IsFit (w : Write) (xid : ℕ) (p : Place) (mid : Base) : Type 0 where
+  pub width : ℕ
+  pub wide : IsWide w.name w.table xid width p mid
+  pub fit : fits_width w.change width ≡ true
+
+fit_decision : {w : Write} {xid : ℕ} {p : Place} {mid : Base} (o : Option DbFault) → IsFit w xid p mid →
+    closed_at w.table p.node ≡ o → decide_write w p ≡ unless_closed o (decide_row xid w p)
+fit_decision {w} {xid} {p} {mid} o f is =
+    wide_decision w xid f.width p mid true f.wide f.fit ∙ ap (λ c. unless_closed c (decide_row xid w p)) is
+
+-- what the check of the table leaves where the table may be written
+pub record HasPassed (table : List ℕ) (p : Place) (new : Base) : Type 0 where
+  pub open_is : closed_at table p.node ≡ None
+  pub fits : Fits p new
+
+pub open_parts : (table : List ℕ) (p : Place) (new : Base) → FoundOpen table p (Ok tt) new → HasPassed table p new
+open_parts table p new (IsOpen same is fits) = record { open_is = is; fits = fits }
+open_parts table p new (IsShut fault same is fits) = absurd cc
+open_parts table p new (StopsOpen fault same fell) = absurd cc
+
+-- the table may not be written, or the store failed
+pub open_stopped : {xid : ℕ} {b mid : Base} (w : Write) (p : Place) (fault : DbFault) (new : Base) → IsUp p b →
+    IsFit w xid p mid → FoundOpen w.table p (Err fault) new → Comes (ToWrite w) p (Err fault) new
+open_stopped w p fault new u f (IsOpen same is fits) = absurd cc
+open_stopped {xid} w p fault new u f (IsShut other same is fits) =
+    let fault_is : fault ≡ other = cc in
+    write_followed w p (Refuses other) (Err fault) new u (fit_decision (Some other) f is)
+    (Carried (ap (λ e. Err e) fault_is) fits)
+open_stopped w p fault new u f (StopsOpen other same fell) =
+    let fault_is : fault ≡ other = cc in
+    write_followed w p (decide_write w p) (Err fault) new u refl
+    (StopsAt fault refl
+    (fell_plain (limited p (decide_write w p)) p fault new (subst (λ e. FellTo p p e new) (sym fault_is) fell)))
+
+pub write_comes : {xid : ℕ} {b mid : Base} (w : Write) (p : Place) (result : Result Answered DbFault) (new : Base) →
+    IsUp p b → IsFit w xid p mid → closed_at w.table p.node ≡ None →
     Follows (limited p (decide_row xid w p)) p result new → Comes (ToWrite w) p result new
-write_comes {xid} {width} {mid = mid} w p result new u wide fit follows =
-    write_followed w p (decide_row xid w p) result new u (wide_decision w xid width p mid true wide fit) follows
+write_comes {xid} w p result new u f passed follows =
+    write_followed w p (decide_row xid w p) result new u (fit_decision None f passed) follows
 
 -- ---- the number of values of a row
 
@@ -607,3 +668,33 @@ update_stopped right others fault count says never is memory = says
 pub parts_texts : (values : List (List ℕ)) → IsValue (key_of values) × AreValues (row_of values) → AllTexts values
 parts_texts [] said = tt
 parts_texts (value ∷ rest) said = (value_text value said.0, value_texts rest said.1)
+
+-- ---- the forms of what is captured
+
+pub values_formed : (values : List (List ℕ)) → IsValue (key_of values) × AreValues (row_of values) →
+    list_all is_value values ≡ true
+values_formed [] said = refl
+values_formed (value ∷ rest) said = and_from (is_value value) (list_all is_value rest) said.0 said.1
+
+-- a key and a row that are parts of such values
+pub put_formed : (values : List (List ℕ)) (key : List ℕ) (row : Row) → 0 < length values →
+    (key ≡ key_of values) × (row ≡ row_of values) → list_all is_value values ≡ true →
+    nat_le (length values) 16 ≡ true → is_change (captured.Put key row) ≡ true
+put_formed [] key row some parts formed few = absurd (omega arith)
+put_formed (value ∷ rest) key row some parts formed few =
+    (λ i. is_change (captured.Put (parts.0 i) (parts.1 i)))
+    ∙ (let both = and_parts (is_value value) (list_all is_value rest) formed in
+    let less = leb-true (length (value ∷ rest)) 16 few in
+    λ i. both.0 i && both.1 i && le-leb (length rest) 99 (omega (arith, less)) i)
+
+pub set_formed : (key : List ℕ) (columns : List (ℕ × List ℕ)) → IsChange (Set key columns) →
+    is_change (captured.Set key columns) ≡ true
+set_formed key columns (key_formed, values, few) =
+    let numbers = all_below columns few.1 in
+    λ i. key_formed i && values i && le-leb (length columns) 99 few.0 i && numbers i
+  where
+    all_below : (columns : List (ℕ × List ℕ)) → AllByRecursion (λ c. c.0 ≤ greatest_column) columns →
+        list_all (λ c. nat_le c.0 greatest_column) columns ≡ true
+    all_below [] below = refl
+    all_below (c ∷ cs) below =
+        and_from (nat_le c.0 greatest_column) _ (le-leb c.0 greatest_column below.0) (all_below cs below.1)

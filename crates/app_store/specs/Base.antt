@@ -1,10 +1,12 @@
 -- What the code keeps of a database, read off it.
-use Rattle.std.specs.Prelude.{◌≡◌, ℕ, Bool, false, Option}
+use Rattle.std.specs.Prelude.{◌≡◌, ℕ, Bool, false, Option, None}
 use Rattle.slon_base.specs.Keeper.{Kept}
 use Rattle.slon_base.specs.declared.keeper.Keeper.{Ghosts}
 use Rattle.slon_model.specs.Place.{Counter}
 use Rattle.node_keeper.specs.Fused.{fuse_kept}
 use Rattle.txn_core.specs.Locks.{Locks}
+use Rattle.node_state.specs.declared.memory.Identity.{Identity}
+use Rattle.node_state.specs.Known.{Members, IsKnown}
 use Rattle.app_store.specs.declared.database.Database.{Database}
 use Rattle.app_store.specs.declared.state.State.{State}
 use Rattle.app_store.specs.Closed.{Opens, IsClosed}
@@ -19,6 +21,9 @@ pub record Memory : Type 0 where
   pub numbers : Counter
   pub opens : Opens
   pub locks : Locks
+  -- which node it is, and the tables of its sets
+  pub identity : Option Identity
+  pub members : Members
 
 abbrev pub memory_of : State → Memory
 memory_of s =
@@ -30,6 +35,8 @@ memory_of s =
       numbers = s.numbers;
       opens = s.opens;
       locks = s.locks;
+      identity = s.node.identity;
+      members = s.node.members;
     }
 
 -- What the code keeps of a database: its store and its memory.
@@ -51,6 +58,7 @@ pub record IsFresh (up : Bool) (doubt : Option ℕ) (m : Memory) : Type 0 where
   pub xids : m.xids ≡ record { next = 1; ceiling = 65 }
   pub numbers : m.numbers ≡ record { next = 1; ceiling = 65 }
   pub closed : IsClosed m.opens m.locks
+  pub nobody : IsKnown None m.identity m.members
 
 -- a database that goes down forgets what was open, and nothing else
 pub record GoesDown (old new : Memory) : Type 0 where
@@ -60,3 +68,5 @@ pub record GoesDown (old new : Memory) : Type 0 where
   pub xids : new.xids ≡ old.xids
   pub numbers : new.numbers ≡ old.numbers
   pub closed : IsClosed new.opens new.locks
+  pub identity : new.identity ≡ old.identity
+  pub members : new.members ≡ old.members

@@ -8,7 +8,9 @@ use Rattle.slon_base.specs.Codec.{list_bytes, IsText}
 use Rattle.slon_model.specs.Names.{find_named}
 use Rattle.slon_model.specs.Rows.{Action, is_on}
 use Rattle.slon_model.specs.Place.{Place, Standing, IsRunning, IsFallen, IsDoubtful, holder, seen_rows, standing_rows}
-use Rattle.slon_model.specs.Place.{own_count}
+use Rattle.slon_model.specs.Place.{own_actions}
+use Rattle.node_state.specs.Held.{captured_all}
+use Rattle.node_state.specs.Known.{IsKnown}
 use Rattle.slon_laws.specs.Sound.{Sound}
 use Rattle.slon_laws.specs.Spelled.{IsSpelled}
 use Rattle.txn_core.specs.Locks.{holder_of}
@@ -24,7 +26,7 @@ has_written xid table key (a ∷ rest) = (a.xid == xid && is_on table key a) || 
 -- an open transaction of this id, with its writes
 pub record IsOpened (p : Place) (xid : ℕ) (t : Transaction) : Type 0 where
   pub xid_is : t.xid ≡ xid
-  pub count : t.actions ≡ own_count xid p
+  pub actions : t.actions ≡ captured_all (own_actions xid p)
   -- a row that it sees is what it wrote there, or else the row that stands
   pub sees : (table key : List ℕ) → IsText table → option_map list_bytes (get (seen_rows xid p table) key)
       ≡ over (get t.writes (row_key table key)) (option_map list_bytes (get (standing_rows p table) key))
@@ -50,6 +52,7 @@ pub record Runs (p : Place) (m : Memory) : Type 0 where
   pub numbers : m.numbers ≡ p.numbers
   pub opened : (name : List ℕ) → OpensAs p (find_named name p.opens) (get m.opens name)
   pub locked : (table key : List ℕ) → IsText table → holder_of table key m.locks ≡ holder table key p
+  pub known : IsKnown p.node m.identity m.members
 
 -- the stamp that the commit in doubt would have written
 abbrev pub doubtful_stamp : Bool → Place → ℕ

@@ -1,13 +1,12 @@
 -- What is in its form in a store, and what is read of it.
-use Rattle.std.specs.Prelude.{◌≡◌, ◌⊎◌, ◌<◌, ◌^◌, ℕ, List, Option, Some, None, Result, Ok, Err}
+use Rattle.std.specs.Prelude.{◌≡◌, ◌⊎◌, ◌<◌, ◌^◌, ℕ, List, Option, Some, None}
 use Rattle.std.specs.Option.{option_map}
 use Rattle.std.specs.FinMap.{get, entries}
 use Rattle.slon_base.specs.Keeper.{Store, after}
 use Rattle.slon_base.specs.Codec.{number_bytes, text_bytes, list_bytes, IsText, AreTexts, AllAre}
-use Rattle.store_rows.specs.declared.stop.Stop.{Stop}
-use Rattle.store_rows.specs.declared.stop.Stop.TheVariants.{Failed, NoMemory, BadRow, TooBig}
 use Rattle.store_rows.specs.Scan.{ranged, spelled_rows}
 use Rattle.store_rows.specs.Space.{AllOf}
+pub use Rattle.event_store.specs.Formed.{Lacks, StopsAt, Reads}
 use Rattle.slon_model.specs.Rows.{Row}
 use Rattle.app_store.specs.declared.look.Numbers.{Numbers}
 use Rattle.app_store.specs.Spelled.{IsSmall, meta, tables, rows, stamp_key, xid_ceiling_key, action_ceiling_key}
@@ -50,22 +49,6 @@ pub record AreListed (prefix : List ℕ) (m : Store) : Type 0 where
   pub spelled : ranged prefix (after prefix (entries (m rows))) ≡ spelled_rows prefix text_bytes list_bytes found
 
 -- ---- what is read
-
--- what stands in this space is not in its form
-abbrev pub Lacks : ℕ → Type 0 → ℕ → Type 0
-Lacks space IsFormed other = (other ≡ space) × (IsFormed → ⊥)
-
--- work stopped at a row that is not in its form only where it was handed one
-abbrev pub StopsAt : (ℕ → Type 0) → Stop → Type 0
-StopsAt handed Failed = Unit {0}
-StopsAt handed NoMemory = Unit {0}
-StopsAt handed (BadRow space) = handed space
-StopsAt handed (TooBig space) = ⊥
-
--- and where it went on it was handed none
-abbrev pub Reads : {T : Type 0} → (ℕ → Type 0) → Result T Stop → Type 0
-Reads handed (Ok x) = (space : ℕ) → handed space → ⊥
-Reads handed (Err stop) = StopsAt handed stop
 
 -- the number of columns of a table
 abbrev pub columns_at : List ℕ → Store → Option (List ℕ)

@@ -7,6 +7,7 @@ pub mod Formed
 pub mod Fuses
 pub mod Handed
 pub mod Parts
+pub mod Restored
 pub mod Scan
 pub mod Serves
 pub mod Settled

@@ -12,6 +12,7 @@ use Rattle.slon_model.specs.Place.{Place, fallen, raised}
 use Rattle.slon_model.specs.Moves.{is_last, crashed}
 use Rattle.store_rows.specs.declared.stop.Stop.{Stop}
 use Rattle.store_rows.specs.declared.stop.Stop.TheVariants.{Failed, NoMemory, BadRow, TooBig}
+use Rattle.node_state.specs.declared.memory.NodeMemory.{NodeMemory}
 use Rattle.app_store.specs.declared.look.Numbers.{Numbers}
 use Rattle.app_store.specs.Closed.{IsClosed}
 use Rattle.app_store.specs.Base.{Memory, Base}
@@ -58,11 +59,13 @@ pub record Part {T : Type 0} (need : Need) (old new : Base) (result : Result T D
   pub falls : Falls (halts result) new.memory
   pub big : IsBig need (halts result) new.memory
 
--- a database that goes on from these numbers, with no transaction open and no commit in doubt
-pub record StartsWith (n : Numbers) (new : Memory) : Type 0 where
+-- a database that goes on from these numbers, as this node, with no transaction open and no commit in doubt
+pub record StartsWith (n : Numbers) (node : NodeMemory) (new : Memory) : Type 0 where
   pub up : new.up ≡ true
   pub doubt : new.doubt ≡ None
   pub stamp : new.stamp ≡ n.stamp
   pub xids : new.xids ≡ record { next = n.xid_ceiling; ceiling = n.xid_ceiling }
   pub numbers : new.numbers ≡ record { next = n.number_ceiling; ceiling = n.number_ceiling }
   pub closed : IsClosed new.opens new.locks
+  pub identity : new.identity ≡ node.identity
+  pub members : new.members ≡ node.members

@@ -1,7 +1,7 @@
 -- How a database stands in its store, space by space.
-use Rattle.std.specs.Prelude.{◌≡◌, ℕ, ◌==◌, ◌||◌, if◌then◌else◌, not, ◌<◌, ◌^◌, Bool, true, List, [], ◌∷◌, ◌++◌, length}
+use Rattle.std.specs.Prelude.{◌≡◌, ℕ, ◌==◌, if◌then◌else◌, ◌<◌, ◌^◌, List, [], ◌∷◌, ◌++◌, length}
 use Rattle.std.specs.Prelude.{slice_index_or, Option, Some, None}
-use Rattle.std.specs.FinMap.{FinMap, get, empty, entries}
+use Rattle.std.specs.FinMap.{FinMap, get, entries}
 use Rattle.slon_base.specs.Keeper.{Space, Store, put_at, del_at, key_cmp}
 use Rattle.slon_base.specs.Codec.{number_bytes, text_bytes, list_bytes, IsText}
 use Rattle.store_rows.specs.Space.{IsSpace, Any}
@@ -9,6 +9,11 @@ use Rattle.slon_model.specs.Rows.{Rows}
 use Rattle.slon_model.specs.Names.{find_named}
 use Rattle.slon_model.specs.Place.{Place, standing_rows}
 use Rattle.app_store.specs.declared.layout.TheConstants.{META, TABLES, ROWS}
+use Rattle.change_capture.specs.declared.log_row.LogRow.{LogRow}
+use Rattle.log_switch.specs.Holds.{put_logs}
+use Rattle.slon_model.specs.Deeds.{Node}
+use Rattle.node_state.specs.declared.memory.Identity.{Identity}
+use Rattle.node_state.specs.Held.{HoldsNode, log_of}
 use Rattle.app_store.specs.declared.transact.Put.{Put}
 
 -- a text whose length can be spelled
@@ -49,21 +54,31 @@ action_ceiling_key = meta_key 3
 abbrev pub log_status_key : List ℕ
 log_status_key = meta_key 6
 
--- the values of the meta numbers by the numbers of their keys
-abbrev pub numbers_at : ℕ → ℕ → ℕ → ℕ → Option (List ℕ)
-numbers_at stamp xids numbers key =
+-- the id and the cluster of a node by the numbers of their keys
+abbrev pub identity_at : Option Node → ℕ → Option (List ℕ)
+identity_at None key = None
+identity_at (Some n) key =
+    if key == 4 then Some (number_bytes n.id) else (if key == 5 then Some (text_bytes n.cluster) else None)
+
+-- the values of the meta entries by the numbers of their keys
+abbrev pub entries_at : ℕ → ℕ → ℕ → Option Node → ℕ → Option (List ℕ)
+entries_at stamp xids numbers own key =
     if key == 1 then Some (number_bytes stamp)
     else (if key == 2 then Some (number_bytes xids)
     else (if key == 3 then Some (number_bytes numbers)
-    else (if key == 6 then Some (0 ∷ []) else None)))
+    else (if key == 6 then Some (log_of own ∷ []) else identity_at own key)))
 
 -- without a stamp there are none
-abbrev pub meta_at : ℕ → ℕ → ℕ → ℕ → Option (List ℕ)
-meta_at stamp xids numbers key = if stamp == 0 then None else numbers_at stamp xids numbers key
+abbrev pub meta_at : ℕ → ℕ → ℕ → Option Node → ℕ → Option (List ℕ)
+meta_at stamp xids numbers own key = if stamp == 0 then None else entries_at stamp xids numbers own key
 
--- the space of the meta numbers, with this stamp and these ceilings
-abbrev pub IsMeta : ℕ → ℕ → ℕ → Space → Type 0
-IsMeta stamp xids numbers = IsSpace meta_key Any (λ value. value) Any (meta_at stamp xids numbers)
+-- the space of the meta entries, with this stamp, these ceilings and this node
+abbrev pub IsMeta : ℕ → ℕ → ℕ → Option Node → Space → Type 0
+IsMeta stamp xids numbers own = IsSpace meta_key Any (λ value. value) Any (meta_at stamp xids numbers own)
+
+-- whichever node it is
+abbrev pub HasNumbers : ℕ → ℕ → ℕ → Space → Type 0
+HasNumbers stamp xids numbers space = (node : Option Node) × IsMeta stamp xids numbers node space
 
 -- the space of the tables: each under its name, with its number of columns
 abbrev pub AreTables : List (List ℕ × ℕ) → Space → Type 0
@@ -82,18 +97,14 @@ abbrev pub AreRows : (List ℕ → Rows) → Space → Type 0
 AreRows standing = IsSpace {I = List ℕ × List ℕ} (λ i. row_key i.0 i.1) (λ i. IsText i.0) list_bytes Any
     (λ i. get (standing i.0) i.1)
 
--- the spaces not in use
-abbrev pub is_unused : ℕ → Bool
-is_unused space = not (space == meta || space == tables || space == rows)
-
 -- What a store holds of a database, and it holds nothing else.
 pub record Holds (p : Place) (m : Store) : Type 0 where
-  pub meta_numbers : IsMeta p.stamp p.xids.ceiling p.numbers.ceiling (m meta)
+  pub meta_numbers : IsMeta p.stamp p.xids.ceiling p.numbers.ceiling p.node (m meta)
   pub table_rows : AreTables p.tables (m tables)
   pub rows_held : AreRows (standing_rows p) (m rows)
-  pub others : (space : ℕ) → is_unused space ≡ true → m space ≡ empty
-  -- no database is a node yet
-  pub alone : p.node ≡ None
+  pub node_held : HoldsNode p.node m
+  -- without its first rows it is no node
+  pub bare : p.stamp ≡ 0 → p.node ≡ None
 
 -- the rows that a transaction puts, and those that it takes away
 abbrev pub Writes : Type 0
@@ -132,6 +143,17 @@ new_table table columns stamp m = put_at meta stamp_key stamp (put_at tables tab
 abbrev pub new_ceiling : List ℕ → List ℕ → List ℕ → Store → Store
 new_ceiling key ceiling stamp m = put_at meta stamp_key stamp (put_at meta key ceiling m)
 
--- the writes of a transaction, with its stamp
-abbrev pub new_rows : Writes → List ℕ → Store → Store
-new_rows writes stamp m = put_at meta stamp_key stamp (write_all (entries writes) m)
+-- the rows that a node logs
+abbrev pub with_logs : Option Identity → List (ℕ × LogRow) → Store → Store
+with_logs None logs m = m
+with_logs (Some identity) logs m = put_logs identity.id logs m
+
+-- What a transaction puts: its writes, and the rows that it logs.
+pub record Batch : Type 0 where
+  pub identity : Option Identity
+  pub logs : List (ℕ × LogRow)
+  pub writes : Writes
+
+-- the writes of a transaction and what it logs, with its stamp
+abbrev pub new_rows : Batch → List ℕ → Store → Store
+new_rows b stamp m = put_at meta stamp_key stamp (with_logs b.identity b.logs (write_all (entries b.writes) m))

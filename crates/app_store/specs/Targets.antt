@@ -1,5 +1,5 @@
 -- What the parts of a write do to a database that is up.
-use Rattle.std.specs.Prelude.{◌≡◌, ◌==◌, ℕ, false, true, List, Option, Some, None, Result, Ok, Err}
+use Rattle.std.specs.Prelude.{◌≡◌, ◌==◌, ℕ, false, true, List, Some, None, Result, Ok, Err}
 use Rattle.std.specs.Option.{option_map}
 use Rattle.std.specs.FinMap.{get}
 use Rattle.slon_base.specs.Codec.{list_bytes}
@@ -13,9 +13,11 @@ use Rattle.slon_model.specs.Rows.{Change, change_key}
 use Rattle.slon_model.specs.Tasks.{Write}
 use Rattle.slon_model.specs.Place.{Place, holder, seen_rows, raised}
 use Rattle.slon_model.specs.Moves.{Writes, prepared, done, is_last, crashed}
-use Rattle.slon_model.specs.Deciding.{Decision, limited, decide_row, result_of, move_of, sure}
+use Rattle.slon_model.specs.Deciding.{Decision, limited, decide_row, closed_at, result_of, move_of, sure}
 use Rattle.slon_laws.specs.Keys.{change_at}
 use Rattle.slon_laws.specs.Allowed.{IsFree}
+use Rattle.node_state.specs.Held.{change_as}
+use Rattle.app_store.specs.declared.writes.Addition.{Addition}
 use Rattle.app_store.specs.declared.writes.Target.{Target}
 use Rattle.app_store.specs.Base.{Base}
 use Rattle.app_store.specs.Fits.{Fits, Ready}
@@ -40,6 +42,13 @@ pub data FoundWidth (name table : List ℕ) (p : Place) (result : Result (ℕ ×
       find_named table p.tables ≡ None → Fits p new →
       FoundWidth name table p result new
   StopsWidth : (fault : DbFault) → result ≡ Err fault → FellTo p p fault new → FoundWidth name table p result new
+
+-- the table may be written, or its set is received or locked
+pub data FoundOpen (table : List ℕ) (p : Place) (result : Result (Unit {0}) DbFault) (new : Base) : Type 0 where
+  IsOpen : result ≡ Ok tt → closed_at table p.node ≡ None → Fits p new → FoundOpen table p result new
+  IsShut : (fault : DbFault) → result ≡ Err fault → closed_at table p.node ≡ Some fault → Fits p new →
+      FoundOpen table p result new
+  StopsOpen : (fault : DbFault) → result ≡ Err fault → FellTo p p fault new → FoundOpen table p result new
 
 -- a row that a transaction of this id may write, with its spelled values as it sees them
 pub record IsTarget (xid : ℕ) (table key : List ℕ) (p : Place) (t : Target) : Type 0 where
@@ -94,17 +103,17 @@ abbrev pub spot_of : List ℕ → ℕ → List ℕ → List ℕ → Spot
 spot_of name xid table key = record { name = name; xid = xid; table = table; key = key }
 
 -- what a write may be added to: an open transaction, and a row that it may write
-pub record MayAdd (s : Spot) (change : Change) (spelled : List ℕ) (value : Option (List ℕ))
-    (p : Place) : Type 0 where
+pub record MayAdd (s : Spot) (change : Change) (a : Addition) (p : Place) : Type 0 where
   pub opened : find_named s.name p.opens ≡ Some s.xid
   pub free : IsFree s.xid (holder s.table (change_key change) p)
   pub key_is : change_key change ≡ s.key
-  pub spelled_is : spelled ≡ row_key s.table s.key
-  pub value_is : value ≡ option_map list_bytes (change_at change (get (seen_rows s.xid p s.table) s.key))
+  pub spelled_is : a.key ≡ row_key s.table s.key
+  pub captured_is : a.change ≡ change_as change
+  pub value_is : a.value ≡ option_map list_bytes (change_at change (get (seen_rows s.xid p s.table) s.key))
 
-abbrev pub AddsWrite : Spot → List ℕ → Option (List ℕ) → Base → Result ℕ DbFault → Base → Type 0
-AddsWrite s spelled value =
-    FromPlace (λ p result new. (change : Change) → MayAdd s change spelled value p →
+abbrev pub AddsWrite : Spot → Addition → Base → Result ℕ DbFault → Base → Type 0
+AddsWrite s a =
+    FromPlace (λ p result new. (change : Change) → MayAdd s change a p →
     AddedWrite s.xid s.table change p result new)
 
 -- the write of a row that fits its table

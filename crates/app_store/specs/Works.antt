@@ -1,6 +1,7 @@
 -- What each piece of work on a store comes to, over a store that tells what it holds and can fail no more.
 use Rattle.std.specs.Prelude.{◌≡◌, ◌⊎◌, ℕ, ◌+◌, ◌<◌, ◌≤◌, ◌^◌, ◌==◌, ◌||◌, nat_le, Bool, true, false, List, Option}
 use Rattle.std.specs.Prelude.{Some, None, Result, Ok, Err, is_some, if◌then◌else◌}
+use Rattle.std.specs.List.{AllByRecursion}
 use Rattle.std.specs.Option.{option_map}
 use Rattle.std.specs.FinMap.{get, len, empty, entries}
 use Rattle.slon_base.specs.Keeper.{Kept, Store}
@@ -8,9 +9,13 @@ use Rattle.slon_base.specs.Codec.{number_bytes, text_bytes}
 use Rattle.slon_model.specs.Rows.{Row, Rows}
 use Rattle.slon_model.specs.Place.{Counter, lifted, block}
 use Rattle.slon_model.specs.Moves.{stored_limit}
-use Rattle.app_store.specs.Spelled.{meta, tables, rows, IsMeta, first_rows, new_ceiling, IsSmall}
+use Rattle.app_store.specs.Spelled.{meta, tables, rows, HasNumbers, Batch, first_rows, new_ceiling, IsSmall}
 use Rattle.app_store.specs.Scan.{IsTableOf}
 use Rattle.store_rows.specs.declared.stop.Stop.{Stop}
+use Rattle.change_capture.specs.Spellings.{CanLogRow}
+use Rattle.node_state.specs.declared.memory.Identity.{Identity}
+use Rattle.node_state.specs.Known.{Members, log_rows_of}
+use Rattle.app_store.specs.declared.opens.Transaction.{Transaction}
 use Rattle.app_store.specs.declared.ceilings.Unlifted.{Unlifted}
 use Rattle.app_store.specs.declared.ceilings.Unlifted.TheVariants.{TooBig, Stopped}
 use Rattle.store_rows.specs.Steps.{IsOutside}
@@ -41,11 +46,20 @@ NumbersAre stamp xids numbers (Err stop) = IsOutside stop
 
 abbrev pub FindsNumbers : Store → Result (Option Numbers) Stop → Type 0
 FindsNumbers m result = (stamp xids numbers : ℕ) → stamp < 2 ^ 63 → xids < 2 ^ 63 → numbers < 2 ^ 63 →
-    IsMeta stamp xids numbers (m meta) → NumbersAre stamp xids numbers result
+    HasNumbers stamp xids numbers (m meta) → NumbersAre stamp xids numbers result
 
 abbrev pub AreSmall : Option Numbers → Type 0
 AreSmall None = Unit {0}
 AreSmall (Some n) = (n.stamp < 2 ^ 63) × (n.xid_ceiling < 2 ^ 63) × (n.number_ceiling < 2 ^ 63)
+
+-- what a transaction puts as it commits
+abbrev pub batch_of : Option Identity → Members → Transaction → Batch
+batch_of identity members t =
+    record { identity = identity; logs = log_rows_of members t.xid t.actions; writes = t.writes }
+
+-- what it logs can be spelled
+abbrev pub CanLog : Members → Transaction → Type 0
+CanLog members t = AllByRecursion (λ r. (r.0 < 2 ^ 63) × CanLogRow r.1) (log_rows_of members t.xid t.actions)
 
 -- one more stamp, or a ceiling that is lifted, passes the limit of stored numbers
 abbrev pub is_past : ℕ → ℕ → Bool

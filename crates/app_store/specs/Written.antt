@@ -1,13 +1,16 @@
 -- What open transactions wrote.
-use Rattle.std.specs.Prelude.{◌≡◌, ℕ, ◌+◌, ◌-◌, ◌^◌, min, List, Option, Some, None}
+use Rattle.std.specs.Prelude.{◌≡◌, ℕ, true, List, [], ◌∷◌, ◌++◌, Option, Some, None}
 use Rattle.std.specs.FinMap.{get, insert}
+use Rattle.change_capture.specs.declared.action.Action.{Action}
+use Rattle.node_state.specs.Known.{are_captured}
 use Rattle.app_store.specs.declared.opens.Transaction.{Transaction}
+use Rattle.app_store.specs.Spelled.{Writes}
 use Rattle.app_store.specs.Closed.{Opens}
 use Rattle.app_store.specs.Formed.{AreValues}
 
-abbrev pub with_write : List ℕ → Option (List ℕ) → Transaction → Transaction
-with_write key value t =
-    record { xid = t.xid; actions = min (2 ^ 64 - 1) (t.actions + 1); writes = insert t.writes key value }
+abbrev pub with_write : List ℕ → Option (List ℕ) → Action → Transaction → Transaction
+with_write key value action t =
+    record { xid = t.xid; actions = t.actions ++ action ∷ []; writes = insert t.writes key value }
 
 -- what a transaction wrote at a key
 abbrev pub written_at : List ℕ → Option Transaction → Option (Option (List ℕ))
@@ -19,7 +22,11 @@ written_at key (Some t) = get t.writes key
 abbrev pub IsWritten : Option (List ℕ) → Type 0
 IsWritten written = (AreValues written → ⊥) → ⊥
 
--- all that the open transactions wrote is in its form
+-- the rows that a transaction wrote are in their form
+abbrev pub AreInForm : Writes → Type 0
+AreInForm writes = (key : List ℕ) (written : Option (List ℕ)) → get writes key ≡ Some written → IsWritten written
+
+-- all that the open transactions wrote is in its form, and their actions can be logged
 abbrev pub AreWritten : Opens → Type 0
 AreWritten opens = (name : List ℕ) (t : Transaction) → get opens name ≡ Some t →
-    (key : List ℕ) (written : Option (List ℕ)) → get t.writes key ≡ Some written → IsWritten written
+    AreInForm t.writes × (are_captured t.xid t.actions ≡ true)

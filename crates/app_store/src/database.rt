@@ -7,7 +7,7 @@ use crate::ceilings::{Unlifted, lift};
 use crate::falls::{fall, overflow};
 use crate::founding::first_state;
 use crate::layout::{ACTION_CEILING, XID_CEILING};
-use crate::numbers::recover;
+use crate::restoring::{Restored, restore};
 use crate::state::{State, settled};
 use node_keeper::{Fuse, Keeper};
 use slon_model::{Answer, Answered, Crash, DbFault, Numbering};
@@ -15,8 +15,8 @@ use std::alloc::Global;
 
 /// One database over a store behind a fuse.
 ///
-/// While it is up it keeps its numbers, its open transactions and their locks in memory. A step that stops at the store
-/// takes it down, and then it makes no call on its store until it comes up again.
+/// While it is up it keeps in memory its numbers, its open transactions and their locks, and the node that it is. A
+/// step that stops at the store takes it down, and then it makes no call on its store until it comes up again.
 #[derive(Drop)]
 pub struct Database<K: Keeper> {
     pub(crate) alloc: Global,
@@ -138,10 +138,15 @@ impl<K: Keeper> Database<K> {
         }
         self.keeper.disarm();
         let _ = self.keeper.rollback();
-        match recover(self.alloc, &mut self.keeper) {
-            Ok((stamp, numbers)) => {
+        match restore(self.alloc, &mut self.keeper) {
+            Ok(restored) => {
+                let Restored {
+                    node,
+                    stamp,
+                    numbers,
+                } = restored;
                 let answer = settled(self.state.doubt, stamp);
-                self.state = State::starting(self.alloc, numbers);
+                self.state = State::starting(self.alloc, numbers, node);
                 Ok(Answered::Sure(answer))
             }
             Err(stop) => Err(fall(self.alloc, &mut self.state, &self.keeper, stop)),

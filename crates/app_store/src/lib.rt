@@ -10,6 +10,7 @@ mod look;
 mod numbers;
 mod obey;
 mod opens;
+mod restoring;
 mod scan;
 mod spelling;
 mod state;

@@ -8,12 +8,16 @@ ghost use Rattle.store_rows.specs.Steps.{Safe, IsWithinLimit};
 ghost use Rattle.store_rows.specs.declared.stop.Stop.TheVariants.{BadRow};
 ghost use Rattle.app_store.specs.Spelled.{meta, rows, IsSmall};
 ghost use Rattle.app_store.specs.Formed.{IsNumber, IsCeiling, AreNumbers, Lacks, Reads};
-ghost use Rattle.app_store.specs.Finds.{FindsColumns};
+ghost use Rattle.store_rows.specs.Rows.{IsId};
+ghost use Rattle.app_store.specs.Finds.{FindsColumns, TellsNode};
 ghost use Rattle.app_store.specs.Works.{FindsNumbers, AreSmall};
 ghost use Rattle.app_store.specs.Steps.{Looks, Says};
 
 use crate::layout::{ACTION_CEILING, META, ROWS, STAMP, TABLES, XID_CEILING};
+use node_state::tell;
 use slon_base::{Bytes, Keeper, RowIn};
+use slon_model::Answer;
+use std::alloc::Global;
 use store_rows::{Stop, get_pair};
 
 /// The number that a value of a space spells.
@@ -64,6 +68,18 @@ pub(crate) fn read_row<K: Keeper>(keeper: &mut K, key: &[u8]) -> Result<Option<B
     ensures { Looks (λ m result. Says (get (m rows) key.now) result) (K.kept keeper.old) (K.kept keeper.new) result }
 {
     get_pair(keeper, ROWS, key)
+}
+
+/// The status of the node of this id.
+pub(crate) fn read_status<K: Keeper>(
+    alloc: Global,
+    keeper: &mut K,
+    own: u32,
+) -> Result<Answer, Stop>
+    requires { IsId own }
+    ensures { Looks (TellsNode own) (K.kept keeper.old) (K.kept keeper.new) result }
+{
+    tell(alloc, keeper, own)
 }
 
 /// The stamp and the ceilings of a database.

@@ -3,7 +3,7 @@ ghost use Rattle.std.specs.Prelude.{◌≡◌, ◌<◌, ◌^◌, ◌+◌, ℕ, I
 ghost use Rattle.slon_base.specs.Keeper.{Store};
 ghost use Rattle.slon_base.specs.Codec.{number_bytes};
 ghost use Rattle.app_store.specs.Formed.{AreNumbers, Lacks, Reads};
-ghost use Rattle.app_store.specs.Spelled.{meta, IsMeta, new_ceiling};
+ghost use Rattle.app_store.specs.Spelled.{meta, HasNumbers, new_ceiling};
 ghost use Rattle.app_store.specs.Steps.{IsSure, IsCounted};
 ghost use Rattle.app_store.specs.Works.{AreSmall, RaisesTo, RecoversTo};
 
@@ -60,8 +60,8 @@ pub(crate) fn recover<K: Keeper>(
     ensures sure { IsSure (K.kept keeper.old) (K.kept keeper.new) result }
     ensures counted { IsCounted (K.kept keeper.old) (K.kept keeper.new) result }
     ensures recovers { (m : Store) (stamp xids numbers : ℕ) → (K.kept keeper.old).held ≡ Some m → stamp < 2 ^ 63 →
-        xids < 2 ^ 63 → numbers < 2 ^ 63 → IsMeta stamp xids numbers (m meta) → RecoversTo m stamp xids numbers result
-        (K.kept keeper.new) }
+        xids < 2 ^ 63 → numbers < 2 ^ 63 → HasNumbers stamp xids numbers (m meta) →
+        RecoversTo m stamp xids numbers result (K.kept keeper.new) }
     ensures form { (m : Store) → (K.kept keeper.old).held ≡ Some m → Reads (Lacks meta (AreNumbers m)) result }
     ensures small { IfOk result (λ r. AreSmall (Some r.1)) }
     ensures idle { OnOk result (is_some (K.kept keeper.new).pending ≡ false) }

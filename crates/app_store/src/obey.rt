@@ -9,6 +9,8 @@ ghost use Rattle.app_store.specs.Fuses.{ArmsOn};
 ghost use Rattle.app_store.specs.Handed.{Hands, HandsOn};
 
 use crate::database::Database;
+use crate::falls::fall;
+use crate::look::read_status;
 use node_keeper::Keeper;
 use slon_base::Halt;
 use slon_model::{Answer, Answered, Command, DbFault, KeptList, ProgressList, TableRows};
@@ -129,7 +131,7 @@ impl<K: Keeper> Database<K> {
         }
     }
 
-    /// The node that the database is, with its logs, and how far it is: 0 and nothing, as no database is a node yet.
+    /// The node that the database is, with its log, and how far it is: 0 and nothing where it is none.
     fn status(&mut self) -> Result<Answered, DbFault>
         ensures serves { Serves ToTell (base_of K.kept self.old) result (base_of K.kept self.new) }
         ensures hands { Hands ToTell (base_of K.kept self.old) result }
@@ -137,11 +139,17 @@ impl<K: Keeper> Database<K> {
         if !self.state.up {
             return Err(DbFault::Down);
         }
-        Ok(Answered::Sure(Answer::Status {
-            node: 0,
-            log: 0,
-            progress: ProgressList::new(self.alloc),
-            kept: KeptList::new(self.alloc),
-        }))
+        match self.state.node.id() {
+            None => Ok(Answered::Sure(Answer::Status {
+                node: 0,
+                log: 0,
+                progress: ProgressList::new(self.alloc),
+                kept: KeptList::new(self.alloc),
+            })),
+            Some(own) => match read_status(self.alloc, &mut self.keeper, own) {
+                Ok(answer) => Ok(Answered::Sure(answer)),
+                Err(stop) => Err(fall(self.alloc, &mut self.state, &self.keeper, stop)),
+            },
+        }
     }
 }

@@ -1,20 +1,23 @@
 // The open transactions of a database.
-ghost use Rattle.std.specs.Prelude.{◌≡◌, ℕ, ◌+◌, ◌-◌, ◌^◌, min, OnOk, IfOk, Some, None, is_some, false, []};
+ghost use Rattle.std.specs.Prelude.{◌≡◌, ◌<◌, ◌^◌, ℕ, OnOk, IfOk, Some, None, true, []};
 ghost use Rattle.std.specs.Option.{option_map};
 ghost use Rattle.std.specs.FinMap.{get, insert, remove, empty, entries};
+ghost use Rattle.node_state.specs.Known.{is_captured};
 ghost use Rattle.app_store.specs.Taking.{put_xids};
 ghost use Rattle.app_store.specs.Written.{with_write, written_at, IsWritten, AreWritten};
 
-use slon_base::{ByteMap, Bytes};
+use change_capture::Action;
+use slon_base::{ByteMap, Bytes, Many};
 use std::alloc::{AllocError, Global};
 use std::collections::BTreeSet;
 use txn_core::XidList;
 
-/// An open transaction with the rows that its commit will put or take away, by their spelled keys.
+/// An open transaction: its actions in their order, and the rows that its commit will put or take away, by their
+/// spelled keys.
 #[derive(Drop)]
 pub struct Transaction {
     pub(crate) xid: u64,
-    pub(crate) actions: u64,
+    pub(crate) actions: Many<Action>,
     pub(crate) writes: ByteMap<Option<Bytes>>,
 }
 
@@ -28,13 +31,14 @@ pub(crate) fn open(
     name: &[u8],
     xid: u64,
 ) -> Result<(), AllocError>
+    requires small { xid < 2 ^ 63 }
     ensures opened { OnOk result (opens.new ≡ insert opens.old name.now
-        (record { xid = xid; actions = 0; writes = empty })) }
+        (record { xid = xid; actions = []; writes = empty })) }
     ensures kept { AreWritten opens.old → AreWritten opens.new }
 {
     let transaction = Transaction {
         xid,
-        actions: 0,
+        actions: Many::new(alloc),
         writes: ByteMap::new(alloc),
     };
     opens.insert(Vec::from_slice(alloc, name)?, transaction)
@@ -47,17 +51,18 @@ pub(crate) fn write(
     name: &[u8],
     key: &[u8],
     value: Option<Bytes>,
+    action: Action,
 ) -> Result<(), AllocError>
     ensures wrote { (t : Transaction) → get opens.old name.now ≡ Some t →
-        OnOk result (opens.new ≡ insert (remove opens.old name.now) name.now (with_write key.now value t)) }
-    ensures kept { AreWritten opens.old → IsWritten value → AreWritten opens.new }
+        OnOk result (opens.new ≡ insert (remove opens.old name.now) name.now (with_write key.now value action t)) }
+    ensures kept { AreWritten opens.old → IsWritten value → is_captured action ≡ true → AreWritten opens.new }
 {
     let Some(mut transaction) = opens.remove(name) else {
         return Ok(());
     };
-    transaction.actions = transaction.actions.saturating_add(1);
     let key = Vec::from_slice(alloc, key)?;
     transaction.writes.insert(key, value)?;
+    transaction.actions.push(action)?;
     opens.insert(Vec::from_slice(alloc, name)?, transaction)
 }
 

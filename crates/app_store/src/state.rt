@@ -7,13 +7,14 @@ ghost use Rattle.app_store.specs.Written.{AreWritten};
 use crate::look::Numbers;
 use crate::numbers::FIRST_CEILING;
 use crate::opens::Opens;
+use node_state::NodeMemory;
 use slon_base::ByteMap;
 use slon_model::Answer;
 use std::alloc::Global;
 use txn_core::{Counters, LockTable};
 
-/// What a database keeps in memory: its numbers, its open transactions and their locks. While it is down no transaction
-/// is open and no row is locked.
+/// What a database keeps in memory: its numbers, its open transactions and their locks, and the node that it is. While
+/// it is down no transaction is open and no row is locked.
 #[derive(Drop)]
 pub(crate) struct State {
     pub(crate) up: bool,
@@ -24,6 +25,7 @@ pub(crate) struct State {
     pub(crate) numbers: Counters,
     pub(crate) opens: Opens,
     pub(crate) locks: LockTable,
+    pub(crate) node: NodeMemory,
     ghost small: { stamp < 2 ^ 63 },
     ghost closed: { up ≡ false → IsClosed opens locks },
     ghost written: { AreWritten opens },
@@ -51,13 +53,14 @@ impl State {
             numbers,
             opens: ByteMap::new(alloc),
             locks: LockTable::new(alloc),
+            node: NodeMemory::none(alloc),
         }
     }
 
-    /// The memory of a database that comes up with these numbers.
-    pub(crate) fn starting(alloc: Global, numbers: Numbers) -> State
+    /// The memory of a database that comes up with these numbers, as this node.
+    pub(crate) fn starting(alloc: Global, numbers: Numbers, node: NodeMemory) -> State
         requires { AreSmall (Some numbers) }
-        ensures { StartsWith numbers (memory_of result) }
+        ensures { StartsWith numbers node (memory_of result) }
     {
         State {
             up: true,
@@ -67,6 +70,7 @@ impl State {
             numbers: Counters::resume(numbers.number_ceiling),
             opens: ByteMap::new(alloc),
             locks: LockTable::new(alloc),
+            node,
         }
     }
 

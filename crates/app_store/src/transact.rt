@@ -1,13 +1,20 @@
 // Each transaction of the store: its changes and the commit.
-ghost use Rattle.std.specs.Prelude.{◌≡◌, true, false, is_some, OnOk, IfErr};
+ghost use Rattle.std.specs.Prelude.{◌≡◌, ◌<◌, ◌^◌, true, false, is_some, OnOk, IfErr};
+ghost use Rattle.std.specs.List.{AllByRecursion};
 ghost use Rattle.std.specs.Option.{option_map};
 ghost use Rattle.std.specs.FinMap.{entries};
 ghost use Rattle.store_rows.specs.Steps.{Safe, IsOutside};
-ghost use Rattle.app_store.specs.Spelled.{put_all, write_all};
+ghost use Rattle.slon_base.specs.Keeper.{put_at};
+ghost use Rattle.change_capture.specs.Spellings.{CanLogRow};
+ghost use Rattle.app_store.specs.Spelled.{put_all, write_all, with_logs};
 ghost use Rattle.app_store.specs.Steps.{Starts, Transacts, Finishes};
 
 use crate::layout::ROWS;
+use change_capture::LogRow;
+use log_switch::append;
+use node_state::NodeMemory;
 use slon_base::{ByteMap, Bytes, KeepFault, Keeper};
+use std::alloc::Global;
 use store_rows::{Stop, del_pair, put_pair};
 
 /// What a transaction of the store came to.
@@ -95,18 +102,54 @@ fn put_pairs<K: Keeper>(keeper: &mut K, puts: &[Put<'_>]) -> Result<(), Stop>
     Ok(())
 }
 
-/// Writes rows, and then puts pairs, in one transaction.
-pub(crate) fn transact<K: Keeper>(
+/// Puts the rows that a node logs into the transaction that is pending.
+fn write_logs<K: Keeper>(
+    alloc: Global,
     keeper: &mut K,
-    rows: &ByteMap<Option<Bytes>>,
-    puts: &[Put<'_>],
-) -> Result<Made, Stop>
+    node: &NodeMemory,
+    logs: &[(u64, LogRow)],
+) -> Result<(), Stop>
+    requires opened { is_some (K.kept keeper.old).pending ≡ true }
+    requires can { AllByRecursion (λ r. (r.0 < 2 ^ 63) × CanLogRow r.1) logs.now }
+    ensures safe { Safe (K.kept keeper.old) (K.kept keeper.new) result }
+    ensures only { IfErr result IsOutside }
+    ensures put { OnOk result ((K.kept keeper.new).pending ≡
+        option_map (option_map (with_logs node.now.identity logs.now)) (K.kept keeper.old).pending) }
+{
+    match &node.identity {
+        None => Ok(()),
+        Some(identity) => append(alloc, keeper, identity.id, logs),
+    }
+}
+
+/// Puts pairs in one transaction.
+pub(crate) fn transact<K: Keeper>(keeper: &mut K, puts: &[Put<'_>]) -> Result<Made, Stop>
     requires { is_some (K.kept keeper.old).pending ≡ false }
-    ensures { Transacts (λ m. put_all puts.now (write_all (entries rows.now) m))
+    ensures { Transacts (put_all puts.now) (K.kept keeper.old) (K.kept keeper.new) result }
+{
+    begin(keeper)?;
+    put_pairs(keeper, puts)?;
+    finish(keeper)
+}
+
+/// Writes rows and what the node logs of them, and then puts a pair, in one transaction.
+pub(crate) fn transact_rows<K: Keeper>(
+    alloc: Global,
+    keeper: &mut K,
+    node: &NodeMemory,
+    logs: &[(u64, LogRow)],
+    rows: &ByteMap<Option<Bytes>>,
+    last: &Put<'_>,
+) -> Result<Made, Stop>
+    requires idle { is_some (K.kept keeper.old).pending ≡ false }
+    requires can { AllByRecursion (λ r. (r.0 < 2 ^ 63) × CanLogRow r.1) logs.now }
+    ensures { Transacts (λ m. put_at last.now.space last.now.key.now last.now.value.now
+        (with_logs node.now.identity logs.now (write_all (entries rows.now) m)))
         (K.kept keeper.old) (K.kept keeper.new) result }
 {
     begin(keeper)?;
     write_rows(keeper, rows)?;
-    put_pairs(keeper, puts)?;
+    write_logs(alloc, keeper, node, logs)?;
+    put_pair(keeper, last.space, last.key, last.value)?;
     finish(keeper)
 }

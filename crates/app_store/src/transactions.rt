@@ -121,8 +121,8 @@ impl<K: Keeper> Database<K> {
         }
     }
 
-    /// Makes what a transaction wrote stand. Answers how many actions that were, and whether the commit is in doubt.
-    /// Without actions there is no call on the store.
+    /// Makes what a transaction wrote stand, with the rows that a node logs of it. Answers how many actions that were,
+    /// and whether the commit is in doubt. Without actions there is no call on the store.
     ///
     /// # Errors
     ///
@@ -139,7 +139,7 @@ impl<K: Keeper> Database<K> {
             None => Err(DbFault::NoTransaction),
             Some(transaction) => {
                 self.state.locks.release_all(transaction.xid);
-                let actions = transaction.actions;
+                let actions = transaction.actions.len() as u64;
                 if actions == 0 {
                     return Ok((actions, false));
                 }
@@ -147,7 +147,8 @@ impl<K: Keeper> Database<K> {
                     return Err(overflow(self.alloc, &mut self.state));
                 }
                 let stamp = self.state.stamp + 1;
-                match make_rows(self.alloc, &mut self.keeper, &transaction.writes, stamp) {
+                let node = &self.state.node;
+                match make_rows(self.alloc, &mut self.keeper, node, &transaction, stamp) {
                     Ok(made) => match made {
                         Made::Done => {
                             self.state.stamp = stamp;

@@ -11,16 +11,19 @@ ghost use Rattle.store_rows.specs.Steps.{Safe, IsOutside, IsWithinLimit, is_fail
 ghost use Rattle.app_store.specs.Steps.{Looks, Says, Leaves, LeavesOr, Tries, TriesOr};
 ghost use Rattle.app_store.specs.Formed.{IsNumber, AreValues, Lacks, Reads};
 ghost use Rattle.app_store.specs.Finds.{ListsAll};
-ghost use Rattle.app_store.specs.Works.{TellsEmpty, HasPair};
+ghost use Rattle.node_state.specs.Known.{are_captured};
+ghost use Rattle.app_store.specs.Works.{TellsEmpty, HasPair, batch_of, CanLog};
 ghost use Rattle.app_store.specs.Written.{IsWritten};
 
 use crate::layout::{ACTION_CEILING, LOG_STATUS, META, ROWS, STAMP, TABLES, XID_CEILING};
 use crate::look::find_columns;
+use crate::opens::Transaction;
 use crate::scan::scan_table;
 use crate::spelling::spell_table;
-use crate::transact::{Made, Put, transact};
-use slon_base::{ByteMap, Bytes, Keeper, Text, TextList};
-use slon_model::TableRows;
+use crate::transact::{Made, Put, transact, transact_rows};
+use node_state::{NodeMemory, log_rows};
+use slon_base::{Bytes, Keeper, Text, TextList};
+use slon_model::{ColumnList, TableRows};
 use std::alloc::{AllocError, Global};
 use store_rows::{Stop, count_pairs, read_alone, spelling};
 use txn_core::BLOCK;
@@ -55,7 +58,7 @@ pub(crate) fn found<K: Keeper>(alloc: Global, keeper: &mut K) -> Result<Made, St
         Put::new(META, &XID_CEILING, ceiling.as_slice()),
         Put::new(META, &STAMP, stamp.as_slice()),
     ];
-    transact(keeper, &ByteMap::new(alloc), &puts)
+    transact(keeper, &puts)
 }
 
 /// Writes the first rows of a new database into an empty store. Refused where the store has a row.
@@ -104,7 +107,7 @@ pub(crate) fn make_table<K: Keeper>(
         Put::new(TABLES, key.as_slice(), columns.as_slice()),
         Put::new(META, &STAMP, stamp.as_slice()),
     ];
-    Ok(Some(transact(keeper, &ByteMap::new(alloc), &puts)?))
+    Ok(Some(transact(keeper, &puts)?))
 }
 
 /// Raises the ceiling that stands at this key.
@@ -129,24 +132,59 @@ pub(crate) fn make_ceiling<K: Keeper>(
         Put::new(META, key.as_slice(), ceiling.as_slice()),
         Put::new(META, &STAMP, stamp.as_slice()),
     ];
-    transact(keeper, &ByteMap::new(alloc), &puts)
+    transact(keeper, &puts)
 }
 
-/// Writes what a transaction wrote.
+/// Writes what a transaction wrote, and what the node logs of it.
 pub(crate) fn make_rows<K: Keeper>(
     alloc: Global,
     keeper: &mut K,
-    writes: &ByteMap<Option<Bytes>>,
+    node: &NodeMemory,
+    transaction: &Transaction,
     stamp: u64,
 ) -> Result<Made, Stop>
     requires idle { is_some (K.kept keeper.old).pending ≡ false }
     requires room { stamp < 2 ^ 63 }
+    requires captured { are_captured transaction.now.xid transaction.now.actions ≡ true }
     ensures tries { Tries (K.kept keeper.old) (K.kept keeper.new) result }
     ensures works { (m : Store) → (K.kept keeper.old).held ≡ Some m →
-        Leaves (new_rows writes.now (number_bytes stamp)) m result (K.kept keeper.new) }
+        Leaves (new_rows (batch_of node.now.identity node.now.members transaction.now) (number_bytes stamp)) m result
+        (K.kept keeper.new) }
+    ensures can { IfOk result (λ made. CanLog node.now.members transaction.now) }
 {
+    let logs = log_rows(alloc, node, transaction.xid, transaction.actions.as_slice())?;
     let stamp = spelling(alloc, &stamp)?;
-    transact(keeper, writes, &[Put::new(META, &STAMP, stamp.as_slice())])
+    let last = Put::new(META, &STAMP, stamp.as_slice());
+    transact_rows(
+        alloc,
+        keeper,
+        node,
+        logs.as_slice(),
+        &transaction.writes,
+        &last,
+    )
+}
+
+/// The same values, copied.
+pub(crate) fn copy_values(alloc: Global, values: &[Text]) -> Result<TextList, AllocError>
+    ensures { IfOk result (λ row. row ≡ values.now) }
+{
+    let mut row = TextList::new(alloc);
+    for value in values {
+        row.push(value.copy(alloc)?)?;
+    }
+    Ok(row)
+}
+
+/// The same columns, copied.
+pub(crate) fn copy_columns(alloc: Global, columns: &[(u32, Text)]) -> Result<ColumnList, AllocError>
+    ensures { IfOk result (λ copied. copied ≡ columns.now) }
+{
+    let mut copied = ColumnList::new(alloc);
+    for (column, value) in columns {
+        copied.push(*column, value.copy(alloc)?)?;
+    }
+    Ok(copied)
 }
 
 /// A row with new values for columns.

@@ -1,7 +1,11 @@
 // The tasks of a database that write rows.
 ghost use Rattle.std.specs.Prelude.{◌≡◌, ◌≤◌, ◌<◌, ◌^◌, ◌∷◌, ◌==◌, ◌&&◌, nat_le, ℕ, List, length, map, true, false};
 ghost use Rattle.std.specs.Prelude.{OnOk, IfErr, is_some};
+ghost use Rattle.std.specs.List.{list_all};
 ghost use Rattle.slon_model.specs.World.{halt_in};
+ghost use Rattle.slon_model.specs.Forms.{is_table_name, is_value};
+ghost use Rattle.change_capture.specs.declared.action.Change.TheVariants as captured;
+ghost use Rattle.node_state.specs.Known.{is_change};
 ghost use Rattle.slon_base.specs.Codec.{IsText, AllTexts};
 ghost use Rattle.slon_model.specs.declared.numbering.Numbering.TheVariants.{Actions as NumbersActions};
 ghost use Rattle.slon_model.specs.Rows.{Put, Set, Remove};
@@ -9,21 +13,24 @@ ghost use Rattle.slon_model.specs.Tasks.{Write, ToWrite, write_by, key_of, row_o
 ghost use Rattle.slon_model.specs.Deciding as rules;
 ghost use Rattle.txn_core.specs.Locks.{holder_of, without};
 ghost use Rattle.app_store.specs.Base.{base_of, memory_of};
-ghost use Rattle.app_store.specs.Handed.{Hands, Tells, Told, Nothing, ReadsWidth, ReadsSeen, ReadsFree, UpdatesRow};
+ghost use Rattle.app_store.specs.Handed.{Hands, Tells, Told, Nothing, ReadsWidth, ReadsOpen, ReadsSeen};
+ghost use Rattle.app_store.specs.Handed.{ReadsFree, UpdatesRow};
 ghost use Rattle.app_store.specs.Spelled.{row_key as row_key_of};
 ghost use Rattle.app_store.specs.Written.{IsWritten};
 ghost use Rattle.app_store.specs.Serves.{Serves, answered, halts, NeedsNothing, NeedsNext};
 ghost use Rattle.app_store.specs.Answers.{acted, acted_or_not};
 ghost use Rattle.app_store.specs.Parts.{Part, FromPlace};
-ghost use Rattle.app_store.specs.Targets.{FoundWidth, ReadsTarget, FindsRow, AddsWrite, WritesRow, spot_of};
+ghost use Rattle.app_store.specs.Targets.{FoundWidth, FoundOpen, ReadsTarget, FindsRow, AddsWrite, WritesRow, spot_of};
 
 use crate::database::Database;
 use crate::falls::fall;
 use crate::look::{find_columns, read_row};
 use crate::opens::{write, written};
 use crate::spelling::{spell_key, spell_table, spell_values};
-use crate::work::update_values;
+use crate::work::{copy_columns, copy_values, update_values};
+use change_capture::{Action, Change};
 use node_keeper::Keeper;
+use node_state::find_closed;
 use slon_base::{Bytes, Halt, Text, TextList};
 use slon_model::{ColumnList, DbFault, Numbering};
 use txn_core::LockFault;
@@ -36,6 +43,15 @@ const MOST_COLUMNS: usize = 16;
 pub(crate) struct Target {
     pub(crate) key: Bytes,
     pub(crate) seen: Option<Bytes>,
+}
+
+/// A write that is added to a transaction: the spelled key of its row, the spelled values that the row gets, if any,
+/// and what it does.
+#[derive(Drop)]
+pub(crate) struct Addition {
+    pub(crate) key: Bytes,
+    pub(crate) value: Option<Bytes>,
+    pub(crate) change: Change,
 }
 
 /// Whether the columns are from 2 to the width of a table.
@@ -79,6 +95,25 @@ impl<K: Keeper> Database<K> {
                     Err(stop) => Err(fall(self.alloc, &mut self.state, &self.keeper, stop)),
                 }
             }
+        }
+    }
+
+    /// Refuses a table that no application may write, since the node receives its set, or is its origin and the set is
+    /// locked.
+    fn check_open(&mut self, table: &Text) -> Result<(), DbFault>
+        requires up { self.old.state.up ≡ true }
+        ensures part { Part NeedsNothing (base_of K.kept self.old) (base_of K.kept self.new) result }
+        ensures finds { FromPlace (FoundOpen table.now) (base_of K.kept self.old) result (base_of K.kept self.new) }
+        ensures form { Told (base_of K.kept self.old) (λ m. ReadsOpen table.now (base_of K.kept self.old) m result
+            (base_of K.kept self.new)) }
+        ensures up { OnOk result (self.new.state.up ≡ true) }
+    {
+        match find_closed(self.alloc, &mut self.keeper, &self.state.node, table) {
+            Ok(found) => match found {
+                None => Ok(()),
+                Some(fault) => Err(fault),
+            },
+            Err(stop) => Err(fall(self.alloc, &mut self.state, &self.keeper, stop)),
         }
     }
 
@@ -153,15 +188,16 @@ impl<K: Keeper> Database<K> {
         xid: u64,
         table: &Text,
         key: &Text,
-        row_key: &Bytes,
-        value: Option<Bytes>,
+        addition: Addition,
     ) -> Result<u64, DbFault>
         requires up { self.old.state.up ≡ true }
         requires text { IsText table.now }
         requires key { IsText key.now }
-        requires written { IsWritten value }
+        requires named { is_table_name table.now ≡ true }
+        requires written { IsWritten addition.value }
+        requires formed { is_change addition.change ≡ true }
         ensures part { Part (NeedsNext NumbersActions) (base_of K.kept self.old) (base_of K.kept self.new) result }
-        ensures adds { AddsWrite (spot_of name.now xid table.now key.now) row_key.now value (base_of K.kept self.old)
+        ensures adds { AddsWrite (spot_of name.now xid table.now key.now) addition (base_of K.kept self.old)
             result (base_of K.kept self.new) }
         ensures form { Told (base_of K.kept self.old) (λ m. Tells Nothing (halts result)) }
     {
@@ -169,6 +205,16 @@ impl<K: Keeper> Database<K> {
             Ok(()) => match self.state.locks.take(xid, table.as_slice(), key.as_slice()) {
                 Ok(()) => {
                     let number = self.state.numbers.draw();
+                    let Addition {
+                        key: row_key,
+                        value,
+                        change,
+                    } = addition;
+                    let action = Action {
+                        number,
+                        table: table.copy(self.alloc)?,
+                        change,
+                    };
                     let opens = &mut self.state.opens;
                     write(
                         self.alloc,
@@ -176,6 +222,7 @@ impl<K: Keeper> Database<K> {
                         name.as_slice(),
                         row_key.as_slice(),
                         value,
+                        action,
                     )?;
                     Ok(number)
                 }
@@ -199,6 +246,8 @@ impl<K: Keeper> Database<K> {
         requires text { IsText table.now }
         requires texts { AllTexts values.now }
         requires some { 0 < length values.now }
+        requires named { is_table_name table.now ≡ true }
+        requires formed { list_all is_value values.now ≡ true }
         ensures serves { Serves (ToWrite (write_by name.now table.now (Put (key_of values.now) (row_of values.now))))
             (base_of K.kept self.old) (answered acted result) (base_of K.kept self.new) }
         ensures hands { Hands (ToWrite (write_by name.now table.now (Put (key_of values.now) (row_of values.now))))
@@ -213,7 +262,10 @@ impl<K: Keeper> Database<K> {
                     return Err(DbFault::BadWidth { columns: width });
                 }
                 let (first, row) = values.as_slice().split_at(1);
-                self.insert_row(name, xid, table, &first[0], row)
+                match self.check_open(table) {
+                    Ok(()) => self.insert_row(name, xid, table, &first[0], row),
+                    Err(fault) => Err(fault),
+                }
             }
             Err(fault) => Err(fault),
         }
@@ -232,7 +284,9 @@ impl<K: Keeper> Database<K> {
         requires text { IsText table.now }
         requires key { IsText key.now }
         requires texts { AllTexts row.now }
-        requires few { length row.now < 2 ^ 16 }
+        requires few { length row.now ≤ 16 }
+        requires named { is_table_name table.now ≡ true }
+        requires formed { is_change (captured.Put key.now row.now) ≡ true }
         ensures part { Part (NeedsNext NumbersActions) (base_of K.kept self.old) (base_of K.kept self.new) result }
         ensures writes { WritesRow (write_by name.now table.now (Put key.now row.now)) xid (base_of K.kept self.old)
             (answered acted result) (base_of K.kept self.new) }
@@ -244,8 +298,17 @@ impl<K: Keeper> Database<K> {
                 match seen {
                     Some(_) => Err(DbFault::Duplicate),
                     None => {
-                        let value = spell_values(self.alloc, row)?;
-                        self.add_write(name, xid, table, key, &row_key, Some(value))
+                        let value = Some(spell_values(self.alloc, row)?);
+                        let change = Change::Put {
+                            key: key.copy(self.alloc)?,
+                            values: copy_values(self.alloc, row)?,
+                        };
+                        let addition = Addition {
+                            key: row_key,
+                            value,
+                            change,
+                        };
+                        self.add_write(name, xid, table, key, addition)
                     }
                 }
             }
@@ -271,6 +334,8 @@ impl<K: Keeper> Database<K> {
         requires text { IsText table.now }
         requires key { IsText key.now }
         requires texts { AllTexts (map (λ c. c.1) columns.now) }
+        requires named { is_table_name table.now ≡ true }
+        requires formed { is_change (captured.Set key.now columns.now) ≡ true }
         ensures serves { Serves (ToWrite (write_by name.now table.now (Set key.now columns.now)))
             (base_of K.kept self.old)
             (answered acted_or_not result) (base_of K.kept self.new) }
@@ -285,7 +350,10 @@ impl<K: Keeper> Database<K> {
                 if !are_columns(columns.as_slice(), width) {
                     return Err(DbFault::BadWidth { columns: width });
                 }
-                self.update_row(name, xid, table, key, columns.as_slice())
+                match self.check_open(table) {
+                    Ok(()) => self.update_row(name, xid, table, key, columns.as_slice()),
+                    Err(fault) => Err(fault),
+                }
             }
             Err(fault) => Err(fault),
         }
@@ -304,6 +372,8 @@ impl<K: Keeper> Database<K> {
         requires text { IsText table.now }
         requires key { IsText key.now }
         requires texts { AllTexts (map (λ c. c.1) columns.now) }
+        requires named { is_table_name table.now ≡ true }
+        requires formed { is_change (captured.Set key.now columns.now) ≡ true }
         ensures part { Part (NeedsNext NumbersActions) (base_of K.kept self.old) (base_of K.kept self.new) result }
         ensures writes { WritesRow (write_by name.now table.now (Set key.now columns.now)) xid (base_of K.kept self.old)
             (answered acted_or_not result) (base_of K.kept self.new) }
@@ -318,7 +388,16 @@ impl<K: Keeper> Database<K> {
                     None => Ok(None),
                     Some(values) => match update_values(self.alloc, &values, columns) {
                         Ok(value) => {
-                            some(self.add_write(name, xid, table, key, &row_key, Some(value)))
+                            let change = Change::Set {
+                                key: key.copy(self.alloc)?,
+                                columns: copy_columns(self.alloc, columns)?,
+                            };
+                            let addition = Addition {
+                                key: row_key,
+                                value: Some(value),
+                                change,
+                            };
+                            some(self.add_write(name, xid, table, key, addition))
                         }
                         Err(stop) => Err(fall(self.alloc, &mut self.state, &self.keeper, stop)),
                     },
@@ -337,6 +416,8 @@ impl<K: Keeper> Database<K> {
     pub fn delete(&mut self, name: &Text, table: &Text, key: &Text) -> Result<Option<u64>, DbFault>
         requires text { IsText table.now }
         requires key { IsText key.now }
+        requires named { is_table_name table.now ≡ true }
+        requires formed { is_change (captured.Remove key.now) ≡ true }
         ensures serves { Serves (ToWrite (write_by name.now table.now (Remove key.now))) (base_of K.kept self.old)
             (answered acted_or_not result) (base_of K.kept self.new) }
         ensures hands { Hands (ToWrite (write_by name.now table.now (Remove key.now)))
@@ -346,7 +427,10 @@ impl<K: Keeper> Database<K> {
             return Err(DbFault::Down);
         }
         match self.find_width(name, table) {
-            Ok((xid, _)) => self.delete_row(name, xid, table, key),
+            Ok((xid, _)) => match self.check_open(table) {
+                Ok(()) => self.delete_row(name, xid, table, key),
+                Err(fault) => Err(fault),
+            },
             Err(fault) => Err(fault),
         }
     }
@@ -362,6 +446,8 @@ impl<K: Keeper> Database<K> {
         requires up { self.old.state.up ≡ true }
         requires text { IsText table.now }
         requires key { IsText key.now }
+        requires named { is_table_name table.now ≡ true }
+        requires formed { is_change (captured.Remove key.now) ≡ true }
         ensures part { Part (NeedsNext NumbersActions) (base_of K.kept self.old) (base_of K.kept self.new) result }
         ensures writes { WritesRow (write_by name.now table.now (Remove key.now)) xid (base_of K.kept self.old)
             (answered acted_or_not result) (base_of K.kept self.new) }
@@ -372,7 +458,17 @@ impl<K: Keeper> Database<K> {
                 let Target { key: row_key, seen } = target;
                 match seen {
                     None => Ok(None),
-                    Some(_) => some(self.add_write(name, xid, table, key, &row_key, None)),
+                    Some(_) => {
+                        let change = Change::Remove {
+                            key: key.copy(self.alloc)?,
+                        };
+                        let addition = Addition {
+                            key: row_key,
+                            value: None,
+                            change,
+                        };
+                        some(self.add_write(name, xid, table, key, addition))
+                    }
                 }
             }
             Err(fault) => Err(fault),

@@ -144,15 +144,15 @@ fn is_failure_told(rt: &impl Abort, alloc: Global, store: u64, keep: bool) -> Re
     is_told(rt, alloc, "", failing_at(store, keep), store, keep)
 }
 
-/// Whether this call of 311 is no rollback. Rollbacks begin the making of the database and each `up`.
+/// Whether this call of 313 is no rollback. Rollbacks begin the making of the database and each `up`.
 fn is_told_of(store: u64) -> bool {
-    store < 312 && store != 1 && store != 264 && store != 305
+    store < 314 && store != 1 && store != 264 && store != 306
 }
 
-/// A store that fails at each of its 311 calls, and at none. Nothing is told where a rollback fails.
+/// A store that fails at each of its 313 calls, and at none. Nothing is told where a rollback fails.
 #[test]
 fn stores_fail_at_every_call(rt: HostRuntime) -> Result<(), Fail> {
-    for store in 1..313 {
+    for store in 1..315 {
         let told = is_told_of(store);
         assert!(rt;
             is_failure_told(&rt, rt.alloc(), store, false)? == told,

@@ -1,39 +1,26 @@
 use Rattle.std.proofs.lemmas.Result.{err_from_is_err_and}
-use Rattle.std.specs.FinMap.{entries}
-use Rattle.app_store.specs.Spelled.{put_all, write_all}
+use Rattle.app_store.specs.Spelled.{put_all}
 use Rattle.app_store.specs.Steps.{Transacts}
 use Rattle.app_store.proofs.Pending.{begun, changed, ended, not_begun, not_changed, exit_as}
 use Rattle.app_store.proofs.transact.transact.Goals as goal
 
 pub returns-in_err-begin : goal.returns-in_err-begin
 returns-in_err-begin g c =
-    exit_as (Transacts (λ m. put_all c.args.puts.now (write_all (entries c.args.rows.now) m))
-    (g.K.Keeper.kept c.args.keeper.now) (g.K.Keeper.kept c.begin.new.keeper))
+    exit_as (Transacts (put_all c.args.puts.now) (g.K.Keeper.kept c.args.keeper.now)
+    (g.K.Keeper.kept c.begin.new.keeper))
     c.from_residual.result (err_from_is_err_and c.from_residual.result c.from_residual.ensures.1)
     (not_begun c.in_err-begin.ensures)
 
-pub returns-in_err-write_rows : goal.returns-in_err-write_rows
-returns-in_err-write_rows g c =
-    let w = c.in_err-write_rows.ensures in
-    exit_as (Transacts (λ m. put_all c.args.puts.now (write_all (entries c.args.rows.now) m))
-    (g.K.Keeper.kept c.args.keeper.now) (g.K.Keeper.kept c.write_rows.new.keeper))
-    c.from_residual-in_err-write_rows.result
-    (err_from_is_err_and c.from_residual-in_err-write_rows.result c.from_residual-in_err-write_rows.ensures.1)
-    (not_changed (begun c.in_ok-begin.ensures) w.safe w.only)
-
 pub returns-in_err-put_pairs : goal.returns-in_err-put_pairs
 returns-in_err-put_pairs g c =
-    let w = c.in_ok-write_rows.ensures in
     let p = c.in_err-put_pairs.ensures in
-    exit_as (Transacts (λ m. put_all c.args.puts.now (write_all (entries c.args.rows.now) m))
-    (g.K.Keeper.kept c.args.keeper.now) (g.K.Keeper.kept c.put_pairs.new.keeper))
+    exit_as (Transacts (put_all c.args.puts.now) (g.K.Keeper.kept c.args.keeper.now)
+    (g.K.Keeper.kept c.put_pairs.new.keeper))
     c.from_residual-in_err-put_pairs.result
     (err_from_is_err_and c.from_residual-in_err-put_pairs.result c.from_residual-in_err-put_pairs.ensures.1)
-    (not_changed (changed _ (begun c.in_ok-begin.ensures) w.safe w.put) p.safe p.only)
+    (not_changed (begun c.in_ok-begin.ensures) p.safe p.only)
 
 pub returns : goal.returns
 returns g c =
-    let w = c.in_ok-write_rows.ensures in
     let p = c.in_ok-put_pairs.ensures in
-    ended c.finish.result
-    (changed _ (changed _ (begun c.in_ok-begin.ensures) w.safe w.put) p.safe p.put) c.finish.ensures
+    ended c.finish.result (changed _ (begun c.in_ok-begin.ensures) p.safe p.put) c.finish.ensures

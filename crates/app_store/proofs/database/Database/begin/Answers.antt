@@ -1,5 +1,6 @@
-use Rattle.std.proofs.Common.{◌∙◌}
+use Rattle.std.proofs.Common.{◌∙◌, []}
 use Rattle.std.proofs.Common.{Ok, Err, is_some, refl, sym, ap}
+use Rattle.std.proofs.lemmas.Bool.{false≢true}
 use Rattle.std.specs.FinMap.{get, insert, empty}
 use Rattle.app_store.specs.Base.{base_of, memory_of}
 use Rattle.slon_model.specs.Tasks.{ToOpen}
@@ -37,7 +38,7 @@ returns-in_ok-open-in-Ok-clause-serves g c =
               (c.in_ok-open-in-Ok.ensures.opened
               ∙ ap
               (λ k. insert c.raise.new.self.state.opens k
-              (record { xid = c.draw-xid.result; actions = 0; writes = empty }))
+              (record { xid = c.draw-xid.result; actions = []; writes = empty }))
               c.as_slice-in-Ok.ensures.value) i;
         };
       };
@@ -51,3 +52,15 @@ returns-in-Err-clause-serves g c =
     begin_stopped c.args.name.now _ c.in-Err.fault (up_at ready c.if-not-self.false)
     (none_at _ (ap (λ k. is_some (get c.args.self.now.state.opens k)) (sym c.as_slice.ensures.value)
     ∙ sym c.contains_key.ensures ∙ c.if-contains_key.false)) (c.in-Err.ensures.raises p ready memory))
+
+pub invariant_of-self-in-Ok : goal.invariant_of-self-in-Ok
+invariant_of-self-in-Ok g c = (
+  (
+    c.raise.new.self.state.small,
+    (
+      λ down. absurd (false≢true (sym down ∙ c.in-Ok.ensures.up)),
+      (c.open.ensures.kept c.raise.new.self.state.written, tt),
+    ),
+  ),
+  (c.raise.new.self.idle, tt),
+)

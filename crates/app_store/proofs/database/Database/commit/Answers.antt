@@ -1,4 +1,4 @@
-use Rattle.std.proofs.Common.{◌∙◌, ◌+◌, refl, sym, ap, subst, arith}
+use Rattle.std.proofs.Common.{◌∙◌, ◌+◌, refl, sym, ap, subst, arith, length}
 use Rattle.std.proofs.lemmas.Bool.{false≢true}
 use Rattle.std.specs.FinMap.{get, remove}
 use Rattle.app_store.specs.Base.{base_of, memory_of}
@@ -26,13 +26,13 @@ pub returns-then-actions-eq0-clause-serves : goal.returns-then-actions-eq0-claus
 returns-then-actions-eq0-clause-serves g c =
     serves_well (ToCommit c.args.name.now) (base_of g.K.Keeper.kept c.args.self.now) _ _
     (c.if-not-self.false, refl) refl (ran_not _) (λ p ready memory.
-    commits_none c.args.name.now _ (up_at ready c.if-not-self.false)
+    commits_none c.args.name.now _ _ (up_at ready c.if-not-self.false)
     (record {
       transaction = c.in-Some.transaction;
       locks = c.release_all.new.self;
       there = ap (get c.args.self.now.state.opens) (sym c.as_slice.ensures.value) ∙ sym c.in-Some.ensures.value;
       frees = c.release_all.ensures;
-    }) c.if-actions-eq0.true
+    }) (c.len-actions.ensures, c.if-actions-eq0.true)
     (ap
     (λ o.
     record (base_of g.K.Keeper.kept c.args.self.now) {
@@ -54,10 +54,12 @@ returns-then-self-ge-STORED_LIMIT-clause-serves g c =
     }) (λ p ready memory.
     commit_at_limit c.args.name.now _ c.in-Some.transaction (up_at ready c.if-not-self.false)
     (ap (get c.args.self.now.state.opens) (sym c.as_slice.ensures.value)
-    ∙ sym c.in-Some.ensures.value) (some_actions c.in-Some.transaction.actions c.if-actions-eq0.false)
+    ∙ sym c.in-Some.ensures.value)
+    (some_actions (length c.in-Some.transaction.actions)
+    (λ none. c.if-actions-eq0.false (c.len-actions.ensures ∙ none)))
     (omega (arith, most))
     (record {
-      down = down_from (memory_of c.args.self.now.state) refl refl refl refl c.overflow.ensures.down;
+      down = down_from (memory_of c.args.self.now.state) refl c.overflow.ensures.down;
       looked = untouched _;
     }))
 
@@ -75,7 +77,11 @@ returns-in-Done-clause-serves g c =
       frees = c.release_all.ensures;
     })
     (record {
-      some = some_actions c.in-Some.transaction.actions c.if-actions-eq0.false;
+      count = c.len-actions.result;
+      count_is = c.len-actions.ensures;
+      some = some_actions (length c.in-Some.transaction.actions)
+          (λ none. c.if-actions-eq0.false (c.len-actions.ensures ∙ none));
+      can = c.in-Ok.ensures.can;
       less = omega (arith, c.if-self-ge-STORED_LIMIT.false);
     })
     (record { held = made; later = tries.counted.later })
@@ -96,7 +102,11 @@ returns-in-Ok-clause-serves g c =
     (ap (get c.args.self.now.state.opens) (sym c.as_slice.ensures.value)
     ∙ sym c.in-Some.ensures.value)
     (record {
-      some = some_actions c.in-Some.transaction.actions c.if-actions-eq0.false;
+      count = c.len-actions.result;
+      count_is = c.len-actions.ensures;
+      some = some_actions (length c.in-Some.transaction.actions)
+          (λ none. c.if-actions-eq0.false (c.len-actions.ensures ∙ none));
+      can = c.in-Ok.ensures.can;
       less = omega (arith, c.if-self-ge-STORED_LIMIT.false);
     })
     (record { up = c.take_down.ensures.up; doubt = refl; later = tries.counted.later; either = made }))

@@ -1,5 +1,6 @@
 use Rattle.slon_model.proofs.Spoken.{value_text, table_name_text}
 use Rattle.slon_laws.proofs.Spells.{column_texts}
+use Rattle.app_store.proofs.Writing.{values_formed, set_formed}
 use Rattle.app_store.proofs.database.Database.obey.Goals as goal
 
 pub table-requires-clause-text : goal.table-requires-clause-text
@@ -29,3 +30,22 @@ delete-requires-clause-key g c = value_text c.in-Delete.key (rw c.in-Delete.is a
 
 pub rows-requires : goal.rows-requires
 rows-requires g c = table_name_text c.in-Rows.table (rw c.in-Rows.is at c.requires).1
+
+pub insert-requires-clause-named : goal.insert-requires-clause-named
+insert-requires-clause-named g c = (rw c.in-Insert.is at c.requires).1.1
+
+pub insert-requires-clause-formed : goal.insert-requires-clause-formed
+insert-requires-clause-formed g c = values_formed c.in-Insert.values (rw c.in-Insert.is at c.requires).1.2
+
+pub update-requires-clause-named : goal.update-requires-clause-named
+update-requires-clause-named g c = (rw c.in-Update.is at c.requires).1.1
+
+pub update-requires-clause-formed : goal.update-requires-clause-formed
+update-requires-clause-formed g c = set_formed c.in-Update.key c.in-Update.columns
+    (rw c.in-Update.is at c.requires).1.2
+
+pub delete-requires-clause-named : goal.delete-requires-clause-named
+delete-requires-clause-named g c = (rw c.in-Delete.is at c.requires).1.1
+
+pub delete-requires-clause-formed : goal.delete-requires-clause-formed
+delete-requires-clause-formed g c = (rw c.in-Delete.is at c.requires).1.2

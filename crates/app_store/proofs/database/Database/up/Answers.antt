@@ -2,6 +2,7 @@ use Rattle.std.proofs.Common.{◌∙◌, sym, ap, subst, arith}
 use Rattle.store_rows.specs.Spending.{Stays}
 use Rattle.node_keeper.specs.Fused.{fuse_kept}
 use Rattle.app_store.specs.Base.{base_of}
+use Rattle.app_store.proofs.MetaNumbers.{are_of}
 use Rattle.app_store.proofs.Upright.{down_at}
 use Rattle.app_store.proofs.Rising.{cleared, cleared_stays, cleared_told, fuse_stays, rises_ok, rises_err}
 use Rattle.app_store.proofs.Serving.{serves_risen, serves_unrisen, ran_sure, worked_rollback, worked_on, worked_told}
@@ -32,13 +33,14 @@ returns-in-Ok-clause-serves g c =
           (cleared_told was c.disarm.ensures.kept c.rollback.ensures.rolls_back told from);
     }) (λ p ready memory.
     let first = cleared was c.disarm.ensures.kept c.rollback.ensures.rolls_back in
-    rises_ok _ c.settled-answer.result (down_at ready c.if-self.false)
-    (c.in-Ok.ensures.recovers ready.fits.held.0 p.stamp p.xids.ceiling p.numbers.ceiling
-    (first.0 ∙ ready.fits.held.1) ready.spelled.small.stamp ready.spelled.small.xids ready.spelled.small.numbers
-    ready.fits.held.2.meta_numbers) (record {
+    let restored = c.in-Ok.ensures.restores ready.fits.held.0 p.node p.stamp p.xids.ceiling p.numbers.ceiling
+    (first.0 ∙ ready.fits.held.1) (are_of p ready.fits.held.0 ready.spelled ready.fits.held.2) in
+    rises_ok _ c.settled-answer.result (down_at ready c.if-self.false) restored.0 (record {
       later = omega (arith, first.1, c.in-Ok.ensures.counted.later);
       answer_is = c.settled-answer.ensures;
+      node = c.in-Ok.restored.node;
       starts = c.starting.ensures;
+      known = restored.1;
     }))
 
 pub returns-in-Err-clause-serves : goal.returns-in-Err-clause-serves
@@ -55,9 +57,8 @@ returns-in-Err-clause-serves g c =
           (cleared_told was c.disarm.ensures.kept c.rollback.ensures.rolls_back told from);
     }) (c.fall.ensures.fault, c.in-Err.ensures.counted.within, c.fall.ensures.down.up) (λ p ready memory.
     let first = cleared was c.disarm.ensures.kept c.rollback.ensures.rolls_back in
-    let recovers = c.in-Err.ensures.recovers ready.fits.held.0 p.stamp p.xids.ceiling p.numbers.ceiling
-    (first.0 ∙ ready.fits.held.1) ready.spelled.small.stamp ready.spelled.small.xids ready.spelled.small.numbers
-    ready.fits.held.2.meta_numbers in
+    let recovers = c.in-Err.ensures.restores ready.fits.held.0 p.node p.stamp p.xids.ceiling p.numbers.ceiling
+    (first.0 ∙ ready.fits.held.1) (are_of p ready.fits.held.0 ready.spelled ready.fits.held.2) in
     rises_err _ c.in-Err.stop c.fall.result (down_at ready c.if-self.false) recovers.0 (record {
       up = c.fall.ensures.down.up;
       doubt = c.fall.ensures.down.doubt;
@@ -66,3 +67,9 @@ returns-in-Err-clause-serves g c =
       no_memory = memory;
       only = recovers.1;
     }))
+
+pub returns-in-Ok-clause-hands : goal.returns-in-Ok-clause-hands
+returns-in-Ok-clause-hands g c m held space handed =
+    let first = cleared (fuse_kept g.K.Keeper.kept c.args.self.now.keeper) c.disarm.ensures.kept
+    c.rollback.ensures.rolls_back in
+    c.in-Ok.ensures.form m (first.0 ∙ held) space handed.1

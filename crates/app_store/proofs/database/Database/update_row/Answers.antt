@@ -11,6 +11,8 @@ use Rattle.slon_model.specs.Rows.{Set, updated, member}
 use Rattle.slon_model.specs.Tasks.{write_by}
 use Rattle.slon_model.specs.Deciding.{limited, decide_row}
 use Rattle.app_store.specs.Targets.{Follows}
+use Rattle.change_capture.specs.declared.action.Change.TheVariants as captured
+use Rattle.node_state.specs.Known.{is_change}
 use Rattle.app_store.proofs.Listing.{texts_by}
 use Rattle.app_store.proofs.Writing.{row_stopped, row_left, row_added, row_parts, sees_none, seen_some, acted_calm}
 use Rattle.app_store.proofs.Writing.{update_stopped}
@@ -25,8 +27,9 @@ returns-in-None-clause-writes g c p ready memory named =
     row_left w c.args.xid p (sees_none w parts (ap is_some c.in-None.is)) _ _ parts.fits
     (record { told = refl; stays = refl })
 
-pub returns-in-Ok-update_values-clause-writes : goal.returns-in-Ok-update_values-clause-writes
-returns-in-Ok-update_values-clause-writes g c p ready memory named =
+pub returns-in_ok-copy_columns-in-Ok-update_values-clause-writes :
+    goal.returns-in_ok-copy_columns-in-Ok-update_values-clause-writes
+returns-in_ok-copy_columns-in-Ok-update_values-clause-writes g c p ready memory named =
     let found = c.in-Ok.ensures.finds p ready refl named in
     let parts = row_parts c.args.xid c.args.table.now c.args.key.now p c.in-Ok.target _ found in
     let row =
@@ -51,13 +54,15 @@ returns-in-Ok-update_values-clause-writes g c p ready memory named =
       free = parts.free;
       key_is = refl;
       spelled_is = parts.target.key_is;
+      captured_is = λ i. captured.Set (c.in_ok-copy-in-Ok-update_values.ensures i)
+          (c.in_ok-copy_columns-in-Ok-update_values.ensures i);
       value_is =
           ap (λ v. Some v) value
           ∙ sym (ap (λ o. option_map list_bytes (option_map (updated c.args.columns.now) o)) row.1);
     })))
 
-pub returns-in-Ok-clause-writes : goal.returns-in-Ok-clause-writes
-returns-in-Ok-clause-writes g c p ready memory named =
+pub returns-in-Err-update_values-clause-writes : goal.returns-in-Err-update_values-clause-writes
+returns-in-Err-update_values-clause-writes g c p ready memory named =
     let found = c.in-Ok.ensures.finds p ready refl named in
     let parts = row_parts c.args.xid c.args.table.now c.args.key.now p c.in-Ok.target _ found in
     let row =
@@ -70,13 +75,14 @@ returns-in-Ok-clause-writes g c p ready memory named =
     (c.in-Err-update_values.ensures.says row.0 texts row.2) c.in-Err-update_values.ensures.never
     c.fall.ensures.fault memory)
 
-pub returns-clause-writes : goal.returns-clause-writes
-returns-clause-writes g c p ready memory named =
+pub returns-in-Err-clause-writes : goal.returns-in-Err-clause-writes
+returns-in-Err-clause-writes g c p ready memory named =
     row_stopped (write_by c.args.name.now c.args.table.now (Set c.args.key.now c.args.columns.now)) c.args.xid p
     c.in-Err.fault _ (c.in-Err.ensures.finds p ready memory named)
 
-pub returns-in-Ok-update_values-clause-form : goal.returns-in-Ok-update_values-clause-form
-returns-in-Ok-update_values-clause-form g c m held width wide reads =
+pub returns-in_ok-copy_columns-in-Ok-update_values-clause-form :
+    goal.returns-in_ok-copy_columns-in-Ok-update_values-clause-form
+returns-in_ok-copy_columns-in-Ok-update_values-clause-form g c m held width wide reads allowed =
     let found = c.in-Ok.ensures.form m held in
     let w = write_by c.args.name.now c.args.table.now (Set c.args.key.now c.args.columns.now) in
     tells_none (λ space. (space ≡ rows) × HandedRow w (memory_of c.args.self.now.state) m) _
@@ -85,8 +91,8 @@ returns-in-Ok-update_values-clause-form g c m held width wide reads =
     (subst (Tells Nothing) (sym c.some.ensures.halts)
     (c.add_write.ensures.form m (found.1.held ∙ held)))
 
-pub returns-in-Ok-clause-form : goal.returns-in-Ok-clause-form
-returns-in-Ok-clause-form g c m held width wide reads =
+pub returns-in-Err-update_values-clause-form : goal.returns-in-Err-update_values-clause-form
+returns-in-Err-update_values-clause-form g c m held width wide reads allowed =
     let found = c.in-Ok.ensures.form m held in
     let w = write_by c.args.name.now c.args.table.now (Set c.args.key.now c.args.columns.now) in
     tells_stop (Lacks rows (AreValues (Some c.in-Some.values)))
@@ -95,7 +101,19 @@ returns-in-Ok-clause-form g c m held width wide reads =
     (λ space lacks. (
       lacks.0,
       values_handed w (memory_of c.args.self.now.state) m c.in-Some.values
-          (record { xid = c.args.xid; width = width; wide = wide; reads = reads; free = c.in-Ok.ensures.free })
+          (record {
+            xid = c.args.xid;
+            width = width;
+            wide = wide;
+            reads = reads;
+            allowed = allowed;
+            free = c.in-Ok.ensures.free;
+          })
           (sym c.in-Some.is ∙ found.0) c.args.self.now.state.written lacks.1,
     ))
     c.in-Err-update_values.ensures.form
+
+pub add_write-requires-clause-formed : goal.add_write-requires-clause-formed
+add_write-requires-clause-formed g c =
+    (λ i. is_change (captured.Set (c.in_ok-copy-in-Ok-update_values.ensures i)
+    (c.in_ok-copy_columns-in-Ok-update_values.ensures i))) ∙ c.requires.formed
