@@ -1,4 +1,7 @@
+pub mod Acting
 pub mod Arranging
+pub mod Becoming
+pub mod Emitted
 pub mod Formed
 pub mod Halting
 pub mod Handing
@@ -6,6 +9,7 @@ pub mod Holding
 pub mod Lifting
 pub mod Listing
 pub mod MetaNumbers
+pub mod Midways
 pub mod Openings
 pub mod Pending
 pub mod Places

@@ -135,8 +135,8 @@ leaves_as new (Ok InDoubt) p e m was =
 leaves_as new (Err stop) p e m was = (e.0 ∙ p.held ∙ was, e.1)
 
 -- a transaction counts its doubts from where it began
-doubts_since : (old mid new : Kept) (result : Result Made Stop) → old.faults ≤ mid.faults → mid.doubts ≡ old.doubts →
-    Doubts mid new result → Doubts old new result
+pub doubts_since : (old mid new : Kept) (result : Result Made Stop) → old.faults ≤ mid.faults →
+    mid.doubts ≡ old.doubts → Doubts mid new result → Doubts old new result
 doubts_since old mid new (Ok Done) later same d = d ∙ same
 doubts_since old mid new (Ok InDoubt) later same d = (rose_later later d.0, subst (λ n. Rose n new.doubts) same d.1)
 doubts_since old mid new (Err stop) later same d = d ∙ same

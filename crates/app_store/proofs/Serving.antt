@@ -101,8 +101,9 @@ serves_well task old new result (up, same) none ran goes = record {
 }
 
 -- the memory of a database that went down is down
-stop_caused : (task : Task) (old new : Kept) (stop : Stop) → (is_stop_failed stop ≡ true → Rose old.faults new.faults) →
-    (prepares task ≡ false → new.doubts ≡ old.doubts) → Caused task old (halt_in (halt_of stop new.faults)) new
+pub stop_caused : (task : Task) (old new : Kept) (stop : Stop) →
+    (is_stop_failed stop ≡ true → Rose old.faults new.faults) → (prepares task ≡ false → new.doubts ≡ old.doubts) →
+    Caused task old (halt_in (halt_of stop new.faults)) new
 stop_caused task old new StopFailed rose doubts = (rose refl, refl, doubts)
 stop_caused task old new others rose doubts = tt
 
@@ -110,16 +111,16 @@ stop_failure : (stop : Stop) (count : ℕ) → is_failure (halt_in (halt_of stop
 stop_failure StopFailed count = refl
 stop_failure others count = refl
 
-fault_failure : (stop : Stop) (fault : DbFault) (count : ℕ) → fault ≡ halt_of stop count →
+pub fault_failure : (stop : Stop) (fault : DbFault) (count : ℕ) → fault ≡ halt_of stop count →
     is_failure (halt_in fault) ≡ is_stop_failed stop
 fault_failure stop fault count is = ap (λ f. is_failure (halt_in f)) is ∙ stop_failure stop count
 
-stop_small : (need : Need) (m : Memory) (stop : Stop) (count : ℕ) → IsWithinLimit stop →
+pub stop_small : (need : Need) (m : Memory) (stop : Stop) (count : ℕ) → IsWithinLimit stop →
     IsBig need (halt_in (halt_of stop count)) m
 stop_small need m (StopTooBig space) count within = absurd within
 stop_small need m others count within = tt
 
-stop_falls : (m : Memory) (stop : Stop) (count : ℕ) → m.up ≡ false → Falls (halt_in (halt_of stop count)) m
+pub stop_falls : (m : Memory) (stop : Stop) (count : ℕ) → m.up ≡ false → Falls (halt_in (halt_of stop count)) m
 stop_falls m StopNoMemory count down = tt
 stop_falls m others count down = down
 

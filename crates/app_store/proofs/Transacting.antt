@@ -67,10 +67,10 @@ within move p answer is = ap (λ b. cond b Overflows (Accepts answer move)) is
 
 -- ---- the limit
 
-small_stamp : (p : Place) (stamp : ℕ) → stamp ≡ p.stamp → stamp + 1 < stored_limit → is_last_stamp p ≡ false
+pub small_stamp : (p : Place) (stamp : ℕ) → stamp ≡ p.stamp → stamp + 1 < stored_limit → is_last_stamp p ≡ false
 small_stamp p stamp is less = lt-leb stored_limit (p.stamp + 1) (omega (arith, is, less))
 
-last_stamp : (p : Place) (stamp : ℕ) → stamp ≡ p.stamp → stored_limit ≤ stamp + 1 → is_last_stamp p ≡ true
+pub last_stamp : (p : Place) (stamp : ℕ) → stamp ≡ p.stamp → stored_limit ≤ stamp + 1 → is_last_stamp p ≡ true
 last_stamp p stamp is most = le-leb stored_limit (p.stamp + 1) (omega (arith, is, most))
 
 -- a number that would be too big takes the database down

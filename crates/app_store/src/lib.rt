@@ -3,10 +3,12 @@
 
 mod ceilings;
 mod database;
+mod emitting;
 mod falls;
 mod founding;
 mod layout;
 mod look;
+mod nodes;
 mod numbers;
 mod obey;
 mod opens;

@@ -47,7 +47,7 @@ impl<'a> Put<'a> {
 
 /// Begins.
 #[tactic(auto, using(store_rows::proofs::Causes::stays))]
-fn begin<K: Keeper>(keeper: &mut K) -> Result<(), Stop>
+pub(crate) fn begin<K: Keeper>(keeper: &mut K) -> Result<(), Stop>
     requires { is_some (K.kept keeper.old).pending ≡ false }
     ensures { Starts (K.kept keeper.old) (K.kept keeper.new) result }
 {
@@ -60,7 +60,7 @@ fn begin<K: Keeper>(keeper: &mut K) -> Result<(), Stop>
 
 /// Commits.
 #[tactic(auto, using(store_rows::proofs::Causes::stays))]
-fn finish<K: Keeper>(keeper: &mut K) -> Result<Made, Stop>
+pub(crate) fn finish<K: Keeper>(keeper: &mut K) -> Result<Made, Stop>
     requires { is_some (K.kept keeper.old).pending ≡ true }
     ensures { Finishes (K.kept keeper.old) (K.kept keeper.new) result }
 {

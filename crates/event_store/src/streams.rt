@@ -46,6 +46,7 @@ pub fn emit<K: Keeper>(
     requires own { IsId own }
     requires can { CanSnapshot (seen_as taken.now) × CanBody body.now }
     ensures safe { Safe (K.kept keeper.old) (K.kept keeper.new) result }
+    ensures small { IfOk result IsStored }
     ensures stops { IfErr result IsEmitStop }
     ensures turns { (base : Store) (s : Streams) → s.own ≡ own →
         IsPending (ShowsStreams base s) (K.kept keeper.old) →

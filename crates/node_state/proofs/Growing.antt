@@ -108,6 +108,8 @@ node_grows {n} {xid} {p} {m} {new} g held =
           (holds_more n.id g.rows (items_of (logged n)) m held.id g.can held.log);
       status = held.status;
       still = held.still;
+      behind = held.behind;
+      hears = held.hears;
       spare = λ space other spare. others_stay n.id g.rows m space (not_log space spare)
           ∙ held.spare space other spare;
     })

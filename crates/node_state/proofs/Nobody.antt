@@ -1,12 +1,18 @@
 -- What a database knows of the node that it is: nothing where it is none, and the same while the same is kept.
-use Rattle.std.proofs.Common.{◌≡◌, ℕ, Option, Some, None, refl, sym, ap, ◌∙◌}
-use Rattle.std.specs.FinMap.{get, empty, get-empty}
+use Rattle.std.proofs.Common.{◌≡◌, ℕ, Bool, true, false, cond, List, Option, Some, None, refl, sym, ap, subst, ◌∙◌}
+use Rattle.std.specs.Prelude.{Result, Ok, Err, OnOk, OnErr}
+use Rattle.std.specs.Cmp.Lexicographic.{nat_list_cmp_total}
+use Rattle.std.specs.FinMap.{get, empty, insert, get-empty, get-insert}
+use Rattle.std.specs.Str.{bytes_eq}
+use Rattle.std.proofs.lemmas.Map.Text.{is_eq-slice_cmp}
+use Rattle.store_rows.specs.Rows.{IsId}
 use Rattle.slon_base.specs.Keeper.{key_cmp}
 use Rattle.std.specs.Option.{option_map}
 use Rattle.slon_model.specs.Deeds.{Node}
 use Rattle.slon_model.specs.Place.{Place}
 use Rattle.slon_model.specs.Moves.{with_commit}
 use Rattle.node_state.specs.declared.memory.Identity.{Identity}
+use Rattle.node_state.specs.declared.memory.Member.{Member}
 use Rattle.node_state.specs.Known.{Members, AreMembers, IsKnown}
 
 pub no_members : (members : Members) → members ≡ empty → AreMembers members
@@ -36,3 +42,32 @@ known_committed (Some n) x p i members known = record {
   identity_is = known.identity_is;
   members_are = known.members_are;
 }
+
+-- one more table
+pub put_member : (members : Members) (name : List ℕ) (member : Member) (q : List ℕ) →
+    get (insert members name member) q ≡ cond (bytes_eq q name) (Some member) (get members q)
+put_member members name member q =
+    get-insert nat_list_cmp_total members name member q
+    ∙ ap (λ b. cond b (Some member) (get members q)) (is_eq-slice_cmp q name)
+
+pub more_members : (members : Members) (name : List ℕ) (member : Member) → IsId member.table × IsId member.set →
+    AreMembers members → AreMembers (insert members name member)
+more_members members name member ids before q other found =
+    of (bytes_eq q name) (sym (put_member members name member q) ∙ found)
+  where
+    of : (b : Bool) → cond b (Some member) (get members q) ≡ Some other → IsId other.table × IsId other.set
+    of true is = let same : member ≡ other = cc in subst (λ (m : Member). IsId m.table × IsId m.set) same ids
+    of false is = before q other is
+
+-- what putting a table gives
+pub record Puts {E : Type 0} (old new : Members) (name : List ℕ) (member : Member) (result : Result (Unit {0}) E) :
+    Type 0 where
+  pub ok : OnOk result (new ≡ insert old name member)
+  pub err : OnErr result (new ≡ old)
+
+-- one more, or none where memory ran out
+pub members_stay : {E : Type 0} {old new : Members} {name : List ℕ} {member : Member} (result : Result (Unit {0}) E) →
+    Puts old new name member result → IsId member.table × IsId member.set → AreMembers old → AreMembers new
+members_stay {old = old} {name = name} {member = member} (Ok u) puts ids before =
+    subst AreMembers (sym puts.ok) (more_members old name member ids before)
+members_stay (Err e) puts ids before = subst AreMembers (sym puts.err) before

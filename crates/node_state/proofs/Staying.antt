@@ -54,5 +54,7 @@ node_stays (Some n) m new same held = record {
   log = moved (same 15 refl) held.log;
   status = held.status;
   still = held.still;
+  behind = held.behind;
+  hears = held.hears;
   spare = λ space other spare. same space other ∙ held.spare space other spare;
 }

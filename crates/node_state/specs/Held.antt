@@ -1,6 +1,6 @@
 -- How a store holds the node that its database is.
-use Rattle.std.specs.Prelude.{◌≡◌, ℕ, ◌<◌, ◌==◌, ◌||◌, ◌&&◌, nat_le, Bool, false, List, [], ◌∷◌, ◌++◌, map, Option}
-use Rattle.std.specs.Prelude.{Some, None}
+use Rattle.std.specs.Prelude.{◌≡◌, ℕ, ◌<◌, ◌≤◌, ◌==◌, ◌||◌, ◌&&◌, nat_le, Bool, false, List, [], ◌∷◌, ◌++◌, map}
+use Rattle.std.specs.Prelude.{Option, Some, None}
 use Rattle.std.specs.Option.{option_map}
 use Rattle.std.specs.FinMap.{get, empty}
 use Rattle.slon_base.specs.Codec.{number_bytes, text_bytes, IsText, AllAre}
@@ -10,7 +10,7 @@ use Rattle.change_capture.specs.declared.action.Change.{Change}
 use Rattle.change_capture.specs.declared.action.Change.TheVariants as captured
 use Rattle.change_capture.specs.declared.action.Action.{Action}
 use Rattle.change_capture.specs.Capture.{log_row}
-use Rattle.slon_model.specs.Maps.{Map, Map2, ids}
+use Rattle.slon_model.specs.Maps.{Map, Map2, ids, number_at}
 use Rattle.slon_model.specs.Rows.{Change as RowsChange, Put, Set, Remove, Action as RowsAction}
 use Rattle.slon_model.specs.Snapshots.{Rising}
 use Rattle.slon_model.specs.Config.{Config}
@@ -19,6 +19,7 @@ use Rattle.slon_model.specs.Logs.{logged}
 use Rattle.set_config.specs.Holds.{HoldsConfig}
 use Rattle.event_store.specs.Streams.{streams_of}
 use Rattle.event_store.specs.Holds.{HoldsStreams}
+use Rattle.event_store.specs.Giving.{HearsOfOthers}
 use Rattle.log_switch.specs.Holds.{Logged as Item, HoldsLog}
 
 -- ---- the log
@@ -86,6 +87,10 @@ pub record NodeHeld (n : Node) (m : Store) : Type 0 where
   pub status : (knowledge n).log < 4
   -- no node receives a set yet
   pub still : (knowledge n).views ≡ []
+  -- it has deleted no event that it has not met
+  pub behind : (origin : ℕ) → number_at origin (knowledge n).low ≤ number_at origin (knowledge n).progress
+  -- no other node told it how far it is itself
+  pub hears : HearsOfOthers (streams_of n)
   pub spare : (space : ℕ) → is_own space ≡ false → is_of_node space ≡ false → m space ≡ empty
 
 -- a database that is no node has nothing in these spaces

@@ -1,7 +1,8 @@
 -- What a database keeps in memory of the node that it is.
-use Rattle.std.specs.Prelude.{◌≡◌, ℕ, ◌^◌, ◌&&◌, nat_lt, nat_le, if◌then◌else◌, Bool, List, length, filter_map}
+use Rattle.std.specs.Prelude.{◌≡◌, ℕ, ◌^◌, ◌&&◌, nat_lt, nat_le, if◌then◌else◌, Bool, true, List, length, filter_map}
 use Rattle.std.specs.Prelude.{Option, Some, None}
 use Rattle.std.specs.List.{list_all}
+use Rattle.std.specs.Str.{bytes_eq}
 use Rattle.std.specs.Option.{option_map}
 use Rattle.std.specs.FinMap.{FinMap, get}
 use Rattle.slon_base.specs.Codec.{IsText}
@@ -15,7 +16,10 @@ use Rattle.change_capture.specs.declared.log_row.LogRow.{LogRow}
 use Rattle.change_capture.specs.Capture.{log_row}
 use Rattle.slon_model.specs.Forms.{is_table_name, is_value}
 use Rattle.slon_model.specs.Spoken.{greatest_column}
-use Rattle.slon_model.specs.Config.{Config, is_origin, member_of}
+use Rattle.node_rows.specs.declared.body.Body.{Body}
+use Rattle.node_rows.specs.declared.body.Body.TheVariants.{SetAddTable}
+use Rattle.slon_model.specs.Events.{Event}
+use Rattle.slon_model.specs.Config.{Config, is_origin, member_of, change}
 use Rattle.slon_model.specs.Deeds.{Node, knowledge}
 use Rattle.node_state.specs.declared.memory.Identity.{Identity}
 use Rattle.node_state.specs.declared.memory.Member.{Member}
@@ -41,6 +45,20 @@ member_at (Some n) name =
 pub record IsKnown (node : Option Node) (identity : Option Identity) (members : Members) : Type 0 where
   pub identity_is : identity ≡ identity_of node
   pub members_are : (name : List ℕ) → get members name ≡ member_at node name
+
+-- what is kept of the table of a name, once the node emitted an event with this body: a table that it puts into a set
+-- is one of a set of which it is the origin
+abbrev pub learned_member : Body → List ℕ → Option Member → Option Member
+learned_member (SetAddTable set table name comment) other before =
+    if bytes_eq other name then Some (record { table = table; set = set; leads = true }) else before
+learned_member others other before = before
+
+-- an event changes the tables of sets in no other way
+abbrev pub Learns : Node → Event → Type 0
+Learns n e =
+    let c = (knowledge n).config in
+    (name : List ℕ) → option_map (λ t. member_as n.id (change e c) t) (member_of name (change e c))
+    ≡ learned_member e.body name (member_at (Some n) name)
 
 -- ---- forms
 

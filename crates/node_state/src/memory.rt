@@ -1,8 +1,9 @@
 // What a database keeps in memory of the node that it is.
 ghost use Rattle.node_state.specs.Known.{IsIdentified, AreMembers};
 
+use node_rows::Body;
 use slon_base::{ByteMap, Text};
-use std::alloc::Global;
+use std::alloc::{AllocError, Global};
 
 /// Which node a database is.
 #[derive(Drop)]
@@ -35,10 +36,12 @@ pub struct NodeMemory {
 }
 
 impl NodeMemory {
-    ghost use Rattle.std.specs.Prelude.{◌≡◌, ℕ, Some, None};
+    ghost use Rattle.std.specs.Prelude.{◌≡◌, ℕ, List, OnOk, Some, None};
+    ghost use Rattle.std.specs.FinMap.{get};
+    ghost use Rattle.node_rows.specs.Spellings.{CanBody};
     ghost use Rattle.std.specs.Option.{option_map};
     ghost use Rattle.store_rows.specs.Rows.{IsId};
-    ghost use Rattle.node_state.specs.Known.{IsKnown};
+    ghost use Rattle.node_state.specs.Known.{IsKnown, learned_member};
 
     /// The memory of a database that is no node.
     pub fn none(alloc: Global) -> NodeMemory
@@ -47,6 +50,32 @@ impl NodeMemory {
         NodeMemory {
             identity: None,
             members: ByteMap::new(alloc),
+        }
+    }
+
+    /// Keeps what an event with this body, which the node emitted, changes of the tables of its sets.
+    pub fn learn(&mut self, alloc: Global, body: &Body) -> Result<(), AllocError>
+        requires { CanBody body.now }
+        ensures members { OnOk result ((name : List ℕ) →
+            get self.new.members name ≡ learned_member body.now name (get self.old.members name)) }
+        ensures identity { self.new.identity ≡ self.old.identity }
+    {
+        match body {
+            Body::SetAddTable {
+                set,
+                table,
+                name,
+                ..
+            } => {
+                let member = Member {
+                    table: *table,
+                    set: *set,
+                    leads: true,
+                };
+                let name = Vec::from_slice(alloc, name.as_slice())?;
+                self.members.insert(name, member)
+            }
+            _ => Ok(()),
         }
     }
 

@@ -1,0 +1,10 @@
+pub mod Both
+pub mod Copies
+pub mod Emitting
+pub mod FirstNodes
+pub mod Lookups
+pub mod Naming
+pub mod NewNodes
+pub mod Orderly
+pub mod Pairs
+pub mod Spaces

@@ -1,0 +1,4 @@
+pub mod Announced
+pub mod Becoming
+pub mod Both
+pub mod Pairs

@@ -1,0 +1,14 @@
+//! How a database becomes a node, what it does as one, and what statements look up before they change it.
+#![tactic(auto)]
+
+mod announcing;
+mod copying;
+mod founding;
+mod joining;
+mod layout;
+mod lookup;
+
+pub use announcing::announce;
+pub use founding::found_node;
+pub use joining::join_node;
+pub use lookup::{find_node_row, find_set_row, has_path, has_table_row};

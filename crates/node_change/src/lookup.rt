@@ -1,0 +1,115 @@
+// What statements look up of a node before they change it: one row each.
+ghost use Rattle.std.specs.Prelude.{◌≡◌, Some, OnOk, IfOk, IfErr, is_some};
+ghost use Rattle.std.specs.FinMap.{get};
+ghost use Rattle.std.specs.Option.{option_map};
+ghost use Rattle.slon_base.specs.Codec.{number_bytes};
+ghost use Rattle.slon_base.specs.Keeper.{Store, sight};
+ghost use Rattle.store_rows.specs.Rows.{IsId};
+ghost use Rattle.store_rows.specs.Space.{AllOf};
+ghost use Rattle.store_rows.specs.Steps.{Safe, IsOutside, IsWithinLimit, IsOfSpace, Gives};
+ghost use Rattle.node_rows.specs.Spellings.{node_bytes, CanNode, set_bytes, CanSet};
+ghost use Rattle.slon_model.specs.Maps.{entry_at};
+ghost use Rattle.slon_model.specs.Config.{Config, has_path};
+ghost use Rattle.set_config.specs.Holds.{HoldsConfig, pair_key};
+ghost use Rattle.event_store.specs.Formed.{IsRow, Lacks, Reads};
+
+use crate::layout::{NODES, PATHS, SETS, TABLES};
+use node_rows::{NodeRow, SetRow};
+use slon_base::Keeper;
+use std::alloc::Global;
+use store_rows::{Stop, get_row, has_row};
+
+/// The row of a node, if the database has heard of the node.
+///
+/// # Errors
+///
+/// `BadRow` of space 4 exactly where the row is not in its form, what stopped the store, and `NoMemory`.
+pub fn find_node_row<K: Keeper>(
+    alloc: Global,
+    keeper: &mut K,
+    id: u32,
+) -> Result<Option<NodeRow>, Stop>
+    requires id { IsId id }
+    ensures safe { Safe (K.kept keeper.old) (K.kept keeper.new) result }
+    ensures same { OnOk result ((K.kept keeper.new).pending ≡ (K.kept keeper.old).pending) }
+    ensures within { IfErr result IsWithinLimit }
+    ensures space { IfErr result (IsOfSpace 4) }
+    ensures can { IfOk result (AllOf CanNode) }
+    ensures found { (m : Store) → sight (K.kept keeper.old) ≡ Some m →
+        IfOk result (λ found. get (m 4) (number_bytes id) ≡ option_map node_bytes found) }
+    ensures says { (m : Store) (c : Config) → sight (K.kept keeper.old) ≡ Some m → HoldsConfig c m →
+        Gives (λ found. found ≡ entry_at id c.nodes) result }
+    ensures form { (m : Store) → sight (K.kept keeper.old) ≡ Some m →
+        Reads (Lacks 4 (IsRow node_bytes CanNode (get (m 4) (number_bytes id)))) result }
+{
+    get_row(alloc, keeper, NODES, &id)
+}
+
+/// The row of a set, if the database has heard of the set.
+///
+/// # Errors
+///
+/// `BadRow` of space 6 exactly where the row is not in its form, what stopped the store, and `NoMemory`.
+pub fn find_set_row<K: Keeper>(
+    alloc: Global,
+    keeper: &mut K,
+    id: u32,
+) -> Result<Option<SetRow>, Stop>
+    requires id { IsId id }
+    ensures safe { Safe (K.kept keeper.old) (K.kept keeper.new) result }
+    ensures same { OnOk result ((K.kept keeper.new).pending ≡ (K.kept keeper.old).pending) }
+    ensures within { IfErr result IsWithinLimit }
+    ensures space { IfErr result (IsOfSpace 6) }
+    ensures can { IfOk result (AllOf CanSet) }
+    ensures found { (m : Store) → sight (K.kept keeper.old) ≡ Some m →
+        IfOk result (λ found. get (m 6) (number_bytes id) ≡ option_map set_bytes found) }
+    ensures says { (m : Store) (c : Config) → sight (K.kept keeper.old) ≡ Some m → HoldsConfig c m →
+        Gives (λ found. found ≡ entry_at id c.sets) result }
+    ensures form { (m : Store) → sight (K.kept keeper.old) ≡ Some m →
+        Reads (Lacks 6 (IsRow set_bytes CanSet (get (m 6) (number_bytes id)))) result }
+{
+    get_row(alloc, keeper, SETS, &id)
+}
+
+/// Whether the database knows a path: how the client connects to the server. The row is not read, only whether there is
+/// one.
+///
+/// # Errors
+///
+/// What stopped the store, and `NoMemory`.
+pub fn has_path<K: Keeper>(
+    alloc: Global,
+    keeper: &mut K,
+    client: u32,
+    server: u32,
+) -> Result<bool, Stop>
+    requires ids { IsId client × IsId server }
+    ensures safe { Safe (K.kept keeper.old) (K.kept keeper.new) result }
+    ensures same { OnOk result ((K.kept keeper.new).pending ≡ (K.kept keeper.old).pending) }
+    ensures only { IfErr result IsOutside }
+    ensures found { (m : Store) → sight (K.kept keeper.old) ≡ Some m →
+        IfOk result (λ found. found ≡ is_some (get (m 5) (pair_key (client, server)))) }
+    ensures says { (m : Store) (c : Config) → sight (K.kept keeper.old) ≡ Some m → HoldsConfig c m →
+        Gives (λ found. found ≡ has_path client server c) result }
+{
+    has_row(alloc, keeper, PATHS, &(client, server))
+}
+
+/// Whether the database has heard of a table of this id, in whatever set, live or not. The row is not read, only
+/// whether there is one.
+///
+/// # Errors
+///
+/// What stopped the store, and `NoMemory`.
+pub fn has_table_row<K: Keeper>(alloc: Global, keeper: &mut K, id: u32) -> Result<bool, Stop>
+    requires id { IsId id }
+    ensures safe { Safe (K.kept keeper.old) (K.kept keeper.new) result }
+    ensures same { OnOk result ((K.kept keeper.new).pending ≡ (K.kept keeper.old).pending) }
+    ensures only { IfErr result IsOutside }
+    ensures found { (m : Store) → sight (K.kept keeper.old) ≡ Some m →
+        IfOk result (λ found. found ≡ is_some (get (m 7) (number_bytes id))) }
+    ensures says { (m : Store) (c : Config) → sight (K.kept keeper.old) ≡ Some m → HoldsConfig c m →
+        Gives (λ found. found ≡ is_some (entry_at id c.tables)) result }
+{
+    has_row(alloc, keeper, TABLES, &id)
+}
