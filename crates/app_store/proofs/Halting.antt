@@ -10,15 +10,15 @@ use Rattle.app_store.specs.Base.{Base}
 use Rattle.app_store.specs.Parts.{halt_of}
 use Rattle.app_store.specs.Serves.{is_memory, prepares}
 use Rattle.app_store.proofs.Serving.{Ran, Halted}
-use Rattle.app_store.proofs.Standing.{Stopped}
+use Rattle.app_store.proofs.Standing.{IsDown, Stopped}
 
 -- the database is down, and why the stop is told
 pub stopped : (stop : Stop) (fault : DbFault) (old new : Base) →
-    (new.memory.up ≡ false) × (new.memory.doubt ≡ old.memory.doubt) →
-    (is_stop_failed stop ≡ true → Rose old.kept.faults new.kept.faults) → fault ≡ halt_of stop new.kept.faults →
+    IsDown old.memory new.memory → (is_stop_failed stop ≡ true → Rose old.kept.faults new.kept.faults) →
+    fault ≡ halt_of stop new.kept.faults →
     (is_memory (halt_in fault) ≡ false) × IsOutside stop → Stopped stop fault old new
 stopped stop fault old new down rose fault_is why =
-    record { up = down.0; doubt = down.1; rose = rose; fault_is = fault_is; no_memory = why.0; only = why.1 }
+    record { down = down; rose = rose; fault_is = fault_is; no_memory = why.0; only = why.1 }
 
 -- the work stopped within its limits
 pub halted : (task : Task) (old new : Base) (stop : Stop) (fault : DbFault) →

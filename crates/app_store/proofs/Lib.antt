@@ -1,7 +1,4 @@
-pub mod Acting
 pub mod Arranging
-pub mod Becoming
-pub mod Emitted
 pub mod Formed
 pub mod Halting
 pub mod Handing
@@ -9,7 +6,6 @@ pub mod Holding
 pub mod Lifting
 pub mod Listing
 pub mod MetaNumbers
-pub mod Midways
 pub mod Openings
 pub mod Pending
 pub mod Places
@@ -24,3 +20,4 @@ pub mod Transacting
 pub mod Upright
 pub mod Writing
 pub mod Written
+pub mod Wrote

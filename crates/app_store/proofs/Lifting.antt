@@ -10,7 +10,7 @@ use Rattle.slon_model.specs.declared.numbering.Numbering.TheVariants.{Xids, Acti
 use Rattle.slon_model.specs.declared.fault.DbFault.{DbFault}
 use Rattle.slon_model.specs.declared.fault.DbFault.TheVariants.{Halt}
 use Rattle.slon_model.specs.Names.{find_named}
-use Rattle.slon_model.specs.Place.{Place, Counter, IsRunning, counter, with_counter, lifted, stamped, raised}
+use Rattle.slon_model.specs.Place.{Place, Counter, IsRunning, counter, with_counter, lifted, stamped, raised, node_id}
 use Rattle.slon_model.specs.Moves.{is_last}
 use Rattle.store_rows.specs.declared.stop.Stop.{Stop}
 use Rattle.app_store.specs.declared.ceilings.Unlifted.{Unlifted}
@@ -23,7 +23,7 @@ use Rattle.app_store.specs.Spelled.{Holds, new_ceiling}
 use Rattle.store_rows.specs.Steps.{IsOutside}
 use Rattle.app_store.specs.Works.{Lifts, LeavesIt, LiftsIt, PassesIt, StopsIt, is_past}
 use Rattle.app_store.proofs.Holding.{ceiling_key, holds_lifted}
-use Rattle.app_store.proofs.Standing.{fits_running, looked, opens_same, crashed_fits, fell_by, Stopped}
+use Rattle.app_store.proofs.Standing.{fits_running, looked, opens_same, crashed_fits, fell_by, Stopped, IsDown}
 use Rattle.app_store.proofs.Upright.{UpAt, is_up, running}
 
 -- the memory with another counter and stamp
@@ -58,6 +58,7 @@ lifted_runs Xids p m d stamp runs is same = record {
       (Rattle.std.specs.FinMap.get m.opens name) refl refl (runs.opened name);
   locked = runs.locked;
   known = runs.known;
+  unpromised = runs.unpromised;
 }
 lifted_runs Actions p m d stamp runs is same = record {
   up = runs.up;
@@ -71,11 +72,16 @@ lifted_runs Actions p m d stamp runs is same = record {
       (Rattle.std.specs.FinMap.get m.opens name) refl refl (runs.opened name);
   locked = runs.locked;
   known = runs.known;
+  unpromised = runs.unpromised;
 }
 
 lifted_standing : (kind : Numbering) (p : Place) → p.standing ≡ IsRunning → (lifted_place kind p).standing ≡ IsRunning
 lifted_standing Xids p is = is
 lifted_standing Actions p is = is
+
+lifted_node : (kind : Numbering) (p : Place) → node_id (lifted_place kind p) ≡ node_id p
+lifted_node Xids p = refl
+lifted_node Actions p = refl
 
 lifted_told : (kind : Numbering) (p : Place) → (lifted_place kind p).told ≡ p.told
 lifted_told Xids p = refl
@@ -162,8 +168,7 @@ raised_ok {p} {b} kind kept d stamp at lifts later = by lifts
 pub record IsBurst (fault : DbFault) (old new : Base) : Type 0 where
   pub fault_is : fault ≡ Halt (HaltTooBig 1)
   pub later : old.kept.faults ≤ new.kept.faults
-  pub up : new.memory.up ≡ false
-  pub doubt : new.memory.doubt ≡ old.memory.doubt
+  pub down : IsDown old.memory new.memory
 
 pub raised_big : {p : Place} {b : Base} {d : Counter} {stamp : ℕ} (kind : Numbering) (new : Base) (fault : DbFault)
     (at : UpAt p b) → LiftsAt at kind (Err TooBig) new.kept d stamp → IsBurst fault b new →
@@ -181,8 +186,7 @@ raised_big {p} {b} {d} {stamp} kind new fault at lifts burst = by lifts
         (last_as kind p true true (test_same kind p b.memory true runs at_end)
         (past_same kind p b.memory true runs past))
         (crashed_fits p b new (is_up at) (record {
-          down = burst.up;
-          doubt = burst.doubt;
+          down = burst.down;
           held = held ∙ sym at.ready.fits.held.1;
           later = burst.later;
         }))
@@ -208,6 +212,7 @@ raised_stop {p} {b} {d} {stamp} kind new stop fault at lifts stopped = by lifts
           change = with_ceiling kind b at.ready.fits.held.0;
           running =
               subst (λ q. q.standing ≡ IsRunning) (sym (raised_as kind p true there)) (lifted_standing kind p runs.0);
+          node = ap node_id (raised_as kind p true there) ∙ lifted_node kind p;
           holds =
               subst (λ q. Holds q (with_ceiling kind b at.ready.fits.held.0)) (sym (raised_as kind p true there))
               (lifted_holds kind at);

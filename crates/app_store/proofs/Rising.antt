@@ -4,6 +4,7 @@ use Rattle.std.proofs.Common.{Result, Ok, Err, refl, sym, ap, subst, ◌∙◌, 
 use Rattle.std.specs.Prelude.{◌==◌}
 use Rattle.std.specs.FinMap.{get, get-empty}
 use Rattle.std.proofs.lemmas.Bool.{false≢true, false_from_ne_true, eqb-true, eq-eqb}
+use Rattle.std.specs.Option.{option_map}
 use Rattle.slon_base.specs.Charges.{IsFrom, KeepsTold}
 use Rattle.slon_base.specs.declared.fault.KeepFault.{KeepFault}
 use Rattle.slon_base.specs.Keeper.{Kept, Store, RollsBack, key_cmp, nothing}
@@ -46,7 +47,7 @@ use Rattle.app_store.proofs.Pending.{untold}
 use Rattle.store_rows.proofs.Causes.{stays}
 use Rattle.store_rows.proofs.Spaces.{empty_space}
 use Rattle.app_store.proofs.Standing.{fits_running, looked, carried, fell, wavers, decided_up, rose_from}
-use Rattle.app_store.proofs.Standing.{crashed_fits, Stopped}
+use Rattle.app_store.proofs.Standing.{is_down, crashed_fits, named_as, Stopped}
 use Rattle.app_store.proofs.Upright.{UpAt, DownAt, running, WentDown, is_up}
 
 -- the first rows, over what was there
@@ -81,6 +82,7 @@ fresh_runs m fresh = record {
       (sym (ap (λ o. get o name) fresh.closed.opens_are ∙ get-empty key_cmp name)) tt;
   locked = λ table key text. fresh.closed.locks_are table key;
   known = fresh.nobody;
+  unpromised = refl;
 }
 
 pub begins_done : (b : Base) → IsFresh true None b.memory → b.kept.held ≡ Some (with_first nothing) →
@@ -96,7 +98,14 @@ begins_doubt b fresh either =
     wavers ToFound bare_place Done Founds b refl refl (record {
       before = nothing;
       after = with_first nothing;
-      memory = record { stamp = refl; told = refl; up = fresh.up_is; doubt = fresh.doubt_is };
+      memory = record {
+        stamp = refl;
+        told = refl;
+        up = fresh.up_is;
+        doubt = fresh.doubt_is;
+        named = ap (option_map (λ i. i.id)) fresh.nobody.identity_is;
+        node = refl;
+      };
       told = omega arith;
       holds = holds_bare;
       holds_after = holds_same (founded bare_place) (done Founds bare_place) (with_first nothing) refl holds_founded;
@@ -104,12 +113,16 @@ begins_doubt b fresh either =
     })
 
 -- a store that failed, of a database that stays down
-pub begins_fault : (old new : Base) (stop : Stop) (fault : DbFault) → old.memory.doubt ≡ None →
+pub begins_fault : (old new : Base) (stop : Stop) (fault : DbFault) → IsFresh false None old.memory →
     new.kept.held ≡ Some nothing → Stopped stop fault old new → Comes ToFound bare_place (Err fault) new
-begins_fault old new StopFailed fault sure held s =
+begins_fault old new StopFailed fault fresh held s =
     fell ToFound bare_place (Accepts Done Founds) fault new refl refl
     (Fell new.kept.faults false s.fault_is (rose_from (omega arith) (s.rose refl)) (record {
-      stands = (s.up, s.doubt ∙ sure);
+      stands = (
+        s.down.up,
+        s.down.doubt ∙ fresh.doubt_is,
+        ap (option_map (λ i. i.id)) (s.down.identity ∙ fresh.nobody.identity_is),
+      );
       told = omega arith;
       held = (
         nothing,
@@ -117,9 +130,9 @@ begins_fault old new StopFailed fault sure held s =
         holds_same bare_place (fallen new.kept.faults bare_place) nothing refl holds_bare,
       );
     }))
-begins_fault old new StopNoMemory fault sure held s =
+begins_fault old new StopNoMemory fault fresh held s =
     absurd (false≢true (sym s.no_memory ∙ ap (λ f. is_memory (Rattle.slon_model.specs.World.halt_in f)) s.fault_is))
-begins_fault old new others fault sure held s = absurd s.only
+begins_fault old new others fault fresh held s = absurd s.only
 
 -- ---- a database that goes down
 
@@ -129,8 +142,7 @@ crashes_now {p} {old} new at went =
     carried (ToCrash Now) p (Accepts Done Falls) new
     (decided_up (ToCrash Now) p (Accepts Done Falls) (running at).0 refl)
     (crashed_fits p old new (is_up at) (record {
-      down = went.down.up;
-      doubt = went.down.doubt;
+      down = is_down went.down;
       held = went.looked.held;
       later = went.looked.later;
     }))
@@ -235,6 +247,7 @@ starts_fits p n node new starts are stands =
           (sym (ap (λ o. get o name) starts.closed.opens_are ∙ get-empty key_cmp name)) tt;
       locked = λ table key text. starts.closed.locks_are table key ∙ sym (no_holder table key p.actions);
       known = known_as starts.identity starts.members stands.known;
+      unpromised = refl;
     }
 
 -- what is held after the first rows are written where there was none
@@ -305,23 +318,31 @@ record IsLeftDown (old new : Memory) : Type 0 where
   was : old.up ≡ false
   down : new.up ≡ false
   doubt : new.doubt ≡ old.doubt
+  identity : new.identity ≡ old.identity
 
 -- it stays as it stood
 stays_as : (s : Standing) (p : Place) (count : ℕ) (old new : Memory) → StandsAs s p old → IsLeftDown old new →
     StandsAs (downed s) (fallen count p) new
 stays_as IsRunning p count old new stands left = absurd (false≢true (sym left.was ∙ stands.up))
-stays_as IsFallen p count old new stands left = (left.down, left.doubt ∙ stands.1)
-stays_as (IsDoubtful d) p count old new stands left = (left.down, left.doubt ∙ stands.1, stands.2)
+stays_as IsFallen p count old new stands left =
+    (left.down, left.doubt ∙ stands.1, named_as p (fallen count p) old new stands.2 left.identity refl)
+stays_as (IsDoubtful d) p count old new stands left =
+    (left.down, left.doubt ∙ stands.1, stands.2, named_as p (fallen count p) old new stands.3 left.identity refl)
 
 -- its first rows stand now
 stays_founded : (s : Standing) (p : Place) (count : ℕ) (old new : Memory) → p.stamp ≡ 0 → StandsAs s p old →
     IsLeftDown old new → StandsAs (downed (surely s)) (fallen count (founded p)) new
 stays_founded IsRunning p count old new none stands left = absurd (false≢true (sym left.was ∙ stands.up))
-stays_founded IsFallen p count old new none stands left = (left.down, left.doubt ∙ stands.1)
+stays_founded IsFallen p count old new none stands left =
+    (left.down, left.doubt ∙ stands.1, named_as p (fallen count (founded p)) old new stands.2 left.identity refl)
 stays_founded (IsDoubtful true) p count old new none stands left = let some = stands.2 refl in
     absurd (omega (arith, none, some))
-stays_founded (IsDoubtful false) p count old new none stands left =
-    (left.down, left.doubt ∙ stands.1 ∙ ap (λ n. Some (n + 1)) none, λ _. omega arith)
+stays_founded (IsDoubtful false) p count old new none stands left = (
+  left.down,
+  left.doubt ∙ stands.1 ∙ ap (λ n. Some (n + 1)) none,
+  λ _. omega arith,
+  named_as p (fallen count (founded p)) old new stands.3 left.identity refl,
+)
 
 pub rises_err : {p : Place} {old : Base} (new : Base) (stop : Stop) (fault : DbFault) (at : DownAt p old) →
     (new.kept.held ≡ Some at.ready.fits.held.0)
@@ -329,7 +350,12 @@ pub rises_err : {p : Place} {old : Base} (new : Base) (stop : Stop) (fault : DbF
     Stopped stop fault old new → Comes ToRise p (Err fault) new
 rises_err {p} {old} new StopFailed fault at either s =
     let fits = at.ready.fits in
-    let left : IsLeftDown old.memory new.memory = record { was = at.down; down = s.up; doubt = s.doubt } in
+    let left : IsLeftDown old.memory new.memory = record {
+      was = at.down;
+      down = s.down.up;
+      doubt = s.down.doubt;
+      identity = s.down.identity;
+    } in
     fell ToRise p (Accepts (settled p.standing) Rises) fault new (calls p.standing fits.stands)
     (rises_as p old.memory (settled p.standing) fits.stands at.down refl) (elim either [
       | inl before ↦ Fell new.kept.faults false s.fault_is (rose_from fits.told (s.rose refl)) (record {

@@ -11,7 +11,10 @@ use Rattle.slon_model.specs.declared.reply.Answered.{Answered}
 use Rattle.slon_model.specs.declared.reply.Answered.TheVariants.{InDoubt}
 use Rattle.slon_model.specs.Tasks.{Task, ToFound, ToRise}
 use Rattle.slon_model.specs.Place.{Place, Standing, IsRunning, IsFallen, IsDoubtful, is_running, fallen, downed}
-use Rattle.slon_model.specs.Place.{doubted}
+use Rattle.slon_model.specs.Place.{doubted, node_id}
+use Rattle.slon_model.specs.Deeds.{Node}
+use Rattle.node_state.specs.Known.{identity_of}
+use Rattle.std.specs.Option.{option_map, option_or}
 use Rattle.slon_model.specs.Moves.{Move, prepared, done, commits_at, crashed}
 use Rattle.slon_model.specs.Deciding.{Decision, Refuses, Accepts, AsDue, AtFault, Wavers, limited, decide, decide_by}
 use Rattle.slon_model.specs.Deciding.{decide_up, decide_down, calls_up, may_call, result_of, move_of, sure, unsure}
@@ -19,8 +22,8 @@ use Rattle.slon_model.specs.World.{halt_in}
 use Rattle.store_rows.specs.declared.stop.Stop.{Stop}
 use Rattle.store_rows.specs.declared.stop.Stop.TheVariants.{Failed as StopFailed, NoMemory as StopNoMemory}
 use Rattle.app_store.specs.declared.opens.Transaction.{Transaction}
-use Rattle.app_store.specs.Base.{Memory, Base}
-use Rattle.app_store.specs.Fits.{Fits, Ready, Runs, StandsAs, OpensAs}
+use Rattle.app_store.specs.Base.{Memory, Base, GoesDown}
+use Rattle.app_store.specs.Fits.{Fits, Ready, Runs, StandsAs, OpensAs, IsNamed}
 use Rattle.store_rows.specs.Steps.{IsOutside, is_stop_failed}
 use Rattle.app_store.specs.Serves.{Comes, is_memory, is_rising}
 use Rattle.app_store.specs.Parts.{FellTo, Fell, halt_of}
@@ -54,6 +57,20 @@ running_as p b fits is = by p.standing fits.stands is
     by : (s : Standing) → StandsAs s p b.memory → is_running s ≡ true → Runs p b.memory
     by IsRunning stands is = stands
     by others stands is = absurd (false≢true is)
+
+-- the memory of a database that is up has the id of its node
+pub named_up : (p : Place) (m : Memory) → Runs p m → IsNamed p m
+named_up p m runs = ap (option_map (λ i. i.id)) runs.known.identity_is ∙ by p.node p.promised runs.unpromised
+  where
+    by : (own : Option Node) (promised : Option ℕ) → promised ≡ None →
+        option_map (λ i. i.id) (identity_of own) ≡ option_or (option_map (λ n. n.id) own) promised
+    by None promised none = sym none
+    by (Some n) promised none = refl
+
+-- and keeps it where the node stays
+pub named_as : (p q : Place) (old new : Memory) → IsNamed p old → new.identity ≡ old.identity → node_id q ≡ node_id p →
+    IsNamed q new
+named_as p q old new named same own = ap (option_map (λ i. i.id)) same ∙ named ∙ sym own
 
 pub fits_running : (q : Place) (b : Base) (m : Store) → q.standing ≡ IsRunning → Runs q b.memory →
     q.told ≤ b.kept.faults → b.kept.held ≡ Some m → Holds q m → Fits q b
@@ -106,6 +123,8 @@ pub record IsInDoubt (move : Move) (p : Place) (m : Memory) : Type 0 where
   pub told : (done move p).told ≡ p.told
   pub up : m.up ≡ false
   pub doubt : m.doubt ≡ Some (p.stamp + 1)
+  pub named : IsNamed p m
+  pub node : node_id (done move p) ≡ node_id p
 
 -- the store holds what it held before a commit in doubt, or what the move makes of it
 pub record IsWavering (move : Move) (p : Place) (new : Base) : Type 0 where
@@ -130,7 +149,7 @@ wavers task p answer move new decided commits w =
           told = ap (λ d. unsure (result_of d)) (sym decided);
         },
         record {
-          stands = (doubt.up, doubt.doubt, λ is. absurd (false≢true is));
+          stands = (doubt.up, doubt.doubt, λ is. absurd (false≢true is), doubt.named);
           told = w.told;
           held = (w.before, before, holds_same p (doubted false p) w.before refl w.holds);
         },
@@ -142,7 +161,12 @@ wavers task p answer move new decided commits w =
           told = ap (λ d. unsure (result_of d)) (sym decided);
         },
         subst (λ d. Fits (doubted true (done (move_of d) p)) new) (sym decided) (record {
-          stands = (doubt.up, doubt.doubt ∙ ap (λ n. Some n) (sym doubt.stamp), λ _. omega (arith, doubt.stamp));
+          stands = (
+            doubt.up,
+            doubt.doubt ∙ ap (λ n. Some n) (sym doubt.stamp),
+            λ _. omega (arith, doubt.stamp),
+            doubt.named ∙ sym doubt.node,
+          );
           told = omega (arith, w.told, doubt.told);
           held = (
             w.after,
@@ -171,20 +195,28 @@ down_comes task p b other fits down = carried task p (Refuses Down) b (by p.stan
 
 -- ---- a stop
 
+-- a database that goes down keeps the commit in doubt and the id of its node
+pub record IsDown (old new : Memory) : Type 0 where
+  pub up : new.up ≡ false
+  pub doubt : new.doubt ≡ old.doubt
+  pub identity : new.identity ≡ old.identity
+
+pub is_down : {old new : Memory} → GoesDown old new → IsDown old new
+is_down down = record { up = down.up; doubt = down.doubt; identity = down.identity }
+
 -- what a stop leaves, and why it is told
 pub record Stopped (stop : Stop) (fault : DbFault) (old new : Base) : Type 0 where
-  pub up : new.memory.up ≡ false
-  pub doubt : new.memory.doubt ≡ old.memory.doubt
+  pub down : IsDown old.memory new.memory
   pub rose : is_stop_failed stop ≡ true → Rose old.kept.faults new.kept.faults
   pub fault_is : fault ≡ halt_of stop new.kept.faults
   pub no_memory : is_memory (halt_in fault) ≡ false
   pub only : IsOutside stop
 
 -- the place of a database that was up, after a fault
-fallen_fits : (p : Place) (b : Base) (m : Store) → p.standing ≡ IsRunning → b.memory.up ≡ false →
-    b.memory.doubt ≡ None → b.kept.held ≡ Some m → Holds p m → Fits (fallen b.kept.faults p) b
-fallen_fits p b m is down sure held holds = record {
-  stands = subst (λ s. StandsAs (downed s) (fallen b.kept.faults p) b.memory) (sym is) (down, sure);
+fallen_fits : (p : Place) (b : Base) (m : Store) → p.standing ≡ IsRunning → StandsAs IsFallen p b.memory →
+    b.kept.held ≡ Some m → Holds p m → Fits (fallen b.kept.faults p) b
+fallen_fits p b m is down held holds = record {
+  stands = subst (λ s. StandsAs (downed s) (fallen b.kept.faults p) b.memory) (sym is) down;
   told = omega arith;
   held = (m, held, holds_same p (fallen b.kept.faults p) m refl holds);
 }
@@ -194,26 +226,29 @@ rose_from le (inl lt) = inl (omega arith)
 rose_from le (inr last) = inr last
 
 -- the store holds this, or what it is to hold of a place that runs too
-pub record MayHold (m : Store) (also : Place) (new : Base) : Type 0 where
+pub record MayHold (m : Store) (own : Option ℕ) (also : Place) (new : Base) : Type 0 where
   pub change : Store
   pub running : also.standing ≡ IsRunning
+  pub node : node_id also ≡ own
   pub holds : Holds also change
   pub either : (new.kept.held ≡ Some m) ⊎ (new.kept.held ≡ Some change)
 
 -- the store failed, and holds what it held, or what came before the effect too
 pub fell_by : {p : Place} {old : Base} (also : Place) (new : Base) (stop : Stop) (fault : DbFault) (u : IsUp p old) →
-    MayHold u.fits.held.0 also new → Stopped stop fault old new → FellTo p also fault new
+    MayHold u.fits.held.0 (node_id p) also new → Stopped stop fault old new → FellTo p also fault new
 fell_by {p} {old} also new StopFailed fault u h s =
     let fits = u.fits in
     let runs = up_running p old fits u.up in
-    let sure : new.memory.doubt ≡ None = s.doubt ∙ runs.1.settled in
+    let sure : new.memory.doubt ≡ None = s.down.doubt ∙ runs.1.settled in
+    let named : IsNamed p new.memory =
+    named_as p p old.memory new.memory (named_up p old.memory runs.1) s.down.identity refl in
     elim h.either [
       | inl before ↦
           Fell new.kept.faults false s.fault_is (rose_from fits.told (s.rose refl))
-          (fallen_fits p new fits.held.0 runs.0 s.up sure before fits.held.2)
+          (fallen_fits p new fits.held.0 runs.0 (s.down.up, sure, named) before fits.held.2)
       | inr after ↦
           Fell new.kept.faults true s.fault_is (rose_from fits.told (s.rose refl))
-          (fallen_fits also new h.change h.running s.up sure after h.holds)
+          (fallen_fits also new h.change h.running (s.down.up, sure, named ∙ sym h.node) after h.holds)
     ]
 fell_by also new StopNoMemory fault u h s =
     absurd (false≢true (sym s.no_memory ∙ ap (λ f. is_memory (halt_in f)) s.fault_is))
@@ -226,6 +261,7 @@ look_fell p old new stop fault u held s =
     fell_by p new stop fault u (record {
       change = u.fits.held.0;
       running = (up_running p old u.fits u.up).0;
+      node = refl;
       holds = u.fits.held.2;
       either = inl (held ∙ u.fits.held.1);
     }) s
@@ -252,19 +288,23 @@ opens_same p q (Some x) (Some t) actions commits o = opened_same p q x t actions
 
 -- a database went down, and its store holds what it held
 pub record HasCrashed (old new : Base) : Type 0 where
-  pub down : new.memory.up ≡ false
-  pub doubt : new.memory.doubt ≡ old.memory.doubt
+  pub down : IsDown old.memory new.memory
   pub held : new.kept.held ≡ old.kept.held
   pub later : old.kept.faults ≤ new.kept.faults
 
 -- its place, with its numbers
 pub crashed_fits : (p : Place) (old new : Base) → IsUp p old → HasCrashed old new → Fits (crashed p) new
-crashed_fits p old new u c = record {
-  stands = (c.down, c.doubt ∙ (up_running p old u.fits u.up).1.settled);
-  told = omega (arith, u.fits.told, c.later);
-  held = (
-    u.fits.held.0,
-    c.held ∙ u.fits.held.1,
-    holds_same p (crashed p) u.fits.held.0 refl u.fits.held.2,
-  );
-}
+crashed_fits p old new u c =
+    let runs = (up_running p old u.fits u.up).1 in record {
+      stands = (
+        c.down.up,
+        c.down.doubt ∙ runs.settled,
+        named_as p (crashed p) old.memory new.memory (named_up p old.memory runs) c.down.identity refl,
+      );
+      told = omega (arith, u.fits.told, c.later);
+      held = (
+        u.fits.held.0,
+        c.held ∙ u.fits.held.1,
+        holds_same p (crashed p) u.fits.held.0 refl u.fits.held.2,
+      );
+    }

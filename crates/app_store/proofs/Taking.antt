@@ -30,7 +30,7 @@ use Rattle.app_store.proofs.Standing.{running_as}
 
 -- ---- an id put among others
 
-abbrev entry_xids : List (List ℕ × Transaction) → List ℕ
+abbrev pub entry_xids : List (List ℕ × Transaction) → List ℕ
 entry_xids es = map (λ e. e.1.xid) es
 
 module _ (x k : ℕ) (ks : List ℕ) where
@@ -98,7 +98,7 @@ pub rising_all : (ks : List ℕ) (es : List (List ℕ × Transaction)) → Risin
 rising_all ks [] rising = rising
 rising_all ks (e ∷ es) rising = rising_all (insert_key nat_cmp ks e.1.xid) es (rising_put e.1.xid ks rising)
 
-all_there : (y : ℕ) (ks : List ℕ) (es : List (List ℕ × Transaction)) → (member y ks ≡ true)
+pub all_there : (y : ℕ) (ks : List ℕ) (es : List (List ℕ × Transaction)) → (member y ks ≡ true)
     ⊎ (member y (entry_xids es) ≡ true) → member y (put_xids ks es) ≡ true
 all_there y ks [] (inl is) = is
 all_there y ks [] (inr none) = absurd (false≢true none)
@@ -111,7 +111,7 @@ all_there y ks (e ∷ es) (inr is) = elim (or_cases (y == e.1.xid) (member y (en
   | inr more ↦ all_there y (insert_key nat_cmp ks e.1.xid) es (inr more)
 ]
 
-all_only : (y : ℕ) (ks : List ℕ) (es : List (List ℕ × Transaction)) → member y (put_xids ks es) ≡ true →
+pub all_only : (y : ℕ) (ks : List ℕ) (es : List (List ℕ × Transaction)) → member y (put_xids ks es) ≡ true →
     (member y ks ≡ true) ⊎ (member y (entry_xids es) ≡ true)
 all_only y ks [] is = inl is
 all_only y ks (e ∷ es) is = elim (all_only y (insert_key nat_cmp ks e.1.xid) es is) [
@@ -136,15 +136,16 @@ found_entry name t (e ∷ es) found =
       | false ↦ λ later. or_right (t.xid == e.1.xid) (member t.xid (entry_xids es)) (found_entry name t es later)
     ] found
 
-abbrev IsFound : ℕ → List (List ℕ × Transaction) → Type 0
+abbrev pub IsFound : ℕ → List (List ℕ × Transaction) → Type 0
 IsFound y es = (name : List ℕ) × (t : Transaction) × (find key_cmp name es ≡ Some t) × (t.xid ≡ y)
 
-true_of : (b : Bool) → T b → b ≡ true
+pub true_of : (b : Bool) → T b → b ≡ true
 true_of true t = refl
 true_of false t = absurd t
 
 -- no entry behind one has its name
-none_below : (q : List ℕ) (es : List (List ℕ × Transaction)) → below_all key_cmp q es ≡ true → find key_cmp q es ≡ None
+pub none_below : (q : List ℕ) (es : List (List ℕ × Transaction)) → below_all key_cmp q es ≡ true →
+    find key_cmp q es ≡ None
 none_below q [] below = refl
 none_below q (e ∷ es) below =
     let parts = and_parts (is_lt (key_cmp q e.0)) (below_all key_cmp q es) below in
@@ -200,7 +201,7 @@ taken_of m s last first running = record {
 above_first : (x : ℕ) (xs : List ℕ) → AllByRecursion (λ y. x < y) xs → (z : ℕ) → member z xs ≡ true → x < z
 above_first x xs all z is = member_all (λ y. x < y) z xs all is
 
-rising_same : (xs ys : List ℕ) → Rising xs → Rising ys → ((x : ℕ) → member x xs ≡ true → member x ys ≡ true) →
+pub rising_same : (xs ys : List ℕ) → Rising xs → Rising ys → ((x : ℕ) → member x xs ≡ true → member x ys ≡ true) →
     ((x : ℕ) → member x ys ≡ true → member x xs ≡ true) → xs ≡ ys
 rising_same [] [] one two there back = refl
 rising_same [] (y ∷ ys) one two there back =
@@ -235,7 +236,7 @@ rising_same (x ∷ xs) (y ∷ ys) one two there back = λ i. same i ∷ rising_s
 
 -- ---- by the rules
 
-named_once : (y : ℕ) (os : Named ℕ) → AreNamedOnce os → member y (ids_of os) ≡ true → (name : List ℕ)
+pub named_once : (y : ℕ) (os : Named ℕ) → AreNamedOnce os → member y (ids_of os) ≡ true → (name : List ℕ)
     × (find_named name os ≡ Some y)
 named_once y [] named is = absurd (false≢true is)
 named_once y (o ∷ os) named is = elim (or_cases (y == o.1) (member y (ids_of os)) is) [

@@ -11,6 +11,7 @@ use Rattle.std.proofs.lemmas.List.{length-append}
 use Rattle.slon_base.specs.Keeper.{Kept, Store}
 use Rattle.slon_base.specs.Codec.{number_bytes, text_bytes, IsText}
 use Rattle.slon_base.specs.declared.fault.Halt.TheVariants.{TooBig}
+use Rattle.std.specs.Option.{option_or}
 use Rattle.slon_model.specs.declared.numbering.Numbering.TheVariants.{Xids}
 use Rattle.slon_model.specs.declared.fault.DbFault.{DbFault}
 use Rattle.slon_model.specs.declared.fault.DbFault.TheVariants.{TableExists, NameUsed, NoTransaction, NoTable, Halt}
@@ -20,14 +21,15 @@ use Rattle.slon_model.specs.declared.reply.Answered.TheVariants.{Sure, InDoubt}
 use Rattle.slon_model.specs.Names.{find_named, without as without_name}
 use Rattle.slon_model.specs.Rows.{Action, member, holder_in}
 use Rattle.slon_model.specs.Tasks.{Task, ToMake, ToOpen, ToCommit, ToAbort, ToList}
-use Rattle.slon_model.specs.Place.{Place, open_xids, holder, standing_rows, own_actions, own_count, raised}
+use Rattle.slon_model.specs.Place.{Place, open_xids, holder, standing_rows, own_actions, own_count, raised, node_id}
 use Rattle.slon_model.specs.Place.{drawn}
 use Rattle.slon_model.specs.Deeds.{Node, knowledge}
 use Rattle.slon_model.specs.Logs.{own_logs, logged}
 use Rattle.log_switch.specs.Holds.{logged_more}
 use Rattle.node_state.specs.declared.memory.Identity.{Identity}
 use Rattle.node_state.specs.Held.{action_as, captured_all, items_of}
-use Rattle.node_state.specs.Known.{Members, IsKnown, member_at, log_rows_of}
+use Rattle.node_state.specs.declared.memory.Members.{Members}
+use Rattle.node_state.specs.Known.{IsKnown, member_at, log_rows_of}
 use Rattle.node_state.proofs.Growing.{AreOf, all_more}
 use Rattle.node_state.proofs.Nobody.{known_committed}
 use Rattle.slon_model.specs.Moves.{Move, Stays, Tables, Begins, Commits, Aborts, tabled, begun, committed, aborted}
@@ -53,7 +55,8 @@ use Rattle.app_store.proofs.Openings.{opened_same, opened_new, opened_committed}
 use Rattle.app_store.proofs.Places.{member_snoc, holders_agree, counted_none, rows_agree, all_or, released, freed}
 use Rattle.app_store.proofs.Places.{ended_names}
 use Rattle.app_store.proofs.Standing.{up_running, fits_running, carried, fell, wavers, looked, opens_same}
-use Rattle.app_store.proofs.Standing.{crashed_fits}
+use Rattle.app_store.proofs.Standing.{named_as, named_up}
+use Rattle.app_store.proofs.Standing.{is_down, crashed_fits}
 use Rattle.app_store.proofs.Upright.{UpAt, running, IsLooked, WentDown, IsChanged, LeftInDoubt, is_up}
 
 -- what the decision on a task is, of a database that is up
@@ -82,8 +85,7 @@ overflows {p} {old} task answer move new at is beyond went =
     (decided task (Accepts answer move) Overflows at is
     (ap (λ b. cond b Overflows (Accepts answer move)) beyond))
     (crashed_fits p old new (is_up at) (record {
-      down = went.down.up;
-      doubt = went.down.doubt;
+      down = is_down went.down;
       held = went.looked.held;
       later = went.looked.later;
     }))
@@ -115,6 +117,7 @@ table_runs table columns stamp p m runs is = record {
   opened = λ q. opens_same p (tabled table columns p) (find_named q p.opens) (get m.opens q) refl refl (runs.opened q);
   locked = runs.locked;
   known = runs.known;
+  unpromised = runs.unpromised;
 }
 
 -- A table that is not there, and a stamp for the transaction that makes it.
@@ -158,7 +161,7 @@ pub table_doubted : {p : Place} {b : Base} (table : List ℕ) (columns : ℕ) (n
     HasRoom table p b →
     LeftInDoubt at.ready.fits.held.0 (with_table table columns b at.ready.fits.held.0) b new →
     Comes (ToMake table columns) p (Ok (InDoubt Done)) new
-table_doubted {p} table columns new at room waver =
+table_doubted {p} {b} table columns new at room waver =
     wavers (ToMake table columns) p Done (Tables table columns) new (table_accepted table columns at room) refl
     (record {
       before = at.ready.fits.held.0;
@@ -168,6 +171,8 @@ table_doubted {p} table columns new at room waver =
         told = refl;
         up = waver.up;
         doubt = waver.doubt ∙ ap (λ n. Some (n + 1)) (running at).1.stamp;
+        named = named_as p p b.memory new.memory (named_up p b.memory (running at).1) waver.identity refl;
+        node = refl;
       };
       told = omega (arith, at.ready.fits.told, waver.later);
       holds = at.ready.fits.held.2;
@@ -281,6 +286,7 @@ begun_runs {p} {m} name xid sound runs none xid_is = record {
       λ table key text. runs.locked table key text
       ∙ holders_agree table key (open_xids p) (open_xids (begun name p)) p.actions (older p.actions sound.known);
   known = runs.known;
+  unpromised = runs.unpromised;
 }
   where
     new : Transaction
@@ -387,6 +393,7 @@ same_opens p m name runs none = record {
       ∙ unchanged q (bytes_eq q name) refl)) (runs.opened q);
   locked = runs.locked;
   known = runs.known;
+  unpromised = runs.unpromised;
 }
   where
     unchanged : (q : List ℕ) (t : Bool) → bytes_eq q name ≡ t → cond t None (get m.opens q) ≡ get m.opens q
@@ -451,6 +458,7 @@ record IsEnded (p q : Place) (name : List ℕ) (x : ℕ) : Type 0 where
   numbers : q.numbers ≡ p.numbers
   founded : 0 < q.stamp
   keep : OthersStay p q x
+  promised : q.promised ≡ p.promised
   known : (identity : Option Identity) (members : Members) → IsKnown p.node identity members →
       IsKnown q.node identity members
 
@@ -482,6 +490,7 @@ ended_runs {p} {m} {name} q stamp ends sound runs e ended stamp_is = record {
       ∙ ap (λ os. holder_in table key (ids_of os) p.actions) (sym ended.opens)
       ∙ ap (holder_in table key (open_xids q)) (sym ended.actions);
   known = ended.known m.identity m.members runs.known;
+  unpromised = ended.promised ∙ runs.unpromised;
 }
   where
     other : (k : List ℕ) → bytes_eq k name ≡ false → (o : Option ℕ) (t : Option Transaction) →
@@ -523,6 +532,7 @@ aborts {p} {b} name new at ends new_is =
       numbers = refl;
       founded = runs.1.founded;
       keep = λ y u opened differ o. opened_same p q y u refl refl o;
+      promised = refl;
       known = λ identity members known. known;
     }) runs.1.stamp)
     ready.fits.told ready.fits.held.1
@@ -602,6 +612,7 @@ commits_none {p} {b} name told new at ends (told_is, zero) new_is =
       numbers = refl;
       founded = omega (arith, runs.1.founded, stamp_same);
       keep = committed_others p name e.xid ready.sound e.named;
+      promised = refl;
       known =
           λ identity members known. subst (λ n. IsKnown n identity members) (sym (same_node name e.xid p none)) known;
     }) (runs.1.stamp ∙ sym stamp_same))
@@ -623,6 +634,17 @@ commit_node : (name : List ℕ) (x : ℕ) (p : Place) → 0 < own_count x p →
 commit_node name x p some =
     ap (λ b. cond b p.node (option_map (with_commit x p) p.node)) (not_zero (own_count x p) some)
 
+-- its id stays
+commit_id : (name : List ℕ) (x : ℕ) (p : Place) → node_id (committed name x p) ≡ node_id p
+commit_id name x p = by (own_count x p == 0) p.node
+  where
+    by : (b : Bool) (own : Option Node) →
+        option_or (option_map (λ n. n.id) (cond b own (option_map (with_commit x p) own))) p.promised
+        ≡ option_or (option_map (λ n. n.id) own) p.promised
+    by true own = refl
+    by false None = refl
+    by false (Some n) = refl
+
 -- the store with the rows of the transaction and what is logged of them, and with the next stamp
 abbrev pub with_rows : Transaction → Base → Store → Store
 with_rows t b m = new_rows (batch_of b.memory.identity b.memory.members t) (number_bytes (b.memory.stamp + 1)) m
@@ -636,7 +658,7 @@ all_own x (a ∷ rest) =
 
 -- what the memory of a node logs is what the rules say
 logs_as : {p : Place} {x : ℕ} {t : Transaction} (members : Members) → IsOpened p x t →
-    ((name : List ℕ) → get members name ≡ member_at p.node name) → (n : Node) → p.node ≡ Some n →
+    ((name : List ℕ) → get members.live name ≡ member_at p.node name) → (n : Node) → p.node ≡ Some n →
     logged_more n.id (log_rows_of members t.xid t.actions) (items_of (logged n))
     ≡ items_of (own_logs n.id (knowledge n) (own_actions x p)) ++ items_of (logged n)
 logs_as {p} {x} {t} members o known n is =
@@ -714,6 +736,7 @@ commits_some {p} {b} name new at ends has changed memory_is =
       numbers = refl;
       founded = omega (arith, stamped);
       keep = committed_others p name e.xid ready.sound e.named;
+      promised = refl;
       known = λ identity members known. subst (λ n. IsKnown n identity members) (sym (commit_node name e.xid p any))
           (known_committed p.node e.xid p identity members known);
     }) (ap (λ n. n + 1) runs.1.stamp ∙ sym stamped)))
@@ -724,7 +747,7 @@ pub commit_doubted : {p : Place} {b : Base} (name : List ℕ) (new : Base) (t : 
     get b.memory.opens name ≡ Some t → (has : HasActions t b) →
     LeftInDoubt at.ready.fits.held.0 (with_rows t b at.ready.fits.held.0) b new →
     Comes (ToCommit name) p (Ok (InDoubt (Committed has.count))) new
-commit_doubted {p} name new t at there has waver =
+commit_doubted {p} {b} name new t at there has waver =
     let runs = running at in
     let e = ending t runs.1 there in
     let some = has.some in
@@ -740,6 +763,8 @@ commit_doubted {p} name new t at there has waver =
         told = refl;
         up = waver.up;
         doubt = waver.doubt ∙ ap (λ n. Some (n + 1)) runs.1.stamp;
+        named = named_as p p b.memory new.memory (named_up p b.memory runs.1) waver.identity refl;
+        node = commit_id name e.xid p;
       };
       told = omega (arith, at.ready.fits.told, waver.later);
       holds = at.ready.fits.held.2;

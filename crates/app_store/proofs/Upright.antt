@@ -57,5 +57,6 @@ pub record IsChanged (change : Store) (old new : Kept) : Type 0 where
 pub record LeftInDoubt (held change : Store) (old new : Base) : Type 0 where
   pub up : new.memory.up ≡ false
   pub doubt : new.memory.doubt ≡ Some (old.memory.stamp + 1)
+  pub identity : new.memory.identity ≡ old.memory.identity
   pub later : old.kept.faults ≤ new.kept.faults
   pub either : (new.kept.held ≡ Some held) ⊎ (new.kept.held ≡ Some change)

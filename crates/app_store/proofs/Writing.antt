@@ -237,6 +237,7 @@ wrote_runs {s} {change} {value} {t} {p} {m} locks a locks_are = record {
       ∙ ap (λ x. cond x (Some s.xid) (holder u k p)) (on u k ∙ sym (and_true (is_on u k action))
       ∙ ap (λ b. is_on u k action && b) (sym (found_member s.name s.xid p.opens a.named)));
   known = a.runs.known;
+  unpromised = a.runs.unpromised;
 }
   where
     q : Place

@@ -6,7 +6,8 @@ use Rattle.slon_model.specs.Place.{Counter}
 use Rattle.node_keeper.specs.Fused.{fuse_kept}
 use Rattle.txn_core.specs.Locks.{Locks}
 use Rattle.node_state.specs.declared.memory.Identity.{Identity}
-use Rattle.node_state.specs.Known.{Members, IsKnown}
+use Rattle.node_state.specs.declared.memory.Members.{Members}
+use Rattle.node_state.specs.Known.{IsKnown}
 use Rattle.app_store.specs.declared.database.Database.{Database}
 use Rattle.app_store.specs.declared.state.State.{State}
 use Rattle.app_store.specs.Closed.{Opens, IsClosed}

@@ -7,7 +7,8 @@ use Rattle.slon_base.specs.Keeper.{Store}
 use Rattle.slon_base.specs.Codec.{list_bytes, IsText}
 use Rattle.slon_model.specs.Names.{find_named}
 use Rattle.slon_model.specs.Rows.{Action, is_on}
-use Rattle.slon_model.specs.Place.{Place, Standing, IsRunning, IsFallen, IsDoubtful, holder, seen_rows, standing_rows}
+use Rattle.slon_model.specs.Place.{Place, Standing, IsRunning, IsFallen, IsDoubtful, node_id, holder, seen_rows}
+use Rattle.slon_model.specs.Place.{standing_rows}
 use Rattle.slon_model.specs.Place.{own_actions}
 use Rattle.node_state.specs.Held.{captured_all}
 use Rattle.node_state.specs.Known.{IsKnown}
@@ -53,6 +54,12 @@ pub record Runs (p : Place) (m : Memory) : Type 0 where
   pub opened : (name : List ℕ) → OpensAs p (find_named name p.opens) (get m.opens name)
   pub locked : (table key : List ℕ) → IsText table → holder_of table key m.locks ≡ holder table key p
   pub known : IsKnown p.node m.identity m.members
+  -- no commit in doubt is to make it a node
+  pub unpromised : p.promised ≡ None
+
+-- the memory keeps the id of the node that it is, or that a commit in doubt would make it, also while it is down
+abbrev pub IsNamed : Place → Memory → Type 0
+IsNamed p m = option_map (λ i. i.id) m.identity ≡ node_id p
 
 -- the stamp that the commit in doubt would have written
 abbrev pub doubtful_stamp : Bool → Place → ℕ
@@ -60,10 +67,10 @@ doubtful_stamp stands p = if stands then p.stamp else p.stamp + 1
 
 abbrev pub StandsAs : Standing → Place → Memory → Type 0
 StandsAs IsRunning p m = Runs p m
-StandsAs IsFallen p m = (m.up ≡ false) × (m.doubt ≡ None)
+StandsAs IsFallen p m = (m.up ≡ false) × (m.doubt ≡ None) × IsNamed p m
 -- a commit that stands has written its stamp
 StandsAs (IsDoubtful stands) p m =
-    (m.up ≡ false) × (m.doubt ≡ Some (doubtful_stamp stands p)) × (stands ≡ true → 0 < p.stamp)
+    (m.up ≡ false) × (m.doubt ≡ Some (doubtful_stamp stands p)) × (stands ≡ true → 0 < p.stamp) × IsNamed p m
 
 -- The code agrees with the rules, over a store that tells what it holds.
 pub record Fits (p : Place) (b : Base) : Type 0 where

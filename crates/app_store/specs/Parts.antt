@@ -69,3 +69,19 @@ pub record StartsWith (n : Numbers) (node : NodeMemory) (new : Memory) : Type 0 
   pub closed : IsClosed new.opens new.locks
   pub identity : new.identity ≡ node.identity
   pub members : new.members ≡ node.members
+
+-- ---- looks of a statement
+
+-- what was looked up is so by the rules, and all is as it was; or the store failed
+abbrev pub LooksUp : {T : Type 0} → (Place → T → Type 0) → Place → Result T DbFault → Base → Type 0
+LooksUp says p (Ok x) new = says p x × Fits p new
+LooksUp says p (Err fault) new = FellTo p p fault new
+
+-- from every place that fits, unless there was no memory
+abbrev pub Looks : {T : Type 0} → (Place → T → Type 0) → Base → Result T DbFault → Base → Type 0
+Looks says old result new = FromPlace (LooksUp says) old result new
+
+-- what is looked up leaves the memory as it was
+abbrev pub Remembers : {T : Type 0} → Base → Result T DbFault → Base → Type 0
+Remembers old (Ok x) new = new.memory ≡ old.memory
+Remembers old (Err fault) new = Unit {0}

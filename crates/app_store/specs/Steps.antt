@@ -129,26 +129,3 @@ pub record TriesOr (old new : Kept) (result : Result (Option Made) Stop) : Type 
   pub counted : IsCounted old new result
   pub closed : ClosesOr new result
   pub doubts : DoubtsOr old new result
-
--- ---- a transaction that goes on
-
--- it has begun, and no call failed since
-pub record Midway (old new : Kept) : Type 0 where
-  pub sure : Knows false old new
-  pub later : old.faults ≤ new.faults
-  pub held : new.held ≡ old.held
-  pub doubts : new.doubts ≡ old.doubts
-  pub opened : is_some new.pending ≡ true
-
--- it stopped before its commit
-pub record BreaksOff (stop : Stop) (old new : Kept) : Type 0 where
-  pub sure : Knows (is_stop_failed stop) old new
-  pub later : old.faults ≤ new.faults
-  pub failed : is_stop_failed stop ≡ true → Rose old.faults new.faults
-  pub within : IsWithinLimit stop
-  pub held : new.held ≡ old.held
-  pub doubts : new.doubts ≡ old.doubts
-
-abbrev pub Enters : {T : Type 0} → Kept → Kept → Result T Stop → Type 0
-Enters old new (Ok x) = Midway old new
-Enters old new (Err stop) = BreaksOff stop old new

@@ -1,5 +1,7 @@
 -- The snapshot that is taken of the open transactions of a database.
-use Rattle.std.specs.Prelude.{◌≡◌, ◌↔◌, ℕ, true, List, [], ◌∷◌, Some}
+use Rattle.std.specs.Prelude.{◌≡◌, ◌↔◌, ℕ, if◌then◌else◌, Bool, true, List, [], ◌∷◌, Some}
+use Rattle.std.specs.List.{list_any}
+use Rattle.std.specs.Str.{bytes_eq}
 use Rattle.std.specs.Ordering.{nat_cmp}
 use Rattle.std.specs.BTreeSet.{insert_key}
 use Rattle.std.specs.FinMap.{get}
@@ -24,3 +26,12 @@ pub record IsTakenOf (m : Memory) (s : Snapshot) : Type 0 where
   pub first : s.xmin ≡ first_or s.xmax s.running
   pub rising : Rising s.running
   pub lists : (x : ℕ) → (member x s.running ≡ true) ↔ IsOpen x m.opens
+
+-- the transaction wrote this table
+abbrev pub wrote_table : List ℕ → Transaction → Bool
+wrote_table table t = list_any (λ a. bytes_eq table a.table) t.actions
+
+-- those that wrote it
+abbrev pub writers : List ℕ → List (List ℕ × Transaction) → List (List ℕ × Transaction)
+writers table [] = []
+writers table (e ∷ es) = if wrote_table table e.1 then e ∷ writers table es else writers table es

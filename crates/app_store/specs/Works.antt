@@ -14,7 +14,8 @@ use Rattle.app_store.specs.Scan.{IsTableOf}
 use Rattle.store_rows.specs.declared.stop.Stop.{Stop}
 use Rattle.change_capture.specs.Spellings.{CanLogRow}
 use Rattle.node_state.specs.declared.memory.Identity.{Identity}
-use Rattle.node_state.specs.Known.{Members, log_rows_of}
+use Rattle.node_state.specs.declared.memory.Members.{Members}
+use Rattle.node_state.specs.Known.{log_rows_of}
 use Rattle.app_store.specs.declared.opens.Transaction.{Transaction}
 use Rattle.app_store.specs.declared.ceilings.Unlifted.{Unlifted}
 use Rattle.app_store.specs.declared.ceilings.Unlifted.TheVariants.{TooBig, Stopped}

@@ -13,15 +13,15 @@ use node_keeper::{Fuse, Keeper};
 use slon_model::{Answer, Answered, Crash, DbFault, Numbering};
 use std::alloc::Global;
 
-/// One database over a store behind a fuse.
+/// One database over a store behind a fuse. What it does as a node is done on its parts, by the crate above.
 ///
 /// While it is up it keeps in memory its numbers, its open transactions and their locks, and the node that it is. A
 /// step that stops at the store takes it down, and then it makes no call on its store until it comes up again.
 #[derive(Drop)]
 pub struct Database<K: Keeper> {
-    pub(crate) alloc: Global,
-    pub(crate) keeper: Fuse<K>,
-    pub(crate) state: State,
+    pub alloc: Global,
+    pub keeper: Fuse<K>,
+    pub state: State,
     ghost idle: { state.up ≡ true → is_some (fuse_kept K.kept keeper).pending ≡ false },
 }
 
@@ -37,6 +37,7 @@ impl<K: Keeper> Database<K> {
     ghost use Rattle.app_store.specs.Fuses.{Arms};
     ghost use Rattle.app_store.specs.Handed.{Hands, Tells, Told, Nothing};
     ghost use Rattle.std.specs.Prelude.{◌≢◌};
+    ghost use Rattle.std.specs.Option.{option_map};
 
     /// The database of a store that holds no row yet: its first rows are written.
     ///
@@ -55,6 +56,21 @@ impl<K: Keeper> Database<K> {
             state,
         };
         (database, result)
+    }
+
+    /// Whether the database is up.
+    pub fn is_up(&self) -> bool
+        ensures { result ≡ self.now.state.up }
+    {
+        self.state.up
+    }
+
+    /// The id of the node that the database is, if it is one.
+    pub fn node_id(&self) -> Option<u32>
+        ensures id { result ≡ option_map (λ i. i.id) self.now.state.node.identity }
+        ensures has { is_some self.now.state.node.identity ≡ is_some result }
+    {
+        self.state.node.id()
     }
 
     /// Raises a ceiling if the next number is at it.

@@ -14,12 +14,7 @@ use slon_model::DbFault;
 use std::alloc::Global;
 
 /// Takes a database down because work on its store stopped, and says why, as its caller is told.
-pub(crate) fn fall<K: Keeper>(
-    alloc: Global,
-    state: &mut State,
-    keeper: &Fuse<K>,
-    stop: Stop,
-) -> DbFault
+pub fn fall<K: Keeper>(alloc: Global, state: &mut State, keeper: &Fuse<K>, stop: Stop) -> DbFault
     requires { IsWithinLimit stop }
     ensures down { GoesDown (memory_of state.old) (memory_of state.new) }
     ensures fault { result ≡ halt_of stop (fuse_kept K.kept keeper.now).faults }
@@ -36,7 +31,7 @@ pub(crate) fn fall<K: Keeper>(
 }
 
 /// Takes a database down because a number would pass the limit of stored numbers.
-pub(crate) fn overflow(alloc: Global, state: &mut State) -> DbFault
+pub fn overflow(alloc: Global, state: &mut State) -> DbFault
     ensures down { GoesDown (memory_of state.old) (memory_of state.new) }
     ensures fault { result ≡ DbFault.Halt (Halt.TooBig 1) }
 {

@@ -9,9 +9,6 @@ pub const TABLES: u8 = 2;
 /// The space of the rows.
 pub const ROWS: u8 = 3;
 
-/// The space of how far each node is in each stream.
-pub const CONFIRMATIONS: u8 = 11;
-
 /// The key of the stamp.
 pub const STAMP: [u8; 1] = [1];
 

@@ -1,14 +1,13 @@
 //! One database over a store: its tables, its transactions and its rows.
 #![tactic(auto)]
 
+mod asking;
 mod ceilings;
 mod database;
-mod emitting;
 mod falls;
 mod founding;
 mod layout;
 mod look;
-mod nodes;
 mod numbers;
 mod obey;
 mod opens;
@@ -22,7 +21,10 @@ mod work;
 mod writes;
 
 pub use database::Database;
+pub use falls::{fall, overflow};
 pub use node_keeper::{Fuse, Keeper};
 pub use slon_model::DbFault;
+pub use state::State;
 pub use store_rows::Stop;
+pub use transact::{Made, begin, finish};
 pub use txn_core::Snapshot;

@@ -1,13 +1,13 @@
 // The open transactions of a database.
-ghost use Rattle.std.specs.Prelude.{◌≡◌, ◌<◌, ◌^◌, ℕ, OnOk, IfOk, Some, None, true, []};
+ghost use Rattle.std.specs.Prelude.{◌≡◌, ◌<◌, ◌^◌, ℕ, OnOk, IfOk, Some, None, true, [], slice_get};
 ghost use Rattle.std.specs.Option.{option_map};
 ghost use Rattle.std.specs.FinMap.{get, insert, remove, empty, entries};
 ghost use Rattle.node_state.specs.Known.{is_captured};
-ghost use Rattle.app_store.specs.Taking.{put_xids};
+ghost use Rattle.app_store.specs.Taking.{put_xids, wrote_table, writers};
 ghost use Rattle.app_store.specs.Written.{with_write, written_at, IsWritten, AreWritten};
 
 use change_capture::Action;
-use slon_base::{ByteMap, Bytes, Many};
+use slon_base::{ByteMap, Bytes, Many, Text};
 use std::alloc::{AllocError, Global};
 use std::collections::BTreeSet;
 use txn_core::XidList;
@@ -100,4 +100,32 @@ pub(crate) fn open_xids(alloc: Global, opens: &Opens) -> Result<XidList, AllocEr
         running.push(*xid)?;
     }
     Ok(running)
+}
+
+/// Whether a transaction wrote this table.
+fn has_written(transaction: &Transaction, table: &Text) -> bool
+    ensures { result ≡ wrote_table table.now transaction.now }
+{
+    transaction
+        .actions
+        .as_slice()
+        .iter()
+        .any(|action| table.as_slice() == action.table.as_slice())
+}
+
+/// The least id of an open transaction that wrote this table, if one did.
+pub(crate) fn least_writer(
+    alloc: Global,
+    opens: &Opens,
+    table: &Text,
+) -> Result<Option<u64>, AllocError>
+    ensures { IfOk result (λ found. found ≡ slice_get (put_xids [] (writers table.now (entries opens.now))) 0) }
+{
+    let mut xids = BTreeSet::new(alloc);
+    for (_, transaction) in opens.iter() {
+        if has_written(transaction, table) {
+            xids.insert(transaction.xid)?;
+        }
+    }
+    Ok(xids.first().copied())
 }

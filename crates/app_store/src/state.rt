@@ -16,16 +16,16 @@ use txn_core::{Counters, LockTable};
 /// What a database keeps in memory: its numbers, its open transactions and their locks, and the node that it is. While
 /// it is down no transaction is open and no row is locked.
 #[derive(Drop)]
-pub(crate) struct State {
-    pub(crate) up: bool,
-    // The stamp of the commit that is in doubt.
-    pub(crate) doubt: Option<u64>,
-    pub(crate) stamp: u64,
+pub struct State {
+    pub up: bool,
+    /// The stamp of the commit that is in doubt.
+    pub doubt: Option<u64>,
+    pub stamp: u64,
     pub(crate) xids: Counters,
     pub(crate) numbers: Counters,
     pub(crate) opens: Opens,
     pub(crate) locks: LockTable,
-    pub(crate) node: NodeMemory,
+    pub node: NodeMemory,
     ghost small: { stamp < 2 ^ 63 },
     ghost closed: { up ≡ false → IsClosed opens locks },
     ghost written: { AreWritten opens },
@@ -75,7 +75,7 @@ impl State {
     }
 
     /// Takes the database down: what was open is forgotten.
-    pub(crate) fn take_down(&mut self, alloc: Global)
+    pub fn take_down(&mut self, alloc: Global)
         ensures { GoesDown (memory_of self.old) (memory_of self.new) }
     {
         self.up = false;

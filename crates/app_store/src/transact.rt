@@ -3,6 +3,7 @@ ghost use Rattle.std.specs.Prelude.{◌≡◌, ◌<◌, ◌^◌, true, false, is
 ghost use Rattle.std.specs.List.{AllByRecursion};
 ghost use Rattle.std.specs.Option.{option_map};
 ghost use Rattle.std.specs.FinMap.{entries};
+ghost use Rattle.store_rows.specs.declared.stop.Stop.TheVariants.{NoMemory};
 ghost use Rattle.store_rows.specs.Steps.{Safe, IsOutside};
 ghost use Rattle.slon_base.specs.Keeper.{put_at};
 ghost use Rattle.change_capture.specs.Spellings.{CanLogRow};
@@ -47,7 +48,7 @@ impl<'a> Put<'a> {
 
 /// Begins.
 #[tactic(auto, using(store_rows::proofs::Causes::stays))]
-pub(crate) fn begin<K: Keeper>(keeper: &mut K) -> Result<(), Stop>
+pub fn begin<K: Keeper>(keeper: &mut K) -> Result<(), Stop>
     requires { is_some (K.kept keeper.old).pending ≡ false }
     ensures { Starts (K.kept keeper.old) (K.kept keeper.new) result }
 {
@@ -58,11 +59,12 @@ pub(crate) fn begin<K: Keeper>(keeper: &mut K) -> Result<(), Stop>
     }
 }
 
-/// Commits.
+/// Commits. It stops only where memory ran out.
 #[tactic(auto, using(store_rows::proofs::Causes::stays))]
-pub(crate) fn finish<K: Keeper>(keeper: &mut K) -> Result<Made, Stop>
+pub fn finish<K: Keeper>(keeper: &mut K) -> Result<Made, Stop>
     requires { is_some (K.kept keeper.old).pending ≡ true }
-    ensures { Finishes (K.kept keeper.old) (K.kept keeper.new) result }
+    ensures ends { Finishes (K.kept keeper.old) (K.kept keeper.new) result }
+    ensures short { IfErr result (λ stop. stop ≡ NoMemory) }
 {
     match keeper.commit() {
         Ok(()) => Ok(Made::Done),

@@ -1,10 +1,14 @@
 -- Calls over two stores, one after the other.
-use Rattle.std.proofs.Common.{◌≡◌, ◌⊎◌, Result, Ok, Err, refl, ◌∙◌, inl, inr, arith}
+use Rattle.std.proofs.Common.{◌≡◌, Result, Ok, Err, refl, sym, ap, subst, ◌∙◌, arith}
+use Rattle.std.specs.Prelude.{IfOk, OnOk, IfErr}
 use Rattle.slon_base.specs.Keeper.{Kept}
 use Rattle.store_rows.specs.declared.stop.Stop.{Stop}
 use Rattle.store_rows.specs.Steps.{Safe}
 use Rattle.store_rows.proofs.Spaces.{Looked, safe_on, handed_safe}
-use Rattle.node_change.specs.Both.{IsWell, SafeBoth}
+use Rattle.node_change.specs.declared.side.Side.{Side}
+use Rattle.node_change.specs.declared.side.Side.TheVariants.{From, To}
+use Rattle.node_change.specs.declared.side.Failed.{Failed}
+use Rattle.node_change.specs.Both.{IsWell, IsStopped, StopsOne, SafeBoth, stopped}
 
 pub well_none : {old : Kept} → IsWell old old
 well_none = record {
@@ -54,48 +58,70 @@ well_on w s = safe_then w (well_of s)
 pub well_looked : {old new : Kept} → Looked old new → IsWell old new
 well_looked l = safe_on l well_none
 
+-- what was given without a stop, under the name of the value
+pub safe_as : {T : Type 0} {old new : Kept} {given : Result T Stop} {x : T} → given ≡ Ok x → Safe old new given →
+    Safe old new (Ok x)
+safe_as {old = old} {new} is s = subst (Safe old new) is s
+
+pub then_as : {T P : Type 0} {given : Result T Stop} {x : T} → given ≡ Ok x → OnOk given P → P
+then_as {P = P} is on = subst (λ r. OnOk r P) is on
+
+pub value_as : {T : Type 0} (P : T → Type 0) {given : Result T Stop} {x : T} → given ≡ Ok x → IfOk given P → P x
+value_as P is ok = subst (λ r. IfOk r P) is ok
+
 -- ---- which of the two it was
 
-pub by_from : {T : Type 0} {from from_mid from_new to to_new : Kept} {result : Result T Stop} →
-    IsWell from from_mid → Safe from_mid from_new result → IsWell to to_new → SafeBoth from from_new to to_new result
-by_from w s well = record { one = inl (safe_then w s, well) }
-
-pub by_to : {T : Type 0} {from from_new to to_mid to_new : Kept} {result : Result T Stop} → IsWell from from_new →
-    IsWell to to_mid → Safe to_mid to_new result → SafeBoth from from_new to to_new result
-by_to well w s = record { one = inr (well, safe_then w s) }
-
--- ---- more work over both
+-- a call that stopped, and the side that is told
+pub record IsSided {T : Type 0} (side : Side) (given : Result T Stop) (f : Failed) : Type 0 where
+  pub is : given ≡ Err f.stop
+  pub on : f.side ≡ side
 
 -- after calls of which none failed
-pub both_then : {T : Type 0} {from from_mid from_new to to_mid to_new : Kept} {result : Result T Stop} →
-    IsWell from from_mid → IsWell to to_mid → SafeBoth from_mid from_new to_mid to_new result →
-    SafeBoth from from_new to to_new result
-both_then {T} {from} {from_mid} {from_new} {to} {to_mid} {to_new} {result} well also both = record { one = by both.one }
-  where
-    by : (Safe from_mid from_new result × IsWell to_mid to_new)
-        ⊎ (IsWell from_mid from_new × Safe to_mid to_new result) →
-        (Safe from from_new result × IsWell to to_new) ⊎ (IsWell from from_new × Safe to to_new result)
-    by (inl (s, w)) = inl (safe_then well s, well_on also w)
-    by (inr (w, s)) = inr (well_on well w, safe_then also s)
+stopped_on : {T : Type 0} {old mid new : Kept} {given : Result T Stop} {stop : Stop} → given ≡ Err stop →
+    IsWell old mid → Safe mid new given → IsStopped stop old new
+stopped_on {old = old} {mid} {new} {stop = stop} is w s =
+    handed_safe old new (Err stop) (stop, refl, refl) (safe_then w (subst (Safe mid new) is s))
+
+pub from_stops : {T : Type 0} {from from_mid from_new to to_new : Kept} {given : Result T Stop} {f : Failed} →
+    IsSided From given f → IsWell from from_mid → Safe from_mid from_new given → IsWell to to_new →
+    StopsOne f.side f.stop from from_new to to_new
+from_stops {from = from} {from_new = from_new} {to} {to_new} {f = f} sided w s well =
+    subst (λ side. StopsOne side f.stop from from_new to to_new) (sym sided.on) (stopped_on sided.is w s, well)
+
+pub to_stops : {T : Type 0} {from from_new to to_mid to_new : Kept} {given : Result T Stop} {f : Failed} →
+    IsSided To given f → IsWell from from_new → IsWell to to_mid → Safe to_mid to_new given →
+    StopsOne f.side f.stop from from_new to to_new
+to_stops {from = from} {from_new} {to} {to_new = to_new} {f = f} sided well w s =
+    subst (λ side. StopsOne side f.stop from from_new to to_new) (sym sided.on) (well, stopped_on sided.is w s)
 
 -- a stop that is handed on
-pub both_handed : {T U : Type 0} (from from_new to to_new : Kept) {stop : Stop} (result : Result U Stop) →
-    (y : Stop) × (result ≡ Err y) × (y ≡ stop) → SafeBoth {T = T} from from_new to to_new (Err stop) →
+pub both_handed : {U : Type 0} (from from_new to to_new : Kept) {f : Failed} (result : Result U Failed) →
+    (y : Failed) × (result ≡ Err y) × (y ≡ f) → StopsOne f.side f.stop from from_new to to_new →
     SafeBoth from from_new to to_new result
-both_handed {T} {U} from from_new to to_new {stop} result handed both = record { one = by both.one }
-  where
-    by : (Safe {T = T} from from_new (Err stop) × IsWell to to_new)
-        ⊎ (IsWell from from_new × Safe {T = T} to to_new (Err stop)) →
-        (Safe from from_new result × IsWell to to_new) ⊎ (IsWell from from_new × Safe to to_new result)
-    by (inl (s, w)) = inl (handed_safe from from_new result handed s, w)
-    by (inr (w, s)) = inr (w, handed_safe to to_new result handed s)
+both_handed from from_new to to_new result (y, is, same) stops =
+    subst (SafeBoth from from_new to to_new) (sym (is ∙ ap (λ e. Err e) same)) stops
 
--- work over both that did not stop
-pub both_well : {T : Type 0} {from from_new to to_new : Kept} {x : T} → SafeBoth from from_new to to_new (Ok x) →
-    IsWell from from_new × IsWell to to_new
-both_well {T} {from} {from_new} {to} {to_new} {x} both = by both.one
+-- the last call is one on the store that is changed
+pub to_ends : {T : Type 0} {from from_new to to_mid to_new : Kept} {given : Result T Stop} (result : Result T Failed) →
+    given ≡ stopped result → IfErr result (λ f. f.side ≡ To) → IsWell from from_new → IsWell to to_mid →
+    Safe to_mid to_new given → SafeBoth from from_new to to_new result
+to_ends (Ok x) is on well w s = (well, well_on w (safe_as is s))
+to_ends (Err f) is on well w s = to_stops (record { is = is; on = on }) well w s
+
+-- more work over both, after calls of which none failed
+pub both_then : {T : Type 0} {from from_mid to to_mid : Kept} (from_new to_new : Kept) (result : Result T Failed) →
+    IsWell from from_mid → IsWell to to_mid → SafeBoth from_mid from_new to_mid to_new result →
+    SafeBoth from from_new to to_new result
+both_then from_new to_new (Ok x) well also both = (safe_then well both.0, safe_then also both.1)
+both_then {from = from} {from_mid} {to} {to_mid} from_new to_new (Err f) well also both = by f.side both
   where
-    by : (Safe from from_new (Ok x) × IsWell to to_new) ⊎ (IsWell from from_new × Safe to to_new (Ok x)) →
-        IsWell from from_new × IsWell to to_new
-    by (inl (s, w)) = (well_of s, w)
-    by (inr (w, s)) = (w, well_of s)
+    by : (side : Side) → StopsOne side f.stop from_mid from_new to_mid to_new →
+        StopsOne side f.stop from from_new to to_new
+    by From stops = (safe_then well stops.0, safe_then also stops.1)
+    by To stops = (safe_then well stops.0, safe_then also stops.1)
+
+-- ---- without the side
+
+pub stop_handed : {U : Type 0} {f : Failed} (result : Result U Failed) → (y : Failed) × (result ≡ Err y) × (y ≡ f) →
+    (y : Stop) × (stopped result ≡ Err y) × (y ≡ f.stop)
+stop_handed result (y, is, same) = (y.stop, ap stopped is, ap (λ g. g.stop) same)

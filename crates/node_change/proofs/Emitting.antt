@@ -25,9 +25,10 @@ use Rattle.event_store.specs.Streams.{streams_of, emitted}
 use Rattle.event_store.proofs.Apart.{config_stays, streams_stay}
 use Rattle.event_store.proofs.Deeds.{built_adds, hearing_stays}
 use Rattle.event_store.proofs.Holding.{moved}
-use Rattle.node_state.specs.Held.{NodeHeld, items_of}
+use Rattle.node_state.specs.Held.{NodeHeld, items_of, IsMet}
+use Rattle.node_state.specs.Known.{IsHomed}
 use Rattle.node_change.specs.Announced.{HasEmitted, Announces}
-use Rattle.node_change.proofs.Orderly.{change_orderly}
+use Rattle.node_change.proofs.Orderly.{change_orderly, change_homed, change_known, change_met}
 use Rattle.node_change.proofs.Spaces.{IsElse, own_else, spare_else, no_config, no_stream}
 
 -- An event that a node emits: what the store held, what it held with the event, and what it holds now.
@@ -37,6 +38,7 @@ pub record Emission (n : Node) (e : Event) (m mid new : Store) : Type 0 where
   pub next : e.number ≡ next_number (streams_of n)
   pub built : IsBuilt e.body
   pub can : CanBody e.body
+  pub home : IsHomed e.body (knowledge n).config
   pub streams : ShowsStreams m (emitted e (streams_of n)) mid
   pub config : Shows mid (change e (knowledge n).config) new
 
@@ -75,6 +77,9 @@ emits_held {n} {e} {m} {mid} {new} em d is none =
     done : Deed
     done = record d { doing = Emits e }
 
+    known : (id : ℕ) → IsMet id (knowledge n).config → IsMet id (change e (knowledge n).config)
+    known id = change_known e.origin e.number id e.body (knowledge n).config em.built
+
     adds : streams_of (with_deeds (done ∷ []) n) ≡ emitted e (streams_of n)
     adds = built_adds n done e refl (behind_low em) em.built
 
@@ -84,6 +89,10 @@ emits_held {n} {e} {m} {mid} {new} em d is none =
       cluster = em.held.cluster;
       config = em.config.config;
       orderly = change_orderly e.origin e.number e.body (knowledge n).config em.built em.can em.held.orderly;
+      homes = change_homed e.origin e.number e.body (knowledge n).config em.built em.home em.held.homes;
+      self = known n.id em.held.self;
+      met = change_met e (knowledge n).config (knowledge n).progress em.built
+          (subst (λ id. IsMet id (change e (knowledge n).config)) (sym em.own) (known n.id em.held.self)) em.held.met;
       streams = subst (λ s. HoldsStreams s new) (sym adds)
           (streams_stay mid new (emitted e (streams_of n)) (change e (knowledge n).config) em.config
           em.streams.streams);

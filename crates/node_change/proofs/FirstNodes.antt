@@ -1,7 +1,7 @@
 -- What the store of the first node of a cluster holds.
-use Rattle.std.proofs.Common.{◌≡◌, ℕ, true, false, List, [], None, refl, sym, ap, ◌∙◌, arith}
+use Rattle.std.proofs.Common.{◌≡◌, ℕ, true, false, cond, List, [], Some, None, refl, sym, ap, ◌∙◌, arith, is_some}
 use Rattle.std.specs.Prelude.{◌==◌, ◌||◌}
-use Rattle.std.proofs.lemmas.Bool.{false≢true}
+use Rattle.std.proofs.lemmas.Bool.{false≢true, eq-eqb}
 use Rattle.slon_base.specs.Codec.{number_bytes, IsText}
 use Rattle.slon_base.specs.Keeper.{Store, put_at}
 use Rattle.store_rows.specs.Rows.{IsId}
@@ -78,6 +78,9 @@ first_made id comment run m can none = record { held = held; own = λ space own.
       cluster = can.1;
       config = first_known id comment m can.0 can.2 none;
       orderly = first_orderly id comment can.0;
+      homes = tt;
+      self = ap (λ b. is_some (cond b (Some (own_row comment)) None)) (eq-eqb id id refl);
+      met = tt;
       streams = first_has_none id comment run (with_own id comment m)
           (λ space is. stays space (not_eq space 4 (λ same. false≢true (ap is_stream (sym same) ∙ is)))
           ∙ none space (not_own space is));

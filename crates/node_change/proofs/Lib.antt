@@ -7,4 +7,5 @@ pub mod Naming
 pub mod NewNodes
 pub mod Orderly
 pub mod Pairs
+pub mod Receivers
 pub mod Spaces

@@ -26,7 +26,7 @@ use Rattle.event_store.specs.Streams.{streams_of, given}
 use Rattle.event_store.proofs.Apart.{config_stays}
 use Rattle.event_store.proofs.Deeds.{joining_gives, given_hears}
 use Rattle.event_store.proofs.Holding.{moved}
-use Rattle.node_state.specs.Held.{NodeHeld, HoldsNode}
+use Rattle.node_state.specs.Held.{NodeHeld, HoldsNode, IsMet}
 use Rattle.node_state.proofs.Formed.{reads_as}
 use Rattle.node_change.specs.Pairs.{with_pairs, put_pairs, pairs_of, copied}
 use Rattle.node_change.proofs.Copies.{space_copied}
@@ -108,9 +108,11 @@ copy_pending m t k is held none = record {
 
 -- ---- the new node
 
--- A new node: the node that gives, with its store and that of the new node before and after it is given the streams.
+-- A new node: the node that gives, which knows of it, with its store and that of the new node before and after it is
+-- given the streams.
 pub record Joined (n : Node) (new : ℕ) (run : Running) (m t mid : Store) : Type 0 where
   pub held : NodeHeld n m
+  pub known : IsMet new (knowledge n).config
   pub none : HoldsNode None t
   pub can : IsId new × IsText run.cluster
   pub shows : ShowsStreams (given_copy m t) (given new (streams_of n)) mid
@@ -130,6 +132,9 @@ joined_made {n} {new} {run} {m} {t} {mid} j =
       config = config_stays (given_copy m t) mid (given new (streams_of n)) (knowledge n).config j.shows
           (config_copied j.held j.none);
       orderly = j.held.orderly;
+      homes = j.held.homes;
+      self = j.known;
+      met = j.held.met;
       streams = subst (λ s. HoldsStreams s mid) (sym (joining_gives new n run)) j.shows.streams;
       log = moved (sym (j.shows.others 15 refl ∙ j.none 15 refl)) (empty_space (λ i. refl));
       status = omega arith;

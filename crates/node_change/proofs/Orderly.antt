@@ -1,6 +1,6 @@
 -- The ids of a configuration ascend still when an event has changed it.
 use Rattle.std.proofs.Common.{◌≡◌, ℕ, ◌<◌, Bool, true, false, cond, List, [], ◌∷◌, Option, Some, None, refl, sym}
-use Rattle.std.proofs.Common.{subst, arith}
+use Rattle.std.proofs.Common.{subst, ap, ◌∙◌, arith}
 use Rattle.std.specs.Prelude.{◌==◌, nat_lt, not, unwrap_or, is_some, filter}
 use Rattle.std.specs.List.{AllByRecursion}
 use Rattle.std.proofs.lemmas.Bool.{eqb-true, ltb-true}
@@ -12,14 +12,19 @@ use Rattle.node_rows.specs.declared.body.Body.TheVariants.{StoreNode, DropNode, 
 use Rattle.node_rows.specs.declared.body.Body.TheVariants.{DropSet, SetAddTable, SubscribeSet, EnableSubscription}
 use Rattle.node_rows.specs.declared.body.Body.TheVariants.{UnsubscribeSet, MoveSet, FailoverSet}
 use Rattle.node_rows.specs.declared.rows.NodeRow.{NodeRow}
+use Rattle.node_rows.specs.declared.rows.SetRow.{SetRow}
+use Rattle.node_rows.specs.declared.rows.TableRow.{TableRow}
 use Rattle.node_rows.specs.declared.rows.Subscription.{Subscription}
 use Rattle.node_rows.specs.Spellings.{CanBody}
 use Rattle.slon_model.specs.Maps.{Map, Map2, ids, entry_at, with_entry, without_entry, row_at, pair_at, with_pair}
 use Rattle.slon_model.specs.Maps.{without_pair}
 use Rattle.slon_model.specs.Snapshots.{Rising}
-use Rattle.slon_model.specs.Config.{Config, named_node, enabled, change_by}
+use Rattle.slon_model.specs.Events.{Event}
+use Rattle.slon_model.specs.Config.{Config, named_node, enabled, change_by, change}
 use Rattle.set_config.specs.Built.{IsBuilt}
-use Rattle.node_state.specs.Held.{IsOrdered, AreOrdered, IsOrderly}
+use Rattle.set_config.proofs.Entries.{entry-with}
+use Rattle.node_state.specs.Held.{IsOrdered, AreOrdered, IsOrderly, AreHomed, IsMet, AreMet}
+use Rattle.node_state.specs.Known.{IsHomed}
 
 -- ---- an entry is put
 
@@ -53,12 +58,12 @@ below_with least id x (e ∷ es) less all =
     ]
 
 -- a lesser id is below all that another one is below
-lesser : (least less : ℕ) (xs : List ℕ) → least < less → AllByRecursion (λ y. less < y) xs →
+pub lesser : (least less : ℕ) (xs : List ℕ) → least < less → AllByRecursion (λ y. less < y) xs →
     AllByRecursion (λ y. least < y) xs
 lesser least less [] below all = tt
 lesser least less (x ∷ xs) below all = (omega (arith, below, all.0), lesser least less xs below all.1)
 
-higher : (a b : ℕ) → nat_lt a b ≡ false → (a == b) ≡ false → b < a
+pub higher : (a b : ℕ) → nat_lt a b ≡ false → (a == b) ≡ false → b < a
 higher a b before differ = grind (arith, nat_tests)
 
 rising_with : {X : Type 0} (id : ℕ) (x : X) (es : Map X) → Rising (ids es) → Rising (ids (with_entry id x es))
@@ -116,7 +121,7 @@ ordered_without id es ordered = record {
 
 -- ---- two ids
 
-row_ordered : {X : Type 0} (first : ℕ) (m : Map2 X) → AllAre (λ e. IsOrdered e.1) m → IsOrdered (row_at first m)
+pub row_ordered : {X : Type 0} (first : ℕ) (m : Map2 X) → AllAre (λ e. IsOrdered e.1) m → IsOrdered (row_at first m)
 row_ordered first [] all = record { ids_are = tt; rising = tt }
 row_ordered first (e ∷ es) all =
     elim (first == e.0) as (λ b. IsOrdered (unwrap_or (cond b (Some e.1) (entry_at first es)) [])) [
@@ -196,3 +201,67 @@ change_orderly origin number (UnsubscribeSet set receiver) c built can o =
 change_orderly origin number (MoveSet set old new era feeds) c built can o = absurd built
 change_orderly origin number (FailoverSet failed limit sets) c built can o = absurd built
 change_orderly origin number others c built can o = o
+
+-- ---- each table is in a set that is known
+
+-- what is known is known still where an entry is put
+known_with : {X : Type 0} (q id : ℕ) (x : X) (es : Map X) → is_some (entry_at q es) ≡ true →
+    is_some (entry_at q (with_entry id x es)) ≡ true
+known_with q id x es is = ap is_some (entry-with q id x es) ∙ step (q == id)
+  where
+    step : (b : Bool) → is_some (cond b (Some x) (entry_at q es)) ≡ true
+    step true = refl
+    step false = is
+
+homes_with : (id : ℕ) (row : SetRow) (sets : Map SetRow) (tables : Map TableRow) →
+    AllAre (λ e. is_some (entry_at e.1.set_id sets) ≡ true) tables →
+    AllAre (λ e. is_some (entry_at e.1.set_id (with_entry id row sets)) ≡ true) tables
+homes_with id row sets [] homes = tt
+homes_with id row sets (e ∷ es) homes =
+    (known_with e.1.set_id id row sets homes.0, homes_with id row sets es homes.1)
+
+pub change_homed : (origin number : ℕ) (body : Body) (c : Config) → IsBuilt body → IsHomed body c → AreHomed c →
+    AreHomed (change_by origin number body c)
+change_homed origin number (StoreSet set by comment) c built home homes = homes_with set _ c.sets c.tables homes
+change_homed origin number (SetAddTable set table name comment) c built home homes =
+    all_with (λ e. is_some (entry_at e.1.set_id c.sets) ≡ true) table _ c.tables home homes
+change_homed origin number (DropSet set) c built home homes = absurd built
+change_homed origin number (MoveSet set old new era feeds) c built home homes = absurd built
+change_homed origin number (FailoverSet failed limit sets) c built home homes = absurd built
+change_homed origin number others c built home homes = homes
+
+-- ---- the nodes that are known
+
+known_named : (q node : ℕ) (nodes : Map NodeRow) → is_some (entry_at q nodes) ≡ true →
+    is_some (entry_at q (named_node node nodes)) ≡ true
+known_named q node nodes is = step (is_some (entry_at node nodes))
+  where
+    row : NodeRow
+    row = record { live = true; comment = [] }
+
+    step : (b : Bool) → is_some (entry_at q (cond b nodes (with_entry node row nodes))) ≡ true
+    step true = is
+    step false = known_with q node row nodes is
+
+-- a node that is known is known still when an event has changed the configuration
+pub change_known : (origin number q : ℕ) (body : Body) (c : Config) → IsBuilt body → IsMet q c →
+    IsMet q (change_by origin number body c)
+change_known origin number q (StoreNode node comment) c built is = known_with q node _ c.nodes is
+change_known origin number q (DropNode node) c built is = known_with q node _ c.nodes is
+change_known origin number q (SubscribeSet set provider receiver forward) c built is =
+    known_named q receiver c.nodes is
+change_known origin number q (DropSet set) c built is = absurd built
+change_known origin number q (MoveSet set old new era feeds) c built is = absurd built
+change_known origin number q (FailoverSet failed limit sets) c built is = absurd built
+change_known origin number q others c built is = is
+
+-- and so are the nodes that events are there of, with the one that emitted this event
+pub change_met : (e : Event) (c : Config) (progress : Map ℕ) → IsBuilt e.body → IsMet e.origin (change e c) →
+    AreMet progress c → AreMet (with_entry e.origin e.number progress) (change e c)
+change_met e c progress built here met =
+    all_with (λ p. is_some (entry_at p.0 (change e c).nodes) ≡ true) e.origin e.number progress here
+    (each progress met)
+  where
+    each : (ps : Map ℕ) → AreMet ps c → AreMet ps (change e c)
+    each [] met = tt
+    each (p ∷ ps) met = (change_known e.origin e.number p.0 e.body c built met.0, each ps met.1)

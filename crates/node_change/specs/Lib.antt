@@ -2,3 +2,4 @@ pub mod Announced
 pub mod Becoming
 pub mod Both
 pub mod Pairs
+pub mod Receivers

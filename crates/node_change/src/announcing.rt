@@ -5,11 +5,12 @@ ghost use Rattle.store_rows.specs.Rows.{IsId};
 ghost use Rattle.store_rows.specs.Steps.{Safe};
 ghost use Rattle.node_rows.specs.Spellings.{CanBody};
 ghost use Rattle.txn_core.specs.Snapshots.{seen_as};
-ghost use Rattle.slon_model.specs.Deeds.{Node};
+ghost use Rattle.slon_model.specs.Deeds.{Node, knowledge};
 ghost use Rattle.set_config.specs.Built.{IsBuilt};
 ghost use Rattle.event_store.specs.Seen.{event_by};
 ghost use Rattle.event_store.specs.Spellings.{CanSnapshot};
 ghost use Rattle.node_state.specs.Held.{HoldsNode};
+ghost use Rattle.node_state.specs.Known.{IsHomed};
 ghost use Rattle.node_change.specs.Announced.{Announces};
 
 use event_store::emit;
@@ -21,7 +22,8 @@ use store_rows::Stop;
 use txn_core::Snapshot;
 
 /// The node emits an event with this body, which gets its next number, and makes the change that the body names, in
-/// what is pending. The snapshot is one that was taken in the transaction that emits the event.
+/// what is pending. The snapshot is one that was taken in the transaction that emits the event. A table may be put only
+/// into a set that the node knows.
 ///
 /// # Errors
 ///
@@ -40,7 +42,7 @@ pub fn announce<K: Keeper>(
     requires built { IsBuilt body.now }
     ensures safe { Safe (K.kept keeper.old) (K.kept keeper.new) result }
     ensures turns { (n : Node) (m : Store) → n.id ≡ own → (K.kept keeper.old).pending ≡ Some (Some m) →
-        HoldsNode (Some n) m →
+        HoldsNode (Some n) m → IsHomed body.now (knowledge n).config →
         Announces n m (λ number. event_by own number taken.now body.now) (K.kept keeper.old) (K.kept keeper.new)
         result }
 {

@@ -15,6 +15,9 @@ pub const SETS: u8 = 6;
 /// The space of the tables of sets, by id.
 pub const TABLES: u8 = 7;
 
+/// The space of the subscriptions, by the ids of the set and of the receiver.
+pub const SUBSCRIPTIONS: u8 = 8;
+
 /// The spaces that a new node is given: what is known of the cluster, and the streams but for the views.
 pub const GIVEN: [u8; 10] = [4, 5, 6, 7, 8, 10, 11, 12, 13, 14];
 

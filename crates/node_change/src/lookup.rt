@@ -1,23 +1,26 @@
 // What statements look up of a node before they change it: one row each.
-ghost use Rattle.std.specs.Prelude.{◌≡◌, Some, OnOk, IfOk, IfErr, is_some};
-ghost use Rattle.std.specs.FinMap.{get};
+ghost use Rattle.std.specs.Prelude.{◌≡◌, ℕ, true, false, [], Some, OnOk, IfOk, IfErr, is_some};
+ghost use Rattle.std.specs.FinMap.{get, entries};
 ghost use Rattle.std.specs.Option.{option_map};
 ghost use Rattle.slon_base.specs.Codec.{number_bytes};
-ghost use Rattle.slon_base.specs.Keeper.{Store, sight};
+ghost use Rattle.slon_base.specs.Keeper.{Store, sight, after, first};
 ghost use Rattle.store_rows.specs.Rows.{IsId};
 ghost use Rattle.store_rows.specs.Space.{AllOf};
-ghost use Rattle.store_rows.specs.Steps.{Safe, IsOutside, IsWithinLimit, IsOfSpace, Gives};
+ghost use Rattle.store_rows.specs.Steps.{Safe, IsOutside, IsWithinLimit, IsOfSpace, Gives, is_failed};
 ghost use Rattle.node_rows.specs.Spellings.{node_bytes, CanNode, set_bytes, CanSet};
 ghost use Rattle.slon_model.specs.Maps.{entry_at};
 ghost use Rattle.slon_model.specs.Config.{Config, has_path};
-ghost use Rattle.set_config.specs.Holds.{HoldsConfig, pair_key};
+ghost use Rattle.slon_model.specs.Reaching.{receiver_with};
+ghost use Rattle.set_config.specs.Holds.{HoldsConfig, AreIds, pair_key};
 ghost use Rattle.event_store.specs.Formed.{IsRow, Lacks, Reads};
+ghost use Rattle.node_state.specs.Held.{IsOrderly};
+ghost use Rattle.node_change.specs.Receivers.{IsPairKey, receiver_of};
 
-use crate::layout::{NODES, PATHS, SETS, TABLES};
+use crate::layout::{NODES, PATHS, SETS, SUBSCRIPTIONS, TABLES};
 use node_rows::{NodeRow, SetRow};
 use slon_base::Keeper;
 use std::alloc::Global;
-use store_rows::{Stop, get_row, has_row};
+use store_rows::{Stop, get_row, has_row, next_pair, read_alone, spelling};
 
 /// The row of a node, if the database has heard of the node.
 ///
@@ -112,4 +115,49 @@ pub fn has_table_row<K: Keeper>(alloc: Global, keeper: &mut K, id: u32) -> Resul
         Gives (λ found. found ≡ is_some (entry_at id c.tables)) result }
 {
     has_row(alloc, keeper, TABLES, &id)
+}
+
+/// The receiver of the subscription with this key, if it is one to the set.
+fn receiver_in(alloc: Global, set: u32, key: &[u8]) -> Result<Option<u32>, Stop>
+    ensures never { is_failed result ≡ false }
+    ensures within { IfErr result IsWithinLimit }
+    ensures space { IfErr result (IsOfSpace 8) }
+    ensures ids { IfOk result (AllOf IsId) }
+    ensures gives { (i : ℕ × ℕ) → AreIds i → key.now ≡ pair_key i →
+        Gives (λ found. found ≡ receiver_of set i) result }
+    ensures form { Reads (Lacks 8 (IsPairKey (Some (key.now, [])))) result }
+{
+    match read_alone::<(u32, u32)>(alloc, SUBSCRIPTIONS, key) {
+        Ok((known, receiver)) => Ok((known == set).then_some(receiver)),
+        Err(stop) => Err(stop),
+    }
+}
+
+/// The least receiver of a set, if the set has one. The key of its subscription is read, and not the row.
+///
+/// # Errors
+///
+/// `BadRow` of space 8 exactly where the first key behind those of lesser sets is not in its form, what stopped the
+/// store, and `NoMemory`.
+pub fn first_receiver<K: Keeper>(
+    alloc: Global,
+    keeper: &mut K,
+    set: u32,
+) -> Result<Option<u32>, Stop>
+    requires id { IsId set }
+    ensures safe { Safe (K.kept keeper.old) (K.kept keeper.new) result }
+    ensures same { OnOk result ((K.kept keeper.new).pending ≡ (K.kept keeper.old).pending) }
+    ensures within { IfErr result IsWithinLimit }
+    ensures space { IfErr result (IsOfSpace 8) }
+    ensures ids { IfOk result (AllOf IsId) }
+    ensures says { (m : Store) (c : Config) → sight (K.kept keeper.old) ≡ Some m → HoldsConfig c m → IsOrderly c →
+        Gives (λ found. found ≡ receiver_with (λ e. true) set c) result }
+    ensures form { (m : Store) → sight (K.kept keeper.old) ≡ Some m →
+        Reads (Lacks 8 (IsPairKey (first (after (number_bytes set) (entries (m 8)))))) result }
+{
+    let from = spelling(alloc, &set)?;
+    match next_pair(keeper, SUBSCRIPTIONS, from.as_slice())? {
+        None => Ok(None),
+        Some((key, _)) => receiver_in(alloc, set, key.as_slice()),
+    }
 }

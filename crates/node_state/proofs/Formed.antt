@@ -21,3 +21,8 @@ if_ok P Q (Err e) on ok = tt
 pub on_ok : {T E : Type 0} (P Q : Type 0) (result : Result T E) → (P → Q) → OnOk result P → OnOk result Q
 on_ok P Q (Ok x) on ok = on ok
 on_ok P Q (Err e) on ok = tt
+
+-- what holds anyway
+pub on_any : {T E P : Type 0} (result : Result T E) → P → OnOk result P
+on_any (Ok x) p = p
+on_any (Err e) p = tt

@@ -20,7 +20,8 @@ use Rattle.slon_model.specs.Logs.{logged_on, own_logs, logged}
 use Rattle.log_switch.specs.Holds.{Logged as Item, HoldsLog, put_logs, logged_more}
 use Rattle.log_switch.proofs.Logging.{holds_more, others_stay}
 use Rattle.node_state.specs.Held.{NodeHeld, action_as, item_of, items_of, captured_all, is_of_node}
-use Rattle.node_state.specs.Known.{Members, member_as, logged_as, log_rows_of}
+use Rattle.node_state.specs.declared.memory.Members.{Members}
+use Rattle.node_state.specs.Known.{member_as, logged_as, log_rows_of}
 use Rattle.slon_model.specs.Place.{Place, own_actions}
 use Rattle.slon_model.specs.Moves.{with_commit}
 use Rattle.node_state.proofs.Staying.{AreSame, AreNear, config_stays, streams_stay, node_stays}
@@ -37,7 +38,8 @@ AreOf xid actions = AllByRecursion (λ a. (a.xid == xid) ≡ true) actions
 
 -- one action adds what the rules say that it logs
 one_more : (n : Node) (members : Members) (xid : ℕ) (a : Action) (items : List Item) → (a.xid == xid) ≡ true →
-    get members a.table ≡ option_map (member_as n.id (knowledge n).config) (member_of a.table (knowledge n).config) →
+    get members.live a.table
+    ≡ option_map (member_as n.id (knowledge n).config) (member_of a.table (knowledge n).config) →
     logged_more n.id (log_rows_of members xid (action_as a ∷ [])) items
     ≡ items_of (own_logs n.id (knowledge n) (a ∷ [])) ++ items
 one_more n members xid a items of is =
@@ -67,14 +69,14 @@ one_more n members xid a items of is =
 -- and so do all actions of a transaction
 pub all_more : (n : Node) (members : Members) (xid : ℕ) (actions : List Action) (items : List Item) →
     AreOf xid actions →
-    ((name : List ℕ) → get members name
+    ((name : List ℕ) → get members.live name
     ≡ option_map (member_as n.id (knowledge n).config) (member_of name (knowledge n).config)) →
     logged_more n.id (log_rows_of members xid (captured_all actions)) items
     ≡ items_of (own_logs n.id (knowledge n) actions) ++ items
 all_more n members xid [] items of known = refl
 all_more n members xid (a ∷ actions) items of known =
     ap (λ rows. logged_more n.id rows items)
-    (filter_map-append (λ b. logged_as xid b (get members b.table)) (captured_all actions) (action_as a ∷ []))
+    (filter_map-append (λ b. logged_as xid b (get members.live b.table)) (captured_all actions) (action_as a ∷ []))
     ∙ more-append n.id (log_rows_of members xid (captured_all actions)) _ items
     ∙ one_more n members xid a _ of.0 (known a.table)
     ∙ ap (λ is. items_of (own_logs n.id (knowledge n) (a ∷ [])) ++ is) (all_more n members xid actions items of.1 known)
@@ -102,6 +104,9 @@ node_grows {n} {xid} {p} {m} {new} g held =
       cluster = held.cluster;
       config = config_stays (knowledge n).config m _ near held.config;
       orderly = held.orderly;
+      homes = held.homes;
+      self = held.self;
+      met = held.met;
       streams = streams_stay _ m _ near held.streams;
       log = subst (λ items. HoldsLog items (put_logs n.id g.rows m))
           (g.logs ∙ sym (map-append item_of (own_logs n.id (knowledge n) (own_actions xid p)) (logged n)))

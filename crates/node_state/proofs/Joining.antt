@@ -1,7 +1,7 @@
 -- The tables of sets as the rows name them.
 use Rattle.std.proofs.Common.{◌≡◌, ℕ, Bool, true, false, cond, List, [], ◌∷◌, Option, Some, None, refl, sym, ap, subst}
 use Rattle.std.proofs.Common.{◌∙◌, is_some}
-use Rattle.std.specs.Prelude.{◌&&◌, ◌==◌, find}
+use Rattle.std.specs.Prelude.{◌&&◌, ◌||◌, ◌==◌, find}
 use Rattle.std.specs.Bool.{then_some}
 use Rattle.std.specs.BTreeMap as by_id
 use Rattle.std.specs.BTreeMap.{BTreeMap, Updates}
@@ -24,8 +24,10 @@ use Rattle.node_rows.specs.Spellings.{CanTable}
 use Rattle.slon_model.specs.Maps.{Map, entry_at}
 use Rattle.slon_model.specs.Config.{Config, set_row, member_of, live_set, leads_row}
 use Rattle.node_state.specs.declared.memory.Member.{Member}
-use Rattle.node_state.specs.Known.{Members, AreMembers, member_as}
-use Rattle.node_state.specs.Members.{config_of, member_in, member_by, leading, flat, AreLeads, AreThose}
+use Rattle.node_state.specs.declared.memory.Members.{Members}
+use Rattle.node_state.specs.Known.{AreMembers, member_as, is_used}
+use Rattle.node_state.specs.Members.{MemberMap, NameMap, config_of, member_in, member_by, leading, flat, AreLeads}
+use Rattle.node_state.specs.Members.{AreThose}
 
 -- ---- options
 
@@ -118,7 +120,7 @@ marked_on own leads new e left all none updates are set =
 -- ---- one row more
 
 -- the members of these rows are that of the first, and those of the others
-in_more : (own : ℕ) (sets : Map SetRow) (e : ℕ × TableRow) (es : Map TableRow) (name : List ℕ) →
+pub in_more : (own : ℕ) (sets : Map SetRow) (e : ℕ × TableRow) (es : Map TableRow) (name : List ℕ) →
     member_in own (config_of sets (e ∷ es)) name
     ≡ option_or (member_by own sets e name) (member_in own (config_of sets es) name)
 in_more own sets e es name =
@@ -143,12 +145,12 @@ joined own sets e es name old new is =
     ∙ ap (option_or old) (sym (in_more own sets e es name))
 
 -- a table whose name is free gets it
-pub record IsNew (members : Members) (own : ℕ) (sets : Map SetRow) (e : ℕ × TableRow) (leads : Bool) : Type 0 where
+pub record IsNew (members : MemberMap) (own : ℕ) (sets : Map SetRow) (e : ℕ × TableRow) (leads : Bool) : Type 0 where
   pub live : e.1.live ≡ true
   pub free : get members e.1.name ≡ None
   pub some : Some leads ≡ leading own (entry_at e.1.set_id sets)
 
-pub added : (members : Members) (own : ℕ) (sets : Map SetRow) (e : ℕ × TableRow) (leads : Bool) →
+pub added : (members : MemberMap) (own : ℕ) (sets : Map SetRow) (e : ℕ × TableRow) (leads : Bool) →
     IsNew members own sets e leads → (name : List ℕ) →
     get (insert members e.1.name (record { table = e.0; set = e.1.set_id; leads = leads })) name
     ≡ option_or (get members name) (member_by own sets e name)
@@ -184,13 +186,71 @@ added members own sets e leads is name =
     step false same (Some row) some = sym (or_none (get members name))
 
 -- no rows have no members
-pub none_yet : (own : ℕ) (sets : Map SetRow) (tables : Map TableRow) (members : Members) → members ≡ empty →
+pub none_yet : (own : ℕ) (sets : Map SetRow) (tables : Map TableRow) (members : MemberMap) → members ≡ empty →
     (name : List ℕ) →
     option_or (get members name) (member_in own (config_of sets tables) name)
     ≡ member_in own (config_of sets tables) name
 none_yet own sets tables members is name =
-    let none = ap (λ (ms : Members). get ms name) is ∙ get-empty key_cmp name in
+    let none = ap (λ (ms : MemberMap). get ms name) is ∙ get-empty key_cmp name in
     ap (λ o. option_or o (member_in own (config_of sets tables) name)) none
+
+-- ---- the names of all tables
+
+or_more : (a b c : Bool) → ((a || b) || c) ≡ (a || (b || c))
+or_more true b c = refl
+or_more false b c = refl
+
+or_true : (a : Bool) → (a || true) ≡ true
+or_true true = refl
+or_true false = refl
+
+or_false : (a : Bool) → (a || false) ≡ a
+or_false true = refl
+or_false false = refl
+
+-- one more name
+pub name_put : (names : NameMap) (name q : List ℕ) →
+    is_some (get (insert names name tt) q) ≡ (is_some (get names q) || bytes_eq q name)
+name_put names name q =
+    ap is_some (get-insert nat_list_cmp_total names name tt q
+    ∙ ap (λ b. cond b (Some tt) (get names q)) (is_eq-slice_cmp q name))
+    ∙ by (bytes_eq q name)
+  where
+    by : (b : Bool) → is_some (cond b (Some tt) (get names q)) ≡ (is_some (get names q) || b)
+    by true = sym (or_true (is_some (get names q)))
+    by false = sym (or_false (is_some (get names q)))
+
+or_turned : (a b : Bool) → (a || b) ≡ (b || a)
+or_turned true b = sym (or_true b)
+or_turned false b = sym (or_false b)
+
+pub name_learned : (names : NameMap) (name q : List ℕ) →
+    is_some (get (insert names name tt) q) ≡ (bytes_eq q name || is_some (get names q))
+name_learned names name q = name_put names name q ∙ or_turned (is_some (get names q)) (bytes_eq q name)
+
+-- no names are those of no rows
+pub no_names : (sets : Map SetRow) (tables : Map TableRow) (names : NameMap) → names ≡ empty → (name : List ℕ) →
+    (is_some (get names name) || is_used name (config_of sets tables)) ≡ is_used name (config_of sets tables)
+no_names sets tables names is name =
+    ap (λ (ns : NameMap). is_some (get ns name) || is_used name (config_of sets tables)) is
+    ∙ ap (λ o. is_some o || is_used name (config_of sets tables)) (get-empty key_cmp name)
+
+-- the name of a row is added, and the rest is left
+pub name_joined : (sets : Map SetRow) (e : ℕ × TableRow) (es : Map TableRow) (name : List ℕ) (old new : NameMap) →
+    new ≡ insert old e.1.name tt →
+    (is_some (get new name) || is_used name (config_of sets es))
+    ≡ (is_some (get old name) || is_used name (config_of sets (e ∷ es)))
+name_joined sets e es name old new is =
+    ap (λ (ns : NameMap). is_some (get ns name) || is_used name (config_of sets es)) is
+    ∙ ap (λ b. b || is_used name (config_of sets es)) (name_put old e.1.name name)
+    ∙ or_more (is_some (get old name)) (bytes_eq name e.1.name) (is_used name (config_of sets es))
+
+-- ---- all that is known of the cluster
+
+-- members and names are those of the sets and the tables, whatever else is known
+pub those_of : {own : ℕ} {c : Config} {members : Members} → AreThose own (config_of c.sets c.tables) members →
+    AreThose own c members
+those_of those = record { live = those.live; names = those.names }
 
 -- ---- their ids
 
@@ -206,7 +266,7 @@ found_can {X} Can p (y ∷ ys) all x is = step (p y) is (found_can Can p ys all.
 pub members_are : (own : ℕ) (sets : Map SetRow) (tables : Map TableRow) (members : Members) →
     AllAre (λ e. IsId e.0 × CanTable e.1) tables → AreThose own (config_of sets tables) members → AreMembers members
 members_are own sets tables members can those name m is =
-    by (member_of name c) refl (sym (those name) ∙ is)
+    by (member_of name c) refl (sym (those.live name) ∙ is)
   where
     c : Config
     c = config_of sets tables

@@ -3,8 +3,10 @@ pub mod Counting
 pub mod Formed
 pub mod Growing
 pub mod Joining
+pub mod Learning
 pub mod Listing
 pub mod Locking
+pub mod Meeting
 pub mod Naming
 pub mod Nobody
 pub mod Staying

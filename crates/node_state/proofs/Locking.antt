@@ -20,14 +20,15 @@ use Rattle.node_state.specs.declared.memory.Member.{Member}
 use Rattle.node_state.specs.Closing.{locked_in, IsLockedAs, IsOpen, IsOpenBy, HandedMember}
 use Rattle.node_state.specs.Handed.{HandedSet, IsOpenAs}
 use Rattle.node_state.specs.Held.{NodeHeld, HoldsNode}
-use Rattle.node_state.specs.Known.{Members, member_as, member_at}
+use Rattle.node_state.specs.declared.memory.Members.{Members}
+use Rattle.node_state.specs.Known.{member_as, member_at}
 
 -- a member that was found
 pub record IsFound (members : Members) (table : List ℕ) (member : Member) : Type 0 where
-  pub is : get members table ≡ Some member
+  pub is : get members.live table ≡ Some member
 
 other_member : {members : Members} {table : List ℕ} {member : Member} → IsFound members table member → (m : Member) →
-    get members table ≡ Some m → member ≡ m
+    get members.live table ≡ Some m → member ≡ m
 other_member found m is = let same = sym found.is ∙ is in cc
 
 -- the result for the member of a table is that for the table

@@ -10,7 +10,8 @@ use Rattle.node_state.specs.declared.memory.Identity.{Identity}
 use Rattle.slon_model.specs.Deeds.{Node, knowledge}
 use Rattle.node_state.specs.Handed.{HasIdentity, HandedSets, HandedNode}
 use Rattle.node_state.specs.Held.{NodeHeld, HoldsNode, HasMeta}
-use Rattle.node_state.specs.Known.{Members, CanIdentity, IsKnown, identity_of}
+use Rattle.node_state.specs.declared.memory.Members.{Members}
+use Rattle.node_state.specs.Known.{CanIdentity, IsKnown, identity_of}
 use Rattle.node_state.specs.Members.{AreThose}
 
 -- the id that stands, if one does
@@ -92,7 +93,8 @@ known_some (Some n) m identity members held is those =
     let id : identity.id ≡ n.id = cc in
     record {
       identity_is = is;
-      members_are = subst (λ own. AreThose own (knowledge n).config members) id (those n held);
+      members_are = (subst (λ own. AreThose own (knowledge n).config members) id (those n held)).live;
+      names_are = (those n held).names;
     }
 
 -- the identity was read, and then the tables of the sets

@@ -15,8 +15,9 @@ use Rattle.slon_model.specs.World.{halt_in}
 use Rattle.set_config.specs.Holds.{pair_key}
 use Rattle.node_state.specs.declared.memory.Identity.{Identity}
 use Rattle.node_state.specs.declared.memory.Member.{Member}
+use Rattle.node_state.specs.declared.memory.Members.{Members}
 use Rattle.event_store.specs.Formed.{Lacks}
-use Rattle.node_state.specs.Known.{Members, CanIdentity}
+use Rattle.node_state.specs.Known.{CanIdentity}
 
 -- ---- as a database comes up
 
@@ -60,7 +61,7 @@ pub record IsSet (entry : Option (List ℕ)) : Type 0 where
 -- of a table in a set of which the node is the origin the set is read, if the node does not receive it
 pub record HandedSet (members : Members) (table : List ℕ) (m : Store) (space : ℕ) : Type 0 where
   pub member : Member
-  pub found : get members table ≡ Some member
+  pub found : get members.live table ≡ Some member
   pub received : get (m 9) (number_bytes member.set) ≡ None
   pub leads : member.leads ≡ true
   pub misspelled : Lacks 6 (IsSet (get (m 6) (number_bytes member.set))) space
@@ -68,8 +69,8 @@ pub record HandedSet (members : Members) (table : List ℕ) (m : Store) (space :
 -- nothing in the store keeps an application from writing a table: the node does not receive its set, and where it is
 -- the origin of the set, no row says that the set is locked
 pub record IsOpenTo (members : Members) (table : List ℕ) (m : Store) : Type 0 where
-  pub sent : (member : Member) → get members table ≡ Some member → get (m 9) (number_bytes member.set) ≡ None
-  pub unlocked : (member : Member) → get members table ≡ Some member → member.leads ≡ true →
+  pub sent : (member : Member) → get members.live table ≡ Some member → get (m 9) (number_bytes member.set) ≡ None
+  pub unlocked : (member : Member) → get members.live table ≡ Some member → member.leads ≡ true →
       (row : SetRow) → CanSet row → get (m 6) (number_bytes member.set) ≡ Some (set_bytes row) →
       row.locked ≡ false
 

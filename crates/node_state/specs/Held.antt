@@ -1,6 +1,6 @@
 -- How a store holds the node that its database is.
-use Rattle.std.specs.Prelude.{◌≡◌, ℕ, ◌<◌, ◌≤◌, ◌==◌, ◌||◌, ◌&&◌, nat_le, Bool, false, List, [], ◌∷◌, ◌++◌, map}
-use Rattle.std.specs.Prelude.{Option, Some, None}
+use Rattle.std.specs.Prelude.{◌≡◌, ℕ, ◌<◌, ◌≤◌, ◌==◌, ◌||◌, ◌&&◌, nat_le, Bool, true, false, List, [], ◌∷◌, ◌++◌, map}
+use Rattle.std.specs.Prelude.{Option, Some, None, is_some}
 use Rattle.std.specs.Option.{option_map}
 use Rattle.std.specs.FinMap.{get, empty}
 use Rattle.slon_base.specs.Codec.{number_bytes, text_bytes, IsText, AllAre}
@@ -10,7 +10,7 @@ use Rattle.change_capture.specs.declared.action.Change.{Change}
 use Rattle.change_capture.specs.declared.action.Change.TheVariants as captured
 use Rattle.change_capture.specs.declared.action.Action.{Action}
 use Rattle.change_capture.specs.Capture.{log_row}
-use Rattle.slon_model.specs.Maps.{Map, Map2, ids, number_at}
+use Rattle.slon_model.specs.Maps.{Map, Map2, ids, entry_at, number_at}
 use Rattle.slon_model.specs.Rows.{Change as RowsChange, Put, Set, Remove, Action as RowsAction}
 use Rattle.slon_model.specs.Snapshots.{Rising}
 use Rattle.slon_model.specs.Config.{Config}
@@ -66,6 +66,18 @@ pub record IsOrderly (c : Config) : Type 0 where
   pub subscriptions : AreOrdered c.subscriptions
   pub fences : IsOrdered c.fences
 
+-- each table is in a set that is known
+abbrev pub AreHomed : Config → Type 0
+AreHomed c = AllAre (λ e. is_some (entry_at e.1.set_id c.sets) ≡ true) c.tables
+
+-- a node of this id is known
+abbrev pub IsMet : ℕ → Config → Type 0
+IsMet id c = is_some (entry_at id c.nodes) ≡ true
+
+-- and so is each node that stands in this map
+abbrev pub AreMet : Map ℕ → Config → Type 0
+AreMet progress c = AllAre (λ e. is_some (entry_at e.0 c.nodes) ≡ true) progress
+
 -- ---- the node
 
 -- the spaces of a database: its numbers, its tables and its rows
@@ -82,6 +94,11 @@ pub record NodeHeld (n : Node) (m : Store) : Type 0 where
   pub cluster : IsText n.cluster
   pub config : HoldsConfig (knowledge n).config m
   pub orderly : IsOrderly (knowledge n).config
+  pub homes : AreHomed (knowledge n).config
+  -- it knows itself
+  pub self : IsMet n.id (knowledge n).config
+  -- it has events of no node that it does not know
+  pub met : AreMet (knowledge n).progress (knowledge n).config
   pub streams : HoldsStreams (streams_of n) m
   pub log : HoldsLog (items_of (logged n)) m
   pub status : (knowledge n).log < 4

@@ -1,12 +1,11 @@
 -- What a database keeps in memory of the node that it is.
-use Rattle.std.specs.Prelude.{◌≡◌, ℕ, ◌^◌, ◌&&◌, nat_lt, nat_le, if◌then◌else◌, Bool, true, List, length, filter_map}
-use Rattle.std.specs.Prelude.{Option, Some, None}
-use Rattle.std.specs.List.{list_all}
+use Rattle.std.specs.Prelude.{◌≡◌, ℕ, ◌^◌, ◌&&◌, ◌||◌, nat_lt, nat_le, if◌then◌else◌, Bool, true, false, List, length}
+use Rattle.std.specs.Prelude.{filter_map, Option, Some, None, is_some}
+use Rattle.std.specs.List.{list_all, list_any}
 use Rattle.std.specs.Str.{bytes_eq}
 use Rattle.std.specs.Option.{option_map}
-use Rattle.std.specs.FinMap.{FinMap, get}
+use Rattle.std.specs.FinMap.{get}
 use Rattle.slon_base.specs.Codec.{IsText}
-use Rattle.slon_base.specs.Keeper.{key_cmp}
 use Rattle.store_rows.specs.Rows.{IsId}
 use Rattle.node_rows.specs.declared.rows.TableRow.{TableRow}
 use Rattle.change_capture.specs.declared.action.Action.{Action}
@@ -19,14 +18,12 @@ use Rattle.slon_model.specs.Spoken.{greatest_column}
 use Rattle.node_rows.specs.declared.body.Body.{Body}
 use Rattle.node_rows.specs.declared.body.Body.TheVariants.{SetAddTable}
 use Rattle.slon_model.specs.Events.{Event}
+use Rattle.slon_model.specs.Maps.{entry_at}
 use Rattle.slon_model.specs.Config.{Config, is_origin, member_of, change}
 use Rattle.slon_model.specs.Deeds.{Node, knowledge}
 use Rattle.node_state.specs.declared.memory.Identity.{Identity}
 use Rattle.node_state.specs.declared.memory.Member.{Member}
-
--- the tables of sets, by their names
-abbrev pub Members : Type 0
-Members = FinMap key_cmp Member
+use Rattle.node_state.specs.declared.memory.Members.{Members}
 
 -- ---- what the rules say of it
 
@@ -41,10 +38,19 @@ member_at None name = None
 member_at (Some n) name =
     let c = (knowledge n).config in option_map (λ e. member_as n.id c e) (member_of name c)
 
+-- a table of this name is or was in a set
+abbrev pub is_used : List ℕ → Config → Bool
+is_used name c = list_any (λ e. bytes_eq name e.1.name) c.tables
+
+abbrev pub is_named : List ℕ → Option Node → Bool
+is_named name None = false
+is_named name (Some n) = is_used name (knowledge n).config
+
 -- the memory is what the rules know of the node
 pub record IsKnown (node : Option Node) (identity : Option Identity) (members : Members) : Type 0 where
   pub identity_is : identity ≡ identity_of node
-  pub members_are : (name : List ℕ) → get members name ≡ member_at node name
+  pub members_are : (name : List ℕ) → get members.live name ≡ member_at node name
+  pub names_are : (name : List ℕ) → is_some (get members.names name) ≡ is_named name node
 
 -- what is kept of the table of a name, once the node emitted an event with this body: a table that it puts into a set
 -- is one of a set of which it is the origin
@@ -53,12 +59,24 @@ learned_member (SetAddTable set table name comment) other before =
     if bytes_eq other name then Some (record { table = table; set = set; leads = true }) else before
 learned_member others other before = before
 
--- an event changes the tables of sets in no other way
-abbrev pub Learns : Node → Event → Type 0
-Learns n e =
-    let c = (knowledge n).config in
-    (name : List ℕ) → option_map (λ t. member_as n.id (change e c) t) (member_of name (change e c))
-    ≡ learned_member e.body name (member_at (Some n) name)
+-- and whether a table of this name is or was in a set
+abbrev pub learned_name : Body → List ℕ → Bool → Bool
+learned_name (SetAddTable set table name comment) other before = bytes_eq other name || before
+learned_name others other before = before
+
+-- a table that is put into a set is put into one that is known
+abbrev pub IsHomed : Body → Config → Type 0
+IsHomed (SetAddTable set table name comment) c = is_some (entry_at set c.sets) ≡ true
+IsHomed others c = Unit {0}
+
+-- An event changes the tables of sets and their names in no other way.
+pub record Learns (n : Node) (e : Event) : Type 0 where
+  pub members : let c = change e (knowledge n).config in
+      (name : List ℕ) → option_map (λ t. member_as n.id c t) (member_of name c)
+      ≡ learned_member e.body name (member_at (Some n) name)
+  pub names : (name : List ℕ) →
+      is_used name (change e (knowledge n).config) ≡ learned_name e.body name (is_used name (knowledge n).config)
+  pub home : IsHomed e.body (knowledge n).config
 
 -- ---- forms
 
@@ -72,7 +90,7 @@ CanIdentity identity = (i : Identity) → identity ≡ Some i → IsId i.id × I
 
 -- the ids of members are in their range
 abbrev pub AreMembers : Members → Type 0
-AreMembers members = (name : List ℕ) (m : Member) → get members name ≡ Some m → IsId m.table × IsId m.set
+AreMembers members = (name : List ℕ) (m : Member) → get members.live name ≡ Some m → IsId m.table × IsId m.set
 
 -- ---- the rows that a commit logs
 
@@ -98,4 +116,4 @@ logged_as xid a (Some member) = if member.leads then Some (a.number, log_row xid
 
 -- the rows of these actions of a transaction, each with its number
 abbrev pub log_rows_of : Members → ℕ → List Action → List (ℕ × LogRow)
-log_rows_of members xid actions = filter_map (λ a. logged_as xid a (get members a.table)) actions
+log_rows_of members xid actions = filter_map (λ a. logged_as xid a (get members.live a.table)) actions

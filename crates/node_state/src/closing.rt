@@ -98,7 +98,7 @@ pub fn find_closed<K: Keeper>(
     ensures form { (m : Store) → sight (K.kept keeper.old) ≡ Some m →
         Reads (HandedSet memory.now.members table.now m) result }
 {
-    match memory.members.get(table.as_slice()) {
+    match memory.members.live.get(table.as_slice()) {
         Some(member) => closed_member(alloc, keeper, *member),
         None => Ok(None),
     }

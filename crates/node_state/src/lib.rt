@@ -12,6 +12,6 @@ mod telling;
 
 pub use closing::find_closed;
 pub use logging::log_rows;
-pub use memory::{Identity, Member, NodeMemory};
+pub use memory::{Identity, Member, Members, NodeMemory};
 pub use reading::find_node;
 pub use telling::tell;

@@ -21,10 +21,10 @@ fn numbered_row(
     requires small { xid < 2 ^ 63 }
     requires captured { is_captured action.now ≡ true }
     ensures row { IfOk result (λ row.
-        row ≡ logged_as xid action.now (get memory.now.members action.now.table)) }
+        row ≡ logged_as xid action.now (get memory.now.members.live action.now.table)) }
     ensures can { IfOk result (AllOf (λ r. (r.0 < 2 ^ 63) × CanLogRow r.1)) }
 {
-    match memory.members.get(action.table.as_slice()) {
+    match memory.members.live.get(action.table.as_slice()) {
         Some(member) if member.leads => {
             let row = log_row_of(alloc, xid, member.table, action)?;
             Ok(Some((action.number, row)))

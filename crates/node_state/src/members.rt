@@ -2,7 +2,7 @@
 ghost use Rattle.std.specs.Prelude.{◌≡◌, List, ℕ, Some, OnOk, IfOk, IfErr};
 ghost use Rattle.std.specs.Option.{option_map, option_or, option_copied};
 ghost use Rattle.std.specs.BTreeMap as by_id;
-ghost use Rattle.std.specs.FinMap.{get};
+ghost use Rattle.std.specs.FinMap.{get, insert};
 ghost use Rattle.std.specs.Ordering.{nat_cmp};
 ghost use Rattle.slon_base.specs.Codec.{AllAre};
 ghost use Rattle.slon_base.specs.Keeper.{Store, sight};
@@ -21,7 +21,7 @@ ghost use Rattle.node_state.specs.Members.{config_of, flat, AreLeads, member_by,
 
 use crate::entries::all_rows;
 use crate::layout::{SETS, TABLES};
-use crate::memory::Member;
+use crate::memory::{Member, Members};
 use node_rows::{SetRow, TableRow};
 use slon_base::{ByteMap, Keeper};
 use std::alloc::{AllocError, Global};
@@ -81,29 +81,39 @@ fn add_member(
     }
 }
 
-/// The live tables of live sets, by their names.
+/// Adds the name of a table, whether the table is live or not.
+fn add_name(alloc: Global, names: &mut ByteMap<()>, row: &TableRow) -> Result<(), AllocError>
+    ensures { OnOk result (names.new ≡ insert names.old row.now.name tt) }
+{
+    let name = Vec::from_slice(alloc, row.name.as_slice())?;
+    names.insert(name, ())
+}
+
+/// The tables of sets, by their names.
 fn members_of(
     alloc: Global,
     own: u32,
     sets: &[(u32, SetRow)],
     tables: &[(u32, TableRow)],
-) -> Result<ByteMap<Member>, AllocError>
+) -> Result<Members, AllocError>
     ensures { IfOk result (AreThose own (config_of sets.now tables.now)) }
 {
     let leads = leads_of(alloc, own, sets)?;
-    let mut members = ByteMap::new(alloc);
+    let mut live = ByteMap::new(alloc);
+    let mut names = ByteMap::new(alloc);
     for (table, row) in tables {
-        add_member(alloc, &mut members, &leads, *table, row)?;
+        add_member(alloc, &mut live, &leads, *table, row)?;
+        add_name(alloc, &mut names, row)?;
     }
-    Ok(members)
+    Ok(Members { live, names })
 }
 
-/// Reads the live tables of live sets, by their names.
+/// Reads the tables of sets, by their names.
 pub(crate) fn find_members<K: Keeper>(
     alloc: Global,
     keeper: &mut K,
     own: u32,
-) -> Result<ByteMap<Member>, Stop>
+) -> Result<Members, Stop>
     ensures safe { Safe (K.kept keeper.old) (K.kept keeper.new) result }
     ensures same { OnOk result ((K.kept keeper.new).pending ≡ (K.kept keeper.old).pending) }
     ensures within { IfErr result IsWithinLimit }

@@ -25,23 +25,32 @@ pub struct Member {
     pub leads: bool,
 }
 
+/// The tables of sets, by their names.
+#[derive(Drop)]
+pub struct Members {
+    /// The live tables of live sets.
+    pub live: ByteMap<Member>,
+    /// The names of all tables that were ever in a set.
+    pub names: ByteMap<()>,
+}
+
 /// What a database keeps in memory of the node that it is: which one, and the tables of sets by their names. A database
 /// that is no node keeps nothing.
 #[derive(Drop)]
 pub struct NodeMemory {
     pub identity: Option<Identity>,
-    pub members: ByteMap<Member>,
+    pub members: Members,
     ghost identified: { IsIdentified identity },
     ghost numbered: { AreMembers members },
 }
 
 impl NodeMemory {
-    ghost use Rattle.std.specs.Prelude.{◌≡◌, ℕ, List, OnOk, Some, None};
+    ghost use Rattle.std.specs.Prelude.{◌≡◌, ℕ, List, OnOk, Some, None, is_some};
     ghost use Rattle.std.specs.FinMap.{get};
     ghost use Rattle.node_rows.specs.Spellings.{CanBody};
     ghost use Rattle.std.specs.Option.{option_map};
     ghost use Rattle.store_rows.specs.Rows.{IsId};
-    ghost use Rattle.node_state.specs.Known.{IsKnown, learned_member};
+    ghost use Rattle.node_state.specs.Known.{IsKnown, learned_member, learned_name};
 
     /// The memory of a database that is no node.
     pub fn none(alloc: Global) -> NodeMemory
@@ -49,7 +58,10 @@ impl NodeMemory {
     {
         NodeMemory {
             identity: None,
-            members: ByteMap::new(alloc),
+            members: Members {
+                live: ByteMap::new(alloc),
+                names: ByteMap::new(alloc),
+            },
         }
     }
 
@@ -57,7 +69,9 @@ impl NodeMemory {
     pub fn learn(&mut self, alloc: Global, body: &Body) -> Result<(), AllocError>
         requires { CanBody body.now }
         ensures members { OnOk result ((name : List ℕ) →
-            get self.new.members name ≡ learned_member body.now name (get self.old.members name)) }
+            get self.new.members.live name ≡ learned_member body.now name (get self.old.members.live name)) }
+        ensures names { OnOk result ((name : List ℕ) → is_some (get self.new.members.names name)
+            ≡ learned_name body.now name (is_some (get self.old.members.names name))) }
         ensures identity { self.new.identity ≡ self.old.identity }
     {
         match body {
@@ -72,11 +86,20 @@ impl NodeMemory {
                     set: *set,
                     leads: true,
                 };
+                let live = Vec::from_slice(alloc, name.as_slice())?;
                 let name = Vec::from_slice(alloc, name.as_slice())?;
-                self.members.insert(name, member)
+                self.members.live.insert(live, member)?;
+                self.members.names.insert(name, ())
             }
             _ => Ok(()),
         }
+    }
+
+    /// Whether a table of this name is or was in a set.
+    pub fn names(&self, name: &Text) -> bool
+        ensures { result ≡ is_some (get self.now.members.names name.now) }
+    {
+        self.members.names.contains_key(name.as_slice())
     }
 
     /// The id of the node, if the database is one.

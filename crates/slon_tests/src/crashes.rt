@@ -1,14 +1,13 @@
 // A session that crashes, or whose store fails, at each call.
-use crate::expecting::require;
 use crate::known::{Known, NO_TABLE, Step};
 use crate::running::{Fails, NOTHING, failing_at, run};
-use crate::telling::keeping;
 use node_keeper::MemSink;
 use slon_main::Status;
 use std::alloc::Global;
 use std::process::Abort;
 use std::str::Lines;
 use std::test::Fail;
+use test_words::{keeping, require};
 
 /// A database is made and comes up once, so that its numbers stand at their ceilings.
 const START: &[Step] = &[

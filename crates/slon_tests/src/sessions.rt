@@ -1,9 +1,9 @@
 // Whole sessions over files, stores and an output in memory.
-use crate::expecting::{expect, require};
 use crate::running::{Fails, NOTHING, failing_at, run};
 use slon_main::Status;
 use std::alloc::Global;
 use std::test::Fail;
+use test_words::{expect, require};
 
 const FIRST_PATH: &[u8] =
     b"database a\ntable a public.t 2\nbegin a x\ninsert a x public.t k 1\ncommit a x\nrows a public.t\n";

@@ -2,6 +2,7 @@ use Rattle.std.proofs.Common.{◌∙◌, refl, inl}
 use Rattle.std.proofs.lemmas.Bool.{false≢true, true≢false}
 use Rattle.node_keeper.specs.Fused.{fuse_kept}
 use Rattle.app_store.specs.Base.{memory_of}
+use Rattle.app_store.proofs.Standing.{is_down}
 use Rattle.app_store.proofs.Rising.{begins_done, begins_doubt, begins_fault}
 use Rattle.app_store.proofs.Halting.{stopped}
 use Rattle.app_store.proofs.Serving.{worked_on, worked_rollback, ran_or, ran_or_doubt, founds_well, founds_doubt}
@@ -60,7 +61,7 @@ returns-in-Err-clause-founds g c =
     begins_fault (record {
       kept = fuse_kept g.K.Keeper.kept c.args.keeper.now;
       memory = memory_of c.fresh-state.result;
-    }) _ c.in-Err.stop c.fall-fault.result c.fresh-state.ensures.doubt_is works.0
-    (stopped _ _ _ _ (c.fall-fault.ensures.down.up, c.fall-fault.ensures.down.doubt) ran.rose
+    }) _ c.in-Err.stop c.fall-fault.result c.fresh-state.ensures works.0
+    (stopped _ _ _ _ (is_down c.fall-fault.ensures.down) ran.rose
     c.fall-fault.ensures.fault
     (memory, works.1)))

@@ -23,4 +23,4 @@ returns-in_err-put_pairs g c =
 pub returns : goal.returns
 returns g c =
     let p = c.in_ok-put_pairs.ensures in
-    ended c.finish.result (changed _ (begun c.in_ok-begin.ensures) p.safe p.put) c.finish.ensures
+    ended c.finish.result (changed _ (begun c.in_ok-begin.ensures) p.safe p.put) c.finish.ensures.ends

@@ -54,4 +54,4 @@ returns g c =
     let p = c.in_ok-put_pair.ensures in
     ended c.finish.result
     (changed _ (changed _ (changed _ (begun c.in_ok-begin.ensures) w.safe w.put) l.safe l.put) p.safe p.put)
-    c.finish.ensures
+    c.finish.ensures.ends

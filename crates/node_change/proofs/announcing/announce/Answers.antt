@@ -7,7 +7,7 @@ use Rattle.node_change.proofs.Emitting.{emission, emit_stops, change_stops, show
 use Rattle.node_change.proofs.announcing.announce.Goals as goal
 
 pub returns-in_err-number-clause-turns : goal.returns-in_err-number-clause-turns
-returns-in_err-number-clause-turns g c n m own is held =
+returns-in_err-number-clause-turns g c n m own is held home =
     let old = g.K.Keeper.kept c.args.keeper.now in
     let result = c.from_residual.result in
     emit_stops n m _ old (g.K.Keeper.kept c.emit.new.keeper) result
@@ -15,7 +15,7 @@ returns-in_err-number-clause-turns g c n m own is held =
     (c.in_err-number.ensures.turns m (streams_of n) own (shows_streams is held))
 
 pub returns-in_err-change-clause-turns : goal.returns-in_err-change-clause-turns
-returns-in_err-change-clause-turns g c n m own is held =
+returns-in_err-change-clause-turns g c n m own is held home =
     let old = g.K.Keeper.kept c.args.keeper.now in
     let result = c.from_residual-in_err-change.result in
     let emits = c.in_ok-number.ensures.turns m (streams_of n) own (shows_streams is held) in
@@ -25,7 +25,7 @@ returns-in_err-change-clause-turns g c n m own is held =
     (c.in_err-change.ensures.turns emits.2.store (knowledge n).config p)
 
 pub returns-clause-turns : goal.returns-clause-turns
-returns-clause-turns g c n m own is held =
+returns-clause-turns g c n m own is held home =
     let emits = c.in_ok-number.ensures.turns m (streams_of n) own (shows_streams is held) in
     let p = shows_config held emits.2 in (
       emits.0,
@@ -36,6 +36,7 @@ returns-clause-turns g c n m own is held =
         next = emits.0;
         built = c.requires.built;
         can = c.requires.can.1;
+        home = home;
         streams = emits.2.has;
         config = shows;
       })) (c.in_ok-change.ensures.turns emits.2.store (knowledge n).config p),

@@ -11,7 +11,7 @@ use Rattle.node_state.proofs.closing.find_closed.Goals as goal
 found_here : (g : Over) (c : goal.After-closed_member g) →
     IsFound c.args.memory.now.members c.args.table.now c.in-Some.member.now
 found_here g c = record {
-  is = ap (λ k. get c.args.memory.now.members k) (sym c.as_slice.ensures.value) ∙ sym c.get.ensures
+  is = ap (λ k. get c.args.memory.now.members.live k) (sym c.as_slice.ensures.value) ∙ sym c.get.ensures
       ∙ ap option_copied c.in-Some.is;
 }
 

@@ -2,7 +2,7 @@ use Rattle.std.proofs.Common.{◌∙◌, is_some, sym, ap}
 use Rattle.std.specs.FinMap.{get, insert}
 use Rattle.slon_lemmas.proofs.Tests.{none_of}
 use Rattle.node_state.specs.declared.memory.Member.{Member}
-use Rattle.node_state.specs.Known.{Members}
+use Rattle.node_state.specs.Members.{MemberMap}
 use Rattle.node_state.proofs.Formed.{on_ok}
 use Rattle.node_state.proofs.Joining.{IsNew, added}
 use Rattle.node_state.proofs.members.add_member.Goals as goal
@@ -20,5 +20,5 @@ returns-in_ok-name-in-Some c own sets are =
       some = sym c.in-Some.is ∙ c.leading.ensures ∙ are row.set_id;
     } in
     on_ok _ _ c.insert.result
-    (λ is name. ap (λ (ms : Members). get ms name) (is ∙ ap (λ k. insert members k here) named)
+    (λ is name. ap (λ (ms : MemberMap). get ms name) (is ∙ ap (λ k. insert members k here) named)
     ∙ added members own sets (c.args.table, row) c.in-Some.leads new name) c.insert.ensures.ok

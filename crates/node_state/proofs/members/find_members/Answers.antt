@@ -13,7 +13,7 @@ use Rattle.slon_model.specs.Maps.{Map}
 use Rattle.node_state.specs.Held.{IsOrderly}
 use Rattle.node_state.specs.Members.{config_of, AreThose}
 use Rattle.node_state.proofs.Formed.{gives_stop}
-use Rattle.node_state.proofs.Joining.{members_are}
+use Rattle.node_state.proofs.Joining.{members_are, those_of}
 use Rattle.node_state.proofs.Listing.{HoldsMap, held_rows}
 use Rattle.node_state.proofs.members.find_members.Goals as goal
 
@@ -53,5 +53,6 @@ returns-clause-says g c m config seen held orderly =
     let sets_are = c.as_slice.ensures.value ∙ c.in_ok-sets.ensures.gives m config.sets seen sets.0 sets.1 in
     let tables_are =
     c.as_slice-2.ensures.value ∙ c.in_ok-tables.ensures.gives m config.tables later tables.0 tables.1 in
-    subst (λ (p : Map SetRow × Map TableRow). AreThose c.args.own (config_of p.0 p.1) c.in_ok-members_of.field-0)
-    (λ i. (sets_are i, tables_are i)) c.in_ok-members_of.ensures
+    those_of {c = config}
+    (subst (λ (p : Map SetRow × Map TableRow). AreThose c.args.own (config_of p.0 p.1) c.in_ok-members_of.field-0)
+    (λ i. (sets_are i, tables_are i)) c.in_ok-members_of.ensures)

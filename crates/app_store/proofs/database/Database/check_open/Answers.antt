@@ -3,7 +3,7 @@ use Rattle.app_store.specs.Base.{base_of}
 use Rattle.app_store.specs.Targets.{IsOpen, IsShut, StopsOpen}
 use Rattle.app_store.proofs.Halting.{stopped}
 use Rattle.app_store.proofs.Pending.{sight-idle}
-use Rattle.app_store.proofs.Standing.{look_fell, looked, up_from, up_running}
+use Rattle.app_store.proofs.Standing.{is_down, look_fell, looked, up_from, up_running}
 use Rattle.app_store.proofs.database.Database.check_open.Goals as goal
 
 pub returns-in-None-clause-finds : goal.returns-in-None-clause-finds
@@ -41,5 +41,5 @@ returns-in-Err-clause-finds g c p ready memory =
     (up_running p b ready.fits c.requires.up).1.known in
     StopsOpen c.fall.result refl
     (look_fell p b _ c.in-Err.stop c.fall.result (up_from ready c.requires.up) c.in-Err.ensures.safe.held
-    (stopped _ _ _ _ (c.fall.ensures.down.up, c.fall.ensures.down.doubt)
+    (stopped _ _ _ _ (is_down c.fall.ensures.down)
     (λ failed. c.in-Err.ensures.safe.rises failed _ (omega arith)) c.fall.ensures.fault (memory, says)))

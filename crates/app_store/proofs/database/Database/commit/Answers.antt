@@ -109,7 +109,13 @@ returns-in-Ok-clause-serves g c =
       can = c.in-Ok.ensures.can;
       less = omega (arith, c.if-self-ge-STORED_LIMIT.false);
     })
-    (record { up = c.take_down.ensures.up; doubt = refl; later = tries.counted.later; either = made }))
+    (record {
+      up = c.take_down.ensures.up;
+      doubt = refl;
+      identity = c.take_down.ensures.identity;
+      later = tries.counted.later;
+      either = made;
+    }))
 
 pub returns-clause-serves : goal.returns-clause-serves
 returns-clause-serves g c =
@@ -121,7 +127,11 @@ returns-clause-serves g c =
     plain_fell (ToCommit c.args.name.now) c.fall.result _ (up_at ready c.if-not-self.false) refl
     (look_fell p (base_of g.K.Keeper.kept c.args.self.now) _ c.in-Err.stop c.fall.result
     (up_from ready c.if-not-self.false) (works.0 ∙ sym ready.fits.held.1)
-    (stopped _ _ _ _ (c.fall.ensures.down.up, c.fall.ensures.down.doubt) c.in-Err.ensures.tries.counted.failed
+    (stopped _ _ _ _ (record {
+      up = c.fall.ensures.down.up;
+      doubt = c.fall.ensures.down.doubt;
+      identity = c.fall.ensures.down.identity;
+    }) c.in-Err.ensures.tries.counted.failed
     c.fall.ensures.fault
     (memory, works.1))))
 

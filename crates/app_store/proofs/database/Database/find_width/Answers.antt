@@ -12,7 +12,7 @@ use Rattle.app_store.specs.Spelled.{tables, IsSmall}
 use Rattle.app_store.proofs.Halting.{stopped}
 use Rattle.app_store.proofs.Holding.{columns_small, columns_of}
 use Rattle.app_store.proofs.Pending.{held_gives}
-use Rattle.app_store.proofs.Standing.{look_fell, up_from}
+use Rattle.app_store.proofs.Standing.{is_down, look_fell, up_from}
 use Rattle.app_store.specs.Targets.{StopsWidth}
 use Rattle.app_store.proofs.Writing.{width_none, width_found}
 use Rattle.app_store.proofs.database.Database.find_width.Goals as goal
@@ -53,7 +53,7 @@ returns-clause-finds g c p ready memory =
     StopsWidth c.fall.result refl
     (look_fell p (base_of g.K.Keeper.kept c.args.self.now) _ c.in-Err.stop c.fall.result (up_from ready c.requires.up)
     c.in-Err.ensures.held
-    (stopped _ _ _ _ (c.fall.ensures.down.up, c.fall.ensures.down.doubt) c.in-Err.ensures.counted.failed
+    (stopped _ _ _ _ (is_down c.fall.ensures.down) c.in-Err.ensures.counted.failed
     c.fall.ensures.fault
     (memory, says)))
 

@@ -18,8 +18,11 @@ returns-in-TooBig-clause-raises g c p ready memory =
     (record {
       fault_is = c.overflow.ensures.fault;
       later = c.in-Err.ensures.counted.later;
-      up = c.overflow.ensures.down.up;
-      doubt = c.overflow.ensures.down.doubt;
+      down = record {
+        up = c.overflow.ensures.down.up;
+        doubt = c.overflow.ensures.down.doubt;
+        identity = c.overflow.ensures.down.identity;
+      };
     }))
 
 pub returns-in-Stopped-clause-raises : goal.returns-in-Stopped-clause-raises
@@ -27,8 +30,11 @@ returns-in-Stopped-clause-raises g c p ready memory =
     rw c.in-Xids.is
     (raised_stop Xids _ c.in-Stopped.stop c.fall.result (up_at ready c.requires)
     (rw c.in-Stopped.is at (c.in-Err.ensures.lifts ready.fits.held.0 ready.fits.held.1))
-    (λ only. stopped _ _ _ _ (c.fall.ensures.down.up, c.fall.ensures.down.doubt)
-    (rw c.in-Stopped.is at c.in-Err.ensures.counted.failed) c.fall.ensures.fault (memory, only)))
+    (λ only. stopped _ _ _ _ (record {
+      up = c.fall.ensures.down.up;
+      doubt = c.fall.ensures.down.doubt;
+      identity = c.fall.ensures.down.identity;
+    }) (rw c.in-Stopped.is at c.in-Err.ensures.counted.failed) c.fall.ensures.fault (memory, only)))
 
 pub returns-in-Ok-lift-clause-raises : goal.returns-in-Ok-lift-clause-raises
 returns-in-Ok-lift-clause-raises g c p ready memory =
@@ -44,8 +50,11 @@ returns-in-TooBig-unlifted-clause-raises g c p ready memory =
     (record {
       fault_is = c.overflow-in-TooBig-unlifted.ensures.fault;
       later = c.in-Err-lift.ensures.counted.later;
-      up = c.overflow-in-TooBig-unlifted.ensures.down.up;
-      doubt = c.overflow-in-TooBig-unlifted.ensures.down.doubt;
+      down = record {
+        up = c.overflow-in-TooBig-unlifted.ensures.down.up;
+        doubt = c.overflow-in-TooBig-unlifted.ensures.down.doubt;
+        identity = c.overflow-in-TooBig-unlifted.ensures.down.identity;
+      };
     }))
 
 pub returns-in-Stopped-unlifted-clause-raises : goal.returns-in-Stopped-unlifted-clause-raises
@@ -53,7 +62,9 @@ returns-in-Stopped-unlifted-clause-raises g c p ready memory =
     rw c.in-Actions.is
     (raised_stop Actions _ c.in-Stopped-unlifted.stop c.fall-in-Stopped-unlifted.result (up_at ready c.requires)
     (rw c.in-Stopped-unlifted.is at (c.in-Err-lift.ensures.lifts ready.fits.held.0 ready.fits.held.1))
-    (λ only. stopped _ _ _ _
-    (c.fall-in-Stopped-unlifted.ensures.down.up, c.fall-in-Stopped-unlifted.ensures.down.doubt)
-    (rw c.in-Stopped-unlifted.is at c.in-Err-lift.ensures.counted.failed) c.fall-in-Stopped-unlifted.ensures.fault
+    (λ only. stopped _ _ _ _ (record {
+      up = c.fall-in-Stopped-unlifted.ensures.down.up;
+      doubt = c.fall-in-Stopped-unlifted.ensures.down.doubt;
+      identity = c.fall-in-Stopped-unlifted.ensures.down.identity;
+    }) (rw c.in-Stopped-unlifted.is at c.in-Err-lift.ensures.counted.failed) c.fall-in-Stopped-unlifted.ensures.fault
     (memory, only)))

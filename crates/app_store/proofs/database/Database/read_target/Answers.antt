@@ -3,7 +3,7 @@ use Rattle.std.specs.FinMap.{get}
 use Rattle.app_store.specs.Base.{base_of}
 use Rattle.app_store.specs.Spelled.{rows, row_key}
 use Rattle.app_store.proofs.Pending.{held_gives}
-use Rattle.app_store.proofs.Standing.{look_fell, up_from}
+use Rattle.app_store.proofs.Standing.{is_down, look_fell, up_from}
 use Rattle.app_store.specs.Targets.{StopsTarget, spot_of}
 use Rattle.app_store.specs.Written.{written_at}
 use Rattle.app_store.proofs.Writing.{target_written, target_read}
@@ -41,8 +41,7 @@ returns-in-Err-clause-reads g c p ready memory xid named =
     (look_fell p (base_of g.K.Keeper.kept c.args.self.now) _ c.in-Err.stop c.fall.result (up_from ready c.requires.up)
     c.in-Err.ensures.held
     (record {
-      up = c.fall.ensures.down.up;
-      doubt = c.fall.ensures.down.doubt;
+      down = is_down c.fall.ensures.down;
       rose = c.in-Err.ensures.counted.failed;
       fault_is = c.fall.ensures.fault;
       no_memory = memory;

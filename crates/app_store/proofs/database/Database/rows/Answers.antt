@@ -4,7 +4,7 @@ use Rattle.slon_model.specs.Place.{standing_rows}
 use Rattle.app_store.specs.Base.{base_of}
 use Rattle.app_store.proofs.Holding.{columns_small, columns_of}
 use Rattle.app_store.proofs.Pending.{held_gives}
-use Rattle.app_store.proofs.Standing.{look_fell, up_from}
+use Rattle.app_store.proofs.Standing.{is_down, look_fell, up_from}
 use Rattle.app_store.proofs.Upright.{up_at, is_looked}
 use Rattle.slon_model.specs.Tasks.{ToList}
 use Rattle.app_store.proofs.Listing.{table_of}
@@ -55,7 +55,7 @@ returns-in-Err-clause-serves g c =
     plain_fell (ToList c.args.table.now) c.fall.result _ (up_at ready c.if-not-self.false) refl
     (look_fell p (base_of g.K.Keeper.kept c.args.self.now) _ c.in-Err.stop c.fall.result
     (up_from ready c.if-not-self.false) c.in-Err.ensures.held
-    (stopped _ _ _ _ (c.fall.ensures.down.up, c.fall.ensures.down.doubt) c.in-Err.ensures.counted.failed
+    (stopped _ _ _ _ (is_down c.fall.ensures.down) c.in-Err.ensures.counted.failed
     c.fall.ensures.fault
     (memory, says))))
 

@@ -9,7 +9,7 @@ use Rattle.app_store.proofs.Halting.{halted, stopped}
 use Rattle.app_store.proofs.MetaNumbers.{log_of_place}
 use Rattle.app_store.proofs.Pending.{held_gives}
 use Rattle.app_store.proofs.Serving.{serves_well, serves_stop, ran_looks, ran_not, plain_fell}
-use Rattle.app_store.proofs.Standing.{look_fell, up_from}
+use Rattle.app_store.proofs.Standing.{is_down, look_fell, up_from}
 use Rattle.app_store.proofs.Telling.{told_none, told_some, node_known, nobody_handed, node_handed}
 use Rattle.app_store.proofs.Telling.{handed_node}
 use Rattle.app_store.proofs.Upright.{up_at, is_looked, running}
@@ -45,7 +45,7 @@ returns-in-Err-clause-serves g c =
     plain_fell ToTell c.fall.result _ at (rw (known.1) refl)
     (look_fell p (base_of g.K.Keeper.kept c.args.self.now) _ c.in-Err.stop c.fall.result
     (up_from ready c.if-not-self.false) c.in-Err.ensures.held
-    (stopped _ _ _ _ (c.fall.ensures.down.up, c.fall.ensures.down.doubt) c.in-Err.ensures.counted.failed
+    (stopped _ _ _ _ (is_down c.fall.ensures.down) c.in-Err.ensures.counted.failed
     c.fall.ensures.fault (memory, says))))
 
 pub returns-in-None-clause-hands : goal.returns-in-None-clause-hands

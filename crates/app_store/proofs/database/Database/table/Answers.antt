@@ -2,7 +2,7 @@ use Rattle.std.proofs.Common.{◌∙◌, refl, sym, arith}
 use Rattle.slon_model.specs.Names.{find_named}
 use Rattle.app_store.specs.Base.{base_of}
 use Rattle.app_store.proofs.Holding.{columns_small, columns_of}
-use Rattle.app_store.proofs.Standing.{look_fell, up_from}
+use Rattle.app_store.proofs.Standing.{is_down, look_fell, up_from}
 use Rattle.app_store.proofs.Upright.{up_at}
 use Rattle.slon_model.specs.Tasks.{ToMake}
 use Rattle.app_store.proofs.Transacting.{table_refused, table_made, table_doubted}
@@ -60,6 +60,7 @@ returns-in-InDoubt-clause-serves g c =
     (record {
       up = c.take_down.ensures.up;
       doubt = refl;
+      identity = c.take_down.ensures.identity;
       later = c.in-Ok.ensures.tries.counted.later;
       either = made.1;
     }))
@@ -80,6 +81,6 @@ returns-in-Err-clause-serves g c =
     plain_fell (ToMake c.args.table.now c.args.columns) c.fall.result _ (up_at ready c.if-not-self.false) refl
     (look_fell p (base_of g.K.Keeper.kept c.args.self.now) _ c.in-Err.stop c.fall.result
     (up_from ready c.if-not-self.false) (works.0 ∙ sym ready.fits.held.1)
-    (stopped _ _ _ _ (c.fall.ensures.down.up, c.fall.ensures.down.doubt) c.in-Err.ensures.tries.counted.failed
+    (stopped _ _ _ _ (is_down c.fall.ensures.down) c.in-Err.ensures.tries.counted.failed
     c.fall.ensures.fault
     (memory, works.1)))))

@@ -5,7 +5,7 @@ use Rattle.app_store.specs.Base.{base_of}
 use Rattle.app_store.specs.Spelled.{tables}
 use Rattle.app_store.proofs.Holding.{columns_small, columns_of}
 use Rattle.app_store.proofs.Pending.{held_gives}
-use Rattle.app_store.proofs.Standing.{look_fell, up_from}
+use Rattle.app_store.proofs.Standing.{is_down, look_fell, up_from}
 use Rattle.app_store.proofs.Upright.{up_at, is_looked}
 use Rattle.slon_model.specs.Tasks.{ToMake}
 use Rattle.app_store.proofs.Transacting.{table_refused, table_at_limit}
@@ -62,6 +62,6 @@ returns-clause-serves g c columns =
     plain_fell (ToMake c.args.table.now columns) c.fall.result _ (up_at ready c.requires.up) refl
     (look_fell p (base_of g.K.Keeper.kept c.args.self.now) _ c.in-Err.stop c.fall.result
     (up_from ready c.requires.up) c.in-Err.ensures.held
-    (stopped _ _ _ _ (c.fall.ensures.down.up, c.fall.ensures.down.doubt) c.in-Err.ensures.counted.failed
+    (stopped _ _ _ _ (is_down c.fall.ensures.down) c.in-Err.ensures.counted.failed
     c.fall.ensures.fault
     (memory, says)))))

@@ -2,6 +2,7 @@ use Rattle.std.proofs.Common.{◌∙◌, sym, ap, subst, arith}
 use Rattle.store_rows.specs.Spending.{Stays}
 use Rattle.node_keeper.specs.Fused.{fuse_kept}
 use Rattle.app_store.specs.Base.{base_of}
+use Rattle.app_store.proofs.Standing.{is_down}
 use Rattle.app_store.proofs.MetaNumbers.{are_of}
 use Rattle.app_store.proofs.Upright.{down_at}
 use Rattle.app_store.proofs.Rising.{cleared, cleared_stays, cleared_told, fuse_stays, rises_ok, rises_err}
@@ -60,8 +61,7 @@ returns-in-Err-clause-serves g c =
     let recovers = c.in-Err.ensures.restores ready.fits.held.0 p.node p.stamp p.xids.ceiling p.numbers.ceiling
     (first.0 ∙ ready.fits.held.1) (are_of p ready.fits.held.0 ready.spelled ready.fits.held.2) in
     rises_err _ c.in-Err.stop c.fall.result (down_at ready c.if-self.false) recovers.0 (record {
-      up = c.fall.ensures.down.up;
-      doubt = c.fall.ensures.down.doubt;
+      down = is_down c.fall.ensures.down;
       rose = ran.rose;
       fault_is = c.fall.ensures.fault;
       no_memory = memory;

@@ -5,4 +5,4 @@ pub invariant_of-result-clause-numbered : goal.invariant_of-result-clause-number
 invariant_of-result-clause-numbered c = no_members _ c.new.ensures
 
 pub returns : goal.returns
-returns c = known_none _ c.new.ensures
+returns c = known_none _ _ c.new.ensures c.new-2.ensures

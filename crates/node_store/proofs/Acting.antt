@@ -1,0 +1,140 @@
+-- What is promised over every store of work on a database, by how its last call on the store ended.
+use Rattle.std.proofs.Common.{◌≡◌, false, Option, Some, None, Result, Err, refl, sym, ap, subst, ◌∙◌}
+use Rattle.std.proofs.lemmas.Bool.{false≢true}
+use Rattle.slon_base.specs.declared.fault.Halt.{Halt as HaltOf}
+use Rattle.slon_base.specs.declared.fault.Halt.TheVariants.{Fault, Doubt, TooBig, NoMemory}
+use Rattle.slon_model.specs.declared.fault.DbFault.{DbFault}
+use Rattle.slon_model.specs.declared.fault.DbFault.TheVariants.{Halt}
+use Rattle.slon_model.specs.declared.reply.Answered.{Answered}
+use Rattle.slon_model.specs.World.{halt_in}
+use Rattle.store_rows.specs.declared.stop.Stop.{Stop}
+use Rattle.app_store.specs.Base.{Base}
+use Rattle.app_store.specs.Parts.{Part, PartCaused}
+use Rattle.app_store.specs.Serves.{NeedsNothing, halts, Caused, Falls, IsBig, NeedsStamp, answered, is_memory, trouble}
+use Rattle.app_store.proofs.Serving.{Ran, Halted, Bursts, Doubted, stop_caused, fault_failure, stop_small, stop_falls}
+use Rattle.node_store.specs.Acting.{Acts, acting}
+
+-- what work left of a store in which no call failed
+pub record RanWell (old new : Base) : Type 0 where
+  pub ran : Ran false old.kept new.kept
+  pub doubts : new.kept.doubts ≡ old.kept.doubts
+
+-- nothing failed
+pub acts_well : (old new : Base) → RanWell old new → Acts None old new
+acts_well old new w = record {
+  tries = record {
+    later = w.ran.later;
+    caused = tt;
+    sure = λ calm. w.doubts;
+    still = w.ran.sure.still;
+    spends = λ failed. absurd (false≢true failed);
+    falls = tt;
+    told = w.ran.sure.told;
+    big = tt;
+  };
+  quiet = λ calm. w.ran.sure.quiet refl;
+}
+
+-- memory ran out
+pub acts_memory : (old new : Base) → RanWell old new → Acts (Some NoMemory) old new
+acts_memory old new w = record {
+  tries = record {
+    later = w.ran.later;
+    caused = tt;
+    sure = λ calm. w.doubts;
+    still = w.ran.sure.still;
+    spends = λ failed. absurd (false≢true failed);
+    falls = tt;
+    told = w.ran.sure.told;
+    big = tt;
+  };
+  quiet = λ calm. w.ran.sure.quiet refl;
+}
+
+-- the store failed before the commit, or a row was not in its form
+pub acts_stop : (old new : Base) (stop : Stop) (fault : DbFault) → Halted acting old new stop fault →
+    Acts (halt_in fault) old new
+acts_stop old new stop fault h = record {
+  tries = record {
+    later = h.ran.later;
+    caused = subst (λ f. Caused acting old.kept (halt_in f) new.kept) (sym h.fault_is)
+        (stop_caused acting old.kept new.kept stop h.ran.rose h.doubts);
+    sure = λ calm. h.doubts refl;
+    still = h.ran.sure.still;
+    spends = λ failed. h.ran.sure.spends (sym (fault_failure stop fault new.kept.faults h.fault_is) ∙ failed);
+    falls = subst (λ f. Falls (halt_in f) new.memory) (sym h.fault_is)
+        (stop_falls new.memory stop new.kept.faults h.fell);
+    told = h.ran.sure.told;
+    big = subst (λ f. IsBig NeedsStamp (halt_in f) new.memory) (sym h.fault_is)
+        (stop_small NeedsStamp new.memory stop new.kept.faults h.within);
+  };
+  quiet = λ calm. h.ran.sure.quiet (sym (fault_failure stop fault new.kept.faults h.fault_is) ∙ calm);
+}
+
+-- the stamp would be too big
+pub acts_big : (old new : Base) (fault : DbFault) → Bursts NeedsStamp old new fault →
+    new.kept.doubts ≡ old.kept.doubts → Acts (halt_in fault) old new
+acts_big old new fault b doubts = subst (λ f. Acts (halt_in f) old new) (sym b.fault_is) (record {
+  tries = record {
+    later = b.ran.later;
+    caused = tt;
+    sure = λ calm. doubts;
+    still = b.ran.sure.still;
+    spends = λ failed. absurd (false≢true failed);
+    falls = b.fell;
+    told = b.ran.sure.told;
+    big = (refl, b.needed, b.fell);
+  };
+  quiet = λ calm. b.ran.sure.quiet refl;
+})
+
+-- the commit is in doubt
+pub acts_doubt : (old new : Base) → Doubted old new → Acts (Some Doubt) old new
+acts_doubt old new d = record {
+  tries = record {
+    later = d.ran.later;
+    caused = (d.ran.rose refl, d.doubts);
+    sure = λ calm. absurd (false≢true (sym calm));
+    still = d.ran.sure.still;
+    spends = λ failed. d.ran.sure.spends refl;
+    falls = d.fell;
+    told = d.ran.sure.told;
+    big = tt;
+  };
+  quiet = λ calm. absurd (false≢true (sym calm));
+}
+
+-- that memory ran out says so
+pub never_memory : {T : Type 0} (answer : T → Answered) (result : Result T DbFault) →
+    (y : DbFault) × (result ≡ Err y) × (y ≡ Halt NoMemory) → is_memory (trouble (answered answer result)) ≡ false → ⊥
+never_memory answer result (y, is, same) memory =
+    false≢true (sym memory ∙ ap (λ r. is_memory (trouble (answered answer r))) is
+    ∙ ap (λ f. is_memory (halt_in f)) same)
+
+-- a part that stores nothing
+pub acts_part : {T : Type 0} (old new : Base) (result : Result T DbFault) → Part NeedsNothing old new result →
+    new.kept.doubts ≡ old.kept.doubts → Acts (halts result) old new
+acts_part old new result part doubts = record {
+  tries = record {
+    later = part.later;
+    caused = caused (halts result) part.caused;
+    sure = λ calm. doubts;
+    still = part.knows.still;
+    spends = part.knows.spends;
+    falls = part.falls;
+    told = part.knows.told;
+    big = small (halts result) part.big;
+  };
+  quiet = part.knows.quiet;
+}
+  where
+    caused : (t : Option HaltOf) → PartCaused old.kept t new.kept → Caused acting old.kept t new.kept
+    caused None is = tt
+    caused (Some (Fault count)) is = (is.0, is.1, λ plain. doubts)
+    caused (Some Doubt) is = absurd is
+    caused (Some others) is = tt
+
+    small : (t : Option HaltOf) → IsBig NeedsNothing t new.memory → IsBig NeedsStamp t new.memory
+    small None big = tt
+    small (Some (TooBig space)) big = absurd big.1
+    small (Some others) big = tt

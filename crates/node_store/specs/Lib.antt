@@ -1,0 +1,5 @@
+pub mod Acting
+pub mod Finishing
+pub mod Joining
+pub mod Looking
+pub mod Midways

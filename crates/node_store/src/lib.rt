@@ -1,0 +1,20 @@
+//! What a database does as a node of a cluster: it becomes one, it emits events, and statements look up what it knows.
+#![tactic(auto)]
+
+mod announcing;
+mod finishing;
+mod founding;
+mod joining;
+mod layout;
+mod looking;
+mod writing;
+
+pub use announcing::announce;
+pub use app_store::{Database, DbFault, Keeper};
+pub use founding::found;
+pub use joining::{Fell, Joined, join};
+pub use looking::{
+    first_receiver, has_table, is_dropped, knows_node, knows_path, knows_set, knows_table,
+    names_table, set_origin, writer,
+};
+pub use node_change::Side;

@@ -1,0 +1,203 @@
+// What a node does in its store: it begins, and emits events.
+ghost use Rattle.std.specs.Prelude.{◌≡◌, ◌<◌, ◌^◌, Some, None, true, false, is_some, OnOk, IfErr, List, ℕ};
+ghost use Rattle.slon_base.specs.Codec.{IsText};
+ghost use Rattle.slon_model.specs.Membership.{first_of_cluster, joining as joining_node};
+ghost use Rattle.slon_model.specs.Sessions.{Running};
+ghost use Rattle.slon_base.specs.Keeper.{Store, sight};
+ghost use Rattle.node_rows.specs.Spellings.{CanBody};
+ghost use Rattle.store_rows.specs.Rows.{IsId};
+ghost use Rattle.store_rows.specs.Steps.{Safe, IsOutside, IsWithinLimit, is_stop_failed};
+ghost use Rattle.txn_core.specs.Snapshots.{seen_as};
+ghost use Rattle.node_rows.specs.declared.body.Body.TheVariants.{StoreNode};
+ghost use Rattle.node_change.specs.Becoming.{IsNode};
+ghost use Rattle.slon_model.specs.Maps.{entry_at};
+ghost use Rattle.slon_model.specs.Deeds.{Node, knowledge};
+ghost use Rattle.set_config.specs.Built.{IsBuilt};
+ghost use Rattle.event_store.specs.Emitting.{next_number};
+ghost use Rattle.event_store.specs.Seen.{event_by};
+ghost use Rattle.event_store.specs.Spellings.{CanSnapshot};
+ghost use Rattle.event_store.specs.Streams.{streams_of};
+ghost use Rattle.node_state.specs.Held.{HoldsNode};
+ghost use Rattle.node_store.specs.Acting.{WritesEvent, WritesNode, KeepsNode};
+ghost use Rattle.node_change.specs.Both.{stopped};
+ghost use Rattle.node_state.specs.Known.{IsHomed};
+ghost use Rattle.node_store.specs.Midways.{Enters, EntersSecond, EntersBoth};
+ghost use Rattle.node_store.specs.Joining.{WritesBoth};
+
+use crate::layout::{CONFIRMATIONS, META, STAMP};
+use app_store::begin;
+use node_change::{Failed, Side, announce, found_node, join_node, sided};
+use node_rows::Body;
+use node_state::{NodeMemory, find_node};
+use slon_base::{Keeper, Text};
+use std::alloc::Global;
+use store_rows::{Stop, put_pair, spelling};
+use txn_core::Snapshot;
+
+/// Why an event was not emitted. That no number is left for it, while one is for the stamp, says that the row of how
+/// far the node is is not in its form.
+fn unemitted(stop: Stop) -> Stop
+    ensures within { IsWithinLimit result }
+    ensures failed { is_stop_failed result ≡ is_stop_failed stop }
+    ensures outside { IsOutside stop → IsOutside result }
+{
+    match stop {
+        Stop::TooBig { .. } => Stop::BadRow {
+            space: CONFIRMATIONS,
+        },
+        other => other,
+    }
+}
+
+/// Begins a transaction, and has the node emit an event with this body and make the change that it names, with the
+/// stamp of the transaction.
+pub(crate) fn write_event<K: Keeper>(
+    alloc: Global,
+    keeper: &mut K,
+    own: u32,
+    taken: &Snapshot,
+    body: &Body,
+    stamp: u64,
+) -> Result<u64, Stop>
+    requires idle { is_some (K.kept keeper.old).pending ≡ false }
+    requires own { IsId own }
+    requires can { CanSnapshot (seen_as taken.now) × CanBody body.now }
+    requires built { IsBuilt body.now }
+    requires room { stamp < 2 ^ 63 }
+    ensures enters { Enters (K.kept keeper.old) (K.kept keeper.new) result }
+    ensures writes { (n : Node) (m : Store) → n.id ≡ own → (K.kept keeper.old).held ≡ Some m → HoldsNode (Some n) m →
+        IsHomed body.now (knowledge n).config → next_number (streams_of n) < 2 ^ 63 →
+        WritesEvent n m (λ number. event_by own number taken.now body.now) stamp result (K.kept keeper.new) }
+{
+    let stamp = spelling(alloc, &stamp)?;
+    begin(keeper)?;
+    match announce(alloc, keeper, own, taken, body) {
+        Ok(number) => {
+            put_pair(keeper, META, &STAMP, stamp.as_slice())?;
+            Ok(number)
+        }
+        Err(stop) => Err(unemitted(stop)),
+    }
+}
+
+/// What is kept of the node that a database becomes in the transaction that is pending, which gets its stamp.
+fn keep_node<K: Keeper>(alloc: Global, keeper: &mut K, stamp: &[u8]) -> Result<NodeMemory, Stop>
+    requires opened { is_some (K.kept keeper.old).pending ≡ true }
+    ensures safe { Safe (K.kept keeper.old) (K.kept keeper.new) result }
+    ensures within { IfErr result IsWithinLimit }
+    ensures keeps { (n : Node) (m store : Store) → (K.kept keeper.old).pending ≡ Some (Some store) →
+        IsNode n m store → KeepsNode n store stamp.now result (K.kept keeper.new) }
+{
+    let node = find_node(alloc, keeper)?;
+    put_pair(keeper, META, &STAMP, stamp)?;
+    Ok(node)
+}
+
+/// Begins a transaction, and makes a database that is no node the first node of a cluster of this name, with the stamp
+/// of the transaction. Answers what is kept of the node.
+pub(crate) fn write_first<K: Keeper>(
+    alloc: Global,
+    keeper: &mut K,
+    id: u32,
+    cluster: &Text,
+    comment: &Text,
+    stamp: u64,
+) -> Result<NodeMemory, Stop>
+    requires idle { is_some (K.kept keeper.old).pending ≡ false }
+    requires can { IsId id × IsText cluster.now × IsText comment.now }
+    requires room { stamp < 2 ^ 63 }
+    ensures enters { Enters (K.kept keeper.old) (K.kept keeper.new) result }
+    ensures writes { (run : Running) (m : Store) → run.cluster ≡ cluster.now → (K.kept keeper.old).held ≡ Some m →
+        HoldsNode None m →
+        WritesNode (first_of_cluster id comment.now run) m stamp result (K.kept keeper.new) }
+{
+    let stamp = spelling(alloc, &stamp)?;
+    begin(keeper)?;
+    found_node(alloc, keeper, id, cluster, comment)?;
+    keep_node(alloc, keeper, stamp.as_slice())
+}
+
+/// A database that is to become a node: its id, the id of the event node, the name of the cluster, and the stamps of
+/// the transactions of the event node and of the new one.
+#[derive(Clone, Copy)]
+pub(crate) struct Joining<'a> {
+    pub(crate) own: u32,
+    pub(crate) new: u32,
+    pub(crate) cluster: &'a Text,
+    pub(crate) event_stamp: u64,
+    pub(crate) node_stamp: u64,
+}
+
+/// Begins a transaction, and makes a database that is no node a further node of the cluster, with what is kept of it,
+/// as the store of the event node is seen now.
+fn write_node<K: Keeper>(
+    alloc: Global,
+    from: &mut K,
+    to: &mut K,
+    joining: Joining<'_>,
+) -> Result<NodeMemory, Failed>
+    requires idle { is_some (K.kept to.old).pending ≡ false }
+    requires can { IsId joining.own × IsId joining.new × IsText joining.cluster.now }
+    requires room { joining.node_stamp < 2 ^ 63 }
+    ensures enters { EntersSecond (K.kept from.old) (K.kept from.new) (K.kept to.old) (K.kept to.new) result }
+    ensures same { OnOk result ((K.kept from.new).pending ≡ (K.kept from.old).pending) }
+    ensures within { IfErr result (λ f. IsWithinLimit f.stop) }
+    ensures writes { (n : Node) (run : Running) (m t : Store) → n.id ≡ joining.entry.own →
+        run.cluster ≡ joining.entry.cluster.now → sight (K.kept from.old) ≡ Some m → HoldsNode (Some n) m →
+        is_some (entry_at joining.entry.new (knowledge n).config.nodes) ≡ true →
+        (K.kept to.old).held ≡ Some t → HoldsNode None t →
+        WritesNode (joining_node joining.entry.new n run) t joining.entry.node_stamp (stopped result) (K.kept to.new) }
+{
+    let Ok(stamp) = spelling(alloc, &joining.node_stamp) else {
+        return Err(Failed {
+            side: Side::To,
+            stop: Stop::NoMemory,
+        });
+    };
+    sided(Side::To, begin(to))?;
+    join_node(alloc, from, to, joining.own, joining.new, joining.cluster)?;
+    sided(Side::To, keep_node(alloc, to, stamp.as_slice()))
+}
+
+/// Has the event node emit an event with this body, and makes the other database a further node of the cluster, each in
+/// a transaction of its store that is left pending. Answers the number of the event, and what is kept of the new node.
+pub(crate) fn write_both<K: Keeper>(
+    alloc: Global,
+    from: &mut K,
+    to: &mut K,
+    taken: &Snapshot,
+    body: &Body,
+    joining: Joining<'_>,
+) -> Result<(u64, NodeMemory), Failed>
+    requires idle { (is_some (K.kept from.old).pending ≡ false) × (is_some (K.kept to.old).pending ≡ false) }
+    requires ids { IsId joining.own × IsId joining.new × IsText joining.cluster.now }
+    requires can { CanSnapshot (seen_as taken.now) × CanBody body.now }
+    requires built { IsBuilt body.now }
+    requires room { (joining.event_stamp < 2 ^ 63) × (joining.node_stamp < 2 ^ 63) }
+    ensures enters { EntersBoth (K.kept from.old) (K.kept from.new) (K.kept to.old) (K.kept to.new) result }
+    ensures writes { (n : Node) (run : Running) (m t : Store) (comment : List ℕ) → n.id ≡ joining.entry.own →
+        run.cluster ≡ joining.entry.cluster.now → body.now ≡ StoreNode joining.entry.new comment →
+        (K.kept from.old).held ≡ Some m → HoldsNode (Some n) m →
+        IsHomed body.now (knowledge n).config → next_number (streams_of n) < 2 ^ 63 →
+        (K.kept to.old).held ≡ Some t → HoldsNode None t →
+        WritesBoth (record {
+          node = n;
+          held = m;
+          event = λ number. event_by joining.entry.own number taken.now body.now;
+        })
+        (record { id = joining.entry.new; run = run; held = t }) (record {
+          from = joining.entry.event_stamp;
+          to = joining.entry.node_stamp;
+        }) result (K.kept from.new) (K.kept to.new) }
+{
+    match write_event(alloc, from, joining.own, taken, body, joining.event_stamp) {
+        Err(stop) => Err(Failed {
+            side: Side::From,
+            stop,
+        }),
+        Ok(number) => {
+            let node = write_node(alloc, from, to, joining)?;
+            Ok((number, node))
+        }
+    }
+}

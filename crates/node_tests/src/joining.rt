@@ -1,0 +1,208 @@
+// A database that becomes a further node of a cluster, and what statements look up at a node.
+ghost use Rattle.std.specs.Prelude.{◌≡◌, true, false, is_some, OnOk};
+
+use crate::nodes::{configure, create, found, obey_line, rise, status};
+use app_store::{Database, Fuse};
+use node_keeper::MemKeeper;
+use node_store::{
+    Fell, Joined, first_receiver, has_table, is_dropped, join, knows_node, knows_path, knows_set,
+    knows_table, names_table, set_origin, writer,
+};
+use slon_base::Text;
+use std::alloc::Global;
+use std::test::Fail;
+use test_words::{expect, require};
+
+/// Fails where the database is down.
+fn require_up(database: &Database<MemKeeper>) -> Result<(), Fail>
+    ensures { OnOk result (database.now.state.up ≡ true) }
+{
+    if database.is_up() {
+        return Ok(());
+    }
+    Err(Fail::new("a database that is down"))
+}
+
+/// The second database joins the first one as node 2.
+fn join_second(
+    alloc: Global,
+    first: &mut Database<MemKeeper>,
+    second: &mut Database<MemKeeper>,
+) -> Result<Result<(u64, Joined), Fell>, Fail> {
+    if !first.is_up() || first.node_id().is_none() {
+        return Err(Fail::new("no node that is up"));
+    }
+    if !second.is_up() || second.node_id().is_some() {
+        return Err(Fail::new("no database that can be a node"));
+    }
+    let comment = Text::from_str(alloc, "second")?;
+    Ok(join(first, second, 2, &comment))
+}
+
+/// What both tell of themselves, in a second try where a store failed.
+fn expect_both(
+    alloc: Global,
+    first: &mut Database<MemKeeper>,
+    second: &mut Database<MemKeeper>,
+    wanted: [&str; 2],
+) -> Result<(), Fail> {
+    expect("the first", status(alloc, first)?.as_str(), wanted[0])?;
+    expect("the second", status(alloc, second)?.as_str(), wanted[1])
+}
+
+const EVENT: &str = "ok node 1 log 0 progress 1 1 progress 2 0";
+
+const ALONE: &str = "ok node 1 log 0 progress 1 0";
+
+const NODE: &str = "ok node 2 log 0 progress 1 1 progress 2 0";
+
+const NONE: &str = "ok node 0 log 0";
+
+#[test]
+fn second_nodes_join(rt: HostRuntime) -> Result<(), Fail> {
+    let alloc = rt.alloc();
+    let mut first = create(alloc, 0, false)?;
+    let mut second = create(alloc, 0, false)?;
+    require(found(alloc, &mut first)? == Ok(false), "the first node")?;
+    match join_second(alloc, &mut first, &mut second)? {
+        Ok((1, Joined::Done)) => {}
+        _ => return Err(Fail::new("the second node")),
+    }
+    expect_both(alloc, &mut first, &mut second, [EVENT, NODE])?;
+    crash_and_rise(alloc, &mut first)?;
+    crash_and_rise(alloc, &mut second)?;
+    expect_both(alloc, &mut first, &mut second, [EVENT, NODE])
+}
+
+/// A database goes down and comes up again.
+fn crash_and_rise(alloc: Global, database: &mut Database<MemKeeper>) -> Result<(), Fail> {
+    let reply = obey_line(alloc, database, "crash a")?;
+    expect("the crash", reply.as_str(), "ok")?;
+    rise(database)?;
+    Ok(())
+}
+
+/// A database over a store of which this call fails, or nothing where it was not made.
+fn made(alloc: Global, fails: u64, keep: bool) -> Result<Option<Database<MemKeeper>>, Fail> {
+    let store = MemKeeper::new(alloc, vec![in alloc; fails]?, keep)?;
+    let (database, made) = Database::create(alloc, Fuse::new(store));
+    Ok(made.is_ok().then_some(database))
+}
+
+/// Joins where these calls fail, and tells whether one commit was in doubt.
+fn walk(alloc: Global, fails: [u64; 2], keep: bool) -> Result<bool, Fail> {
+    let (Some(mut first), Some(mut second)) = (
+        made(alloc, fails[0], keep)?,
+        made(alloc, fails[1], keep)?,
+    ) else {
+        return Ok(false);
+    };
+    if found(alloc, &mut first)? != Ok(false) {
+        return Ok(false);
+    }
+    let joined = join_second(alloc, &mut first, &mut second)?;
+    rise(&mut first)?;
+    rise(&mut second)?;
+    expect_both(alloc, &mut first, &mut second, told_behind(&joined, keep))?;
+    Ok(matches!(joined, Ok((_, Joined::EventInDoubt | Joined::NodeInDoubt))))
+}
+
+/// What the two databases tell behind a join, where a commit in doubt is kept or not.
+fn told_behind(joined: &Result<(u64, Joined), Fell>, keep: bool) -> [&'static str; 2] {
+    match joined {
+        Ok((_, Joined::Done)) => [EVENT, NODE],
+        Ok((_, Joined::EventInDoubt)) => [if keep { EVENT } else { ALONE }, NONE],
+        Ok((_, Joined::NodeInDoubt)) => [EVENT, if keep { NODE } else { NONE }],
+        Err(_) => [ALONE, NONE],
+    }
+}
+
+#[test]
+fn nodes_join_over_failing_stores(rt: HostRuntime) -> Result<(), Fail> {
+    for keep in [false, true] {
+        let mut doubts = [0u32; 2];
+        for fails in 1..=400u64 {
+            let first = walk(rt.alloc(), [fails, 0], keep)?;
+            let second = walk(rt.alloc(), [0, fails], keep)?;
+            doubts[0] = doubts[0].saturating_add(u32::from(first));
+            doubts[1] = doubts[1].saturating_add(u32::from(second));
+        }
+        require(doubts == [1, 1], "one commit of each in doubt")?;
+    }
+    Ok(())
+}
+
+/// What the first node knows of its cluster.
+fn expect_knowledge(alloc: Global, node: &mut Database<MemKeeper>) -> Result<(), Fail> {
+    for (id, known) in [(1u32, true), (2, true), (3, false)] {
+        require_up(node)?;
+        require(knows_node(node, id) == Ok(known), "a node")?;
+        require_up(node)?;
+        require(is_dropped(node, id) == Ok(false), "a dropped node")?;
+        require_up(node)?;
+        require(knows_set(node, id) == Ok(id == 1), "a set")?;
+        require_up(node)?;
+        let origin = if id == 1 { Some(1) } else { None };
+        require(set_origin(node, id) == Ok(origin), "an origin")?;
+        require_up(node)?;
+        require(first_receiver(node, id) == Ok(None), "a receiver")?;
+    }
+    require_up(node)?;
+    require(knows_path(node, 1, 2) == Ok(false), "a path")?;
+    for (id, known) in [(7u32, true), (1, false)] {
+        require_up(node)?;
+        require(knows_table(node, id) == Ok(known), "a table of a set")?;
+    }
+    expect_tables(alloc, node)
+}
+
+/// And which tables there are, and which are written.
+fn expect_tables(alloc: Global, node: &mut Database<MemKeeper>) -> Result<(), Fail> {
+    for (name, used, there, written) in [
+        ("public.t", true, true, Some(1)),
+        ("public.u", false, true, None),
+        ("public.v", false, false, None),
+    ] {
+        let text = Text::from_str(alloc, name)?;
+        require_up(node)?;
+        require(names_table(node, &text) == Ok(used), "a name")?;
+        require_up(node)?;
+        require(has_table(node, &text) == Ok(there), "a table")?;
+        expect_writer(alloc, node, name, written)?;
+    }
+    Ok(())
+}
+
+/// And which open transaction wrote a table.
+fn expect_writer(
+    alloc: Global,
+    node: &mut Database<MemKeeper>,
+    name: &str,
+    written: Option<u64>,
+) -> Result<(), Fail> {
+    let Ok(text) = Text::from_str(alloc, name) else {
+        return Err(Fail::new("no memory"));
+    };
+    require_up(node)?;
+    if text.as_slice().len() > 31 {
+        return Err(Fail::new("a long name"));
+    }
+    require(writer(node, &text) == Ok(written), "a writer")
+}
+
+#[test]
+fn nodes_are_asked(rt: HostRuntime) -> Result<(), Fail> {
+    let alloc = rt.alloc();
+    let mut node = create(alloc, 0, false)?;
+    require(found(alloc, &mut node)? == Ok(false), "the node")?;
+    configure(alloc, &mut node)?;
+    for (line, wanted) in [
+        ("table a public.t 2", "ok"),
+        ("table a public.u 2", "ok"),
+        ("begin a x", "ok xid 1"),
+        ("insert a x public.t k 1", "ok action 1"),
+    ] {
+        expect(line, obey_line(alloc, &mut node, line)?.as_str(), wanted)?;
+    }
+    expect_knowledge(alloc, &mut node)
+}

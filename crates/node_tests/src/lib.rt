@@ -1,0 +1,19 @@
+//! The tests of databases, of the nodes that they are, and of the rows in which they stand, in a file for each subject.
+#![tactic(auto)]
+
+#[cfg(test)]
+mod codec;
+#[cfg(test)]
+mod joining;
+#[cfg(test)]
+mod logged;
+#[cfg(test)]
+mod nodes;
+#[cfg(test)]
+mod rows_of_nodes;
+#[cfg(test)]
+mod snapshots;
+#[cfg(test)]
+mod stored_nodes;
+#[cfg(test)]
+mod stored_rows;

@@ -1,0 +1,277 @@
+// A database that becomes the first node of a cluster, and emits the events of its configuration.
+ghost use Rattle.node_rows.specs.Spellings.{CanBody};
+ghost use Rattle.set_config.specs.Built.{IsBuilt};
+ghost use Rattle.std.specs.Prelude.{IfOk};
+
+use app_store::{Database, DbFault, Fuse};
+use node_keeper::MemKeeper;
+use node_rows::Body;
+use node_store::announce;
+use session_text::{print_reply, read_command};
+use slon_base::Text;
+use slon_model::{Answered, Reply};
+use std::alloc::Global;
+use std::test::Fail;
+use test_words::{expect, require};
+
+/// What a line comes to: the reply, or that its commit is in doubt, or that it is refused.
+fn told(alloc: Global, answered: Result<Answered, DbFault>) -> Result<Text, Fail> {
+    match answered {
+        Ok(Answered::Sure(answer)) => Ok(print_reply(alloc, &Reply::Accepted(answer))?),
+        Ok(Answered::InDoubt(_)) => Ok(Text::from_str(alloc, "doubt")?),
+        Err(_) => Ok(Text::from_str(alloc, "no")?),
+    }
+}
+
+/// The database obeys this line.
+pub(crate) fn obey_line(
+    alloc: Global,
+    database: &mut Database<MemKeeper>,
+    line: &str,
+) -> Result<Text, Fail> {
+    match read_command(alloc, line.as_bytes(), 1)? {
+        Some(command) => told(alloc, database.obey(&command)),
+        None => Err(Fail::new(line)),
+    }
+}
+
+/// The lines come to these replies.
+pub(crate) fn expect_lines(
+    alloc: Global,
+    database: &mut Database<MemKeeper>,
+    lines: &[(&str, &str)],
+) -> Result<(), Fail> {
+    for (line, wanted) in lines {
+        expect(line, obey_line(alloc, database, line)?.as_str(), wanted)?;
+    }
+    Ok(())
+}
+
+/// The database becomes the first node. Whether that is in doubt.
+pub(crate) fn found(
+    alloc: Global,
+    database: &mut Database<MemKeeper>,
+) -> Result<Result<bool, DbFault>, Fail> {
+    if !database.is_up() || database.node_id().is_some() {
+        return Err(Fail::new("no database that can be a node"));
+    }
+    let cluster = Text::from_str(alloc, "c")?;
+    Ok(node_store::found(database, 1, &cluster, &Text::from_str(alloc, "first")?))
+}
+
+/// The node emits an event. Its number, and whether that is in doubt.
+fn emit(
+    database: &mut Database<MemKeeper>,
+    body: &Body,
+) -> Result<Result<(u64, bool), DbFault>, Fail>
+    requires { CanBody body.now × IsBuilt body.now }
+{
+    if !database.is_up() || database.node_id().is_none() {
+        return Err(Fail::new("no node that is up"));
+    }
+    Ok(announce(database, body))
+}
+
+/// A second node.
+fn second(alloc: Global) -> Result<Body, Fail>
+    ensures { IfOk result (λ b. CanBody b × IsBuilt b) }
+{
+    Ok(Body::StoreNode {
+        node: 2,
+        comment: Text::from_str(alloc, "second")?,
+    })
+}
+
+/// A set of the first node.
+fn some_set(alloc: Global) -> Result<Body, Fail>
+    ensures { IfOk result (λ b. CanBody b × IsBuilt b) }
+{
+    Ok(Body::StoreSet {
+        set: 1,
+        origin: 1,
+        comment: Text::from_str(alloc, "all")?,
+    })
+}
+
+/// A table of that set.
+fn some_table(alloc: Global) -> Result<Body, Fail>
+    ensures { IfOk result (λ b. CanBody b × IsBuilt b) }
+{
+    Ok(Body::SetAddTable {
+        set: 1,
+        table: 7,
+        name: Text::from_str(alloc, "public.t")?,
+        comment: Text::from_str(alloc, "")?,
+    })
+}
+
+/// The node emits the three events of its configuration, with the numbers from 1 on.
+pub(crate) fn configure(alloc: Global, database: &mut Database<MemKeeper>) -> Result<(), Fail> {
+    let node = emit(database, &second(alloc)?)?;
+    require(node == Ok((1, false)), "the second node")?;
+    let set = emit(database, &some_set(alloc)?)?;
+    require(set == Ok((2, false)), "the set")?;
+    let table = emit(database, &some_table(alloc)?)?;
+    require(table == Ok((3, false)), "the table of the set")
+}
+
+/// A database over a store in memory, of which one call fails, and whether a commit that fails stands.
+pub(crate) fn create(alloc: Global, fails: u64, keep: bool) -> Result<Database<MemKeeper>, Fail> {
+    let store = MemKeeper::new(alloc, vec![in alloc; fails]?, keep)?;
+    let (database, made) = Database::create(alloc, Fuse::new(store));
+    require(made.is_ok(), "the database")?;
+    Ok(database)
+}
+
+const BEFORE: &[(&str, &str)] = &[
+    ("table a public.t 2", "ok"),
+    ("table a public.u 2", "ok"),
+    ("begin a x", "ok xid 1"),
+    ("insert a x public.t k 1", "ok action 1"),
+    ("status a", "ok node 0 log 0"),
+];
+
+const BEHIND: &[(&str, &str)] = &[
+    ("status a", "ok node 1 log 0 progress 1 3 progress 2 0"),
+    ("insert a x public.t m 2", "ok action 2"),
+    ("insert a x public.u n 3", "ok action 3"),
+    ("commit a x", "ok actions 3"),
+    ("rows a public.t", "ok rows 2 k=1 m=2"),
+    ("crash a", "ok"),
+    ("status a", "no"),
+    ("up a", "ok"),
+    ("status a", "ok node 1 log 0 progress 1 3 progress 2 0"),
+    ("begin a y", "ok xid 65"),
+    ("update a y public.t m 2=5", "ok action 65"),
+    ("commit a y", "ok actions 1"),
+    ("rows a public.t", "ok rows 2 k=1 m=5"),
+];
+
+#[test]
+fn first_nodes_emit_events(rt: HostRuntime) -> Result<(), Fail> {
+    let alloc = rt.alloc();
+    let mut database = create(alloc, 0, false)?;
+    expect_lines(alloc, &mut database, BEFORE)?;
+    require(found(alloc, &mut database)? == Ok(false), "the node")?;
+    assert!(rt; database.node_id() == Some(1));
+    expect_lines(
+        alloc,
+        &mut database,
+        &[("status a", "ok node 1 log 0 progress 1 0")],
+    )?;
+    configure(alloc, &mut database)?;
+    expect_lines(alloc, &mut database, BEHIND)
+}
+
+/// The database comes up if it is down.
+pub(crate) fn rise(database: &mut Database<MemKeeper>) -> Result<(), Fail> {
+    require(
+        database.is_up() || database.up().is_ok(),
+        "the database up again",
+    )
+}
+
+/// What the node tells of itself, in a second try where the store failed.
+pub(crate) fn status(alloc: Global, database: &mut Database<MemKeeper>) -> Result<Text, Fail> {
+    let first = obey_line(alloc, database, "status a")?;
+    if first.as_str() != "no" {
+        return Ok(first);
+    }
+    rise(database)?;
+    obey_line(alloc, database, "status a")
+}
+
+/// What may have come of a commit: it stands; it is in doubt; it does not stand.
+#[derive(Clone, Copy, PartialEq, Eq)]
+enum Fate {
+    Stands,
+    InDoubt,
+    Fails,
+}
+
+/// What came of a commit that says whether it is in doubt.
+fn fate_of(doubt: Option<bool>) -> Fate {
+    match doubt {
+        Some(false) => Fate::Stands,
+        Some(true) => Fate::InDoubt,
+        None => Fate::Fails,
+    }
+}
+
+/// Whether a commit stands, where one in doubt is kept or not.
+fn stands(fate: Fate, keep: bool) -> bool {
+    fate == Fate::Stands || keep && fate == Fate::InDoubt
+}
+
+/// The database becomes the first node, in a second try where the commit of the first one does not stand.
+fn found_at_last(
+    alloc: Global,
+    database: &mut Database<MemKeeper>,
+    keep: bool,
+) -> Result<Fate, Fail> {
+    let fate = fate_of(found(alloc, database)?.ok());
+    rise(database)?;
+    require(
+        database.node_id().is_some() == stands(fate, keep),
+        "the node",
+    )?;
+    if !stands(fate, keep) {
+        require(found(alloc, database)? == Ok(false), "the node again")?;
+    }
+    Ok(fate)
+}
+
+/// The node emits its first event, in a second try where the commit of the first one does not stand.
+fn emit_at_last(
+    alloc: Global,
+    database: &mut Database<MemKeeper>,
+    keep: bool,
+) -> Result<Fate, Fail> {
+    let body = second(alloc)?;
+    let fate = fate_of(emit(database, &body)?.ok().map(|e| e.1));
+    rise(database)?;
+    if !stands(fate, keep) {
+        expect(
+            "the node",
+            status(alloc, database)?.as_str(),
+            "ok node 1 log 0 progress 1 0",
+        )?;
+        require(emit(database, &body)? == Ok((1, false)), "the event again")?;
+    }
+    let wanted = "ok node 1 log 0 progress 1 1 progress 2 0";
+    expect("the nodes", status(alloc, database)?.as_str(), wanted)?;
+    Ok(fate)
+}
+
+/// What came of both commits where this call of the store fails, or nothing where the database was not made.
+fn walk(alloc: Global, fails: u64, keep: bool) -> Result<Option<(Fate, Fate)>, Fail> {
+    let store = MemKeeper::new(alloc, vec![in alloc; fails]?, keep)?;
+    let (mut database, made) = Database::create(alloc, Fuse::new(store));
+    if made.is_err() {
+        return Ok(None);
+    }
+    let founded = found_at_last(alloc, &mut database, keep)?;
+    Ok(Some((founded, emit_at_last(alloc, &mut database, keep)?)))
+}
+
+/// How many of the first 400 calls, each of which fails in one run, leave each of the two commits in doubt.
+fn count_doubts(alloc: Global, keep: bool) -> Result<(u32, u32), Fail> {
+    let mut founded = 0u32;
+    let mut emitted = 0u32;
+    for fails in 1..=400u64 {
+        if let Some((first, second)) = walk(alloc, fails, keep)? {
+            founded = founded.saturating_add(u32::from(first == Fate::InDoubt));
+            emitted = emitted.saturating_add(u32::from(second == Fate::InDoubt));
+        }
+    }
+    Ok((founded, emitted))
+}
+
+#[test]
+fn nodes_begin_over_failing_stores(rt: HostRuntime) -> Result<(), Fail> {
+    for keep in [false, true] {
+        let doubts = count_doubts(rt.alloc(), keep)?;
+        assert!(rt; doubts == (1, 1));
+    }
+    Ok(())
+}

@@ -1,0 +1,263 @@
+// Replies and their lines.
+use session_text::{print_line, print_reply};
+use slon_base::{Text, TextList};
+use slon_model::{Answer, KeptList, ProgressList, Refusal, Reply, TableRows};
+use slonik_script::ScriptRefusal;
+use std::test::Fail;
+use test_words::{expect, require};
+
+/// A list of these texts.
+fn texts(rt: &HostRuntime, all: &[&str]) -> Result<TextList, Fail> {
+    let mut list = TextList::new(rt.alloc());
+    for text in all {
+        list.push(Text::from_str(rt.alloc(), text)?)?;
+    }
+    Ok(list)
+}
+
+/// The reply of these rows, of a key and its values each.
+fn listed(rt: &HostRuntime, all: &[(&str, &[&str])]) -> Result<Reply, Fail> {
+    let mut rows = TableRows::new(rt.alloc());
+    for (key, values) in all {
+        rows.push(Text::from_str(rt.alloc(), key)?, texts(rt, values)?)?;
+    }
+    Ok(Reply::Accepted(Answer::Listed { rows }))
+}
+
+/// The reply prints as this line, with and without its newline.
+fn expect_line(rt: &HostRuntime, reply: &Reply, line: &str) -> Result<(), Fail> {
+    let printed = print_reply(rt.alloc(), reply)?;
+    expect("a reply", printed.as_str(), line)?;
+    let whole = print_line(rt.alloc(), reply)?;
+    require(whole.as_str().strip_suffix('\n') == Some(line), line)
+}
+
+/// The same of a refusal.
+fn expect_refusal(rt: &HostRuntime, refusal: Refusal, line: &str) -> Result<(), Fail> {
+    expect_line(rt, &Reply::Refused(refusal), line)
+}
+
+/// The same of rows.
+fn expect_rows(rt: &HostRuntime, rows: &[(&str, &[&str])], line: &str) -> Result<(), Fail> {
+    expect_line(rt, &listed(rt, rows)?, line)
+}
+
+/// The same of an answer.
+fn expect_answer(rt: &HostRuntime, answer: Answer, line: &str) -> Result<(), Fail> {
+    expect_line(rt, &Reply::Accepted(answer), line)
+}
+
+#[test]
+fn answers_are_printed(rt: HostRuntime) -> Result<(), Fail> {
+    expect_answer(&rt, Answer::Done, "ok")?;
+    expect_answer(&rt, Answer::Opened { xid: 1 }, "ok xid 1")?;
+    expect_answer(&rt, Answer::Acted { number: 1 }, "ok action 1")?;
+    expect_answer(&rt, Answer::Unchanged, "ok none")?;
+    expect_answer(&rt, Answer::Committed { actions: 1 }, "ok actions 1")?;
+    expect_answer(&rt, Answer::Kept, "ok kept")?;
+    expect_answer(&rt, Answer::Lost, "ok lost")
+}
+
+#[test]
+fn answers_of_scripts_are_printed(rt: HostRuntime) -> Result<(), Fail> {
+    expect_answer(&rt, Answer::Statements { count: 6 }, "ok statements 6")?;
+    expect_answer(&rt, Answer::Emitted { node: 1, number: 4 }, "ok event 1 4")?;
+    expect_answer(&rt, Answer::Ended { status: 255 }, "ok ended 255")
+}
+
+/// The refusal of this code, with the number 7 where it has one.
+fn numbered(code: u32) -> Refusal {
+    match code {
+        12 => Refusal::Locked { xid: 7 },
+        13 => Refusal::Full { limit: 7 },
+        14 => Refusal::BadRow { space: 7 },
+        18 => Refusal::IdUsed { id: 7 },
+        21 => Refusal::TooBig { space: 7 },
+        41 => Refusal::NotInitialised { node: 7 },
+        42 => Refusal::OtherNode { node: 7 },
+        43 => Refusal::AlreadyNode { node: 7 },
+        44 => Refusal::NoNode { node: 7 },
+        45 => Refusal::NoConninfo { node: 7 },
+        46 => Refusal::HasReceivers { node: 7 },
+        47 => Refusal::NoSet { set: 7 },
+        54 => Refusal::Duplicate,
+        55 => Refusal::NotOrigin { set: 7 },
+        56 => Refusal::SetLocked { set: 7 },
+        57 => Refusal::BadWidth { columns: 7 },
+        66 => Refusal::Busy { xid: 7 },
+        75 => Refusal::NoPath { node: 7 },
+        78 => Refusal::SameNode { node: 7 },
+        80 => Refusal::Script(ScriptRefusal::BadToken { line: 7 }),
+        81 => Refusal::Script(ScriptRefusal::BadSyntax { place: 7 }),
+        84 => Refusal::Script(ScriptRefusal::NoPreamble),
+        _ => Refusal::Script(ScriptRefusal::TooMany),
+    }
+}
+
+/// The codes of these refusals, and their lines.
+const NUMBERED: &[(u32, &str)] = &[
+    (12, "no 12 locked 7"),
+    (13, "no 13 full 7"),
+    (14, "no 14 badrow 7"),
+    (18, "no 18 idused 7"),
+    (21, "no 21 toobig 7"),
+    (41, "no 41 notinitialised 7"),
+    (42, "no 42 othernode 7"),
+    (43, "no 43 alreadynode 7"),
+    (44, "no 44 nonode 7"),
+    (45, "no 45 noconninfo 7"),
+    (46, "no 46 hasreceivers 7"),
+    (47, "no 47 noset 7"),
+    (54, "no 54 duplicate"),
+    (55, "no 55 notorigin 7"),
+    (56, "no 56 setlocked 7"),
+    (57, "no 57 badwidth 7"),
+    (66, "no 66 busy 7"),
+    (75, "no 75 nopath 7"),
+    (78, "no 78 samenode 7"),
+    (80, "no 80 badtoken 7"),
+    (81, "no 81 badsyntax 7"),
+    (84, "no 84 nopreamble"),
+    (96, "no 96 toomany"),
+];
+
+#[test]
+fn refusals_are_printed(rt: HostRuntime) -> Result<(), Fail> {
+    for (code, line) in NUMBERED {
+        expect_refusal(&rt, numbered(*code), line)?;
+    }
+    Ok(())
+}
+
+/// What `status` answers of a node that is in the streams of two and keeps progress of one set.
+fn status(rt: &HostRuntime) -> Result<Reply, Fail> {
+    let mut progress = ProgressList::new(rt.alloc());
+    progress.push(1, 4)?;
+    progress.push(2, 0)?;
+    let mut kept = KeptList::new(rt.alloc());
+    kept.push(1, 2, name(rt, "3:5:3,4")?)?;
+    let answer = Answer::Status {
+        node: 2,
+        log: 3,
+        progress,
+        kept,
+    };
+    Ok(Reply::Accepted(answer))
+}
+
+#[test]
+fn status_is_printed(rt: HostRuntime) -> Result<(), Fail> {
+    let line = "ok node 2 log 3 progress 1 4 progress 2 0 set 1 era 2 at 3:5:3,4";
+    expect_line(&rt, &status(&rt)?, line)
+}
+
+/// Rows, and their line.
+const ROWS: &[(&[(&str, &[&str])], &str)] = &[
+    (&[], "ok rows 0"),
+    (&[("k", &["1"])], "ok rows 1 k=1"),
+    (&[("k", &[])], "ok rows 1 k="),
+    (
+        &[("a", &["1", "2", "3"]), ("b", &["x", "y", "z"])],
+        "ok rows 2 a=1,2,3 b=x,y,z",
+    ),
+];
+
+#[test]
+fn rows_are_printed(rt: HostRuntime) -> Result<(), Fail> {
+    for (rows, line) in ROWS {
+        expect_rows(&rt, rows, line)?;
+    }
+    Ok(())
+}
+
+#[test]
+fn a_doubt_is_printed(rt: HostRuntime) -> Result<(), Fail> {
+    let database = name(&rt, "a")?;
+    let answer = Answer::Committed { actions: 1 };
+    let reply = Reply::InDoubt { database, answer };
+    expect_line(&rt, &reply, "doubt a ok actions 1")
+}
+
+/// A name.
+fn name(rt: &HostRuntime, name: &str) -> Result<Text, Fail> {
+    Ok(Text::from_str(rt.alloc(), name)?)
+}
+
+#[test]
+fn names_of_databases_are_printed(rt: HostRuntime) -> Result<(), Fail> {
+    let database = name(&rt, "a")?;
+    expect_refusal(
+        &rt,
+        Refusal::Fault { database, count: 3 },
+        "no 10 fault a 3",
+    )?;
+    let database = name(&rt, "a")?;
+    expect_refusal(&rt, Refusal::NotEmpty { database }, "no 15 notempty a")?;
+    let database = name(&rt, "a")?;
+    expect_refusal(&rt, Refusal::Down { database }, "no 16 down a")?;
+    let database = name(&rt, "a")?;
+    expect_refusal(&rt, Refusal::NoDatabase { database }, "no 17 nodatabase a")?;
+    let database = name(&rt, "a")?;
+    expect_refusal(&rt, Refusal::IsUp { database }, "no 19 isup a")
+}
+
+#[test]
+fn names_of_tables_and_transactions_are_printed(rt: HostRuntime) -> Result<(), Fail> {
+    let table = name(&rt, "s.t")?;
+    expect_refusal(&rt, Refusal::TableExists { table }, "no 50 tableexists s.t")?;
+    let table = name(&rt, "s.t")?;
+    expect_refusal(&rt, Refusal::NoTable { table }, "no 52 notable s.t")?;
+    let name_used = name(&rt, "x")?;
+    expect_refusal(
+        &rt,
+        Refusal::NameUsed { name: name_used },
+        "no 51 nameused x",
+    )?;
+    let transaction = name(&rt, "x")?;
+    expect_refusal(
+        &rt,
+        Refusal::NoTransaction { transaction },
+        "no 53 notransaction x",
+    )
+}
+
+/// The refusal of this code, with this text.
+fn worded(code: u32, text: Text) -> Refusal {
+    match code {
+        58 => Refusal::TableUsed { table: text },
+        82 => Refusal::Script(ScriptRefusal::UnknownOption { word: text }),
+        83 => Refusal::Script(ScriptRefusal::MissingOption { words: text }),
+        85 => Refusal::Script(ScriptRefusal::NotInProfile { word: text }),
+        86 => Refusal::Script(ScriptRefusal::NotInTry { word: text }),
+        87 => Refusal::Script(ScriptRefusal::Undefined { name: text }),
+        88 => Refusal::Script(ScriptRefusal::Depth { path: text }),
+        89 => Refusal::Script(ScriptRefusal::NoFile { path: text }),
+        93 => Refusal::ScriptUsed { name: text },
+        94 => Refusal::NoScript { name: text },
+        _ => Refusal::NotBuilt { word: text },
+    }
+}
+
+/// The codes of these refusals, their texts, and their lines.
+const WORDED: &[(u32, &str, &str)] = &[
+    (58, "s.t", "no 58 tableused s.t"),
+    (82, "colour", "no 82 unknownoption colour"),
+    (83, "event node", "no 83 missingoption event node"),
+    (85, "clone", "no 85 notinprofile clone"),
+    (86, "echo", "no 86 notintry echo"),
+    (87, "n", "no 87 undefined n"),
+    (88, "a b", "no 88 depth a b"),
+    (89, "", "no 89 nofile "),
+    (93, "s", "no 93 scriptused s"),
+    (94, "s", "no 94 noscript s"),
+    (98, "move", "no 98 notbuilt move"),
+];
+
+#[test]
+fn texts_are_printed(rt: HostRuntime) -> Result<(), Fail> {
+    for (code, text, line) in WORDED {
+        expect_refusal(&rt, worded(*code, name(&rt, text)?), line)?;
+    }
+    let text = name(&rt, "two words")?;
+    expect_answer(&rt, Answer::Echoed { text }, "ok echo two words")
+}

@@ -1,0 +1,50 @@
+use Rattle.std.proofs.Common.{get_or, set, map, subst}
+use Rattle.slonik_exec.specs.declared.reaching.Reached.TheVariants.{At}
+use Rattle.slon_model.specs.Sessions.{bind}
+use Rattle.slon_model.specs.Reaching.{reach}
+use Rattle.node_state.proofs.Formed.{if_ok}
+use Rattle.slonik_exec.specs.Answering.{Answers, AtNode}
+use Rattle.slonik_exec.specs.Databases.{bases_of, named_base, Runs}
+use Rattle.slonik_exec.specs.Executing.{Executes}
+use Rattle.slonik_exec.specs.Reached.{name_on, Addresses, Reaches, IsNodeAt, IsNodeHere, IsQuietly}
+use Rattle.slonik_exec.specs.Statements.{path_stored}
+use Rattle.slonik_exec.proofs.Lifting.{runs_worked}
+use Rattle.slonik_exec.proofs.Seating.{worked_at, executes_worked, executes_refused, runs_quiet}
+use Rattle.slonik_exec.proofs.paths.store_path.Goals as goal
+
+pub returns-in-At : goal.returns-in-At
+returns-in-At g c =
+    let a : Addresses = record { lines = c.args.caller.lines.now; cluster = c.args.caller.cluster.now } in
+    let client = c.args.client in
+    let does = path_stored client c.args.server c.args.conninfo.now in
+    let f = named_base g.K.Keeper.kept in
+    let items = c.args.databases.now in
+    let i = c.in-At.i in
+    let x = get_or items i c.index-databases-i.result in
+    let y = c.store_path_at.new.seat in
+    let here : IsNodeAt {g = g.K.Keeper} (name_on client a.lines) items i
+    = subst (IsNodeHere {g = g.K.Keeper} (name_on client a.lines) items) c.in-At.is c.in_ok-i.ensures.here in
+    let at = worked_at f (name_on client a.lines) items i c.index-databases-i.result y here.here.at
+    c.store_path_at.ensures.name in
+    let reaches : Reaches a client (bases_of g.K.Keeper.kept items) (At i)
+    = subst (Reaches a client (bases_of g.K.Keeper.kept items)) c.in-At.is c.in_ok-i.ensures.reaches in
+    record {
+      runs = if_ok (λ reply. Answers x.name (f x).1 reply (f y).1)
+          (λ reply. Runs (map f items) reply (map f (set items i y))) c.store_path_at.result
+          (λ reply answers. runs_worked reply at answers) c.store_path_at.ensures.answers;
+      executes = if_ok (λ reply. AtNode x.name does (f x).1 reply (f y).1)
+          (λ reply. Executes a (λ run w. bind (reach run client w) does) (map f items) reply
+          (map f (set items i y))) c.store_path_at.result
+          (λ reply comes. executes_worked does reply at reaches comes) c.store_path_at.ensures.comes;
+    }
+
+pub returns-in-Refused : goal.returns-in-Refused
+returns-in-Refused g c =
+    let a : Addresses = record { lines = c.args.caller.lines.now; cluster = c.args.caller.cluster.now } in
+    let bases = bases_of g.K.Keeper.kept c.args.databases.now in
+    record {
+      runs = runs_quiet c.in-Refused.refusal bases (subst IsQuietly c.in-Refused.is c.in_ok-i.ensures.quiet);
+      executes = executes_refused a c.args.client bases c.in-Refused.refusal
+          (λ run w. path_stored c.args.client c.args.server c.args.conninfo.now)
+          (subst (Reaches a c.args.client bases) c.in-Refused.is c.in_ok-i.ensures.reaches);
+    }

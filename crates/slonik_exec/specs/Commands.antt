@@ -1,0 +1,27 @@
+-- What the parts of a command of a script are like.
+use Rattle.std.specs.Prelude.{ℕ, List, Option, None}
+use Rattle.slon_base.specs.Codec.{IsText}
+use Rattle.store_rows.specs.Rows.{IsId}
+use Rattle.slonik_script.specs.declared.script.Command.{Command}
+use Rattle.slonik_script.specs.declared.script.Command.TheVariants.{InitCluster, StoreNode, StorePath, DropPath}
+use Rattle.slonik_script.specs.declared.script.Command.TheVariants.{CreateSet}
+use Rattle.slonik_script.specs.declared.script.Command.TheVariants.{SetAddTable}
+use Rattle.slon_model.specs.Membership.{comment_of}
+
+-- its ids are in their range, and its texts can be stored
+abbrev pub IsRunnable : Command → Type 0
+IsRunnable (InitCluster id comment) = IsId id
+IsRunnable (StoreNode id event_node comment) = IsId id × IsId event_node
+IsRunnable (StorePath server client conninfo retry) = IsId server × IsId client × IsText conninfo
+IsRunnable (DropPath server client) = IsId server × IsId client
+IsRunnable (CreateSet id origin comment) = IsId id × IsId origin
+IsRunnable (SetAddTable set origin id name key comment) = IsId set × IsId origin × IsId id × IsText name
+IsRunnable others = Unit {0}
+
+-- the comment that it gives, if it does
+abbrev pub comment_in : Command → Option (List ℕ)
+comment_in (InitCluster id comment) = comment
+comment_in (StoreNode id event_node comment) = comment
+comment_in (CreateSet id origin comment) = comment
+comment_in (SetAddTable set origin id name key comment) = comment
+comment_in others = None

@@ -1,0 +1,10 @@
+pub mod Answering
+pub mod Commands
+pub mod Databases
+pub mod Emitting
+pub mod Executing
+pub mod Heard
+pub mod Reached
+pub mod Statements
+pub mod Stored
+pub mod Telling

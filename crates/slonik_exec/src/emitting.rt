@@ -1,0 +1,48 @@
+// A statement has the node that it reached emit an event.
+ghost use Rattle.std.specs.Prelude.{◌≡◌, true, is_some, Ok, Some, List, ℕ, [], ◌∷◌, IfOk};
+ghost use Rattle.node_rows.specs.Spellings.{CanBody};
+ghost use Rattle.set_config.specs.Built.{IsBuilt};
+ghost use Rattle.app_store.specs.Base.{base_of};
+ghost use Rattle.slonik_exec.specs.Answering.{Answers};
+ghost use Rattle.slonik_exec.specs.Emitting.{Emits};
+
+use crate::databases::Named;
+use crate::replies::{answered, told};
+use crate::short::NoMemory;
+use node_keeper::Keeper;
+use node_rows::Body;
+use node_store::{DbFault, announce};
+use slon_model::{Answer, Answered, Reply};
+use std::alloc::Global;
+
+/// The node emits an event with this body, and the reply says so.
+pub(crate) fn emit<K: Keeper>(
+    alloc: Global,
+    seat: &mut Named<K>,
+    body: &Body,
+) -> Result<Reply, NoMemory>
+    requires up { seat.old.database.state.up ≡ true }
+    requires node { is_some seat.old.database.state.node.identity ≡ true }
+    requires can { CanBody body.now }
+    requires built { IsBuilt body.now }
+    ensures answers { IfOk result (λ reply. Answers seat.old.name (base_of K.kept seat.old.database) reply
+        (base_of K.kept seat.new.database)) }
+    ensures emits { IfOk result (λ reply. Emits seat.old.name body.now (base_of K.kept seat.old.database) reply
+        (base_of K.kept seat.new.database)) }
+    ensures name { seat.new.name ≡ seat.old.name }
+{
+    let Some(node) = seat.database.node_id() else {
+        return told(alloc, &seat.name, DbFault::Down);
+    };
+    match announce(&mut seat.database, body) {
+        Ok((number, false)) => {
+            let answer = Answer::Emitted { node, number };
+            answered(alloc, &seat.name, Answered::Sure(answer))
+        }
+        Ok((number, true)) => {
+            let answer = Answer::Emitted { node, number };
+            answered(alloc, &seat.name, Answered::InDoubt(answer))
+        }
+        Err(fault) => told(alloc, &seat.name, fault),
+    }
+}

@@ -1,0 +1,23 @@
+//! What the commands of a script do on the databases of a session.
+#![tactic(auto)]
+
+mod caller;
+mod checks;
+mod command;
+mod databases;
+mod emitting;
+mod knowing;
+mod membership;
+mod paths;
+mod reaching;
+mod replies;
+mod sets;
+mod short;
+
+pub use caller::Caller;
+pub use command::run_command;
+pub use databases::{Named, index_of};
+pub use knowing::{Heard, Question, down_database, down_node, first_node, known_somewhere};
+pub use reaching::{Reached, database_in, database_of_line, reach};
+pub use replies::{answered, copied, halted, refused, told};
+pub use short::NoMemory;
