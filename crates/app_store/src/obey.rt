@@ -91,8 +91,8 @@ impl<K: Keeper> Database<K> {
     ///
     /// # Errors
     ///
-    /// `Down` where the database is down and the command is not `up`, and for the making of a database; else what the
-    /// method of the command refuses, and `Fault`, `BadRow`, `TooBig` and `NoMemory` where it stopped.
+    /// `Down` where the database is down and the command is not `up`, and for what is not asked of one database; else
+    /// what the method of the command refuses, and `Fault`, `BadRow`, `TooBig` and `NoMemory` where it stopped.
     pub fn obey(&mut self, command: &Command) -> Result<Answered, DbFault>
         requires { IsSpoken command.now }
         ensures serves { ServesOn (subject_of command.now) (base_of K.kept self.old) result (base_of K.kept self.new) }
@@ -100,7 +100,6 @@ impl<K: Keeper> Database<K> {
         ensures hands { HandsOn (subject_of command.now) (base_of K.kept self.old) result }
     {
         match command {
-            Command::Database { .. } => Err(DbFault::Down),
             Command::Table { table, columns, .. } => done(self.table(table, *columns)),
             Command::Begin { transaction, .. } => opened(self.begin(transaction)),
             Command::Insert {
@@ -128,6 +127,7 @@ impl<K: Keeper> Database<K> {
             Command::Status { .. } => self.status(),
             Command::Crash { crash, .. } => done(self.crash(*crash)),
             Command::Up { .. } => self.up(),
+            _ => Err(DbFault::Down),
         }
     }
 

@@ -27,6 +27,9 @@ fn verb(command: &Command) -> &'static str {
         Command::Status { .. } => "status",
         Command::Crash { .. } => "crash",
         Command::Up { .. } => "up",
+        Command::Slonik { .. } => "slonik",
+        Command::Step { .. } => "step",
+        Command::Kill { .. } => "kill",
     }
 }
 
@@ -81,7 +84,7 @@ fn push_some(line: &mut String, word: Option<&Text>) -> Result<(), Fail> {
 /// Writes a command in its one spelling.
 fn spell(line: &mut String, command: &Command) -> Result<(), Fail> {
     line.push_str(verb(command))?;
-    push_word(line, command.database())?;
+    push_word(line, command.name())?;
     push_some(line, command.transaction())?;
     push_some(line, command.table())?;
     push_rest(line, command)
@@ -146,6 +149,8 @@ const COMMANDS: &[(&str, &str)] = &[
     ("crash a commit keep", "crash a commit keep"),
     ("crash a commit lose", "crash a commit lose"),
     ("up a", "up a"),
+    ("step s-1", "step s-1"),
+    ("kill s", "kill s"),
     (
         "database abcdefghijklmnopqrstuvwxyz01234",
         "database abcdefghijklmnopqrstuvwxyz01234",
@@ -182,6 +187,9 @@ const BAD_LINES: &[&str] = &[
     "table a 1s.t 1",
     "table a S.t 1",
     "table a s.abcdefghijklmnopqrstuvwxyz_01234x 1",
+    "step",
+    "kill a b",
+    "slonik s <<",
     "begin a",
     "begin a t u",
     "insert a t s.t",

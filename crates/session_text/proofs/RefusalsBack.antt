@@ -136,7 +136,7 @@ refusal_back (Full limit) h = numbered Full _ limit (below_half limit h) refl re
 refusal_back (BadRow space) h = numbered BadRow _ space (below_word space h) refl refl refl
 refusal_back (NotEmpty name) h = worded NotEmpty _ name (name_lacks 10 name refl h) refl refl refl
 refusal_back (Down name) h = worded Down _ name (name_lacks 10 name refl h) refl refl refl
-refusal_back (NoDatabase name) h = worded NoDatabase _ name (name_lacks 10 name refl h) refl refl refl
+refusal_back (NoDatabase name) h = worded NoDatabase _ name h refl refl refl
 refusal_back (IdUsed id) h = numbered IdUsed _ id (below_half id h) refl refl refl
 refusal_back (IsUp name) h = worded IsUp _ name (name_lacks 10 name refl h) refl refl refl
 refusal_back (TooBig space) h = numbered TooBig _ space (below_word space h) refl refl refl
@@ -149,7 +149,7 @@ refusal_back (HasReceivers node) h = numbered HasReceivers _ node (below_half no
 refusal_back (NoSet set) h = numbered NoSet _ set (below_half set h) refl refl refl
 refusal_back (TableExists table) h = worded TableExists _ table (table_lacks 10 table refl refl h) refl refl refl
 refusal_back (NameUsed name) h = worded NameUsed _ name (name_lacks 10 name refl h) refl refl refl
-refusal_back (NoTable table) h = worded NoTable _ table (table_lacks 10 table refl refl h) refl refl refl
+refusal_back (NoTable table) h = worded NoTable _ table h refl refl refl
 refusal_back (NoTransaction name) h = worded NoTransaction _ name (name_lacks 10 name refl h) refl refl refl
 refusal_back Duplicate h = record { rest = _; words = refl; back = refl; line = refl }
 refusal_back (NotOrigin set) h = numbered NotOrigin _ set (below_half set h) refl refl refl

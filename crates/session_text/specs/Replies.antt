@@ -17,7 +17,7 @@ use Rattle.slon_model.specs.declared.reply.Refusal.TheVariants.{NotOrigin, SetLo
 use Rattle.slon_model.specs.declared.reply.Refusal.TheVariants.{SameNode, Script, ScriptUsed, NoScript, NotBuilt}
 use Rattle.slon_model.specs.declared.reply.Reply.{Reply}
 use Rattle.slon_model.specs.declared.reply.Reply.TheVariants.{Accepted, Refused, InDoubt}
-use Rattle.slon_model.specs.Forms.{is_name, is_table_name, is_value}
+use Rattle.slon_model.specs.Forms.{is_name, is_table_name, is_value, is_line_byte, is_line}
 use Rattle.slon_model.specs.Printed.{reply_line}
 
 -- ---- numbers
@@ -78,17 +78,9 @@ NumbersFit (InDoubt database answer) = AnswerFits answer
 
 -- ---- words and texts
 
--- no newline
-abbrev pub is_line_byte : ℕ → Bool
-is_line_byte c = not (c == 10)
-
 -- no space and no newline
 abbrev pub is_word_byte : ℕ → Bool
 is_word_byte c = not (c == 32 || c == 10)
-
--- a text on one line
-abbrev pub is_line : List ℕ → Bool
-is_line text = list_all is_line_byte text
 
 -- the printed snapshot of a set is one word
 abbrev pub KeptHasForm : ℕ × ℕ × List ℕ → Type 0
@@ -119,11 +111,11 @@ abbrev pub RefusalHasForm : Refusal → Type 0
 RefusalHasForm (Fault database count) = (is_name database ≡ true) × (count < 2 ^ 64)
 RefusalHasForm (NotEmpty database) = is_name database ≡ true
 RefusalHasForm (Down database) = is_name database ≡ true
-RefusalHasForm (NoDatabase database) = is_name database ≡ true
+RefusalHasForm (NoDatabase database) = is_line database ≡ true
 RefusalHasForm (IsUp database) = is_name database ≡ true
 RefusalHasForm (TableExists table) = is_table_name table ≡ true
 RefusalHasForm (NameUsed name) = is_name name ≡ true
-RefusalHasForm (NoTable table) = is_table_name table ≡ true
+RefusalHasForm (NoTable table) = is_line table ≡ true
 RefusalHasForm (NoTransaction transaction) = is_name transaction ≡ true
 RefusalHasForm (TableUsed table) = is_line table ≡ true
 RefusalHasForm (Script refusal) = ScriptHasForm refusal

@@ -13,6 +13,7 @@ mod writes;
 
 pub use fits::numbers_fit;
 pub use laws::{outputs_are_injective, printing_is_injective};
-pub use line_reader::{LineReader, NextLine, ReadStop};
+pub use line_reader::{LINE_LIMIT, LineReader, NextLine, ReadStop};
 pub use print::{print_line, print_reply};
-pub use read::{LineFault, read_command};
+pub use read::{LineFault, is_text, read_command};
+pub use words::{Misread, name_of, words_of};

@@ -1,5 +1,5 @@
 // A session is read in pieces through one buffer, and handed over line by line.
-ghost use Rattle.std.specs.Prelude.{◌≡◌, ℕ, ◌+◌, ◌<◌, ◌≤◌, ◌==◌, if◌then◌else◌, Bool, true, false, List, [], ◌++◌};
+ghost use Rattle.std.specs.Prelude.{◌≡◌, ℕ, ◌+◌, ◌-◌, ◌<◌, ◌≤◌, ◌==◌, if◌then◌else◌, Bool, true, false, List, [], ◌++◌};
 ghost use Rattle.std.specs.Prelude.{length, take, Some, None, Option, IfOk, OnErr, IsErrOf, vec_len};
 ghost use Rattle.std.specs.List.{position};
 ghost use Rattle.std.specs.Str.Lines.{strip_carriage_return};
@@ -14,7 +14,7 @@ use std::marker::Model;
 use thiserror::Error;
 
 /// The greatest length of a line in bytes, without its newline and one carriage return before that.
-pub(crate) const LINE_LIMIT: usize = 8192;
+pub const LINE_LIMIT: usize = 8192;
 
 /// The greatest length of a session, in bytes.
 const SESSION_LIMIT: usize = 16_777_216;
@@ -149,6 +149,24 @@ impl LineReader {
         })
     }
 
+    /// How many bytes may still be handed over.
+    pub fn left(&self) -> u64
+        ensures value { result ≡ session_limit - self.now.taken }
+        ensures within { self.now.taken ≤ session_limit }
+    {
+        (SESSION_LIMIT - self.taken) as u64
+    }
+
+    /// From now on that many bytes may still be handed over, since others were read elsewhere.
+    pub fn leave(&mut self, left: u64)
+        requires { left ≤ session_limit - self.old.taken }
+        ensures unread { self.new.unread ≡ self.old.unread }
+        ensures taken { self.new.taken ≡ session_limit - left }
+        ensures within { self.new.taken ≤ session_limit }
+    {
+        self.taken = SESSION_LIMIT - left as usize;
+    }
+
     /// Reads on where nothing is unread, and says whether something is now.
     fn fill<F: Files>(&mut self, files: &mut F) -> Result<bool, ReadStop>
         requires { 0 < length (F.filed files.old).stack }
@@ -226,6 +244,7 @@ impl LineReader {
         ensures breaks { (bytes : List ℕ) → Comes self.old (F.filed files.old) bytes →
             IsErrOf result ReadStop.Failed → Breaks bytes self.old.taken (F.filed files.new) }
         ensures limit { IfOk result (λ _. self.new.taken ≤ session_limit) }
+        ensures within { self.new.taken ≤ session_limit }
         ensures moves { IfOk result (λ next. next ≡ NextLine.Line → self.old.taken < self.new.taken) }
         ensures short { IfOk result (λ next. next ≡ NextLine.Line → length line.new.items ≤ line_limit) }
         ensures room { length line.new.items ≤ line_limit + 2 }

@@ -116,6 +116,30 @@ fn status_of(alloc: Global, words: &[&[u8]]) -> Result<Command, Misread>
     })
 }
 
+/// `step SCRIPT`
+fn step_of(alloc: Global, words: &[&[u8]]) -> Result<Command, Misread>
+    ensures { Gives (lines.step_of (map (λ word. word.now) words.now)) result }
+{
+    let [script] = words else {
+        return Err(Misread::BadForm);
+    };
+    Ok(Command::Step {
+        script: name_of(alloc, script)?,
+    })
+}
+
+/// `kill SCRIPT`
+fn kill_of(alloc: Global, words: &[&[u8]]) -> Result<Command, Misread>
+    ensures { Gives (lines.kill_of (map (λ word. word.now) words.now)) result }
+{
+    let [script] = words else {
+        return Err(Misread::BadForm);
+    };
+    Ok(Command::Kill {
+        script: name_of(alloc, script)?,
+    })
+}
+
 /// Whether a word is this verb.
 fn is_verb(word: &[u8], verb: &str) -> bool
     ensures { result ≡ bytes_eq word.now verb.now }
@@ -151,6 +175,10 @@ fn command_of(alloc: Global, verb: &[u8], rest: &[&[u8]]) -> Result<Command, Mis
         crash_of(alloc, rest)
     } else if is_verb(verb, "up") {
         up_of(alloc, rest)
+    } else if is_verb(verb, "step") {
+        step_of(alloc, rest)
+    } else if is_verb(verb, "kill") {
+        kill_of(alloc, rest)
     } else {
         Err(Misread::BadForm)
     }
@@ -179,8 +207,8 @@ fn said_by_words(alloc: Global, words: &[&[u8]]) -> Result<Option<Command>, Misr
     Ok(Some(command_of(alloc, verb, rest)?))
 }
 
-/// Whether the bytes are a text.
-fn is_text(line: &[u8]) -> bool
+/// Whether the bytes of a line are a text.
+pub fn is_text(line: &[u8]) -> bool
     ensures { result ≡ is_utf8 line.now }
 {
     str::from_utf8(line).is_ok()

@@ -8,13 +8,16 @@ ghost use Rattle.session_text.specs.Commands.{Gives, name_in, table_name_in, val
 use crate::forms::{is_name, is_plain_number, is_table_name, is_value};
 use slon_base::{Text, TextList};
 use std::alloc::{AllocError, AllocFailed, Global};
+use thiserror::Error;
 
 /// Why words were not read.
-#[derive(Clone, Copy, Debug, PartialEq, Eq)]
+#[derive(Clone, Copy, Debug, Drop, Error, PartialEq, Eq)]
 pub enum Misread {
     /// They are not of the form.
+    #[error("the words are of another form")]
     BadForm,
     /// There was no memory.
+    #[error("out of memory")]
     OutOfMemory,
 }
 

@@ -5,8 +5,8 @@ use Rattle.slon_base.specs.Shelf.{with_asked}
 use Rattle.slon_model.specs.declared.reply.Reply.{Reply}
 use Rattle.slon_base.specs.Keeper.{Kept}
 use Rattle.slon_model.specs.declared.command.Command.{Command}
-use Rattle.slon_main.specs.Agreed.{Clustered}
-use Rattle.slon_main.specs.Calls.{Moves, Grants, Misses, Asks, Adopts, Rejects, Keeps}
+use Rattle.cluster_engine.specs.Agreed.{Clustered}
+use Rattle.cluster_engine.specs.Calls.{Moves, Grants, Misses, Asks, Acts, Adopts, Rejects, Keeps}
 use Rattle.slon_main.specs.Running.{Asked, asks, IsAsked, AreAsked, AsksOn}
 use Rattle.slon_main.specs.declared.run.Stop.{Stop}
 
@@ -54,6 +54,7 @@ moves_given : (command : Command) (old : Clustered) (reply : Reply) (new : Clust
 moves_given command old reply new (Grants name about told same) = ap (λ (c : Clustered). c.given) same
 moves_given command old reply new (Misses name task about none told same) = ap (λ (c : Clustered). c.given) same
 moves_given command old reply new (Asks s) = ap (λ (c : Clustered). c.given) s.same
+moves_given command old reply new (Acts act about acted) = acted.given
 
 -- no command but the making of a database asks for a store
 pub asks_no_more : (command : Command) (old : Clustered) (reply : Reply) (new : Clustered) (asked : Asked) →

@@ -9,8 +9,8 @@ use Rattle.slon_base.specs.Shelf.{Shelved, IsAsPromised}
 use Rattle.slon_model.specs.declared.command.Command.TheVariants.{Database}
 use Rattle.slon_model.specs.declared.reply.Answer.TheVariants.{Done}
 use Rattle.slon_model.specs.declared.reply.Reply.TheVariants.{Accepted}
-use Rattle.slon_main.specs.Agreed.{Clustered}
-use Rattle.slon_main.specs.Calls.{grant}
+use Rattle.cluster_engine.specs.Agreed.{Clustered}
+use Rattle.cluster_engine.specs.Calls.{grant}
 use Rattle.slon_main.specs.Running.{Counts, HasCause, NeverFails, Tells, NamesMade, is_no_store}
 
 -- a count that rises after it stood still or rose has risen

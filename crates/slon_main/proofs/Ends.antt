@@ -1,6 +1,7 @@
 -- The end of a run, with its last line.
 use Rattle.std.proofs.Common.{◌≡◌, ◌∙◌, ℕ, ◌<◌, ◌≤◌, List, [], ◌∷◌, ◌++◌, length, append-nil, Option, Some, None, Err}
 use Rattle.std.proofs.Common.{Bool, true, false, is_some, true≢false, refl, sym, ap, subst, arith}
+use Rattle.std.specs.FinMap.{empty}
 use Rattle.std.specs.Option.{option_map}
 use Rattle.slon_base.specs.Outside.{Filed, Poured, with_piece, WritesPart, Entered, HoldsFile, top}
 use Rattle.slon_base.specs.Counts.{Rose}
@@ -16,13 +17,14 @@ use Rattle.slon_main.specs.declared.run.Stop.{Stop}
 use Rattle.slon_main.specs.declared.run.Stop.TheVariants.{BadLine as StopsBad, Read as StopsRead, Write as StopsWrite}
 use Rattle.slon_main.specs.declared.run.Stop.TheVariants.{NoMemory as StopsShort, NoStore as StopsNoStore}
 use Rattle.slon_main.specs.declared.run.Stop.TheVariants.{TooLong as StopsLong}
-use Rattle.slon_main.specs.Agreed.{Clustered}
+use Rattle.cluster_engine.specs.Agreed.{Clustered}
 use Rattle.slon_main.specs.Running.{Counts, Begun, Pieces, Starts, Ran, RanOn, RanInPart, RunsSession, StopsAt}
 use Rattle.slon_main.specs.Ending.{Closes, Closed, Failed, Short, ClosesAt, Unread, AtFirst, InRead, EndsWhole}
 use Rattle.slon_main.specs.Ending.{EndsInPart, InReply, InLast, EndsRun, EndsAt, FaultOnly, NoneRose, IsWhole, Holds}
 use Rattle.slon_main.specs.Ending.{hands_back, is_cut, is_run, is_whole, session_word, database_limit, bad_line}
 use Rattle.slon_main.specs.Ending.{read_line}
 use Rattle.slon_main.specs.Ending.{store_line, long_line}
+use Rattle.cluster_engine.proofs.Walking.{none_fit}
 use Rattle.slon_main.proofs.Causes.{rose_since}
 use Rattle.slon_main.proofs.Places.{too_long}
 use Rattle.slon_main.proofs.Runs.{ran_nothing}
@@ -196,17 +198,17 @@ ends_unentered at f cluster o same (starts, empty) closes =
 -- there was no memory before the first line
 pub ends_short : (shelf : Shelved) (bytes : List ℕ) (unread : Unread) (written : Pieces) (status : Status)
     (has : Option Clustered) → status ≡ NoMemory → written ≡ Some [] → EndsRun shelf status bytes written unread has
-ends_short shelf bytes unread written status has is empty =
+ends_short shelf bytes unread written status has is none =
     subst (λ s. EndsRun shelf s bytes written unread has) (sym is) (
       bare,
-      ran_nothing shelf database_limit (session_of bytes).commands written bare empty (record {
-        agrees = record { limit = refl; fits = tt; memory = refl };
+      ran_nothing shelf database_limit (session_of bytes).commands written bare none (record {
+        agrees = record { limit = refl; fits = tt; scripts = none_fit empty refl };
         given = refl;
       }),
     )
   where
     bare : Clustered
-    bare = record { limit = database_limit; given = 0; bases = [] }
+    bare = record { limit = database_limit; given = 0; bases = []; scripts = empty }
 
 -- where the session could not be entered
 pub read_faults : {C : Type 0} (line : List ℕ) (cluster : Option C) (before behind shelf : ℕ) (o : Outcome C) →

@@ -1,14 +1,5 @@
-pub mod Alone
 pub mod Asks
 pub mod Causes
-pub mod Certain
-pub mod Charges
 pub mod Ends
-pub mod Failing
-pub mod Forms
-pub mod Lifting
-pub mod Moving
 pub mod Places
 pub mod Runs
-pub mod Stepping
-pub mod Telling

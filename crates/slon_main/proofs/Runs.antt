@@ -26,16 +26,17 @@ use Rattle.session_text.specs.declared.line_reader.NextLine.TheVariants.{Line}
 use Rattle.app_store.specs.Base.{Base}
 use Rattle.slon_main.specs.declared.run.Stop.{Stop}
 use Rattle.slon_main.specs.declared.run.Stop.TheVariants.{BadLine, Read, Write, NoMemory, NoStore, TooLong}
-use Rattle.slon_main.specs.Agreed.{Clustered, FitsAll, Agrees, Follows}
-use Rattle.slon_main.specs.Calls.{arms_later, grant, happened, AllQuiet, AllCertain}
-use Rattle.slon_main.specs.Failing.{IsWithin}
+use Rattle.slonik_exec.specs.Databases.{FitsAll}
+use Rattle.cluster_engine.specs.Agreed.{Clustered, Agrees, Follows}
+use Rattle.cluster_engine.specs.Calls.{arms_later, grant, happened, AllQuiet, AllCertain}
+use Rattle.cluster_engine.specs.Failing.{IsWithin}
 use Rattle.slon_main.specs.Running.{Begun, Pieces, Starts, NeverFails, NoneArms, ReadsLine, RunsLine, Means}
 use Rattle.slon_main.specs.Running.{MeansInPart, Replies, NamesMade, is_no_store, is_of_command, Ran, RanOn, IsMaking}
 use Rattle.slon_main.specs.Running.{IsBeyond, IsUnread, RunsSession, end_of, commands_behind}
-use Rattle.slon_main.specs.Telling.{AreTold}
+use Rattle.cluster_engine.specs.Telling.{AreTold}
 use Rattle.slon_main.proofs.Causes.{never_still}
-use Rattle.slon_main.proofs.Forms.{all_with, formed_by}
-use Rattle.slon_main.proofs.Stepping.{sure_step}
+use Rattle.reply_forms.proofs.Forms.{all_with, formed_by}
+use Rattle.cluster_engine.proofs.Stepping.{sure_step}
 use Rattle.slon_main.proofs.Places.{Reached, Came, next_end, too_long_is_bad}
 
 -- the session with commands before its others

@@ -15,7 +15,7 @@ use Rattle.slon_main.specs.declared.run.Stop.{Stop}
 use Rattle.slon_main.specs.declared.run.Stop.TheVariants.{BadLine as StopsBad, Read as StopsRead, Write as StopsWrite}
 use Rattle.slon_main.specs.declared.run.Stop.TheVariants.{NoMemory as StopsShort, NoStore as StopsNoStore}
 use Rattle.slon_main.specs.declared.run.Stop.TheVariants.{TooLong as StopsLong}
-use Rattle.slon_main.specs.Agreed.{Clustered}
+use Rattle.cluster_engine.specs.Agreed.{Clustered}
 use Rattle.slon_main.specs.Running.{Counts, Pieces, Ran, RanOn, RanInPart, IsMaking, IsBeyond, IsUnread, IsTooLong}
 
 -- the greatest number of databases of a session

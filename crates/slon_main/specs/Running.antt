@@ -19,10 +19,10 @@ use Rattle.session_text.specs.Reading.{Reading, line_limit, line_size, session_l
 use Rattle.session_text.specs.Handing.{Hands, Breaks, behind}
 use Rattle.session_text.specs.Replies.{HasForm, NumbersFit}
 use Rattle.session_text.specs.declared.line_reader.NextLine.TheVariants.{Line}
-use Rattle.slon_main.specs.Agreed.{Clustered, Agrees, Follows}
-use Rattle.slon_main.specs.Calls.{arms_later, grant, happened, GoesOn, AllQuiet, StaysQuiet, StaysCertain}
-use Rattle.slon_main.specs.Failing.{IsWithin, Pays}
-use Rattle.slon_main.specs.Telling.{AreTold}
+use Rattle.cluster_engine.specs.Agreed.{Clustered, Agrees, Follows}
+use Rattle.cluster_engine.specs.Calls.{arms_later, grant, happened, GoesOn, AllQuiet, StaysQuiet, StaysCertain}
+use Rattle.cluster_engine.specs.Failing.{IsWithin, Pays}
+use Rattle.cluster_engine.specs.Telling.{AreTold, KeepsTelling}
 use Rattle.slon_main.specs.declared.run.Stop.{Stop}
 use Rattle.slon_main.specs.declared.run.Stop.TheVariants.{BadLine, Read, Write, NoMemory, NoStore, TooLong}
 
@@ -114,15 +114,6 @@ ReadsLine number line bytes old new files (Err Read) = Breaks bytes old.taken fi
 ReadsLine number line bytes old new files (Err NoMemory) = Unit {0}
 ReadsLine number line bytes old new files (Err TooLong) = session_limit < old.taken + line_size bytes
 ReadsLine number line bytes old new files (Err others) = ⊥
-
--- From each world that agrees a command leads by a step that the rules allow to a world that agrees.
-abbrev pub Obeys : Command → Clustered → Reply → Clustered → Type 0
-Obeys command old reply new = (w : World) → Follows w old → GoesOn command w reply new
-
--- what each store is told goes on from what its database was told last, this command with its reply among it
-abbrev pub KeepsTelling : Command → Clustered → Reply → Clustered → Type 0
-KeepsTelling command old reply new = (choice : Choice) (history : List Happening) → AreTold history old →
-    AreTold (happened command reply choice ∷ history) new
 
 -- A command that a line says goes on by a step that the rules allow, and its reply is written.
 pub record Replies (shelf : Shelved) (command : Command) (w : World) (before written : Option (List (List ℕ)))

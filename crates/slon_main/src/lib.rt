@@ -1,11 +1,10 @@
-//! A session from its words and its bytes to the bytes written: the databases, and the run over them.
+//! A session from its words and its bytes to the bytes written.
 #![tactic(auto)]
 
-mod cluster;
 mod run;
 mod session;
 mod status;
 
-pub use cluster::Cluster;
+pub use cluster_engine::{Cluster, NoMemory};
 pub use session::{Ended, slon_main};
-pub use status::{NoMemory, Status};
+pub use status::Status;

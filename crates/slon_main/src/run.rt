@@ -9,22 +9,23 @@ ghost use Rattle.slon_model.specs.World as world;
 ghost use Rattle.slon_model.specs.World.{World, start};
 ghost use Rattle.session_text.specs.Reading.{session_limit};
 ghost use Rattle.session_text.specs.Handing.{Stays, Comes};
-ghost use Rattle.slon_main.specs.Agreed.{Agrees, Follows};
-ghost use Rattle.slon_main.specs.Calls.{Makes, StaysCertain, StaysQuiet, AllCertain, is_sure_reply};
-ghost use Rattle.slon_main.specs.Clustered.{cluster_of};
-ghost use Rattle.slon_main.specs.Failing.{Pays};
+ghost use Rattle.slonik_exec.specs.Heard.{AreDistinct};
+ghost use Rattle.cluster_engine.specs.Agreed.{Agrees, Follows};
+ghost use Rattle.cluster_engine.specs.Calls.{Makes, StaysCertain, StaysQuiet, AllCertain, is_sure_reply};
+ghost use Rattle.cluster_engine.specs.Clustered.{cluster_of};
+ghost use Rattle.cluster_engine.specs.Failing.{Pays};
 ghost use Rattle.slon_model.specs.Names.{find_named};
 ghost use Rattle.slon_model.specs.declared.command.Command.TheVariants.{Database as DatabaseCommand};
 ghost use Rattle.session_text.specs.Replies.{NumbersFit};
 ghost use Rattle.slon_model.specs.Lines.{Says};
 ghost use Rattle.slon_main.specs.Running.{counts, begun, Tells, NeverFails, Shelves, AsksOn, HasCause, ReadsLine};
-ghost use Rattle.slon_main.specs.Running.{Obeys};
-ghost use Rattle.slon_main.specs.Running.{KeepsTelling, Replies, MeansInPart, RunsLine, Starts, RunsSession, NamesMade};
+ghost use Rattle.cluster_engine.specs.Calls.{Obeys};
+ghost use Rattle.cluster_engine.specs.Telling.{KeepsTelling};
+ghost use Rattle.slon_main.specs.Running.{Replies, MeansInPart, RunsLine, Starts, RunsSession, NamesMade};
 ghost use Rattle.slon_main.specs.Running.{BadOnly, StopsAt, is_of_store, is_of_output, is_of_command, is_of_line};
 ghost use Rattle.slon_main.specs.Running.{is_no_store};
 
-use crate::cluster::Cluster;
-use crate::status::NoMemory;
+use cluster_engine::{Cluster, NoMemory};
 use session_text::{
     LineFault, LineReader, NextLine, ReadStop, numbers_fit, print_line, read_command,
 };
@@ -103,6 +104,9 @@ fn make<S: Shelf>(cluster: &mut Cluster<S::Store>, shelf: &mut S, name: Text) ->
     ensures unmade { IfErr result (λ stop. is_no_store stop ≡ true →
         cluster_of S.Store.kept cluster.new ≡ cluster_of S.Store.kept cluster.old) }
     ensures stop { IfErr result (λ stop. is_of_store stop ≡ true) }
+    ensures distinct { find_named name (cluster_of S.Store.kept cluster.old).bases ≡ None →
+        AreDistinct (cluster_of S.Store.kept cluster.old).bases →
+        IfOk result (λ reply. AreDistinct (cluster_of S.Store.kept cluster.new).bases) }
 {
     match shelf.give(None, cluster.given()) {
         Ok(keeper) => match cluster.adopt(name, keeper) {
@@ -123,7 +127,8 @@ fn make_named<S: Shelf>(
     shelf: &mut S,
     name: Text,
 ) -> Result<Reply, Stop>
-    requires { IsSpoken (DatabaseCommand name) }
+    requires spoken { IsSpoken (DatabaseCommand name) }
+    requires distinct { AreDistinct (cluster_of S.Store.kept cluster.old).bases }
     ensures shelf { Shelves (S.shelved shelf.old) (S.shelved shelf.new) }
     ensures asked { AsksOn (S.shelved shelf.old).asked (cluster_of S.Store.kept cluster.old)
         (S.shelved shelf.new).asked (cluster_of S.Store.kept cluster.new) result }
@@ -144,6 +149,7 @@ fn make_named<S: Shelf>(
     ensures unmade { IfErr result (λ stop. is_no_store stop ≡ true →
         cluster_of S.Store.kept cluster.new ≡ cluster_of S.Store.kept cluster.old) }
     ensures stop { IfErr result (λ stop. is_of_store stop ≡ true) }
+    ensures distinct { IfOk result (λ reply. AreDistinct (cluster_of S.Store.kept cluster.new).bases) }
 {
     let Ok(copy) = name.copy(alloc) else {
         return Err(Stop::NoMemory);
@@ -165,7 +171,8 @@ fn obey<S: Shelf>(
     shelf: &mut S,
     command: Command,
 ) -> Result<Reply, Stop>
-    requires { IsSpoken command }
+    requires spoken { IsSpoken command }
+    requires distinct { AreDistinct (cluster_of S.Store.kept cluster.old).bases }
     ensures shelf { Shelves (S.shelved shelf.old) (S.shelved shelf.new) }
     ensures asked { AsksOn (S.shelved shelf.old).asked (cluster_of S.Store.kept cluster.old)
         (S.shelved shelf.new).asked (cluster_of S.Store.kept cluster.new) result }
@@ -186,6 +193,7 @@ fn obey<S: Shelf>(
     ensures unmade { IfErr result (λ stop. is_no_store stop ≡ true →
         cluster_of S.Store.kept cluster.new ≡ cluster_of S.Store.kept cluster.old) }
     ensures stop { IfErr result (λ stop. is_of_store stop ≡ true) }
+    ensures distinct { IfOk result (λ reply. AreDistinct (cluster_of S.Store.kept cluster.new).bases) }
 {
     match command {
         Command::Database { name } => make_named(alloc, cluster, shelf, name),
@@ -240,7 +248,8 @@ fn run_command<S: Shelf, O: Sink>(
     shelf: &mut S,
     out: &mut O,
 ) -> Result<(), Stop>
-    requires { IsSpoken command }
+    requires spoken { IsSpoken command }
+    requires distinct { AreDistinct (cluster_of S.Store.kept cluster.old).bases }
     ensures shelf { Shelves (S.shelved shelf.old) (S.shelved shelf.new) }
     ensures asked { AsksOn (S.shelved shelf.old).asked (cluster_of S.Store.kept cluster.old)
         (S.shelved shelf.new).asked (cluster_of S.Store.kept cluster.new) result }
@@ -262,6 +271,7 @@ fn run_command<S: Shelf, O: Sink>(
     ensures unmade { IfErr result (λ stop. is_no_store stop ≡ true →
         ((O.poured out.new).pieces ≡ (O.poured out.old).pieces)
         × (cluster_of S.Store.kept cluster.new ≡ cluster_of S.Store.kept cluster.old)) }
+    ensures distinct { IfOk result (λ _. AreDistinct (cluster_of S.Store.kept cluster.new).bases) }
 {
     let reply = obey(alloc, cluster, shelf, command)?;
     answer(alloc, &reply, out)
@@ -276,6 +286,7 @@ fn run_line<S: Shelf, O: Sink>(
     shelf: &mut S,
     out: &mut O,
 ) -> Result<(), Stop>
+    requires distinct { AreDistinct (cluster_of S.Store.kept cluster.old).bases }
     ensures shelf { Shelves (S.shelved shelf.old) (S.shelved shelf.new) }
     ensures asked { AsksOn (S.shelved shelf.old).asked (cluster_of S.Store.kept cluster.old)
         (S.shelved shelf.new).asked (cluster_of S.Store.kept cluster.new) result }
@@ -287,6 +298,7 @@ fn run_line<S: Shelf, O: Sink>(
     ensures runs { Tells (S.shelved shelf.old) → RunsLine number (meaning line.now) (S.shelved shelf.old)
         (cluster_of S.Store.kept cluster.old) (cluster_of S.Store.kept cluster.new) (O.poured out.old).pieces
         (O.poured out.new).pieces result }
+    ensures distinct { IfOk result (λ _. AreDistinct (cluster_of S.Store.kept cluster.new).bases) }
 {
     match read_command(alloc, line, number) {
         Ok(said) => match said {
@@ -308,7 +320,8 @@ pub fn run_session<F: Files, S: Shelf, O: Sink>(
     shelf: &mut S,
     out: &mut O,
 ) -> Result<(), Stop>
-    requires { 0 < length (F.filed files.old).stack }
+    requires entered { 0 < length (F.filed files.old).stack }
+    requires distinct { AreDistinct (cluster_of S.Store.kept cluster.old).bases }
     ensures files { Stays (F.filed files.old) (F.filed files.new) }
     ensures later { (O.poured out.old).faults ≤ (O.poured out.new).faults }
     ensures cause { HasCause (counts (F.filed files.old).faults (S.shelved shelf.old).faults (O.poured out.old).faults)

@@ -5,15 +5,15 @@ ghost use Rattle.slon_base.specs.Outside.{top};
 ghost use Rattle.session_text.specs.Reading.{session_limit};
 ghost use Rattle.std.specs.Prelude.{string_bytes, IfOk};
 ghost use Rattle.slon_main.specs.Ending as ending;
-ghost use Rattle.slon_main.specs.Clustered.{cluster_of};
+ghost use Rattle.cluster_engine.specs.Clustered.{cluster_of};
 ghost use Rattle.slon_main.specs.Running.{counts, AreAsked, Tells};
 ghost use Rattle.slon_main.specs.Ending.{Closes, ClosesAt, hands_back, FaultOnly, NoneRose, IsWhole, is_run, is_whole};
 ghost use Rattle.slon_main.specs.Ending.{is_refused, is_lost, EndsRun, EndsAt, Holds, Lacks, LeavesIt, MissingOnly};
 ghost use Rattle.slon_main.specs.Ending.{UsageOnly, unread};
 
-use crate::cluster::Cluster;
 use crate::run::{Stop, run_session};
 use crate::status::Status;
+use cluster_engine::Cluster;
 use node_keeper::Keeper;
 use slon_base::{Files, OutFault, Shelf, Sink, Text};
 use std::alloc::{AllocError, Global};

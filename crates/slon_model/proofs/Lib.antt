@@ -1,4 +1,3 @@
 pub mod Names
 pub mod Spoken
-pub mod Subjects
 pub mod WordBytes

@@ -1,11 +1,20 @@
--- What the parts of a command are like that a line says.
-use Rattle.std.specs.Prelude.{◌≡◌, ◌≤◌, ℕ, true, List, length}
+-- What the parts of a command are like that a session says.
+use Rattle.std.specs.Prelude.{◌≡◌, ◌≤◌, ℕ, true, List, [], length}
 use Rattle.std.specs.List.{list_all, AllByRecursion}
+use Rattle.slonik_script.specs.declared.refusal.ScriptRefusal.{ScriptRefusal}
+use Rattle.slonik_script.specs.declared.refusal.ScriptRefusal.TheVariants.{UnknownOption, MissingOption, NotInProfile}
+use Rattle.slonik_script.specs.declared.refusal.ScriptRefusal.TheVariants.{NotInTry, Undefined, Depth, NoFile}
+use Rattle.slonik_script.specs.declared.script.Command.{Command as Order}
+use Rattle.slonik_script.specs.declared.script.Command.TheVariants.{Echo, SetAddTable}
+use Rattle.slonik_script.specs.declared.script.Statement.{Statement}
+use Rattle.slonik_script.specs.declared.script.Statement.TheVariants.{Single}
 use Rattle.slon_model.specs.declared.command.Command.{Command}
-use Rattle.slon_model.specs.Forms.{is_name, is_table_name, is_value}
+use Rattle.slon_model.specs.declared.reading.Reading.{Reading}
+use Rattle.slon_model.specs.declared.reading.Reading.TheVariants.{Read, Wrong}
+use Rattle.slon_model.specs.Forms.{is_name, is_table_name, is_value, is_line}
 use Rattle.slon_model.specs.Rows.{Change, Put, Set, Remove}
-use Rattle.slon_model.specs.Tasks.{Task, ToMake, ToOpen, ToWrite, ToCommit, ToAbort, ToList, Subject, OnNew}
-use Rattle.slon_model.specs.Tasks.{OnOne, subject_of}
+use Rattle.slon_model.specs.Tasks.{Task, ToMake, ToOpen, ToWrite, ToCommit, ToAbort, ToList, Act, ToRead}
+use Rattle.slon_model.specs.Tasks.{Subject, OnNew, OnOne, OnAll, script_named, subject_of}
 
 abbrev pub IsName : List ℕ → Type 0
 IsName word = is_name word ≡ true
@@ -45,11 +54,57 @@ IsTask (ToAbort name) = IsName name
 IsTask (ToList table) = IsTableName table
 IsTask others = Unit {0}
 
+-- ---- scripts
+
+-- a text on one line
+abbrev pub IsLine : List ℕ → Type 0
+IsLine text = is_line text ≡ true
+
+-- the texts of a command of a script that replies repeat
+abbrev pub IsOrder : Order → Type 0
+IsOrder (Echo text) = IsLine text
+IsOrder (SetAddTable set origin id name key comment) = IsLine name
+IsOrder others = Unit {0}
+
+abbrev pub IsStatement : Statement → Type 0
+IsStatement (Single order) = IsOrder order
+IsStatement others = Unit {0}
+
+abbrev pub AreStatements : List Statement → Type 0
+AreStatements statements = AllByRecursion IsStatement statements
+
+-- the conninfo of each NODE line
+abbrev pub AreNodeLines : List (ℕ × List ℕ) → Type 0
+AreNodeLines lines = AllByRecursion (λ l. IsLine l.1) lines
+
+-- the text that a refusal of a script repeats
+abbrev pub wrong_text : ScriptRefusal → List ℕ
+wrong_text (UnknownOption word) = word
+wrong_text (MissingOption words) = words
+wrong_text (NotInProfile word) = word
+wrong_text (NotInTry word) = word
+wrong_text (Undefined name) = name
+wrong_text (Depth path) = path
+wrong_text (NoFile path) = path
+wrong_text others = []
+
+abbrev pub IsReading : Reading → Type 0
+IsReading (Read script) = AreNodeLines script.nodes × AreStatements script.statements
+IsReading (Wrong refusal) = IsLine (wrong_text refusal)
+
+abbrev pub IsRead : Act → Type 0
+IsRead (ToRead name reading) = IsReading reading
+IsRead others = Unit {0}
+
+abbrev pub IsAct : Act → Type 0
+IsAct act = IsName (script_named act) × IsRead act
+
 abbrev pub IsSubject : Subject → Type 0
 IsSubject (OnNew name) = IsName name
 IsSubject (OnOne database task) = IsName database × IsTask task
-IsSubject others = Unit {0}
+IsSubject (OnAll act) = IsAct act
 
--- Its names, tables, keys and values have their forms, and a table has at most 16 columns.
+-- Its names, tables, keys and values have their forms, a table has at most 16 columns, and the texts of a script that
+-- replies repeat are each on one line.
 abbrev pub IsSpoken : Command → Type 0
 IsSpoken command = IsSubject (subject_of command)

@@ -4,6 +4,7 @@ use Rattle.slon_model.specs.declared.command.Crash.{Crash as CrashKind}
 use Rattle.slon_model.specs.declared.command.Command.{Command}
 use Rattle.slon_model.specs.declared.command.Command.TheVariants.{Database, Table, Begin, Insert, Update, Delete}
 use Rattle.slon_model.specs.declared.command.Command.TheVariants.{Commit, Abort, Rows, Status, Crash, Up}
+use Rattle.slon_model.specs.declared.command.Command.TheVariants.{Slonik, Step, Kill}
 use Rattle.slon_model.specs.declared.reading.Reading.{Reading}
 use Rattle.slon_model.specs.Rows.{Row, Change, Put, Set, Remove}
 
@@ -63,13 +64,22 @@ subject_of (Rows database table) = OnOne database (ToList table)
 subject_of (Status database) = OnOne database ToTell
 subject_of (Crash database crash) = OnOne database (ToCrash crash)
 subject_of (Up database) = OnOne database ToRise
+subject_of (Slonik name reading) = OnAll (ToRead name reading)
+subject_of (Step name) = OnAll (ToStep name)
+subject_of (Kill name) = OnAll (ToForget name)
 
 -- ---- the words that a command names
 
-abbrev pub database_named : Subject → List ℕ
-database_named (OnNew name) = name
-database_named (OnOne database task) = database
-database_named others = []
+abbrev pub script_named : Act → List ℕ
+script_named (ToRead name reading) = name
+script_named (ToStep name) = name
+script_named (ToForget name) = name
+
+-- the name of what it is about
+abbrev pub subject_name : Subject → List ℕ
+subject_name (OnNew name) = name
+subject_name (OnOne database task) = database
+subject_name (OnAll act) = script_named act
 
 abbrev pub transaction_named : Subject → Option (List ℕ)
 transaction_named (OnOne database (ToOpen name)) = Some name
@@ -91,4 +101,4 @@ pub record Words : Type 0 where
   pub table : Option (List ℕ)
 
 abbrev pub words_of : Subject → Words
-words_of s = record { database = database_named s; transaction = transaction_named s; table = table_named s }
+words_of s = record { database = subject_name s; transaction = transaction_named s; table = table_named s }

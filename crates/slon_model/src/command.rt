@@ -1,8 +1,8 @@
 ghost use Rattle.std.specs.Prelude.{◌≡◌};
 ghost use Rattle.std.specs.Option.{option_map};
-ghost use Rattle.slon_model.specs.Tasks.{subject_of, database_named, transaction_named, table_named};
+ghost use Rattle.slon_model.specs.Tasks.{subject_of, subject_name, transaction_named, table_named};
 
-use crate::ColumnList;
+use crate::{ColumnList, Reading};
 use slon_base::{Text, TextList};
 
 /// How a database is to crash.
@@ -84,15 +84,30 @@ pub enum Command {
     Up {
         database: Text,
     },
+    /// Begins a script of this name, if its text was read as one.
+    Slonik {
+        script: Text,
+        reading: Reading,
+    },
+    /// Runs the next statement of a script.
+    Step {
+        script: Text,
+    },
+    /// Ends a script.
+    Kill {
+        script: Text,
+    },
 }
 
 impl Command {
-    /// The database that it names.
-    pub fn database(&self) -> &Text
-        ensures { result.now ≡ database_named (subject_of self.now) }
+    /// The database that it names, or the script.
+    pub fn name(&self) -> &Text
+        ensures { result.now ≡ subject_name (subject_of self.now) }
     {
         match self {
             Command::Database { name } => name,
+            Command::Slonik { script, .. } | Command::Step { script } | Command::Kill { script } =>
+                script,
             Command::Table { database, .. }
             | Command::Begin { database, .. }
             | Command::Insert { database, .. }

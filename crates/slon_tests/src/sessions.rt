@@ -44,6 +44,8 @@ const REFUSALS: &[u8] = b"database a\n\
     commit a u\n\
     commit a t\n\
     status a\n\
+    step s\n\
+    kill s\n\
     up a\n";
 
 const REFUSALS_REPLIES: &[u8] = b"ok\n\
@@ -58,6 +60,8 @@ const REFUSALS_REPLIES: &[u8] = b"ok\n\
     no 53 notransaction u\n\
     ok actions 0\n\
     ok node 0 log 0\n\
+    no 94 noscript s\n\
+    no 94 noscript s\n\
     no 19 isup a\n";
 
 const DUPLICATE: &[u8] = b"database a\n\

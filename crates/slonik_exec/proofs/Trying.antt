@@ -93,7 +93,7 @@ acts_tried (Some others) old new acts = record {
 -- where less is calm, less is promised
 pub tries_calmer : (calm less : Bool) (told : Option Trouble) (olds news : Named Base) → (less ≡ true → calm ≡ true) →
     TriesAll calm told olds news → TriesAll less told olds news
-tries_calmer calm less told [] [] from tries = tt
+tries_calmer calm less told [] [] from tries = tries
 tries_calmer calm less told [] (n ∷ ns) from tries = absurd tries
 tries_calmer calm less told (o ∷ os) [] from tries = absurd tries
 tries_calmer calm less told (o ∷ os) (n ∷ ns) from tries = (
@@ -103,7 +103,7 @@ tries_calmer calm less told (o ∷ os) (n ∷ ns) from tries = (
 )
 
 pub tries_itself : (calm : Bool) (bases : Named Base) → TriesAll calm None bases bases
-tries_itself calm [] = tt
+tries_itself calm [] = refl
 tries_itself calm (b ∷ bs) = (refl, tried_none calm b.1, tries_itself calm bs)
 
 pub tries_on : (calm : Bool) (told : Option Trouble) (olds mids news : Named Base) → TriesAll true None olds mids →

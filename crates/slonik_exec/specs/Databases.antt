@@ -77,9 +77,10 @@ pub record Tried (calm : Bool) (trouble : Option HaltOf) (old new : Base) : Type
   pub tries : Tries trouble old new
   pub quiet : calm ≡ true → Rests old.kept.faults new.kept.faults
 
--- All databases of a session over a step in which this is told of the first one of a name. No database comes or goes.
+-- All databases of a session over a step in which this is told of the first one of a name, which is there. No database
+-- comes or goes.
 abbrev pub TriesAll : Bool → Option Trouble → Named Base → Named Base → Type 0
-TriesAll calm told [] [] = Unit {0}
+TriesAll calm told [] [] = told ≡ None
 TriesAll calm told (o ∷ os) (n ∷ ns) =
     (n.0 ≡ o.0) × Tried calm (trouble_here told o.0) o.1 n.1 × TriesAll calm (trouble_later told o.0) os ns
 TriesAll calm told olds news = ⊥

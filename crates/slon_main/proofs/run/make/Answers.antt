@@ -1,10 +1,10 @@
 use Rattle.std.proofs.Common.{subst}
 use Rattle.slon_base.specs.Shelf.{IsAsPromised}
-use Rattle.slon_main.specs.Clustered.{cluster_of}
+use Rattle.cluster_engine.specs.Clustered.{cluster_of}
 use Rattle.slon_main.proofs.Asks.{adopts_given, asks_given, asks_short, asks_none}
 use Rattle.slon_main.proofs.Causes.{begins_empty}
-use Rattle.slon_main.proofs.Charges.{adopts_tells}
-use Rattle.slon_main.proofs.Failing.{adopts_pays}
+use Rattle.cluster_engine.proofs.Charges.{adopts_tells}
+use Rattle.cluster_engine.proofs.Failing.{adopts_pays}
 use Rattle.slon_main.proofs.run.make.Goals as goal
 
 pub returns-in-Ok-adopt-clause-pays : goal.returns-in-Ok-adopt-clause-pays

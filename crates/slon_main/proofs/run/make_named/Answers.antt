@@ -1,17 +1,18 @@
 use Rattle.std.proofs.Common.{◌≡◌, ◌∙◌, sym, subst, refl, true, IfOk, None}
 use Rattle.slon_model.specs.Names.{find_named}
 use Rattle.slon_model.specs.declared.command.Command.TheVariants.{Database}
-use Rattle.slon_main.specs.Clustered.{cluster_of}
-use Rattle.slon_main.specs.Calls.{Makes, AllCertain, StaysCertain, StaysQuiet, is_sure_reply}
-use Rattle.slon_main.specs.Failing.{Pays}
-use Rattle.slon_main.specs.Running.{AsksOn, Obeys, KeepsTelling, NamesMade, is_no_store}
+use Rattle.cluster_engine.specs.Clustered.{cluster_of}
+use Rattle.cluster_engine.specs.Calls.{Makes, Obeys, AllCertain, StaysCertain, StaysQuiet, is_sure_reply}
+use Rattle.cluster_engine.specs.Failing.{Pays}
+use Rattle.cluster_engine.specs.Telling.{KeepsTelling}
+use Rattle.slon_main.specs.Running.{AsksOn, NamesMade, is_no_store}
 use Rattle.slon_main.specs.declared.run.Stop.TheVariants.{NoStore}
 use Rattle.slon_main.proofs.Asks.{asked_so}
 use Rattle.slon_main.proofs.Causes.{names_made}
-use Rattle.slon_main.proofs.Charges.{moves_tells, made_tells}
-use Rattle.slon_main.proofs.Failing.{moves_pays, granted_free, made_pays}
-use Rattle.slon_main.proofs.Moving.{IsGranted, if_ok, if_err, granted}
-use Rattle.slon_main.proofs.Stepping.{denied, obeys_made}
+use Rattle.cluster_engine.proofs.Charges.{moves_tells, made_tells}
+use Rattle.cluster_engine.proofs.Failing.{moves_pays, granted_free, made_pays}
+use Rattle.cluster_engine.proofs.Moving.{IsGranted, if_ok, if_err, granted}
+use Rattle.cluster_engine.proofs.Stepping.{denied, obeys_made}
 use Rattle.slon_main.proofs.run.make_named.Goals as goal
 
 pub returns-in_default-clause-asked : goal.returns-in_default-clause-asked
@@ -74,4 +75,5 @@ returns g c =
       unmade = if_err (λ stop. is_no_store stop ≡ true → new ≡ mid) (λ stop. is_no_store stop ≡ true → new ≡ old)
           c.make.result (λ stop unmade is. unmade is ∙ was.same) c.make.ensures.unmade;
       stop = c.make.ensures.stop;
+      distinct = c.make.ensures.distinct free c.in-Ok-step.ensures.distinct;
     }

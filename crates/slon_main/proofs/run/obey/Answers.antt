@@ -1,11 +1,11 @@
 use Rattle.std.proofs.Common.{sym, subst, rules, IfOk}
-use Rattle.slon_main.specs.Clustered.{cluster_of}
-use Rattle.slon_main.specs.Failing.{Pays}
-use Rattle.slon_main.specs.Running.{Obeys}
+use Rattle.cluster_engine.specs.Clustered.{cluster_of}
+use Rattle.cluster_engine.specs.Failing.{Pays}
+use Rattle.cluster_engine.specs.Calls.{Obeys}
 use Rattle.slon_main.proofs.Asks.{asked_so, asks_no_more}
-use Rattle.slon_main.proofs.Charges.{moves_tells}
-use Rattle.slon_main.proofs.Failing.{moves_pays}
-use Rattle.slon_main.proofs.Stepping.{obeys_other}
+use Rattle.cluster_engine.proofs.Charges.{moves_tells}
+use Rattle.cluster_engine.proofs.Failing.{moves_pays}
+use Rattle.cluster_engine.proofs.Stepping.{obeys_other}
 use Rattle.slon_main.proofs.run.obey.Goals as goal
 
 pub returns-in-Database-clause-pays : goal.returns-in-Database-clause-pays

@@ -4,8 +4,8 @@ use Rattle.slon_model.specs.Printed.{reply_line}
 use Rattle.std.proofs.lemmas.Result.{err_from_is_err_and}
 use Rattle.slon_model.specs.declared.reply.Reply.{Reply}
 use Rattle.slon_model.specs.World.{World}
-use Rattle.slon_main.specs.Agreed.{Follows}
-use Rattle.slon_main.specs.Clustered.{cluster_of}
+use Rattle.cluster_engine.specs.Agreed.{Follows}
+use Rattle.cluster_engine.specs.Clustered.{cluster_of}
 use Rattle.slon_main.specs.Running.{Pieces, Replies, Tells}
 use Rattle.slon_main.proofs.Asks.{asks_so}
 use Rattle.slon_main.proofs.Causes.{stops_as, stops_since}

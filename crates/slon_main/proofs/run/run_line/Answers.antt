@@ -1,12 +1,13 @@
 use Rattle.slon_model.specs.Lines.{meaning}
 use Rattle.slon_model.proofs.Spoken.{says_spoken}
-use Rattle.slon_main.specs.Clustered.{cluster_of}
+use Rattle.cluster_engine.specs.Clustered.{cluster_of}
 use Rattle.slon_main.proofs.Asks.{asked_so}
 use Rattle.slon_main.proofs.Runs.{line_runs}
 use Rattle.slon_main.proofs.run.run_line.Goals as goal
 
-pub run_command-requires : goal.run_command-requires
-run_command-requires g c = says_spoken c.args.line.now c.in-Some.command (rw c.in-Some.is at c.in-Ok.ensures)
+pub run_command-requires-clause-spoken : goal.run_command-requires-clause-spoken
+run_command-requires-clause-spoken g c =
+    says_spoken c.args.line.now c.in-Some.command (rw c.in-Some.is at c.in-Ok.ensures)
 
 pub returns-in-Some-clause-runs : goal.returns-in-Some-clause-runs
 returns-in-Some-clause-runs g c tells =

@@ -5,7 +5,7 @@ use Rattle.slon_model.specs.Lines.{session_of}
 use Rattle.session_text.specs.Handing.{Hands}
 use Rattle.session_text.specs.declared.line_reader.NextLine.TheVariants.{Line}
 use Rattle.session_text.proofs.Moving.{stays_on}
-use Rattle.slon_main.specs.Clustered.{cluster_of}
+use Rattle.cluster_engine.specs.Clustered.{cluster_of}
 use Rattle.slon_main.specs.Running.{HasCause, StopsAt, RunsSession, AsksOn, begun}
 use Rattle.slon_main.proofs.Asks.{asked_so, asks_so}
 use Rattle.slon_main.proofs.Causes.{stops_as, stops_since, handed_on, tells_still}
@@ -19,6 +19,7 @@ loop-line-init g c = record {
   shelf = search rules;
   later = omega arith;
   asked = λ is. is;
+  distinct = c.requires.distinct;
   count = omega arith;
   limit = omega (arith, c.in-Ok.ensures.1);
   came = λ bytes is. came_first bytes c.in-Ok.reader
@@ -172,6 +173,7 @@ loop-line-preserved g c = record {
   };
   later = omega (arith, c.loop-line.invariant.later, c.run_line.ensures.later);
   asked = λ is. c.in_ok-run_line.ensures.asked (c.loop-line.invariant.asked is);
+  distinct = c.in_ok-run_line.ensures.distinct;
   count = omega (arith, c.loop-line.invariant.count, c.in_ok-read_line.ensures.moves c.if-branch.true);
   limit = c.in_ok-read_line.ensures.limit;
   came = λ bytes is.

@@ -2,7 +2,8 @@ use Rattle.std.proofs.Common.{◌≡◌, ◌+◌, ◌-◌, ◌≤◌, ℕ, List,
 use Rattle.slon_base.specs.Outside.{top}
 use Rattle.session_text.specs.Reading.{session_limit}
 use Rattle.session_text.specs.Handing.{Stays}
-use Rattle.slon_main.specs.Clustered.{cluster_of}
+use Rattle.slonik_exec.specs.Heard.{AreDistinct}
+use Rattle.cluster_engine.specs.Clustered.{cluster_of}
 use Rattle.slon_main.specs.Running.{Tells, Shelves, Starts, IsAsked, begun}
 use Rattle.slon_main.proofs.Places.{Came}
 use Rattle.slon_main.proofs.Runs.{Running}
@@ -15,6 +16,7 @@ invariant-loop-line g l = record {
   later : (g.O.Sink.poured l.fn.out).faults ≤ (g.O.Sink.poured l.out).faults;
   asked : IsAsked (g.S.Shelf.shelved l.fn.shelf).asked (cluster_of g.S.Store.Keeper.kept l.fn.cluster).given →
       IsAsked (g.S.Shelf.shelved l.shelf).asked (cluster_of g.S.Store.Keeper.kept l.cluster).given;
+  distinct : AreDistinct (cluster_of g.S.Store.Keeper.kept l.cluster).bases;
   count : l.number ≤ l.reader.taken + 1;
   limit : l.reader.taken ≤ session_limit;
   came : (bytes : List ℕ) → top (g.F.Files.filed l.fn.files).stack ≡ Some bytes →

@@ -1,4 +1,4 @@
-use Rattle.slon_main.specs.Clustered.{cluster_of}
+use Rattle.cluster_engine.specs.Clustered.{cluster_of}
 use Rattle.slon_main.specs.Ending.{unread}
 use Rattle.slon_main.specs.Running.{begun}
 use Rattle.slon_main.proofs.Asks.{asks_all}

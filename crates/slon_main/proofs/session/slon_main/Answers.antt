@@ -4,7 +4,7 @@ use Rattle.slon_base.specs.Counts.{Rose}
 use Rattle.slon_base.specs.Outside.{Entered, top}
 use Rattle.slon_main.specs.declared.status.Status.TheVariants.{ReadFault}
 use Rattle.slon_main.specs.declared.run.Stop.TheVariants.{Read}
-use Rattle.slon_main.specs.Clustered.{cluster_of}
+use Rattle.cluster_engine.specs.Clustered.{cluster_of}
 use Rattle.slon_main.specs.Ending.{EndsRun, Holds, is_lost, session_word, unread}
 use Rattle.slon_main.proofs.Ends.{Outcome, ends_unentered, ends_short, at_stopped, hands_stopped, closed_by, ends_long}
 use Rattle.slon_main.proofs.Ends.{ends_whole, entered_top, fault_since, read_faults, read_no_usage, read_no_missing}

@@ -1,0 +1,9 @@
+pub mod Certain
+pub mod Charges
+pub mod Failing
+pub mod Lifting
+pub mod Moving
+pub mod Stepping
+pub mod Telling
+pub mod Trials
+pub mod Walking

@@ -1,0 +1,51 @@
+-- What the code keeps of a session, and when the rules agree with it.
+use Rattle.std.specs.Prelude.{◌≡◌, ℕ, List, drop, Option, Some, None}
+use Rattle.std.specs.FinMap.{FinMap, get}
+use Rattle.slon_base.specs.Keeper.{key_cmp}
+use Rattle.slon_model.specs.Names.{Named, find_named}
+use Rattle.slon_model.specs.Sessions.{World, Running}
+use Rattle.slon_laws.specs.Sound.{Sound}
+use Rattle.slon_laws.specs.Spelled.{IsSpelled}
+use Rattle.slon_laws.specs.Worlds.{AllPlaces}
+use Rattle.app_store.specs.Base.{Base}
+use Rattle.slonik_exec.specs.Databases.{FitsAll}
+use Rattle.cluster_engine.specs.declared.scripts.Started.{Started}
+
+-- the scripts that run, by their names
+abbrev pub Scripts : Type 0
+Scripts = FinMap key_cmp Started
+
+-- What the code keeps of a session: how many databases it allows, how many stores it was given, its databases in the
+-- order of their making, and its scripts.
+pub record Clustered : Type 0 where
+  pub limit : ℕ
+  pub given : ℕ
+  pub bases : Named Base
+  pub scripts : Scripts
+
+-- A script that runs agrees with one of the rules. The numbers that it emitted, and since when it waits, are not kept.
+pub record FitsRun (run : Running) (s : Started) : Type 0 where
+  pub cluster : run.cluster ≡ s.script.cluster
+  pub lines : run.lines ≡ s.script.nodes
+  pub todo : run.todo ≡ drop s.done s.script.statements
+
+abbrev pub FitsFound : Option Running → Option Started → Type 0
+FitsFound None None = Unit {0}
+FitsFound (Some run) (Some s) = FitsRun run s
+FitsFound run s = ⊥
+
+-- the scripts agree by their names
+abbrev pub FitsScripts : Named Running → Scripts → Type 0
+FitsScripts runs scripts = (name : List ℕ) → FitsFound (find_named name runs) (get scripts name)
+
+-- The rules agree with the code.
+pub record Agrees (w : World) (c : Clustered) : Type 0 where
+  pub limit : w.limit ≡ c.limit
+  pub fits : FitsAll w.places c.bases
+  pub scripts : FitsScripts w.memory.scripts c.scripts
+
+-- They do, and each database has what each one of a legal history has.
+pub record Follows (w : World) (c : Clustered) : Type 0 where
+  pub agrees : Agrees w c
+  pub sound : AllPlaces Sound w
+  pub spelled : AllPlaces IsSpelled w

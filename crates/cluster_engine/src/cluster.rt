@@ -1,0 +1,256 @@
+// The databases of a session, and what each command does with them.
+ghost use Rattle.std.specs.Prelude.{None, ◌≡◌, length, true, false, Some, IfOk};
+ghost use Rattle.std.specs.List.{position};
+ghost use Rattle.std.specs.Str.{bytes_eq};
+ghost use Rattle.slon_base.specs.Keeper.{nothing};
+ghost use Rattle.slon_model.specs.declared.reply.Answer.TheVariants.{Done as IsDone};
+ghost use Rattle.slon_model.specs.declared.reply.Reply.TheVariants.{Accepted as IsAccepted};
+ghost use Rattle.slon_model.specs.Names.{find_named};
+ghost use Rattle.slon_model.specs.Spoken.{IsSpoken};
+ghost use Rattle.slon_model.specs.Tasks.{subject_of, ToRead, ToStep, ToForget};
+ghost use Rattle.slon_model.specs.World.{start};
+ghost use Rattle.app_store.specs.Base.{base_of};
+ghost use Rattle.slonik_exec.specs.Heard.{AreDistinct};
+ghost use Rattle.cluster_engine.specs.Agreed.{Agrees};
+ghost use Rattle.cluster_engine.specs.Calls as calls;
+ghost use Rattle.cluster_engine.specs.Calls.{Moves, IsActed, Steps, ReplyCaused, StaysCertain, StaysQuiet, Adopts};
+ghost use Rattle.cluster_engine.specs.Calls.{Makes, MakingReplyCaused, MakesCertain, is_one, is_reading};
+ghost use Rattle.cluster_engine.specs.Clustered.{cluster_of};
+
+use crate::scripts::{Started, Walked, end_script, key_of, run_next, start_script};
+use app_store::Database;
+use node_keeper::{Fuse, Keeper};
+use slon_base::{ByteMap, Text};
+use slon_model::{Answer, Command, DbFault, Reading, Refusal, Reply};
+use slonik_exec::{Named, NoMemory, answered, index_of, refused};
+use std::alloc::Global;
+
+/// The databases of a session, in the order of their making, and the scripts that run.
+#[derive(Drop)]
+pub struct Cluster<K: Keeper> {
+    alloc: Global,
+    limit: u32,
+    // How many stores it was given, also of databases that it did not keep.
+    given: u32,
+    databases: Vec<Named<K>>,
+    scripts: ByteMap<Started>,
+}
+
+/// Whether the store of a new database held a row.
+fn is_not_empty(fault: DbFault) -> bool
+    ensures { result ≡ calls.is_not_empty fault }
+{
+    matches!(fault, DbFault::NotEmpty)
+}
+
+impl<K: Keeper> Cluster<K> {
+    /// No databases yet, of which there may be `limit`.
+    pub fn new(alloc: Global, limit: u32) -> Cluster<K>
+        ensures agrees { Agrees (start limit) (cluster_of K.kept result) }
+        ensures given { (cluster_of K.kept result).given ≡ 0 }
+        ensures certain { calls.AllCertain (cluster_of K.kept result) }
+        ensures distinct { AreDistinct (cluster_of K.kept result).bases }
+    {
+        Cluster {
+            alloc,
+            limit,
+            given: 0,
+            databases: Vec::new(alloc),
+            scripts: ByteMap::new(alloc),
+        }
+    }
+
+    /// How many databases there are.
+    pub fn len(&self) -> usize
+        ensures { result ≡ length (cluster_of K.kept self.now).bases }
+    {
+        self.databases.len()
+    }
+
+    /// How many stores it was given, which is the place of the next one.
+    pub fn given(&self) -> u32
+        ensures { result ≡ (cluster_of K.kept self.now).given }
+    {
+        self.given
+    }
+
+    fn index_of(&self, name: &Text) -> Option<usize>
+        ensures { result ≡ position (λ d. bytes_eq name.now d.name) self.now.databases.items }
+    {
+        index_of(&self.databases, name.as_slice())
+    }
+
+    /// Whether there may be a new database of this name.
+    fn grant(&self, name: &Text) -> Result<Reply, NoMemory>
+        ensures { IfOk result (λ reply. reply ≡ calls.grant name.now (cluster_of K.kept self.now)) }
+    {
+        if self.index_of(name).is_some() {
+            let name = name.copy(self.alloc)?;
+            return Ok(Reply::Refused(Refusal::NameUsed { name }));
+        }
+        if self.databases.len() < self.limit as usize {
+            return Ok(Reply::Accepted(Answer::Done));
+        }
+        Ok(Reply::Refused(Refusal::Full { limit: self.limit }))
+    }
+
+    /// Has the database that the command names obey it.
+    fn ask(&mut self, command: &Command) -> Result<Reply, NoMemory>
+        requires spoken { IsSpoken command.now }
+        requires one { is_one (subject_of command.now) ≡ true }
+        ensures { IfOk result (λ reply. Moves command.now (cluster_of K.kept self.old) reply
+            (cluster_of K.kept self.new)) }
+    {
+        let database = command.name();
+        let Some(i) = self.index_of(database) else {
+            let database = database.copy(self.alloc)?;
+            return Ok(Reply::Refused(Refusal::NoDatabase { database }));
+        };
+        match self.databases[i].database.obey(command) {
+            Ok(done) => answered(self.alloc, database, done),
+            Err(fault) => refused(
+                self.alloc,
+                database,
+                command.transaction(),
+                command.table(),
+                fault,
+            ),
+        }
+    }
+
+    /// Runs the next statement of the script of this name. A script ends behind its last statement, and where one is
+    /// not accepted.
+    fn walk(&mut self, name: &Text) -> Result<Reply, NoMemory>
+        requires distinct { AreDistinct (cluster_of K.kept self.old).bases }
+        ensures { IfOk result (λ reply. IsActed (ToStep name.now) (cluster_of K.kept self.old) reply
+            (cluster_of K.kept self.new)) }
+    {
+        let Some(mut started) = self.scripts.remove(name.as_slice()) else {
+            let name = name.copy(self.alloc)?;
+            return Ok(Reply::Refused(Refusal::NoScript { name }));
+        };
+        let Walked { reply, goes_on } = run_next(self.alloc, &mut self.databases, &started)?;
+        if !goes_on {
+            return Ok(reply);
+        }
+        started.done += 1;
+        self.scripts.insert(key_of(self.alloc, name)?, started)?;
+        Ok(reply)
+    }
+
+    /// Begins a script.
+    fn start(&mut self, name: &Text, reading: Reading) -> Result<Reply, NoMemory>
+        ensures { IfOk result (λ reply. IsActed (ToRead name.now reading) (cluster_of K.kept self.old) reply
+            (cluster_of K.kept self.new)) }
+    {
+        start_script(self.alloc, &mut self.scripts, name, reading)
+    }
+
+    /// Ends a script.
+    fn end(&mut self, name: &Text) -> Result<Reply, NoMemory>
+        ensures { IfOk result (λ reply. IsActed (ToForget name.now) (cluster_of K.kept self.old) reply
+            (cluster_of K.kept self.new)) }
+    {
+        end_script(self.alloc, &mut self.scripts, name)
+    }
+
+    /// Grants a new database, has a database that is there obey, and steps and ends scripts.
+    fn obey(&mut self, command: &Command) -> Result<Reply, NoMemory>
+        requires spoken { IsSpoken command.now }
+        requires distinct { AreDistinct (cluster_of K.kept self.old).bases }
+        requires read { is_reading (subject_of command.now) ≡ false }
+        ensures { IfOk result (λ reply. Moves command.now (cluster_of K.kept self.old) reply
+            (cluster_of K.kept self.new)) }
+    {
+        match command {
+            Command::Database { name } => self.grant(name),
+            Command::Slonik { .. } => unreachable!(),
+            Command::Step { script } => self.walk(script),
+            Command::Kill { script } => self.end(script),
+            _ => self.ask(command),
+        }
+    }
+
+    /// Runs a command that a session can say, and replies. A new database is only granted: `adopt` makes it over its
+    /// store.
+    ///
+    /// # Errors
+    ///
+    /// `NoMemory` where there is none, and for a command of a script with an id out of its range or a text above
+    /// 4,294,967,295 bytes, which no script has that was read.
+    pub fn step(&mut self, command: Command) -> Result<Reply, NoMemory>
+        requires spoken { IsSpoken command }
+        requires distinct { AreDistinct (cluster_of K.kept self.old).bases }
+        ensures moves { IfOk result (λ reply. Moves command (cluster_of K.kept self.old) reply
+            (cluster_of K.kept self.new)) }
+        ensures steps { IfOk result (λ reply. Steps command (cluster_of K.kept self.old) reply
+            (cluster_of K.kept self.new)) }
+        ensures cause { IfOk result (λ reply. ReplyCaused reply (cluster_of K.kept self.old)
+            (cluster_of K.kept self.new)) }
+        ensures certain { IfOk result (λ reply. StaysCertain command (cluster_of K.kept self.old) reply
+            (cluster_of K.kept self.new)) }
+        ensures quiet { IfOk result (λ reply. StaysQuiet reply (cluster_of K.kept self.old)
+            (cluster_of K.kept self.new)) }
+        ensures distinct { IfOk result (λ reply. AreDistinct (cluster_of K.kept self.new).bases) }
+    {
+        match command {
+            Command::Slonik { script, reading } => self.start(&script, reading),
+            other => self.obey(&other),
+        }
+    }
+
+    /// Keeps a database behind the others.
+    fn keep(&mut self, name: Text, database: Database<K>) -> Result<(), NoMemory>
+        ensures { IfOk result (λ _. cluster_of K.kept self.new ≡ calls.with_base_behind name
+            (base_of K.kept database) (cluster_of K.kept self.old)) }
+    {
+        match self.databases.push(Named { name, database }) {
+            Ok(()) => Ok(()),
+            Err(_) => Err(NoMemory),
+        }
+    }
+
+    /// Makes a database of this name over its store, which begins empty, and replies. Where the store fails, the
+    /// database is there and down. Where it holds a row, there is no such database.
+    ///
+    /// # Errors
+    ///
+    /// `NoMemory` where there is none, and where 4,294,967,295 stores were given before.
+    pub fn adopt(&mut self, name: Text, keeper: K) -> Result<Reply, NoMemory>
+        ensures adopts { IfOk result (λ reply. Adopts name (K.kept keeper) (cluster_of K.kept self.old) reply
+            (cluster_of K.kept self.new)) }
+        ensures makes { (K.kept keeper).held ≡ Some nothing →
+            IfOk result (λ reply. Makes name (cluster_of K.kept self.old) reply (cluster_of K.kept self.new)) }
+        ensures done { (K.kept keeper).held ≡ Some nothing → (K.kept keeper).can_fail ≡ Some 0 →
+            IfOk result (λ reply. reply ≡ IsAccepted IsDone) }
+        ensures cause { IfOk result (λ reply. MakingReplyCaused name (K.kept keeper) reply (cluster_of K.kept self.old)
+            (cluster_of K.kept self.new)) }
+        ensures certain { IfOk result (λ reply. MakesCertain (K.kept keeper) (cluster_of K.kept self.old) reply
+            (cluster_of K.kept self.new)) }
+        ensures quiet { IfOk result (λ reply. StaysQuiet reply (cluster_of K.kept self.old)
+            (cluster_of K.kept self.new)) }
+        ensures distinct { find_named name (cluster_of K.kept self.old).bases ≡ None →
+            AreDistinct (cluster_of K.kept self.old).bases →
+            IfOk result (λ reply. AreDistinct (cluster_of K.kept self.new).bases) }
+    {
+        let Some(given) = self.given.checked_add(1) else {
+            return Err(NoMemory);
+        };
+        self.given = given;
+        let (database, created) = Database::create(self.alloc, Fuse::new(keeper));
+        match created {
+            Ok(()) => {
+                self.keep(name, database)?;
+                Ok(Reply::Accepted(Answer::Done))
+            }
+            Err(fault) => {
+                if is_not_empty(fault) {
+                    return Ok(Reply::Refused(Refusal::NotEmpty { database: name }));
+                }
+                let reply = refused(self.alloc, &name, None, None, fault)?;
+                self.keep(name, database)?;
+                Ok(reply)
+            }
+        }
+    }
+}

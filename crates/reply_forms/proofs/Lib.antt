@@ -1,0 +1,9 @@
+pub mod Conninfo
+pub mod Deciding
+pub mod Forms
+pub mod Rows
+pub mod Scripts
+pub mod Snapshots
+pub mod Statements
+pub mod Words
+pub mod Worlds

@@ -1,0 +1,135 @@
+-- What a command about a script comes to is told in words that have their forms, and the scripts that run say lines.
+use Rattle.std.proofs.Common.{◌≡◌, ℕ, true, false, cond, not, List, [], ◌∷◌, Option, Some, None, refl}
+use Rattle.std.specs.Prelude.{is_some, codes, Result, Ok, Err}
+use Rattle.std.specs.List.{AllByRecursion}
+use Rattle.std.specs.Str.{bytes_eq}
+use Rattle.slonik_script.specs.declared.script.Command.{Command as Order}
+use Rattle.slonik_script.specs.declared.script.Command.TheVariants as order
+use Rattle.slonik_script.specs.declared.script.Statement.{Statement}
+use Rattle.slonik_script.specs.declared.script.Statement.TheVariants.{Single, Try as Tries}
+use Rattle.slon_model.specs.declared.reading.Reading.{Reading}
+use Rattle.slon_model.specs.declared.reading.Reading.TheVariants.{Read, Wrong}
+use Rattle.slon_model.specs.declared.reply.Answer.TheVariants.{Echoed}
+use Rattle.slon_model.specs.declared.reply.Refusal.{Refusal}
+use Rattle.slon_model.specs.declared.reply.Refusal.TheVariants as refused
+use Rattle.slon_model.specs.declared.reply.Reply.{Reply}
+use Rattle.slon_model.specs.declared.reply.Reply.TheVariants.{Refused}
+use Rattle.slon_model.specs.Names.{Named, find_named, without}
+use Rattle.slon_model.specs.Spoken.{IsName, IsOrder, IsStatement, AreStatements, AreNodeLines, IsReading, IsAct}
+use Rattle.slon_model.specs.Tasks.{Act, ToRead, ToStep, ToForget}
+use Rattle.slon_model.specs.Sessions.{World, Running, Stated, Outcome, first_beyond, no_change}
+use Rattle.slon_model.specs.Scripts.{Stepping, ending, done_by, single, order_step, statement_step, step_todo, step_of}
+use Rattle.slon_model.specs.Scripts.{ordered, quiet, read_as, kill_of}
+use Rattle.slon_model.specs.World.{outcome}
+use Rattle.slon_model.proofs.Names.{all_found}
+use Rattle.reply_forms.proofs.Words.{Reads}
+use Rattle.reply_forms.proofs.Statements.{Gives, AreNamed, AreCommits, StatedReads, all_filter, ordered_gives}
+
+-- what a script says: its NODE lines are lines, and so are the texts of what is left of it
+abbrev pub RunReads : Running → Type 0
+RunReads run = AreNodeLines run.lines × AreStatements run.todo
+
+abbrev pub AreRunning : Named Running → Type 0
+AreRunning scripts = AllByRecursion (λ e. RunReads e.1) scripts
+
+-- What is known of a session: the names of its databases are names, and its scripts say lines.
+pub record Known (w : World) : Type 0 where
+  pub named : AreNamed w.places
+  pub scripts : AreRunning w.memory.scripts
+
+-- What a command about a script comes to.
+pub record Ends (o : Outcome) : Type 0 where
+  pub reply : Reads o.reply
+  pub commits : AreCommits o.commits
+  pub scripts : AreRunning o.memory.scripts
+
+-- what runs beside a script
+pub without_running : (name : List ℕ) (scripts : Named Running) → AreRunning scripts → AreRunning (without name scripts)
+without_running name scripts all = all_filter (λ e. RunReads e.1) (λ e. not (bytes_eq name e.0)) scripts all
+
+unchanged : (w : World) (reply : Reply) → Known w → Reads reply → Ends (no_change w reply)
+unchanged w reply known reads = record { reply = reads; commits = tt; scripts = known.scripts }
+
+ended : (name : List ℕ) (w : World) (reply : Reply) → Known w → Reads reply → Ends (ending name w reply)
+ended name w reply known reads =
+    record { reply = reads; commits = tt; scripts = without_running name w.memory.scripts known.scripts }
+
+-- ---- a step
+
+-- a step of a script, whose texts are on one line
+record Steps (s : Stepping) (w : World) : Type 0 where
+  known : Known w
+  lines : AreNodeLines s.run.lines
+  rest : AreStatements s.rest
+
+done_ends : (s : Stepping) (w : World) (stated : Stated) (o : Option (List ℕ)) → Steps s w → StatedReads stated →
+    Ends (done_by s w stated o)
+done_ends s w stated None steps reads =
+    record {
+      reply = reads.0;
+      commits = reads.1;
+      scripts = ((steps.lines, steps.rest), without_running s.name w.memory.scripts steps.known.scripts);
+    }
+done_ends s w stated (Some name) steps reads =
+    record {
+      reply = tt;
+      commits = tt;
+      scripts = without_running s.name w.memory.scripts steps.known.scripts;
+    }
+
+single_ends : (s : Stepping) (w : World) (r : Result Stated Refusal) → Steps s w → Gives StatedReads r →
+    Ends (single s w r)
+single_ends s w (Err refusal) steps reads = ended s.name w (Refused refusal) steps.known reads
+single_ends s w (Ok stated) steps reads =
+    done_ends s w stated (first_beyond stated.commits w.places) steps reads
+
+order_ends : (s : Stepping) (w : World) (o : Order) → Steps s w → IsOrder o → Ends (order_step s w o)
+order_ends s w (order.Echo text) steps line = single_ends s w (Ok (quiet (Echoed text))) steps (line, tt)
+order_ends s w (order.Exit status) steps texts = ended s.name w _ steps.known tt
+order_ends s w others steps texts =
+    single_ends s w (ordered others s.run w) steps
+    (ordered_gives others s.run w texts (record { lines = steps.lines; named = steps.known.named }))
+
+statement_ends : (s : Stepping) (w : World) (t : Statement) → Steps s w → IsStatement t → Ends (statement_step s w t)
+statement_ends s w (Single o) steps texts = order_ends s w o steps texts
+statement_ends s w (Tries block) steps texts = single_ends s w (Err (refused.NotBuilt (codes "try"))) steps refl
+
+todo_ends : (name : List ℕ) (run : Running) (todo : List Statement) (w : World) → Known w → AreNodeLines run.lines →
+    AreStatements todo → Ends (step_todo name run todo w)
+todo_ends name run [] w known lines texts = ended name w _ known tt
+todo_ends name run (t ∷ rest) w known lines texts =
+    statement_ends (record { name = name; run = run; rest = rest }) w t
+    (record { known = known; lines = lines; rest = texts.1 }) texts.0
+
+step_ends : (name : List ℕ) (o : Option Running) (w : World) → IsName name → Known w →
+    ((run : Running) → o ≡ Some run → RunReads run) → Ends (step_of name o w)
+step_ends name None w named known runs = unchanged w _ known named
+step_ends name (Some run) w named known runs =
+    let reads = runs run refl in
+    todo_ends name run run.todo w known reads.0 reads.1
+
+-- ---- reading and forgetting
+
+read_ends : (name : List ℕ) (reading : Reading) (w : World) → IsReading reading → Known w →
+    Ends (read_as name reading w)
+read_ends name (Wrong refusal) w reads known = unchanged w _ known reads
+read_ends name (Read s) w reads known =
+    record { reply = tt; commits = tt; scripts = (reads, without_running name w.memory.scripts known.scripts) }
+
+kill_ends : (name : List ℕ) (o : Option Running) (w : World) → IsName name → Known w → Ends (kill_of name o w)
+kill_ends name None w named known = unchanged w _ known named
+kill_ends name (Some run) w named known = ended name w _ known tt
+
+-- ---- each command
+
+pub outcome_ends : (act : Act) (w : World) → IsAct act → Known w → Ends (outcome act w)
+outcome_ends (ToRead name reading) w act known =
+    elim (is_some (find_named name w.memory.scripts))
+    as (λ b. Ends (cond b (no_change w (Refused (refused.ScriptUsed name))) (read_as name reading w))) [
+      | true ↦ unchanged w _ known act.0
+      | false ↦ read_ends name reading w act.1 known
+    ]
+outcome_ends (ToStep name) w act known =
+    step_ends name (find_named name w.memory.scripts) w act.0 known
+    (λ run found. all_found RunReads name run w.memory.scripts known.scripts found)
+outcome_ends (ToForget name) w act known = kill_ends name (find_named name w.memory.scripts) w act.0 known

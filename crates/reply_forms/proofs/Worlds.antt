@@ -1,0 +1,153 @@
+-- Every step of a history keeps what is known of a session, and a command about a script is replied to in words that
+-- have their forms.
+use Rattle.std.proofs.Common.{◌≡◌, ℕ, zero, suc, Bool, true, false, cond, List, [], ◌∷◌, ◌++◌, drop, Option, Some}
+use Rattle.std.proofs.Common.{None, refl, sym, subst}
+use Rattle.std.specs.Str.{bytes_eq}
+use Rattle.slon_model.specs.declared.reply.Reply.{Reply}
+use Rattle.slon_model.specs.declared.reply.Reply.TheVariants.{Accepted}
+use Rattle.slon_model.specs.Names.{Named, find_named, put_named}
+use Rattle.slon_model.specs.Spoken.{IsName, IsSubject, IsSpoken}
+use Rattle.slon_model.specs.Tasks.{Act, ToStep}
+use Rattle.slon_model.specs.Place.{Place, is_running, node_id, fallen}
+use Rattle.slon_model.specs.Deciding.{Fate, AllStand, Breaks, DoubtsAt, place_by}
+use Rattle.slon_model.specs.Sessions.{World, Memory, Commit, start, forgotten, remembered, changed, in_doubt}
+use Rattle.slon_model.specs.Sessions.{felled, felled_at}
+use Rattle.slon_model.specs.World.{Happening, Step, Grants, Denies, Misses, Asks, Acts, Acting, Leads, outcome}
+use Rattle.slon_model.specs.World.{memory_after, spoilt, broken_at, wavering, wavering_at, doubt_reply, CanFail, MayEnd}
+use Rattle.slon_model.specs.World.{reply_by, world_by}
+use Rattle.slon_laws.specs.Turning.{Carries}
+use Rattle.slon_laws.specs.Worlds.{AllSpoken}
+use Rattle.slon_laws.proofs.Acting.{acting_carries}
+use Rattle.reply_forms.proofs.Words.{Reads}
+use Rattle.reply_forms.proofs.Statements.{AreNamed, AreCommits, name_found}
+use Rattle.reply_forms.proofs.Scripts.{AreRunning, Known, Ends, without_running, outcome_ends}
+
+-- ---- the scripts of a session
+
+-- nothing that a database forgets is a script
+remembered_scripts : (q : Place) (m : Memory) → (remembered q m).scripts ≡ m.scripts
+remembered_scripts q m = by (is_running q.standing)
+  where
+    down : (o : Option ℕ) → (forgotten o m).scripts ≡ m.scripts
+    down None = refl
+    down (Some node) = refl
+
+    by : (b : Bool) → (cond b m (forgotten (node_id q) m)).scripts ≡ m.scripts
+    by true = refl
+    by false = down (node_id q)
+
+changed_running : (name : List ℕ) (q : Place) (w : World) → AreRunning w.memory.scripts →
+    AreRunning (changed name q w).memory.scripts
+changed_running name q w all = subst AreRunning (sym (remembered_scripts q w.memory)) all
+
+felled_running : (o : Option (List ℕ)) (w : World) → AreRunning w.memory.scripts →
+    AreRunning (felled o w).memory.scripts
+felled_running None w all = all
+felled_running (Some name) w all = by (find_named name w.places)
+  where
+    by : (o : Option Place) → AreRunning (felled_at name o w).memory.scripts
+    by None = all
+    by (Some p) = changed_running name (fallen p.told p) w all
+
+broken_running : (name : List ℕ) (count : ℕ) (o : Option Place) (w : World) → AreRunning w.memory.scripts →
+    AreRunning (broken_at name count o w).memory.scripts
+broken_running name count None w all = all
+broken_running name count (Some p) w all = changed_running name (fallen count p) w all
+
+wavering_running : (cs : List Commit) (stands : Bool) (w : World) → AreRunning w.memory.scripts →
+    AreRunning (wavering cs stands w).memory.scripts
+wavering_running [] stands w all = all
+wavering_running (c ∷ cs) stands w all = by (find_named c.name w.places)
+  where
+    by : (o : Option Place) → AreRunning (wavering_at c stands o w).memory.scripts
+    by None = all
+    by (Some p) = changed_running c.name (in_doubt c stands p) w all
+
+-- a script that ends as a database fails
+ended_running : (act : Act) (m : Memory) → AreRunning m.scripts → AreRunning (memory_after act m).scripts
+ended_running (ToStep name) m all = without_running name m.scripts all
+ended_running others m all = all
+
+world_running : (act : Act) (fate : Fate) (w : World) → Known w → Ends (outcome act w) →
+    AreRunning (world_by act fate w).memory.scripts
+world_running act AllStand w known ends = felled_running (outcome act w).falls _ ends.scripts
+world_running act (Breaks name count) w known ends =
+    broken_running name count (find_named name w.places) (spoilt act [] w) (ended_running act w.memory known.scripts)
+world_running act (DoubtsAt before stands) w known ends =
+    wavering_running (drop before (outcome act w).commits) stands _ (ended_running act w.memory known.scripts)
+
+-- ---- the names of databases
+
+put_named_names : (name : List ℕ) (q : Place) (ps : Named Place) → AreNamed ps → AreNamed (put_named name q ps)
+put_named_names name q [] all = tt
+put_named_names name q (e ∷ es) all =
+    elim (bytes_eq name e.0) as (λ b. AreNamed (cond b ((e.0, q) ∷ es) (e ∷ put_named name q es))) [
+      | true ↦ (all.0, all.1)
+      | false ↦ (all.0, put_named_names name q es all.1)
+    ]
+
+behind_names : (name : List ℕ) (q : Place) (ps : Named Place) → IsName name → AreNamed ps →
+    AreNamed (ps ++ (name, q) ∷ [])
+behind_names name q [] named all = (named, tt)
+behind_names name q (e ∷ es) named all = (all.0, behind_names name q es named all.1)
+
+carries_names : Carries AreNamed
+carries_names name p q ps found turned all = put_named_names name q ps all
+
+-- ---- what is known of a session
+
+known_step : (w v : World) (h : Happening) → Step w h v → IsSpoken h.command → Known w → Known v
+known_step w v h (Grants name result about granted takes told is) spoken known =
+    subst Known (sym is) (record {
+      named = behind_names name _ w.places (subst IsSubject about spoken) known.named;
+      scripts = known.scripts;
+    })
+known_step w v h (Denies name about denied sure told is) spoken known = subst Known (sym is) known
+known_step w v h (Misses name task about none sure told is) spoken known = subst Known (sym is) known
+known_step w v h (Asks t) spoken known =
+    subst Known (sym t.is) (record {
+      named = put_named_names t.name _ w.places known.named;
+      scripts = changed_running t.name (place_by t.task t.place h.choice) w known.scripts;
+    })
+known_step w v h (Acts t) spoken known =
+    record {
+      named = acting_carries carries_names w v h t known.named;
+      scripts =
+          subst (λ u. AreRunning u.memory.scripts) (sym t.is)
+          (world_running t.act t.fate w known (outcome_ends t.act w (subst IsSubject t.about spoken) known));
+    }
+
+pub known_world : (limit : ℕ) (history : List Happening) (w : World) → AllSpoken history →
+    Leads (start limit) history w → Known w
+known_world limit [] w spoken is = subst Known (sym is) (record { named = tt; scripts = tt })
+known_world limit (h ∷ hs) w spoken leads =
+    known_step leads.0 w h leads.2 spoken.0 (known_world limit hs leads.0 spoken.1 leads.1)
+
+-- ---- the reply to a command about a script
+
+doubt_reads : (n : ℕ) (cs : List Commit) (reply : Reply) → AreCommits cs → Reads reply →
+    Reads (doubt_reply (drop n cs) reply)
+doubt_reads zero [] reply named reads = reads
+doubt_reads zero (c ∷ cs) (Accepted answer) named reads = (named.0, reads)
+doubt_reads zero (c ∷ cs) others named reads = reads
+doubt_reads (suc n) [] reply named reads = reads
+doubt_reads (suc n) (c ∷ cs) reply named reads = doubt_reads n cs reply named.1 reads
+
+-- a database that fails is one of the session
+failing_named : (name : List ℕ) (count : ℕ) (o : Option Place) (ps : Named Place) → find_named name ps ≡ o →
+    CanFail count o → AreNamed ps → IsName name
+failing_named name count None ps found fails named = absurd fails
+failing_named name count (Some p) ps found fails named = name_found name p ps named found
+
+fate_reads : (act : Act) (fate : Fate) (w : World) → MayEnd act fate w → Known w → Ends (outcome act w) →
+    Reads (reply_by act fate w)
+fate_reads act AllStand w may known ends = ends.reply
+fate_reads act (Breaks name count) w may known ends =
+    failing_named name count (find_named name w.places) w.places refl may.1 known.named
+fate_reads act (DoubtsAt before stands) w may known ends =
+    doubt_reads before (outcome act w).commits (outcome act w).reply ends.commits ends.reply
+
+pub acting_reads : (w v : World) (h : Happening) → Acting w h v → IsSpoken h.command → Known w → Reads h.reply
+acting_reads w v h t spoken known =
+    subst Reads (sym t.told)
+    (fate_reads t.act t.fate w t.may known (outcome_ends t.act w (subst IsSubject t.about spoken) known))
