@@ -14,6 +14,8 @@ mod scripts;
 #[cfg(test)]
 mod served;
 #[cfg(test)]
+mod sessions;
+#[cfg(test)]
 mod telling;
 #[cfg(test)]
 mod tokens;

@@ -57,7 +57,7 @@ fn number_of(refusal: &ScriptRefusal) -> u32 {
 }
 
 /// Writes the number of a refusal, and behind it what the refusal says.
-fn tell_refusal(line: &mut String, refusal: &ScriptRefusal) -> Result<(), Fail> {
+pub fn tell_refusal(line: &mut String, refusal: &ScriptRefusal) -> Result<(), Fail> {
     write!(line, "{}", number_of(refusal))?;
     match refusal {
         ScriptRefusal::BadToken { line: number } | ScriptRefusal::BadSyntax { place: number } => {

@@ -64,6 +64,9 @@ pub tells_still : (old new : Shelved) → new.promise ≡ old.promise → Tells 
 tells_still old new same tells = subst (λ f. (place : ℕ) →
     ((f place).begins_empty ≡ true) × ((f place).tells_rows ≡ true)) (sym same) tells
 
+pub tells_kept : (old new : Shelved) → old.promise ≡ new.promise → Tells new → Tells old
+tells_kept old new same tells = tells_still new old same tells
+
 within_none : (left : Option ℕ) → Within (Some 0) left → left ≡ Some 0
 within_none None within = absurd within
 within_none (Some n) within = let none : n ≡ 0 = omega (arith, within) in ap Some none

@@ -7,9 +7,8 @@ use Rattle.slon_base.specs.Outside.{Filed, Poured, with_piece, WritesPart, Enter
 use Rattle.slon_base.specs.Counts.{Rose}
 use Rattle.slon_base.specs.Shelf.{Shelved}
 use Rattle.slon_model.specs.declared.command.Command.{Command}
-use Rattle.slon_model.specs.Lines.{session_of}
 use Rattle.slon_model.specs.World.{lines_of}
-use Rattle.session_text.specs.Reading.{session_limit}
+use Rattle.session_reader.specs.Sessions.{Ended, BadAt, PastLimit, Session}
 use Rattle.slon_main.specs.declared.status.Status.{Status}
 use Rattle.slon_main.specs.declared.status.Status.TheVariants.{Done, Usage, BadLine, ReadFault, WriteFault, NoMemory}
 use Rattle.slon_main.specs.declared.status.Status.TheVariants.{NoStore, Missing, TooLong}
@@ -20,13 +19,12 @@ use Rattle.slon_main.specs.declared.run.Stop.TheVariants.{TooLong as StopsLong}
 use Rattle.cluster_engine.specs.Agreed.{Clustered}
 use Rattle.slon_main.specs.Running.{Counts, Begun, Pieces, Starts, Ran, RanOn, RanInPart, RunsSession, StopsAt}
 use Rattle.slon_main.specs.Ending.{Closes, Closed, Failed, Short, ClosesAt, Unread, AtFirst, InRead, EndsWhole}
-use Rattle.slon_main.specs.Ending.{EndsInPart, InReply, InLast, EndsRun, EndsAt, FaultOnly, NoneRose, IsWhole, Holds}
+use Rattle.slon_main.specs.Ending.{EndsInPart, InReply, InLast, EndsRun, EndsAt, FaultOnly, NoneRose, Told, Holds}
 use Rattle.slon_main.specs.Ending.{hands_back, is_cut, is_run, is_whole, session_word, database_limit, bad_line}
 use Rattle.slon_main.specs.Ending.{read_line}
 use Rattle.slon_main.specs.Ending.{store_line, long_line}
 use Rattle.cluster_engine.proofs.Walking.{none_fit}
 use Rattle.slon_main.proofs.Causes.{rose_since}
-use Rattle.slon_main.proofs.Places.{too_long}
 use Rattle.slon_main.proofs.Runs.{ran_nothing}
 
 -- what the ending of a session makes of the output, its status, and what it hands back
@@ -70,19 +68,19 @@ line_after : (line : List ℕ) (output : List (List ℕ)) (old new : Pieces) →
     old ≡ Some output → new ≡ Some (output ++ line ∷ [])
 line_after line output old new written is = written ∙ ap (with_piece line) is
 
--- a session: the shelf, its bytes, and what was left of its file
+-- a session: the shelf, what it says, and what was left of its file
 pub record Sitting : Type 0 where
   pub shelf : Shelved
-  pub bytes : List ℕ
+  pub told : Told
   pub unread : Unread
 
 -- how it ends as the output now is
 abbrev Ends : {C : Type 0} → Sitting → (C → Clustered) → Outcome C → Status → Option C → Type 0
-Ends at f o status has = EndsRun at.shelf status at.bytes o.new.pieces at.unread (option_map f has)
+Ends at f o status has = EndsRun at.shelf status at.told o.new.pieces at.unread (option_map f has)
 
 -- the first commands of a session were run
 abbrev RanFirst : Sitting → Pieces → Clustered → Type 0
-RanFirst at output cluster = RanOn at.shelf database_limit (session_of at.bytes).commands output cluster
+RanFirst at output cluster = RanOn at.shelf database_limit at.told.said.commands output cluster
 
 -- the status and the line with which it ends, where the output takes it
 record Last : Type 0 where
@@ -95,13 +93,13 @@ record Stopping (at : Sitting) (last : Last) (cluster : Clustered) (old : Pieces
   before : List (List ℕ)
   was : old ≡ Some before
   other : last.status ≡ Done → ⊥
-  whole : EndsWhole at.shelf last.status at.bytes (Some (before ++ last.line ∷ [])) at.unread cluster
-  hands : (written : Pieces) → EndsWhole at.shelf last.status at.bytes written at.unread cluster →
-      EndsRun at.shelf last.status at.bytes written at.unread (Some cluster)
+  whole : EndsWhole at.shelf last.status at.told (Some (before ++ last.line ∷ [])) at.unread cluster
+  hands : (written : Pieces) → EndsWhole at.shelf last.status at.told written at.unread cluster →
+      EndsRun at.shelf last.status at.told written at.unread (Some cluster)
   on : RanFirst at old cluster
 
 cut_in : (at : Sitting) (last : Last) (cluster : Clustered) (old new : Pieces) → Stopping at last cluster old →
-    WritesPart last.line old new → EndsInPart at.shelf at.bytes new at.unread
+    WritesPart last.line old new → EndsInPart at.shelf at.told new at.unread
 cut_in at last cluster old new s part =
     let told = subst (λ p. WritesPart last.line p new) s.was part in
     InLast last.status s.before last.line told.0 cluster s.other s.whole told.2
@@ -113,7 +111,7 @@ ends_by : {C : Type 0} (at : Sitting) (f : C → Clustered) (last : Last) (clust
 ends_by at f last cluster o s closes =
     closed_by (Ends at f o) last.line last.status (Some cluster) o (record {
       here = λ written. s.hands o.new.pieces
-          (subst (λ p. EndsWhole at.shelf last.status at.bytes p at.unread (f cluster))
+          (subst (λ p. EndsWhole at.shelf last.status at.told p at.unread (f cluster))
           (sym (line_after last.line s.before o.old.pieces o.new.pieces written s.was)) s.whole);
       failed = λ part rose. cut_in at last (f cluster) o.old.pieces o.new.pieces s part;
       short = λ same. (f cluster, subst (λ p. RanFirst at p (f cluster)) (sym same) s.on);
@@ -123,13 +121,14 @@ all_on : {shelf : Shelved} {said : List Command} {output : Pieces} {cluster : Cl
     Ran shelf database_limit said output cluster → RanOn shelf database_limit said output cluster
 all_on {said = said} ran = record { first = said; others = []; parts = sym (append-nil said); ran = ran }
 
-abbrev session_run : Shelved → List ℕ → Begun
-session_run shelf bytes = record { shelf = shelf; limit = database_limit; bytes = bytes }
+abbrev session_run : Shelved → Told → Begun
+session_run shelf told =
+    record { shelf = shelf; limit = database_limit; names = told.names; said = told.said }
 
 stopping : (at : Sitting) (last : Last) (cluster : Clustered) (old : Pieces) (on : RanFirst at old cluster) →
-    (last.status ≡ Done → ⊥) × ((written : Pieces) → EndsWhole at.shelf last.status at.bytes written at.unread cluster →
-    EndsRun at.shelf last.status at.bytes written at.unread (Some cluster)) →
-    EndsWhole at.shelf last.status at.bytes (Some (lines_of on.ran.history ++ last.line ∷ [])) at.unread cluster →
+    (last.status ≡ Done → ⊥) × ((written : Pieces) → EndsWhole at.shelf last.status at.told written at.unread cluster →
+    EndsRun at.shelf last.status at.told written at.unread (Some cluster)) →
+    EndsWhole at.shelf last.status at.told (Some (lines_of on.ran.history ++ last.line ∷ [])) at.unread cluster →
     Stopping at last cluster old
 stopping at last cluster old on (other, hands) whole = record {
   before = lines_of on.ran.history;
@@ -142,8 +141,8 @@ stopping at last cluster old on (other, hands) whole = record {
 
 pub ends_stopped : {C : Type 0} (at : Sitting) (f : C → Clustered) (stop : Stop) (cluster : C) (o : Outcome C) →
     ClosesAt stop cluster o.old o.new o.is o.has ×
-    RunsSession (session_run at.shelf at.bytes) o.old.pieces (f cluster) at.unread.now (Err stop) →
-    EndsRun at.shelf o.is at.bytes o.new.pieces at.unread (option_map f o.has)
+    RunsSession (session_run at.shelf at.told) o.old.pieces (f cluster) at.unread.now (Err stop) →
+    EndsRun at.shelf o.is at.told o.new.pieces at.unread (option_map f o.has)
 ends_stopped at f (StopsBad number) cluster o (closes, (ran, stop)) =
     ends_by at f (record { status = BadLine; line = bad_line number }) cluster o (record {
       before = lines_of ran.history;
@@ -158,7 +157,7 @@ ends_stopped at f StopsRead cluster o (closes, (on, broke)) =
     (λ is. cc, λ written whole. whole) (lines_of on.ran.history, ran_on_written on, InRead broke, refl)) closes
 ends_stopped at f StopsWrite cluster o (closes, part) =
     subst (λ s. Ends at f o s o.has) (sym closes.0)
-    (InReply (subst (λ (p : Poured). RanInPart at.shelf database_limit (session_of at.bytes).commands p.pieces)
+    (InReply (subst (λ (p : Poured). RanInPart at.shelf database_limit at.told.said.commands p.pieces)
     (sym closes.2) part))
 ends_stopped at f StopsShort cluster o (closes, on) =
     subst (λ s. Ends at f o s o.has) (sym closes.0)
@@ -167,9 +166,15 @@ ends_stopped at f (StopsNoStore name) cluster o (closes, (on, making)) =
     ends_by at f (record { status = NoStore; line = store_line name }) cluster o
     (stopping at _ (f cluster) o.old.pieces on
     (λ is. cc, λ written whole. whole) (lines_of on.ran.history, name, ran_on_written on, making, refl)) closes
-ends_stopped at f StopsLong cluster o (closes, (on, beyond)) =
-    ends_by at f (record { status = TooLong; line = long_line }) cluster o (stopping at _ (f cluster) o.old.pieces on
-    (λ is. cc, λ written whole. whole) (lines_of on.ran.history, ran_on_written on, beyond, refl)) closes
+ends_stopped at f StopsLong cluster o (closes, (ran, end)) =
+    ends_by at f (record { status = TooLong; line = long_line }) cluster o (record {
+      before = lines_of ran.history;
+      was = ran.written;
+      other = λ is. cc;
+      whole = (lines_of ran.history, ran_written ran, end, refl);
+      hands = λ written whole. whole;
+      on = all_on ran;
+    }) closes
 
 -- what is left of the session's file once that is left
 pub left_unread : (b : Begun) (written : Pieces) (cluster : Clustered) (before now : Option (List ℕ)) (stop : Stop) →
@@ -182,10 +187,10 @@ left_unread b written cluster before now stop same runs =
 pub ends_unentered : {C : Type 0} (at : Sitting) (f : C → Clustered) (cluster : C) (o : Outcome C) →
     at.unread.now ≡ at.unread.was → (Starts database_limit (f cluster)) × (o.old.pieces ≡ Some []) →
     Closes read_line ReadFault (Some cluster) o.old o.new o.is o.has →
-    EndsRun at.shelf o.is at.bytes o.new.pieces at.unread (option_map f o.has)
+    EndsRun at.shelf o.is at.told o.new.pieces at.unread (option_map f o.has)
 ends_unentered at f cluster o same (starts, empty) closes =
     let on =
-    ran_nothing at.shelf database_limit (session_of at.bytes).commands o.old.pieces (f cluster) empty starts in
+    ran_nothing at.shelf database_limit at.told.said.commands o.old.pieces (f cluster) empty starts in
     ends_by at f (record { status = ReadFault; line = read_line }) cluster o (record {
       before = [];
       was = empty;
@@ -196,12 +201,12 @@ ends_unentered at f cluster o same (starts, empty) closes =
     }) closes
 
 -- there was no memory before the first line
-pub ends_short : (shelf : Shelved) (bytes : List ℕ) (unread : Unread) (written : Pieces) (status : Status)
-    (has : Option Clustered) → status ≡ NoMemory → written ≡ Some [] → EndsRun shelf status bytes written unread has
-ends_short shelf bytes unread written status has is none =
-    subst (λ s. EndsRun shelf s bytes written unread has) (sym is) (
+pub ends_short : (shelf : Shelved) (told : Told) (unread : Unread) (written : Pieces) (status : Status)
+    (has : Option Clustered) → status ≡ NoMemory → written ≡ Some [] → EndsRun shelf status told written unread has
+ends_short shelf told unread written status has is none =
+    subst (λ s. EndsRun shelf s told written unread has) (sym is) (
       bare,
-      ran_nothing shelf database_limit (session_of bytes).commands written bare none (record {
+      ran_nothing shelf database_limit told.said.commands written bare none (record {
         agrees = record { limit = refl; fits = tt; scripts = none_fit empty refl };
         given = refl;
       }),
@@ -265,38 +270,33 @@ hands_stopped (StopsNoStore name) cluster o closes = hands_closed (store_line na
 hands_stopped StopsLong cluster o closes = hands_closed long_line TooLong cluster o refl closes
 
 -- where it ends
-at_closed : {C : Type 0} (bytes line : List ℕ) (status : Status) (cluster : Option C) (o : Outcome C) →
-    EndsAt status bytes →
-    Closes line status cluster o.old o.new o.is o.has → EndsAt o.is bytes
-at_closed bytes line status cluster o at closes =
-    closed_by (λ s h. EndsAt s bytes) line status cluster o
+at_closed : {C : Type 0} (said : Session) (line : List ℕ) (status : Status) (cluster : Option C) (o : Outcome C) →
+    EndsAt status said →
+    Closes line status cluster o.old o.new o.is o.has → EndsAt o.is said
+at_closed said line status cluster o at closes =
+    closed_by (λ s h. EndsAt s said) line status cluster o
     (record { here = λ written. at; failed = λ part failed. tt; short = λ same. tt }) closes
 
-pub at_stopped : {C : Type 0} (bytes : List ℕ) (stop : Stop) (cluster : C) (o : Outcome C) →
+pub at_stopped : {C : Type 0} (said : Session) (stop : Stop) (cluster : C) (o : Outcome C) →
     ClosesAt stop cluster o.old o.new o.is o.has →
-    StopsAt bytes (Err stop) → EndsAt o.is bytes
-at_stopped bytes (StopsBad number) cluster o closes at =
-    at_closed bytes (bad_line number) BadLine (Some cluster) o (number, at.0, at.1) closes
-at_stopped bytes StopsRead cluster o closes at = at_closed bytes read_line ReadFault (Some cluster) o tt closes
-at_stopped bytes StopsWrite cluster o closes at = subst (λ s. EndsAt s bytes) (sym closes.0) tt
-at_stopped bytes StopsShort cluster o closes at = subst (λ s. EndsAt s bytes) (sym closes.0) tt
-at_stopped bytes (StopsNoStore name) cluster o closes at = at_closed bytes (store_line name) NoStore
+    StopsAt said (Err stop) → EndsAt o.is said
+at_stopped said (StopsBad number) cluster o closes at =
+    at_closed said (bad_line number) BadLine (Some cluster) o (number, at) closes
+at_stopped said StopsRead cluster o closes at = at_closed said read_line ReadFault (Some cluster) o tt closes
+at_stopped said StopsWrite cluster o closes at = subst (λ s. EndsAt s said) (sym closes.0) tt
+at_stopped said StopsShort cluster o closes at = subst (λ s. EndsAt s said) (sym closes.0) tt
+at_stopped said (StopsNoStore name) cluster o closes at = at_closed said (store_line name) NoStore
     (Some cluster) o tt closes
-at_stopped bytes StopsLong cluster o closes at = at_closed bytes long_line TooLong (Some cluster) o at closes
-
--- a session that ends as too long is
-pub ends_long : (bytes : List ℕ) (status : Status) → EndsAt status bytes → status ≡ TooLong →
-    session_limit < length bytes
-ends_long bytes status at is = too_long bytes (subst (λ s. EndsAt s bytes) is at)
+at_stopped said StopsLong cluster o closes at = at_closed said long_line TooLong (Some cluster) o at closes
 
 -- the session that was entered
-pub entered_top : (words : List (List ℕ)) (bytes word : List ℕ) (old : Filed) (stack : List (Option (List ℕ))) →
-    Holds words bytes old →
-    session_word words ≡ Some word → Entered word old stack true → top stack ≡ Some bytes
-entered_top words bytes word old stack holds is (left, stack_is, holds_file, told) =
+pub entered_top : (words : List (List ℕ)) (told : Told) (word : List ℕ) (old : Filed)
+    (stack : List (Option (List ℕ))) → (holds : Holds words told old) →
+    session_word words ≡ Some word → Entered word old stack true → top stack ≡ Some holds.bytes
+entered_top words told word old stack holds is (left, stack_is, holds_file, told_so) =
     let one : holds.name ≡ word = cc in
-    let held : left ≡ holds.names word = subst (λ n. HoldsFile n word left) holds.told holds_file in
-    ap top stack_is ∙ held ∙ ap holds.names (sym one) ∙ holds.holds
+    let held : left ≡ told.names word = subst (λ n. HoldsFile n word left) holds.names holds_file in
+    ap top stack_is ∙ held ∙ ap told.names (sym one) ∙ holds.holds
 
 -- a fault since an earlier count
 pub fault_since : (status : Status) (old mid new : Counts) → old.files ≤ mid.files → old.shelf ≤ mid.shelf →
@@ -306,16 +306,17 @@ fault_since WriteFault old mid new files shelf out only = rose_since old.out mid
 fault_since NoStore old mid new files shelf out only = rose_since old.shelf mid.shelf new.shelf shelf only
 fault_since others old mid new files shelf out only = tt
 
--- a whole session runs to its end, unless there is no memory
-pub ends_whole : (bytes : List ℕ) (status : Status) (old new : Counts) →
-    (is_run status ≡ true) × FaultOnly status old new → EndsAt status bytes →
-    IsWhole bytes → NoneRose old new → is_whole status ≡ true
-ends_whole bytes Usage old new (run, only) at whole none = run
-ends_whole bytes BadLine old new (run, only) at whole none = let bad : None ≡ Some at.0 = sym whole.stop ∙ at.1 in
-    absurd cc
-ends_whole bytes ReadFault old new (run, only) at whole none = absurd (none.files only)
-ends_whole bytes WriteFault old new (run, only) at whole none = absurd (none.out only)
-ends_whole bytes NoStore old new (run, only) at whole none = absurd (none.shelf only)
-ends_whole bytes Missing old new (run, only) at whole none = run
-ends_whole bytes TooLong old new (run, only) at whole none = absurd (omega (arith, too_long bytes at, whole.size))
-ends_whole bytes others old new (run, only) at whole none = refl
+-- a session without a bad line that is short enough runs to its end, unless there is no memory
+pub ends_whole : (said : Session) (status : Status) (old new : Counts) →
+    (is_run status ≡ true) × FaultOnly status old new → EndsAt status said →
+    said.end ≡ Ended → NoneRose old new → is_whole status ≡ true
+ends_whole said Usage old new (run, only) at whole none = run
+ends_whole said BadLine old new (run, only) at whole none =
+    let bad : Ended ≡ BadAt at.0 = sym whole ∙ at.1 in absurd cc
+ends_whole said ReadFault old new (run, only) at whole none = absurd (none.files only)
+ends_whole said WriteFault old new (run, only) at whole none = absurd (none.out only)
+ends_whole said NoStore old new (run, only) at whole none = absurd (none.shelf only)
+ends_whole said Missing old new (run, only) at whole none = run
+ends_whole said TooLong old new (run, only) at whole none =
+    let long : Ended ≡ PastLimit = sym whole ∙ at in absurd cc
+ends_whole said others old new (run, only) at whole none = refl

@@ -1,10 +1,9 @@
--- A run, line by line.
-use Rattle.std.proofs.Common.{◌≡◌, ◌∙◌, ℕ, suc, ◌+◌, ◌<◌, ◌≤◌, drop, false, length, List, [], ◌∷◌, ◌++◌, Option, Some}
-use Rattle.std.proofs.Common.{Ok, Err, OnOk, IfErr, IsErrOf, Result, true, refl, sym, ap, subst, append_assoc}
-use Rattle.std.proofs.Common.{append-nil, arith}
+-- A run, command by command.
+use Rattle.std.proofs.Common.{◌≡◌, ◌∙◌, ℕ, ◌-◌, false, length, List, [], ◌∷◌, ◌++◌, Option, Some, None, Ok, Err, OnOk}
+use Rattle.std.proofs.Common.{IfErr, IsErrOf}
+use Rattle.std.proofs.Common.{Result, true, refl, sym, ap, subst, append_assoc, append-nil}
 use Rattle.std.specs.List.{AllByRecursion}
 use Rattle.std.proofs.lemmas.Bool.{false≢true}
-use Rattle.std.proofs.lemmas.List.{drop-drop}
 use Rattle.std.specs.Str.Lines.{lines}
 use Rattle.slon_base.specs.Outside.{Filed, top, with_piece}
 use Rattle.slon_base.specs.Shelf.{Shelved, Promise}
@@ -12,65 +11,107 @@ use Rattle.slon_model.specs.declared.command.Command.{Command}
 use Rattle.slon_model.specs.declared.command.Command.TheVariants.{Database}
 use Rattle.slon_model.specs.declared.reply.Answer.TheVariants.{Done}
 use Rattle.slon_model.specs.declared.reply.Reply.TheVariants.{Accepted}
-use Rattle.slon_model.specs.Lines.{Meaning, Silent, Says, Bad, Session, meaning, behind, session_from, session_of}
 use Rattle.slon_model.specs.Names.{Named, find_named}
 use Rattle.slon_model.specs.Printed.{reply_line}
+use Rattle.slon_model.specs.Spoken.{IsSpoken}
 use Rattle.slon_model.specs.World.{World, Happening, Leads, IsDue, start, commands_of, replies_of, lines_of}
-use Rattle.slon_model.proofs.Spoken.{says_spoken}
 use Rattle.slon_laws.specs.Worlds.{AllSpoken}
 use Rattle.slon_laws.proofs.Worlds.{sound_world, spelled_world}
-use Rattle.session_text.specs.Reading.{Reading, line_size, session_limit}
-use Rattle.session_text.specs.Handing.{Comes, Hands, Breaks}
+use Rattle.session_text.specs.Reading.{session_limit}
+use Rattle.session_text.specs.Handing.{Comes}
 use Rattle.session_text.specs.Replies.{NumbersFit}
-use Rattle.session_text.specs.declared.line_reader.NextLine.TheVariants.{Line}
+use Rattle.session_reader.specs.Sessions.{Between, BadAt, PastLimit, End, Session, stopped, in_front, sized, block_of}
+use Rattle.session_reader.specs.Sessions.{closed, session_from, session_of}
+use Rattle.session_reader.specs.Fetching.{Fetching, Fetches, ahead_of, to_come, Broken, InLine as BreaksInLine}
+use Rattle.session_reader.specs.Fetching.{InFile as BreaksInFile}
+use Rattle.reply_forms.proofs.Forms.{all_with, formed_by}
 use Rattle.app_store.specs.Base.{Base}
-use Rattle.slon_main.specs.declared.run.Stop.{Stop}
-use Rattle.slon_main.specs.declared.run.Stop.TheVariants.{BadLine, Read, Write, NoMemory, NoStore, TooLong}
 use Rattle.slonik_exec.specs.Databases.{FitsAll}
 use Rattle.cluster_engine.specs.Agreed.{Clustered, Agrees, Follows}
 use Rattle.cluster_engine.specs.Calls.{arms_later, grant, happened, AllQuiet, AllCertain}
 use Rattle.cluster_engine.specs.Failing.{IsWithin}
-use Rattle.slon_main.specs.Running.{Begun, Pieces, Starts, NeverFails, NoneArms, ReadsLine, RunsLine, Means}
-use Rattle.slon_main.specs.Running.{MeansInPart, Replies, NamesMade, is_no_store, is_of_command, Ran, RanOn, IsMaking}
-use Rattle.slon_main.specs.Running.{IsBeyond, IsUnread, RunsSession, end_of, commands_behind}
 use Rattle.cluster_engine.specs.Telling.{AreTold}
-use Rattle.slon_main.proofs.Causes.{never_still}
-use Rattle.reply_forms.proofs.Forms.{all_with, formed_by}
 use Rattle.cluster_engine.proofs.Stepping.{sure_step}
-use Rattle.slon_main.proofs.Places.{Reached, Came, next_end, too_long_is_bad}
+use Rattle.slon_main.specs.declared.run.Stop.{Stop}
+use Rattle.slon_main.specs.declared.run.Stop.TheVariants.{BadLine, Read, Write, NoMemory, NoStore, TooLong}
+use Rattle.slon_main.specs.Going.{behind_commands, Came, Point, ComesOn, Spot, Running, RunsOn}
+use Rattle.slon_main.specs.Running.{Begun, Pieces, Starts, NeverFails, NoneArms, FetchesSo, Replies, RepliesInPart}
+use Rattle.slon_main.specs.Running.{NamesMade, is_no_store, is_of_command, Ran, RanOn, IsMaking, IsUnread, InLine}
+use Rattle.slon_main.specs.Running.{InFile, RunsSession, StopsAt}
+use Rattle.slon_main.proofs.Causes.{never_still}
 
--- the session with commands before its others
-abbrev behind_commands : List Command → Session → Session
-behind_commands commands session = record { commands = commands ++ session.commands; stop = session.stop }
+-- one command more before the others
+one_more : (commands : List Command) (command : Command) (session : Session) →
+    behind_commands commands (in_front command session) ≡ behind_commands (commands ++ command ∷ []) session
+one_more commands command session =
+    ap (λ cs. record { commands = cs; end = session.end }) (sym (append_assoc commands (command ∷ []) session.commands))
 
--- where it is: the number of the next line, what is read and written, and the databases
-pub record Spot : Type 0 where
-  pub number : ℕ
-  pub reader : Reading
-  pub files : Filed
-  pub output : Pieces
-  pub cluster : Clustered
+-- ---- how far a session was read
 
-abbrev reached : Spot → Reached
-reached at = record { number = at.number; reader = at.reader; files = at.files }
+-- before the first line
+pub record AtFront (names : List ℕ → Option (List ℕ)) (bytes : List ℕ) (reader : Fetching) (files : Filed) : Type 0
+  where
+    pub bytes_are : top files.stack ≡ Some bytes
+    pub unread : reader.lines.unread ≡ []
+    pub says : to_come names Between reader bytes ≡ session_of names bytes
 
--- how it came there
-pub record Running (b : Begun) (at : Spot) : Type 0 where
-  pub rest : List ℕ
-  pub comes : Comes at.reader at.files rest
-  pub history : List Happening
-  pub world : World
-  pub leads : Leads (start b.limit) history world
-  pub spoken : AllSpoken history
-  pub session : session_of b.bytes ≡ behind_commands (commands_of history) (session_from at.number (lines rest))
-  pub fits : AllByRecursion NumbersFit (replies_of history)
-  pub written : at.output ≡ Some (lines_of history)
-  pub agrees : Agrees world at.cluster
-  pub certain : NeverFails b.shelf → NoneArms (commands_of history) →
-      IsDue (start b.limit) history world × AllCertain at.cluster
-  pub quiet : AllQuiet at.cluster → IsDue (start b.limit) history world
-  pub few : NoneArms (commands_of history) → IsWithin b.shelf.promise history at.cluster
-  pub told : AreTold history at.cluster
+front_comes : (names : List ℕ → Option (List ℕ)) (bytes : List ℕ) (reader : Fetching) (files : Filed) →
+    AtFront names bytes reader files → Comes reader.lines files bytes
+front_comes names bytes reader files front = (bytes, front.bytes_are, ap (λ l. l ++ bytes) (sym front.unread))
+
+pub came_first : (names : List ℕ → Option (List ℕ)) (bytes : List ℕ) (reader : Fetching) (files : Filed) →
+    AtFront names bytes reader files → Came names (session_of names bytes) reader files
+came_first names bytes reader files front = record {
+  rest = bytes;
+  comes = front_comes names bytes reader files front;
+  commands = [];
+  session = sym front.says;
+}
+
+pub came_on : (names : List ℕ → Option (List ℕ)) (said : Session) (command : Command) (old new : Point) →
+    (came : Came names said old.reader old.files) →
+    FetchesSo names (to_come names Between old.reader came.rest) new.reader new.files (Ok (Some command)) →
+    Came names said new.reader new.files
+came_on names said command old new came (rest, comes, is) = record {
+  rest = rest;
+  comes = comes;
+  commands = came.commands ++ command ∷ [];
+  session = came.session ∙ ap (behind_commands came.commands) is
+      ∙ one_more came.commands command (to_come names Between new.reader rest);
+}
+
+-- what is behind commands ends as what is in front of it goes on
+end_of : (said session : Session) (commands : List Command) (end : End) → said ≡ behind_commands commands session →
+    session ≡ stopped end → said.end ≡ end
+end_of said session commands end is ends = ap (λ s. s.end) is ∙ ap (λ s. s.end) ends
+
+pub stops_fetching : (names : List ℕ → Option (List ℕ)) (said : Session) (stop : Stop) (old new : Point) →
+    (came : Came names said old.reader old.files) →
+    FetchesSo names (to_come names Between old.reader came.rest) new.reader new.files (Err stop) →
+    StopsAt said (Err stop)
+stops_fetching names said (BadLine number) old new came is =
+    end_of said (to_come names Between old.reader came.rest) came.commands (BadAt number) came.session is
+stops_fetching names said TooLong old new came is =
+    end_of said (to_come names Between old.reader came.rest) came.commands PastLimit came.session is
+stops_fetching names said others old new came is = tt
+
+pub stops_ended : (names : List ℕ → Option (List ℕ)) (said : Session) (old new : Point) →
+    (came : Came names said old.reader old.files) →
+    FetchesSo names (to_come names Between old.reader came.rest) new.reader new.files (Ok None) → StopsAt said (Ok tt)
+stops_ended names said old new came is = ap (λ s. s.end) came.session ∙ ap (λ s. s.end) is
+
+pub stops_running : (said : Session) (stop : Stop) → is_of_command stop ≡ true → StopsAt said (Err stop)
+stops_running said (BadLine number) is = absurd (false≢true is)
+stops_running said TooLong is = absurd (false≢true is)
+stops_running said others is = tt
+
+-- what the reader of sessions answers
+pub fetched_so : (names : List ℕ → Option (List ℕ)) (before : Session) (new : Point) (found : Option Command) →
+    Fetches names before new.reader new.files (Ok found) → FetchesSo names before new.reader new.files (Ok found)
+fetched_so names before new None fetches = fetches
+fetched_so names before new (Some command) fetches = fetches
+
+-- ---- a run
 
 -- ---- its beginning
 
@@ -107,22 +148,21 @@ start_told limit cluster starts = record {
 }
 
 -- before the first line
-pub record First (b : Begun) (at : Spot) : Type 0 where
-  pub number : at.number ≡ 1
-  pub bytes : top at.files.stack ≡ Some b.bytes
-  pub unread : at.reader.unread ≡ []
+pub record First (b : Begun) (bytes : List ℕ) (at : Spot) : Type 0 where
+  pub said : b.said ≡ session_of b.names bytes
+  pub front : AtFront b.names bytes at.reader at.files
   pub empty : at.output ≡ Some []
   pub starts : Starts b.limit at.cluster
 
-pub begins : (b : Begun) (at : Spot) → First b at → Running b at
-begins b at first = record {
-  rest = b.bytes;
-  comes = (b.bytes, first.bytes, ap (λ l. l ++ b.bytes) (sym first.unread));
+pub begins : (b : Begun) (bytes : List ℕ) (at : Spot) → First b bytes at → Running b at
+begins b bytes at first = record {
+  rest = bytes;
+  comes = front_comes b.names bytes at.reader at.files first.front;
   history = [];
   world = start b.limit;
   leads = refl;
   spoken = tt;
-  session = ap (λ n. behind_commands [] (session_from n (lines b.bytes))) (sym first.number);
+  session = first.said ∙ sym first.front.says;
   fits = tt;
   written = first.empty;
   agrees = first.starts.agrees;
@@ -132,7 +172,7 @@ begins b at first = record {
   told = start_told b.limit at.cluster first.starts;
 }
 
--- ---- one more line
+-- ---- one more command
 
 -- the databases are as each legal history leaves them
 pub follows : (b : Begun) (at : Spot) → (running : Running b at) → Follows running.world at.cluster
@@ -151,85 +191,50 @@ none_last : (before : List Command) (last : Command) → NoneArms (before ++ las
 none_last [] last all = all.0
 none_last (c ∷ cs) last all = none_last cs last all.1
 
--- what a line did: it was handed over, and its command is obeyed and answered
-pub record LineRan (b : Begun) (now : Shelved) (w : World) (line rest : List ℕ) (at next : Spot) : Type 0 where
-  pub number : next.number ≡ at.number + 1
+-- a command that was fetched, obeyed and answered
+pub record CommandWent (b : Begun) (now : Shelved) (w : World) (rest : List ℕ) (at next : Spot) : Type 0 where
+  pub command : Command
   pub promised : now.promise ≡ b.shelf.promise
-  pub hands : Hands line rest at.reader next.reader next.files Line
-  pub means : Means (meaning line) now w at.output next.output at.cluster next.cluster
+  pub fetched : FetchesSo b.names (to_come b.names Between at.reader rest) next.reader next.files (Ok (Some command))
+  pub spoken : IsSpoken command
+  pub replies : Replies now command w at.output next.output at.cluster next.cluster
 
-pub went_on : (b : Begun) (now : Shelved) (line : List ℕ) (at next : Spot) → (running : Running b at) →
-    LineRan b now running.world line running.rest at next → Running b next
-went_on b now line at next running ran = go (meaning line) refl ran.means
-  where
-    rest_session : Session
-    rest_session = session_from (at.number + 1) (lines ran.hands.rest)
-
-    from : (m : Meaning) → meaning line ≡ m → session_of b.bytes ≡ behind_commands (commands_of running.history)
-        (behind at.number m rest_session)
-    from m is =
-        running.session ∙ ap (λ ls. behind_commands (commands_of running.history)
-        (session_from at.number ls)) ran.hands.takes
-        ∙ ap (λ k. behind_commands (commands_of running.history) (behind at.number k rest_session)) is
-
-    onward : (commands : List Command) → session_of b.bytes ≡ behind_commands commands rest_session →
-        session_of b.bytes ≡ behind_commands commands (session_from next.number (lines ran.hands.rest))
-    onward commands is = is ∙ ap (λ n. behind_commands commands (session_from n (lines ran.hands.rest)))
-        (sym ran.number)
-
-    go : (m : Meaning) → meaning line ≡ m → Means m now running.world at.output next.output at.cluster next.cluster →
-        Running b next
-    go Silent is (same, kept) = record {
-      rest = ran.hands.rest;
-      comes = ran.hands.comes;
-      history = running.history;
-      world = running.world;
-      leads = running.leads;
-      spoken = running.spoken;
-      session = onward (commands_of running.history) (from Silent is);
-      fits = running.fits;
-      written = same ∙ running.written;
-      agrees = subst (Agrees running.world) (sym kept) running.agrees;
-      certain = λ never armless. let so_far = running.certain never armless in
-          (so_far.0, subst AllCertain (sym kept) so_far.1);
-      quiet = λ all. running.quiet (subst AllQuiet kept all);
-      few = λ armless. subst (IsWithin b.shelf.promise running.history) (sym kept) (running.few armless);
-      told = subst (AreTold running.history) (sym kept) running.told;
+pub went_on : (b : Begun) (now : Shelved) (at next : Spot) → (running : Running b at) →
+    CommandWent b now running.world running.rest at next → Running b next
+went_on b now at next running went =
+    let command = went.command in
+    let said = went.replies in
+    let h = happened command said.reply said.goes.choice in
+    record {
+      rest = went.fetched.0;
+      comes = went.fetched.1;
+      history = h ∷ running.history;
+      world = said.goes.world;
+      leads = (running.world, running.leads, said.goes.step);
+      spoken = (went.spoken, running.spoken);
+      session = running.session ∙ ap (behind_commands (commands_of running.history)) went.fetched.2
+          ∙ one_more (commands_of running.history) command (to_come b.names Between next.reader went.fetched.0);
+      fits = all_with NumbersFit (replies_of running.history) said.reply running.fits said.fits;
+      written = said.written_is ∙ ap (with_piece (reply_line said.reply)) running.written;
+      agrees = said.goes.agrees;
+      certain = λ never armless.
+          let so_far = running.certain never (none_before (commands_of running.history) command armless) in
+          let here = said.certain (never_still b.shelf now went.promised never) so_far.1 in
+          let due = sure_step running.world said.goes.world h said.goes.step here.0 in (
+            (running.world, so_far.0, due.0, due.1),
+            here.1 (none_last (commands_of running.history) command armless),
+          );
+      quiet = λ all.
+          let here = said.quiet all in
+          let due = sure_step running.world said.goes.world h said.goes.step here.0 in
+          (running.world, running.quiet here.1, due.0, due.1);
+      few = λ armless.
+          subst (λ p. IsWithin p (h ∷ running.history) next.cluster) went.promised
+          (said.pays (none_last (commands_of running.history) command armless) said.goes.choice running.history
+          (subst (λ p. IsWithin p running.history at.cluster) (sym went.promised)
+          (running.few (none_before (commands_of running.history) command armless))));
+      told = said.tells said.goes.choice running.history running.told;
     }
-    go (Says command) is said =
-        let h = happened command said.reply said.goes.choice in
-        record {
-          rest = ran.hands.rest;
-          comes = ran.hands.comes;
-          history = h ∷ running.history;
-          world = said.goes.world;
-          leads = (running.world, running.leads, said.goes.step);
-          spoken = (says_spoken line command is, running.spoken);
-          session = onward (commands_of running.history ++ command ∷ []) (from (Says command) is
-              ∙ ap (λ cs. record { commands = cs; stop = rest_session.stop })
-              (sym (append_assoc (commands_of running.history) (command ∷ []) rest_session.commands)));
-          fits = all_with NumbersFit (replies_of running.history) said.reply running.fits said.fits;
-          written = said.written_is ∙ ap (with_piece (reply_line said.reply)) running.written;
-          agrees = said.goes.agrees;
-          certain = λ never armless.
-              let so_far = running.certain never (none_before (commands_of running.history) command armless) in
-              let here = said.certain (never_still b.shelf now ran.promised never) so_far.1 in
-              let due = sure_step running.world said.goes.world h said.goes.step here.0 in (
-                (running.world, so_far.0, due.0, due.1),
-                here.1 (none_last (commands_of running.history) command armless),
-              );
-          quiet = λ all.
-              let here = said.quiet all in
-              let due = sure_step running.world said.goes.world h said.goes.step here.0 in
-              (running.world, running.quiet here.1, due.0, due.1);
-          few = λ armless.
-              subst (λ p. IsWithin p (h ∷ running.history) next.cluster) ran.promised
-              (said.pays (none_last (commands_of running.history) command armless) said.goes.choice running.history
-              (subst (λ p. IsWithin p running.history at.cluster) (sym ran.promised)
-              (running.few (none_before (commands_of running.history) command armless))));
-          told = said.tells said.goes.choice running.history running.told;
-        }
-    go Bad is none = absurd none
 
 -- ---- its end
 
@@ -249,19 +254,23 @@ ran_so b at running said is = record {
   told = running.told;
 }
 
-ran : (b : Begun) (at : Spot) → (running : Running b at) → (session_from at.number (lines running.rest)).commands ≡ [] →
-    Ran b.shelf b.limit (session_of b.bytes).commands at.output at.cluster
-ran b at running none =
-    ran_so b at running (session_of b.bytes).commands
-    (sym (ap (λ s. s.commands) running.session ∙ ap (λ cs. commands_of running.history ++ cs) none
-    ∙ append-nil (commands_of running.history)))
+-- the session ends here
+ran_to : (b : Begun) (at : Spot) (end : End) → (running : Running b at) →
+    to_come b.names Between at.reader running.rest ≡ stopped end →
+    Ran b.shelf b.limit b.said.commands at.output at.cluster × (b.said.end ≡ end)
+ran_to b at end running is =
+    let ends = running.session ∙ ap (behind_commands (commands_of running.history)) is in (
+      ran_so b at running b.said.commands
+          (sym (ap (λ s. s.commands) ends ∙ append-nil (commands_of running.history))),
+      ap (λ s. s.end) ends,
+    )
 
 -- the commands so far are the first ones
 abbrev ran_on : (b : Begun) (at : Spot) → Running b at →
-    RanOn b.shelf b.limit (session_of b.bytes).commands at.output at.cluster
+    RanOn b.shelf b.limit b.said.commands at.output at.cluster
 ran_on b at running = record {
   first = commands_of running.history;
-  others = (session_from at.number (lines running.rest)).commands;
+  others = (to_come b.names Between at.reader running.rest).commands;
   parts = ap (λ s. s.commands) running.session;
   ran = ran_so b at running (commands_of running.history) refl;
 }
@@ -288,209 +297,37 @@ ran_nothing shelf limit said output cluster empty starts = record {
   };
 }
 
--- no line is left
-pub ran_all : (b : Begun) (at : Spot) (unread : Option (List ℕ)) → (running : Running b at) → running.rest ≡ [] →
+-- no command is left
+pub ran_all : (b : Begun) (at : Spot) (unread : Option (List ℕ)) (new : Point) → (running : Running b at) →
+    FetchesSo b.names (to_come b.names Between at.reader running.rest) new.reader new.files (Ok None) →
     RunsSession b at.output at.cluster unread (Ok tt)
-ran_all b at unread running none = (
-  ran b at running (ap (λ r. (session_from at.number (lines r)).commands) none),
-  ap (λ s. s.stop) running.session ∙ ap (λ r. (session_from at.number (lines r)).stop) none,
-)
+ran_all b at unread new running is = ran_to b at _ running is
 
--- the next line is bad
-ran_to : (b : Begun) (at : Spot) (unread : Option (List ℕ)) → (running : Running b at) → (first : List ℕ)
-    (more : List (List ℕ)) →
-    lines running.rest ≡ first ∷ more → meaning first ≡ Bad →
-    RunsSession b at.output at.cluster unread (Err (BadLine at.number))
-ran_to b at unread running first more is bad =
-    (ran b at running (ap (λ s. s.commands) ends), ap (λ s. s.stop) running.session ∙ ap (λ s. s.stop) ends)
-  where
-    ends : session_from at.number (lines running.rest) ≡ record { commands = []; stop = Some at.number }
-    ends = ap (session_from at.number) is ∙ ap (λ m. behind at.number m (session_from (at.number + 1) more)) bad
+-- the files failed
+unread_here : (names : List ℕ → Option (List ℕ)) (before : Session) (new : Point) →
+    Broken names before new.reader new.files → IsUnread names (top new.files.stack) before.commands
+unread_here names before new (BreaksInLine mode number taken rest breaks is) =
+    InLine mode number taken breaks.part breaks.left breaks.unended breaks.is breaks.within
+    (ap (λ s. s.commands) is
+    ∙ ap (λ r. (session_from names mode number (session_limit - taken) (sized (lines r) r)).commands)
+    (sym breaks.whole))
+unread_here names before new (BreaksInFile name text left rest comes is) =
+    InFile name text new.reader.number left new.reader.lines.unread comes.0 comes.1
+    (ap (λ s. s.commands) is
+    ∙ ap (λ r. (closed name (block_of names left text) (ahead_of names new.reader.number r)).commands) comes.2)
 
--- the bytes to come are told once
-same_rest : (reader : Reading) (files : Filed) (one other : List ℕ) → Comes reader files one →
-    Comes reader files other → one ≡ other
-same_rest reader files one other (left, top_is, is) (also, top_also, is_also) =
-    let same : left ≡ also = some_same left also (sym top_is ∙ top_also) in
-    is ∙ ap (λ l. reader.unread ++ l) same ∙ sym is_also
-  where
-    some_same : (a b : List ℕ) → Some a ≡ Some b → a ≡ b
-    some_same a b e = cc
+-- no further command was fetched
+pub fetch_stops : (b : Begun) (at : Spot) (stop : Stop) (new : Point) → (running : Running b at) →
+    FetchesSo b.names (to_come b.names Between at.reader running.rest) new.reader new.files (Err stop) →
+    RunsSession b at.output at.cluster (top new.files.stack) (Err stop)
+fetch_stops b at (BadLine number) new running is = ran_to b at (BadAt number) running is
+fetch_stops b at TooLong new running is = ran_to b at PastLimit running is
+fetch_stops b at Read new running is =
+    (ran_on b at running, unread_here b.names (to_come b.names Between at.reader running.rest) new is)
+fetch_stops b at NoMemory new running is = (at.cluster, ran_on b at running)
+fetch_stops b at others new running is = absurd is
 
--- where the run is in the bytes, which is within the limit
-pub record Within (b : Begun) (at : Spot) : Type 0 where
-  pub came : Came b.bytes (reached at)
-  pub small : at.reader.taken ≤ session_limit
-
--- the next line ends beyond the limit
-beyond_here : (b : Begun) (at : Spot) → (running : Running b at) → Within b at →
-    session_limit < at.reader.taken + line_size running.rest →
-    IsBeyond b.bytes (session_from at.number (lines running.rest)).commands
-beyond_here b at running within more =
-    let came = within.came in
-    let same : running.rest ≡ came.rest = same_rest at.reader at.files running.rest came.rest running.comes came.comes
-    in
-    let size : line_size running.rest ≡ line_size came.rest = ap line_size same in
-    record {
-      count = came.before;
-      within = omega (arith, within.small, came.taken);
-      beyond = omega (arith, more, size, next_end b.bytes (reached at) came);
-      behind = ap (λ n. (session_from n (lines running.rest)).commands) came.number_is
-          ∙ ap (λ r. (session_from (came.before + 1) (lines r)).commands)
-          (same ∙ came.left ∙ ap (λ n. drop n b.bytes) came.taken);
-    }
-
--- what is behind the lines that were handed over
-behind_here : (b : Begun) (at : Spot) → (running : Running b at) → (came : Came b.bytes (reached at)) →
-    (session_from at.number (lines running.rest)).commands ≡ commands_behind came.before b.bytes
-behind_here b at running came =
-    let same : running.rest ≡ came.rest = same_rest at.reader at.files running.rest came.rest running.comes came.comes
-    in
-    ap (λ n. (session_from n (lines running.rest)).commands) came.number_is
-    ∙ ap (λ r. (session_from (came.before + 1) (lines r)).commands)
-    (same ∙ came.left ∙ ap (λ n. drop n b.bytes) came.taken)
-
--- the reading of the next line broke off
-unread_here : (b : Begun) (at : Spot) (files : Filed) → (running : Running b at) → Within b at →
-    Breaks running.rest at.reader.taken files →
-    IsUnread b.bytes (top files.stack) (session_from at.number (lines running.rest)).commands
-unread_here b at files running within breaks =
-    let came = within.came in
-    let same : running.rest ≡ came.rest = same_rest at.reader at.files running.rest came.rest running.comes came.comes
-    in
-    record {
-      count = came.before;
-      part = breaks.part;
-      left = breaks.left;
-      rest = breaks.whole ∙ same ∙ came.left ∙ ap (λ n. drop n b.bytes) came.taken;
-      unended = breaks.unended;
-      is = breaks.is;
-      within = omega (arith, breaks.within, came.taken);
-      behind = behind_here b at running came;
-    }
-
--- the reading of the next line stopped
-pub record ReadStopped (at : Spot) (rest : List ℕ) (stop : Stop) : Type 0 where
-  pub line : List ℕ
-  pub reader : Reading
-  pub files : Filed
-  pub reads : ReadsLine at.number line rest at.reader reader files (Err stop)
-
-pub read_stops : (b : Begun) (at : Spot) (stop : Stop) → (running : Running b at) → Within b at →
-    (stopped : ReadStopped at running.rest stop) →
-    RunsSession b at.output at.cluster (top stopped.files.stack) (Err stop)
-read_stops b at stop running within stopped = go stop stopped.reads
-  where
-    unread : Option (List ℕ)
-    unread = top stopped.files.stack
-
-    go : (s : Stop) → ReadsLine at.number stopped.line running.rest at.reader stopped.reader stopped.files (Err s) →
-        RunsSession b at.output at.cluster unread (Err s)
-    go (BadLine bad) (is, short, whole, more, long, first) =
-        subst (λ n. RunsSession b at.output at.cluster unread (Err (BadLine n))) (sym is)
-        (ran_to b at unread running whole more first (too_long_is_bad whole long))
-    go Read reads = (ran_on b at running, unread_here b at stopped.files running within reads)
-    go (NoStore name) reads = absurd reads
-    go TooLong reads = (ran_on b at running, beyond_here b at running within reads)
-    go NoMemory reads = (at.cluster, ran_on b at running)
-    go Write reads = absurd reads
-
--- the run of the next line stopped
-pub record LineStopped (b : Begun) (rest : List ℕ) (at next : Spot) (stop : Stop) : Type 0 where
-  pub now : Shelved
-  pub line : List ℕ
-  pub came : Came b.bytes (reached at)
-  pub passed : next.reader.taken ≤ session_limit
-  pub number : next.number ≡ at.number + 1
-  pub promised : now.promise ≡ b.shelf.promise
-  pub hands : Hands line rest at.reader next.reader next.files Line
-  pub runs : RunsLine at.number (meaning line) now at.cluster next.cluster at.output next.output (Err stop)
-
--- the command of the line was to make a database
-making_here : (b : Begun) (name : List ℕ) (at next : Spot) (stop : Stop) → (running : Running b at) →
-    (stopped : LineStopped b running.rest at next stop) →
-    (meaning stopped.line ≡ Says (Database name)) × (grant name at.cluster ≡ Accepted Done) →
-    IsMaking name b.bytes at.cluster (session_from at.number (lines running.rest)).commands
-making_here b name at next stop running stopped (means, free) =
-    let came = stopped.came in
-    let hands = stopped.hands in
-    let same : running.rest ≡ came.rest = same_rest at.reader at.files running.rest came.rest running.comes came.comes
-    in
-    let size : line_size running.rest ≡ line_size came.rest = ap line_size same in
-    let number : at.number + 1 ≡ suc came.before + 1 = omega (arith, came.number_is) in
-    let ends : at.reader.taken + line_size came.rest ≡ end_of (suc came.before) b.bytes =
-    next_end b.bytes (reached at) came in
-    let left : hands.rest ≡ drop (end_of (suc came.before) b.bytes) b.bytes =
-    hands.left ∙ ap (drop (line_size running.rest)) (same ∙ came.left)
-    ∙ drop-drop (line_size running.rest) at.reader.taken b.bytes
-    ∙ ap (λ n. drop n b.bytes) (omega (arith, size, ends)) in
-    record {
-      count = came.before;
-      within = omega (arith, stopped.passed, hands.size, size, ends);
-      behind = ap (λ ls. (session_from at.number ls).commands) hands.takes
-          ∙ ap (λ m. (behind at.number m (session_from (at.number + 1) (lines hands.rest))).commands) means
-          ∙ ap (λ n. Database name ∷ (session_from n (lines hands.rest)).commands) number
-          ∙ ap (λ r. Database name ∷ (session_from (suc came.before + 1) (lines r)).commands) left;
-      free = free;
-    }
-
-pub line_stops : (b : Begun) (at next : Spot) (stop : Stop) → (running : Running b at) →
-    (stopped : LineStopped b running.rest at next stop) →
-    RunsSession b next.output next.cluster (top next.files.stack) (Err stop)
-line_stops b at next stop running stopped = go stop stopped.runs
-  where
-    unread : Option (List ℕ)
-    unread = top next.files.stack
-
-    -- with nothing written and nothing changed
-    still : (s : Stop) → next.output ≡ at.output → next.cluster ≡ at.cluster →
-        RunsSession b at.output at.cluster unread (Err s) →
-        RunsSession b next.output next.cluster unread (Err s)
-    still s same kept runs =
-        subst (λ o. RunsSession b o next.cluster unread (Err s)) (sym same)
-        (subst (λ c. RunsSession b at.output c unread (Err s)) (sym kept) runs)
-
-    -- the line as it would have been written
-    whole : List ℕ → Spot
-    whole said = record next { output = Some (lines_of running.history ++ said ∷ []) }
-
-    go : (s : Stop) →
-        RunsLine at.number (meaning stopped.line) stopped.now at.cluster next.cluster at.output next.output (Err s) →
-        RunsSession b next.output next.cluster unread (Err s)
-    go (BadLine bad) (is, means, same, kept) =
-        subst (λ n. RunsSession b next.output next.cluster unread (Err (BadLine n))) (sym is)
-        (still (BadLine at.number) same kept (ran_to b at unread running stopped.line
-        (lines stopped.hands.rest) stopped.hands.takes means))
-    go Read runs = absurd runs
-    go (NoStore name) (same, kept, means, free) =
-        still (NoStore name) same kept
-        (ran_on b at running, making_here b name at next stop running stopped (means, free))
-    go TooLong runs = absurd runs
-    go NoMemory same = (
-      at.cluster,
-      subst (λ o. RanOn b.shelf b.limit (session_of b.bytes).commands o at.cluster)
-          (sym same) (ran_on b at running),
-    )
-    go Write part =
-        let cut = part (lines_of running.history) running.written running.world (follows b at running) in
-        let on =
-        went_on b stopped.now stopped.line at (whole cut.0) running (record {
-          number = stopped.number;
-          promised = stopped.promised;
-          hands = stopped.hands;
-          means = subst (λ before. Means (meaning stopped.line) stopped.now running.world before
-              (Some (lines_of running.history ++ cut.0 ∷ [])) at.cluster next.cluster) (sym running.written) cut.2;
-        }) in
-        record {
-          before = lines_of running.history;
-          line = cut.0;
-          n = cut.1;
-          cluster = next.cluster;
-          on = ran_on b (whole cut.0) on;
-          cut = cut.3;
-        }
-
--- ---- a line and its command
+-- ---- a command that stops
 
 -- what is before and behind the run of a command
 pub record Passage : Type 0 where
@@ -501,29 +338,115 @@ pub record Passage : Type 0 where
   pub before : Pieces
   pub written : Pieces
 
--- what the run of a command did
-pub record CommandRan (p : Passage) (result : Result (Unit {0}) Stop) : Type 0 where
-  pub runs : OnOk result ((w : World) → Follows w p.old →
-      Replies p.shelf p.command w p.before p.written p.old p.new)
-  pub cut : IsErrOf result Write → (before : List (List ℕ)) → p.before ≡ Some before → (w : World) → Follows w p.old →
-      MeansInPart (Says p.command) p.shelf w before p.written p.old p.new
+-- what the run of a command did that stopped
+pub record CommandStopped (p : Passage) (stop : Stop) : Type 0 where
+  pub cut : stop ≡ Write → (before : List (List ℕ)) → p.before ≡ Some before → (w : World) → Follows w p.old →
+      RepliesInPart p.shelf p.command w before p.written p.old p.new
+  pub silent : stop ≡ NoMemory → p.written ≡ p.before
+  pub named : NamesMade p.command p.old stop
+  pub unmade : is_no_store stop ≡ true → (p.written ≡ p.before) × (p.new ≡ p.old)
+  pub expected : is_of_command stop ≡ true
+
+-- the same, as a call says it
+pub record SaysStopped (p : Passage) (result : Result (Unit {0}) Stop) : Type 0 where
+  pub cut : IsErrOf result Write → (before : List (List ℕ)) → p.before ≡ Some before → (w : World) →
+      Follows w p.old → RepliesInPart p.shelf p.command w before p.written p.old p.new
   pub silent : IsErrOf result NoMemory → p.written ≡ p.before
   pub named : IfErr result (NamesMade p.command p.old)
   pub unmade : IfErr result (λ stop. is_no_store stop ≡ true → (p.written ≡ p.before) × (p.new ≡ p.old))
   pub stop : IfErr result (λ stop. is_of_command stop ≡ true)
 
-pub line_runs : (number : ℕ) (m : Meaning) (p : Passage) (result : Result (Unit {0}) Stop) → m ≡ Says p.command →
-    CommandRan p result → RunsLine number m p.shelf p.old p.new p.before p.written result
-line_runs number m p (Ok u) is ran = λ w follows.
-    subst (λ k. Means k p.shelf w p.before p.written p.old p.new) (sym is) (ran.runs w follows)
-line_runs number m p (Err (BadLine bad)) is ran = absurd (false≢true ran.stop)
-line_runs number m p (Err Read) is ran = absurd (false≢true ran.stop)
-line_runs number m p (Err TooLong) is ran = absurd (false≢true ran.stop)
-line_runs number m p (Err (NoStore name)) is ran =
-    let still = ran.unmade refl in (still.0, still.1, is ∙ ap Says ran.named.0, ran.named.1)
-line_runs number m p (Err NoMemory) is ran = ran.silent refl
-line_runs number m p (Err Write) is ran = λ before same w follows.
-    subst (λ k. MeansInPart k p.shelf w before p.written p.old p.new) (sym is) (ran.cut refl before same w follows)
+pub command_stopped : (p : Passage) (stop : Stop) → SaysStopped p (Err stop) → CommandStopped p stop
+command_stopped p stop says = record {
+  cut = λ is. says.cut (ap Err is);
+  silent = λ is. says.silent (ap Err is);
+  named = says.named;
+  unmade = says.unmade;
+  expected = says.stop;
+}
+
+-- the run of the next command stopped
+pub record Stopped (b : Begun) (rest : List ℕ) (at next : Spot) (stop : Stop) : Type 0 where
+  pub now : Shelved
+  pub command : Command
+  pub promised : now.promise ≡ b.shelf.promise
+  pub fetched : FetchesSo b.names (to_come b.names Between at.reader rest) next.reader next.files (Ok (Some command))
+  pub spoken : IsSpoken command
+  pub ran : CommandStopped (record {
+    shelf = now;
+    command = command;
+    old = at.cluster;
+    new = next.cluster;
+    before = at.output;
+    written = next.output;
+  }) stop
+
+pub command_stops : (b : Begun) (at next : Spot) (stop : Stop) → (running : Running b at) →
+    Stopped b running.rest at next stop → RunsSession b next.output next.cluster (top next.files.stack) (Err stop)
+command_stops b at next stop running stopped = go stop stopped.ran
+  where
+    -- with nothing written and nothing changed
+    still : (s : Stop) → next.output ≡ at.output → next.cluster ≡ at.cluster →
+        RunsSession b at.output at.cluster (top next.files.stack) (Err s) →
+        RunsSession b next.output next.cluster (top next.files.stack) (Err s)
+    still s same kept runs =
+        subst (λ o. RunsSession b o next.cluster (top next.files.stack) (Err s)) (sym same)
+        (subst (λ c. RunsSession b at.output c (top next.files.stack) (Err s)) (sym kept) runs)
+
+    -- the line as it would have been written
+    whole : List ℕ → Spot
+    whole line = record next { output = Some (lines_of running.history ++ line ∷ []) }
+
+    passage : Passage
+    passage = record {
+      shelf = stopped.now;
+      command = stopped.command;
+      old = at.cluster;
+      new = next.cluster;
+      before = at.output;
+      written = next.output;
+    }
+
+    go : (s : Stop) → CommandStopped passage s →
+        RunsSession b next.output next.cluster (top next.files.stack) (Err s)
+    go (BadLine number) ran = absurd (false≢true ran.expected)
+    go Read ran = absurd (false≢true ran.expected)
+    go TooLong ran = absurd (false≢true ran.expected)
+    go (NoStore name) ran =
+        let same = ran.unmade refl in
+        still (NoStore name) same.0 same.1 (
+          ran_on b at running,
+          record {
+            behind = (to_come b.names Between next.reader stopped.fetched.0).commands;
+            is = ap (λ s. s.commands) stopped.fetched.2
+                ∙ ap (λ c. c ∷ (to_come b.names Between next.reader stopped.fetched.0).commands) ran.named.0;
+            free = ran.named.1;
+          },
+        )
+    go NoMemory ran = (
+      at.cluster,
+      subst (λ o. RanOn b.shelf b.limit b.said.commands o at.cluster) (sym (ran.silent refl)) (ran_on b at running),
+    )
+    go Write ran =
+        let cut =
+        ran.cut refl (lines_of running.history) running.written running.world (follows b at running) in
+        let on =
+        went_on b stopped.now at (whole cut.0) running (record {
+          command = stopped.command;
+          promised = stopped.promised;
+          fetched = stopped.fetched;
+          spoken = stopped.spoken;
+          replies = subst (λ before. Replies stopped.now stopped.command running.world before
+              (Some (lines_of running.history ++ cut.0 ∷ [])) at.cluster next.cluster) (sym running.written) cut.2;
+        }) in
+        record {
+          before = lines_of running.history;
+          line = cut.0;
+          n = cut.1;
+          cluster = next.cluster;
+          on = ran_on b (whole cut.0) on;
+          cut = cut.3;
+        }
 
 -- what follows where a call was done
 pub on_ok : {T E : Type 0} {A B : Type 0} (result : Result T E) → (A → B) → OnOk result A → OnOk result B

@@ -6,8 +6,7 @@ use Rattle.slon_base.specs.Counts.{Rose}
 use Rattle.slon_base.specs.Outside.{Filed, Poured, with_piece, WritesPart}
 use Rattle.slon_base.specs.Shelf.{Shelved}
 use Rattle.slon_model.specs.declared.command.Command.{Command}
-use Rattle.slon_model.specs.Lines.{session_of}
-use Rattle.session_text.specs.Reading.{session_limit}
+use Rattle.session_reader.specs.Sessions.{Ended, BadAt, PastLimit, Session, session_of}
 use Rattle.slon_main.specs.declared.status.Status.{Status}
 use Rattle.slon_main.specs.declared.status.Status.TheVariants.{Done, Usage, BadLine, ReadFault, WriteFault, NoMemory}
 use Rattle.slon_main.specs.declared.status.Status.TheVariants.{NoStore, Missing, TooLong}
@@ -16,7 +15,7 @@ use Rattle.slon_main.specs.declared.run.Stop.TheVariants.{BadLine as StopsBad, R
 use Rattle.slon_main.specs.declared.run.Stop.TheVariants.{NoMemory as StopsShort, NoStore as StopsNoStore}
 use Rattle.slon_main.specs.declared.run.Stop.TheVariants.{TooLong as StopsLong}
 use Rattle.cluster_engine.specs.Agreed.{Clustered}
-use Rattle.slon_main.specs.Running.{Counts, Pieces, Ran, RanOn, RanInPart, IsMaking, IsBeyond, IsUnread, IsTooLong}
+use Rattle.slon_main.specs.Running.{Counts, Pieces, Ran, RanOn, RanInPart, IsMaking, IsUnread}
 
 -- the greatest number of databases of a session
 abbrev pub database_limit : ℕ
@@ -113,58 +112,66 @@ pub record Unread : Type 0 where
 abbrev pub unread : Filed → Filed → Unread
 unread old new = record { was = old.unread; now = new.unread }
 
--- A file failed: the session could not be entered, and nothing was run; or a read of it failed.
-pub data BrokeOff (bytes : List ℕ) (unread : Unread) (others : List Command) : Type 0 where
-  AtFirst : unread.now ≡ unread.was → others ≡ (session_of bytes).commands → BrokeOff bytes unread others
-  InRead : IsUnread bytes unread.now others → BrokeOff bytes unread others
+-- what a session is: the names of files with what they hold, and what it says
+pub record Told : Type 0 where
+  pub names : List ℕ → Option (List ℕ)
+  pub said : Session
 
--- What is written and handed back at the end of a session of these bytes, and after the lines before its first bad
--- one: the replies to exactly their commands, as the rules allow, and databases that agree with the rules. Without a
--- store these are the replies to all commands before the one that was to make the database, where there are too many
--- bytes exactly those of the lines that end within as many as there may be, and where a file fails exactly those of the
--- lines that were read whole.
-abbrev pub EndsWhole : Shelved → Status → List ℕ → Pieces → Unread → Clustered → Type 0
-EndsWhole shelf Done bytes written unread cluster =
-    Ran shelf database_limit (session_of bytes).commands written cluster × ((session_of bytes).stop ≡ None)
-EndsWhole shelf BadLine bytes written unread cluster =
-    (output : List (List ℕ)) × (number : ℕ) × Ran shelf database_limit (session_of bytes).commands (Some output) cluster
-    × ((session_of bytes).stop ≡ Some number) × (written ≡ Some (output ++ bad_line number ∷ []))
-EndsWhole shelf ReadFault bytes written unread cluster =
-    (output : List (List ℕ)) × (on : RanOn shelf database_limit (session_of bytes).commands (Some output) cluster)
-    × BrokeOff bytes unread on.others × (written ≡ Some (output ++ read_line ∷ []))
-EndsWhole shelf NoStore bytes written unread cluster =
-    (output : List (List ℕ)) × (name : List ℕ) × (on : RanOn shelf database_limit (session_of bytes).commands
-    (Some output) cluster)
-    × IsMaking name bytes cluster on.others × (written ≡ Some (output ++ store_line name ∷ []))
-EndsWhole shelf TooLong bytes written unread cluster =
-    (output : List (List ℕ)) × (on : RanOn shelf database_limit (session_of bytes).commands (Some output) cluster)
-    × IsBeyond bytes on.others × (written ≡ Some (output ++ long_line ∷ []))
-EndsWhole shelf others bytes written unread cluster = ⊥
+abbrev pub told_of : (List ℕ → Option (List ℕ)) → List ℕ → Told
+told_of names bytes = record { names = names; said = session_of names bytes }
+
+-- A file failed: the session could not be entered, and nothing was run; or a read of it, or of a file that one of its
+-- scripts includes, failed.
+pub data BrokeOff (told : Told) (unread : Unread) (others : List Command) : Type 0 where
+  AtFirst : unread.now ≡ unread.was → others ≡ told.said.commands → BrokeOff told unread others
+  InRead : IsUnread told.names unread.now others → BrokeOff told unread others
+
+-- What is written and handed back at the end of this session, at its first bad line and where there are too many bytes:
+-- the replies to exactly the commands before, as the rules allow, and databases that agree with the rules. Without a
+-- store these are the replies to all commands before the one that was to make the database, and where a file fails
+-- exactly those of what was read whole.
+abbrev pub EndsWhole : Shelved → Status → Told → Pieces → Unread → Clustered → Type 0
+EndsWhole shelf Done told written unread cluster =
+    Ran shelf database_limit told.said.commands written cluster × (told.said.end ≡ Ended)
+EndsWhole shelf BadLine told written unread cluster =
+    (output : List (List ℕ)) × (number : ℕ) × Ran shelf database_limit told.said.commands (Some output) cluster
+    × (told.said.end ≡ BadAt number) × (written ≡ Some (output ++ bad_line number ∷ []))
+EndsWhole shelf ReadFault told written unread cluster =
+    (output : List (List ℕ)) × (on : RanOn shelf database_limit told.said.commands (Some output) cluster)
+    × BrokeOff told unread on.others × (written ≡ Some (output ++ read_line ∷ []))
+EndsWhole shelf NoStore told written unread cluster =
+    (output : List (List ℕ)) × (name : List ℕ) × (on : RanOn shelf database_limit told.said.commands (Some output)
+    cluster) × IsMaking name cluster on.others × (written ≡ Some (output ++ store_line name ∷ []))
+EndsWhole shelf TooLong told written unread cluster =
+    (output : List (List ℕ)) × Ran shelf database_limit told.said.commands (Some output) cluster
+    × (told.said.end ≡ PastLimit) × (written ≡ Some (output ++ long_line ∷ []))
+EndsWhole shelf others told written unread cluster = ⊥
 
 -- What is written where the output failed: whole lines and the first bytes of one more, which is the line of a reply,
 -- or the last line of a session that stopped.
-pub data EndsInPart (shelf : Shelved) (bytes : List ℕ) (written : Pieces) (unread : Unread) : Type 0 where
-  InReply : RanInPart shelf database_limit (session_of bytes).commands written → EndsInPart shelf bytes written unread
+pub data EndsInPart (shelf : Shelved) (told : Told) (written : Pieces) (unread : Unread) : Type 0 where
+  InReply : RanInPart shelf database_limit told.said.commands written → EndsInPart shelf told written unread
   InLast : (status : Status) (before : List (List ℕ)) (line : List ℕ) (n : ℕ) (cluster : Clustered) →
-      (status ≡ Done → ⊥) → EndsWhole shelf status bytes (Some (before ++ line ∷ [])) unread cluster →
-      written ≡ Some (before ++ take n line ∷ []) → EndsInPart shelf bytes written unread
+      (status ≡ Done → ⊥) → EndsWhole shelf status told (Some (before ++ line ∷ [])) unread cluster →
+      written ≡ Some (before ++ take n line ∷ []) → EndsInPart shelf told written unread
 
 -- What is written and handed back, by the status. Where memory ran out, whole lines were written and nothing else.
-abbrev pub EndsRun : Shelved → Status → List ℕ → Pieces → Unread → Option Clustered → Type 0
-EndsRun shelf Usage bytes written unread cluster = Unit {0}
-EndsRun shelf Missing bytes written unread cluster = Unit {0}
-EndsRun shelf WriteFault bytes written unread cluster = EndsInPart shelf bytes written unread
-EndsRun shelf NoMemory bytes written unread cluster =
-    (c : Clustered) × RanOn shelf database_limit (session_of bytes).commands written c
-EndsRun shelf status bytes written unread (Some cluster) = EndsWhole shelf status bytes written unread cluster
-EndsRun shelf status bytes written unread None = ⊥
+abbrev pub EndsRun : Shelved → Status → Told → Pieces → Unread → Option Clustered → Type 0
+EndsRun shelf Usage told written unread cluster = Unit {0}
+EndsRun shelf Missing told written unread cluster = Unit {0}
+EndsRun shelf WriteFault told written unread cluster = EndsInPart shelf told written unread
+EndsRun shelf NoMemory told written unread cluster =
+    (c : Clustered) × RanOn shelf database_limit told.said.commands written c
+EndsRun shelf status told written unread (Some cluster) = EndsWhole shelf status told written unread cluster
+EndsRun shelf status told written unread None = ⊥
 
--- Where the run of a session of these bytes ends: at its end, at its first bad line, or where it is too long.
-abbrev pub EndsAt : Status → List ℕ → Type 0
-EndsAt Done bytes = ((session_of bytes).stop ≡ None) × (IsTooLong bytes → ⊥)
-EndsAt BadLine bytes = (number : ℕ) × ((session_of bytes).stop ≡ Some number) × (IsTooLong bytes → ⊥)
-EndsAt TooLong bytes = IsTooLong bytes
-EndsAt others bytes = Unit {0}
+-- Where the run of a session ends: at its end, at its first bad line, or where it and the files that it includes hold
+-- too many bytes.
+abbrev pub EndsAt : Status → Session → Type 0
+EndsAt Done said = said.end ≡ Ended
+EndsAt BadLine said = (number : ℕ) × (said.end ≡ BadAt number)
+EndsAt TooLong said = said.end ≡ PastLimit
+EndsAt others said = Unit {0}
 
 -- the endings where nothing failed and nothing is wrong with the session
 abbrev pub is_whole : Status → Bool
@@ -178,18 +185,14 @@ pub record NoneRose (old new : Counts) : Type 0 where
   pub shelf : Rose old.shelf new.shelf → ⊥
   pub out : Rose old.out new.out → ⊥
 
--- the lines of a session are commands or say nothing, and it is short enough
-pub record IsWhole (bytes : List ℕ) : Type 0 where
-  pub stop : (session_of bytes).stop ≡ None
-  pub size : length bytes ≤ session_limit
-
--- The files tell what they hold, and under the name that the words give they hold these bytes.
-pub record Holds (words : List (List ℕ)) (bytes : List ℕ) (files : Filed) : Type 0 where
+-- The files tell what the names hold, and under the name that the words give they hold the bytes of this session.
+pub record Holds (words : List (List ℕ)) (told : Told) (files : Filed) : Type 0 where
   pub name : List ℕ
+  pub bytes : List ℕ
   pub word : session_word words ≡ Some name
-  pub names : List ℕ → Option (List ℕ)
-  pub told : files.names ≡ Some names
-  pub holds : names name ≡ Some bytes
+  pub names : files.names ≡ Some told.names
+  pub holds : told.names name ≡ Some bytes
+  pub says : told.said ≡ session_of told.names bytes
 
 -- The files tell what they hold, and hold nothing under the name that the words give.
 pub record Lacks (words : List (List ℕ)) (files : Filed) : Type 0 where

@@ -1,3 +1,4 @@
 pub mod Ending
+pub mod Going
 pub mod Running
 pub mod Statuses

@@ -1,6 +1,6 @@
 -- What the parts of a run do.
-use Rattle.std.specs.Prelude.{◌≡◌, ℕ, suc, zero, ◌+◌, ◌<◌, ◌≤◌, Bool, true, false, List, [], ◌∷◌, ◌++◌, length, take}
-use Rattle.std.specs.Prelude.{◌||◌, drop, Option, Some, None, Result, Ok, Err}
+use Rattle.std.specs.Prelude.{◌≡◌, ℕ, suc, zero, ◌+◌, ◌-◌, ◌≤◌, Bool, true, false, List, [], ◌∷◌, ◌++◌, length, take}
+use Rattle.std.specs.Prelude.{◌||◌, Option, Some, None, Result, Ok, Err}
 use Rattle.std.specs.List.{AllByRecursion}
 use Rattle.std.specs.Str.Lines.{lines}
 use Rattle.slon_base.specs.Counts.{Rose}
@@ -11,16 +11,16 @@ use Rattle.slon_model.specs.declared.command.Command.TheVariants.{Database}
 use Rattle.slon_model.specs.declared.reply.Answer.TheVariants.{Done}
 use Rattle.slon_model.specs.declared.reply.Reply.{Reply}
 use Rattle.slon_model.specs.declared.reply.Reply.TheVariants.{Accepted}
-use Rattle.slon_model.specs.Deciding.{Choice}
-use Rattle.slon_model.specs.Lines.{Meaning, Silent, Says, Bad, session_from, session_of}
 use Rattle.slon_model.specs.Printed.{reply_line}
 use Rattle.slon_model.specs.World.{World, start, Happening, Leads, IsDue, commands_of, replies_of, lines_of}
-use Rattle.session_text.specs.Reading.{Reading, line_limit, line_size, session_limit}
-use Rattle.session_text.specs.Handing.{Hands, Breaks, behind}
+use Rattle.session_text.specs.Reading.{session_limit}
+use Rattle.session_text.specs.Handing.{Comes, behind}
 use Rattle.session_text.specs.Replies.{HasForm, NumbersFit}
-use Rattle.session_text.specs.declared.line_reader.NextLine.TheVariants.{Line}
-use Rattle.cluster_engine.specs.Agreed.{Clustered, Agrees, Follows}
-use Rattle.cluster_engine.specs.Calls.{arms_later, grant, happened, GoesOn, AllQuiet, StaysQuiet, StaysCertain}
+use Rattle.session_reader.specs.Sessions.{Mode, Between, Ended, BadAt, PastLimit, Session, stopped, in_front, sized}
+use Rattle.session_reader.specs.Sessions.{block_of, closed, session_from, session_of}
+use Rattle.session_reader.specs.Fetching.{Fetching, ahead_of, to_come, Broken}
+use Rattle.cluster_engine.specs.Agreed.{Agrees, Clustered}
+use Rattle.cluster_engine.specs.Calls.{arms_later, grant, GoesOn, AllQuiet, StaysQuiet, StaysCertain}
 use Rattle.cluster_engine.specs.Failing.{IsWithin, Pays}
 use Rattle.cluster_engine.specs.Telling.{AreTold, KeepsTelling}
 use Rattle.slon_main.specs.declared.run.Stop.{Stop}
@@ -97,25 +97,18 @@ abbrev pub is_of_store : Stop → Bool
 is_of_store Write = false
 is_of_store others = is_of_command others
 
--- a stop that a line can have
-abbrev pub is_of_line : Stop → Bool
-is_of_line Read = false
-is_of_line TooLong = false
-is_of_line others = true
+-- what a call that fetches the next command answers
+abbrev pub FetchesSo : (List ℕ → Option (List ℕ)) → Session → Fetching → Filed → Result (Option Command) Stop → Type 0
+FetchesSo names before new files (Ok (Some command)) =
+    (rest : List ℕ) × Comes new.lines files rest × (before ≡ in_front command (to_come names Between new rest))
+FetchesSo names before new files (Ok None) = before ≡ stopped Ended
+FetchesSo names before new files (Err (BadLine number)) = before ≡ stopped (BadAt number)
+FetchesSo names before new files (Err TooLong) = before ≡ stopped PastLimit
+FetchesSo names before new files (Err Read) = Broken names before new files
+FetchesSo names before new files (Err NoMemory) = Unit {0}
+FetchesSo names before new files (Err others) = ⊥
 
--- the reading of the next line of these bytes to come
-abbrev pub ReadsLine : ℕ → List ℕ → List ℕ → Reading → Reading → Filed → Result Bool Stop → Type 0
-ReadsLine number line bytes old new files (Ok true) = Hands line bytes old new files Line
-ReadsLine number line bytes old new files (Ok false) = bytes ≡ []
-ReadsLine number line bytes old new files (Err (BadLine bad)) = (bad ≡ number)
-    × (old.taken + line_size bytes ≤ session_limit)
-    × (whole : List ℕ) × (more : List (List ℕ)) × (line_limit < length whole) × (lines bytes ≡ whole ∷ more)
-ReadsLine number line bytes old new files (Err Read) = Breaks bytes old.taken files
-ReadsLine number line bytes old new files (Err NoMemory) = Unit {0}
-ReadsLine number line bytes old new files (Err TooLong) = session_limit < old.taken + line_size bytes
-ReadsLine number line bytes old new files (Err others) = ⊥
-
--- A command that a line says goes on by a step that the rules allow, and its reply is written.
+-- A command goes on by a step that the rules allow, and its reply is written.
 pub record Replies (shelf : Shelved) (command : Command) (w : World) (before written : Option (List (List ℕ)))
     (old new : Clustered) : Type 0 where
   pub reply : Reply
@@ -136,46 +129,24 @@ NamesMade command old others = Unit {0}
 abbrev pub Pieces : Type 0
 Pieces = Option (List (List ℕ))
 
--- what a line that means this does, and what is written then
-abbrev pub Means : Meaning → Shelved → World → Pieces → Pieces → Clustered → Clustered → Type 0
-Means Silent shelf w before written old new = (written ≡ before) × (new ≡ old)
-Means (Says command) shelf w before written old new = Replies shelf command w before written old new
-Means Bad shelf w before written old new = ⊥
-
--- of what a line writes only the first bytes were written
-abbrev pub MeansInPart : Meaning → Shelved → World → List (List ℕ) → Pieces → Clustered → Clustered → Type 0
-MeansInPart meaning shelf w lines written old new =
-    (line : List ℕ) × (n : ℕ) × Means meaning shelf w (Some lines) (Some (lines ++ line ∷ [])) old new
+-- of its reply only the first bytes were written
+abbrev pub RepliesInPart : Shelved → Command → World → List (List ℕ) → Pieces → Clustered → Clustered → Type 0
+RepliesInPart shelf command w lines written old new =
+    (line : List ℕ) × (n : ℕ) × Replies shelf command w (Some lines) (Some (lines ++ line ∷ [])) old new
     × (written ≡ Some (lines ++ take n line ∷ []))
 
-abbrev pub RunsLine : ℕ → Meaning → Shelved → Clustered → Clustered → Pieces → Pieces → Result (Unit {0}) Stop → Type 0
-RunsLine number meaning shelf old new before written (Ok u) = (w : World) → Follows w old →
-    Means meaning shelf w before written old new
-RunsLine number meaning shelf old new before written (Err (BadLine bad)) = (bad ≡ number) × (meaning ≡ Bad)
-    × (written ≡ before) × (new ≡ old)
-RunsLine number meaning shelf old new before written (Err (NoStore name)) = (written ≡ before) × (new ≡ old)
-    × (meaning ≡ Says (Database name)) × (grant name old ≡ Accepted Done)
-RunsLine number meaning shelf old new before written (Err Write) = (lines : List (List ℕ)) → before ≡ Some lines →
-    (w : World) → Follows w old → MeansInPart meaning shelf w lines written old new
-RunsLine number meaning shelf old new before written (Err NoMemory) = written ≡ before
-RunsLine number meaning shelf old new before written (Err others) = ⊥
-
--- the run of a line ends as at a bad line exactly where it is one
-abbrev pub BadOnly : ℕ → Meaning → Result (Unit {0}) Stop → Type 0
-BadOnly number meaning (Ok u) = meaning ≡ Bad → ⊥
-BadOnly number meaning (Err (BadLine bad)) = (bad ≡ number) × (meaning ≡ Bad)
-BadOnly number meaning (Err Read) = ⊥
-BadOnly number meaning (Err TooLong) = ⊥
-BadOnly number meaning (Err others) = Unit {0}
-
--- what a run begins with
+-- what a run begins with: the shelf, how many databases it allows, what the names of files hold, and what the session
+-- says
 pub record Begun : Type 0 where
   pub shelf : Shelved
   pub limit : ℕ
-  pub bytes : List ℕ
+  pub names : List ℕ → Option (List ℕ)
+  pub said : Session
 
-abbrev pub begun : Shelved → ℕ → List ℕ → Begun
-begun shelf limit bytes = record { shelf = shelf; limit = limit; bytes = bytes }
+-- the run of a session of these bytes
+abbrev pub begun : Shelved → ℕ → (List ℕ → Option (List ℕ)) → List ℕ → Begun
+begun shelf limit names bytes =
+    record { shelf = shelf; limit = limit; names = names; said = session_of names bytes }
 
 -- no database yet, and no store was given
 pub record Starts (limit : ℕ) (cluster : Clustered) : Type 0 where
@@ -222,79 +193,46 @@ pub record RanInPart (shelf : Shelved) (limit : ℕ) (said : List Command) (outp
   pub on : RanOn shelf limit said (Some (before ++ line ∷ [])) cluster
   pub cut : output ≡ Some (before ++ take n line ∷ [])
 
--- how many bytes the first n lines have, with their newlines
-abbrev pub end_of : ℕ → List ℕ → ℕ
-end_of zero bytes = 0
-end_of (suc n) bytes = line_size bytes + end_of n (drop (line_size bytes) bytes)
-
--- the commands of all lines behind the first `count` lines
-abbrev pub commands_behind : ℕ → List ℕ → List Command
-commands_behind count bytes = (session_from (count + 1) (lines (drop (end_of count bytes) bytes))).commands
-
--- These commands are behind the lines that end within the first bytes, as many as a session may have.
-pub record IsBeyond (bytes : List ℕ) (others : List Command) : Type 0 where
-  pub count : ℕ
-  pub within : end_of count bytes ≤ session_limit
-  pub beyond : session_limit < end_of (suc count) bytes
-  pub behind : others ≡ commands_behind count bytes
-
--- The first of these commands is to make a database of this name, which might be made. It is that of a line that ends
--- within the limit.
-pub record IsMaking (name bytes : List ℕ) (cluster : Clustered) (others : List Command) : Type 0 where
-  pub count : ℕ
-  pub within : end_of (suc count) bytes ≤ session_limit
-  pub behind : others ≡ Database name ∷ commands_behind (suc count) bytes
+-- the first of these commands is to make a database of this name, which might be made
+pub record IsMaking (name : List ℕ) (cluster : Clustered) (others : List Command) : Type 0 where
+  pub behind : List Command
+  pub is : others ≡ Database name ∷ behind
   pub free : grant name cluster ≡ Accepted Done
 
--- These commands are behind the lines that were read whole, as the reading broke off: what was read of the next line
--- ends no line, the rest of the bytes is left in the file, and what was read lies within the limit.
-pub record IsUnread (bytes : List ℕ) (unread : Option (List ℕ)) (others : List Command) : Type 0 where
-  pub count : ℕ
-  pub part : List ℕ
-  pub left : List ℕ
-  pub rest : part ++ left ≡ drop (end_of count bytes) bytes
-  pub unended : behind part ≡ None
-  pub is : unread ≡ Some left
-  pub within : end_of count bytes + length part ≤ session_limit
-  pub behind : others ≡ commands_behind count bytes
+-- These commands are behind what was read whole, as the files failed: the first line of these bytes broke off, what was
+-- read of it ends no line, the rest is left in the file, and all that was read lies within the limit; or a file failed
+-- that a script includes, of which all lines were read.
+pub data IsUnread (names : List ℕ → Option (List ℕ)) (unread : Option (List ℕ)) (others : List Command) : Type 0 where
+  InLine : (mode : Mode) (number taken : ℕ) (part left : List ℕ) → behind part ≡ None → unread ≡ Some left →
+      taken + length part ≤ session_limit →
+      others ≡ (session_from names mode number (session_limit - taken)
+      (sized (lines (part ++ left)) (part ++ left))).commands → IsUnread names unread others
+  InFile : (name text : List ℕ) (number space : ℕ) (ahead left : List ℕ) → unread ≡ Some left →
+      others ≡ (closed name (block_of names space text) (ahead_of names number (ahead ++ left))).commands →
+      IsUnread names unread others
 
--- At its end and at a bad line a run has run all commands before it. Without a store it has run all before the one that
--- was to make the database, at the greatest number of bytes exactly those of the lines that end within it, and at a
--- fault of a file exactly those of the lines that were read whole. Where the output fails, what was written is cut in
--- the line of the last reply, and where there is no memory it is whole lines.
+-- At its end, at a bad line and at the greatest number of bytes a run has run all commands before it. Without a store
+-- it has run all before the one that was to make the database, and at a fault of a file exactly those of what was read
+-- whole. Where the output fails, what was written is cut in the line of the last reply, and where there is no memory it
+-- is whole lines.
 abbrev pub RunsSession : Begun → Pieces → Clustered → Option (List ℕ) → Result (Unit {0}) Stop → Type 0
 RunsSession b written cluster unread (Ok u) =
-    Ran b.shelf b.limit (session_of b.bytes).commands written cluster × ((session_of b.bytes).stop ≡ None)
+    Ran b.shelf b.limit b.said.commands written cluster × (b.said.end ≡ Ended)
 RunsSession b written cluster unread (Err (BadLine number)) =
-    Ran b.shelf b.limit (session_of b.bytes).commands written cluster × ((session_of b.bytes).stop ≡ Some number)
-RunsSession b written cluster unread (Err Read) =
-    (on : RanOn b.shelf b.limit (session_of b.bytes).commands written cluster) × IsUnread b.bytes unread on.others
-RunsSession b written cluster unread (Err (NoStore name)) =
-    (on : RanOn b.shelf b.limit (session_of b.bytes).commands written cluster) × IsMaking name b.bytes cluster on.others
+    Ran b.shelf b.limit b.said.commands written cluster × (b.said.end ≡ BadAt number)
 RunsSession b written cluster unread (Err TooLong) =
-    (on : RanOn b.shelf b.limit (session_of b.bytes).commands written cluster) × IsBeyond b.bytes on.others
-RunsSession b written cluster unread (Err Write) =
-    RanInPart b.shelf b.limit (session_of b.bytes).commands written
+    Ran b.shelf b.limit b.said.commands written cluster × (b.said.end ≡ PastLimit)
+RunsSession b written cluster unread (Err Read) =
+    (on : RanOn b.shelf b.limit b.said.commands written cluster) × IsUnread b.names unread on.others
+RunsSession b written cluster unread (Err (NoStore name)) =
+    (on : RanOn b.shelf b.limit b.said.commands written cluster) × IsMaking name cluster on.others
+RunsSession b written cluster unread (Err Write) = RanInPart b.shelf b.limit b.said.commands written
 RunsSession b written cluster unread (Err NoMemory) =
-    (c : Clustered) × RanOn b.shelf b.limit (session_of b.bytes).commands written c
-
--- a session counts to the end of its first bad line, or to its own end
-abbrev pub counted : List ℕ → Option ℕ → ℕ
-counted bytes None = length bytes
-counted bytes (Some number) = end_of number bytes
-
--- the first bytes, as many as a session may have, end before that
-abbrev pub IsTooLong : List ℕ → Type 0
-IsTooLong bytes = session_limit < counted bytes (session_of bytes).stop
+    (c : Clustered) × RanOn b.shelf b.limit b.said.commands written c
 
 -- where a run ends
-abbrev pub StopsAt : List ℕ → Result (Unit {0}) Stop → Type 0
-StopsAt bytes (Ok u) = ((session_of bytes).stop ≡ None) × (IsTooLong bytes → ⊥)
-StopsAt bytes (Err (BadLine number)) = ((session_of bytes).stop ≡ Some number) × (IsTooLong bytes → ⊥)
-StopsAt bytes (Err TooLong) = IsTooLong bytes
-StopsAt bytes (Err others) = Unit {0}
-
--- a session is too long only where it has more bytes than the limit
-abbrev pub LongOnly : {T : Type 0} → ℕ → Result T Stop → Type 0
-LongOnly size (Err TooLong) = session_limit < size
-LongOnly size others = Unit {0}
+abbrev pub StopsAt : Session → Result (Unit {0}) Stop → Type 0
+StopsAt said (Ok u) = said.end ≡ Ended
+StopsAt said (Err (BadLine number)) = said.end ≡ BadAt number
+StopsAt said (Err TooLong) = said.end ≡ PastLimit
+StopsAt said (Err others) = Unit {0}

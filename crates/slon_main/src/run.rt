@@ -1,34 +1,33 @@
-// The run of a session: its lines are read, obeyed and answered one by one.
-ghost use Rattle.std.specs.Prelude.{◌≡◌, ℕ, ◌<◌, ◌≤◌, ◌++◌, List, length, true, false, Some, None, [], IfOk, IfErr};
-ghost use Rattle.std.specs.Prelude.{IsErrOf, OnOk};
+// The run of a session: its commands are read, obeyed and answered one by one.
+ghost use Rattle.std.specs.Prelude.{◌≡◌, ℕ, ◌<◌, ◌≤◌, ◌++◌, List, Option, length, true, None, Some, [], IfOk, IfErr};
+ghost use Rattle.std.specs.Prelude.{IfSome, IsErrOf, OnOk};
 ghost use Rattle.slon_base.specs.Outside.{top, with_piece, WritesPart};
-ghost use Rattle.slon_model.specs.Lines.{meaning};
-ghost use Rattle.slon_model.specs.Spoken.{IsSpoken};
+ghost use Rattle.slon_model.specs.declared.command.Command.TheVariants.{Database as DatabaseCommand};
+ghost use Rattle.slon_model.specs.Names.{find_named};
 ghost use Rattle.slon_model.specs.Printed.{reply_line};
+ghost use Rattle.slon_model.specs.Spoken.{IsSpoken};
 ghost use Rattle.slon_model.specs.World as world;
-ghost use Rattle.slon_model.specs.World.{World, start};
-ghost use Rattle.session_text.specs.Reading.{session_limit};
+ghost use Rattle.slon_model.specs.World.{World};
 ghost use Rattle.session_text.specs.Handing.{Stays, Comes};
+ghost use Rattle.session_text.specs.Reading.{session_limit};
+ghost use Rattle.session_text.specs.Replies.{NumbersFit};
+ghost use Rattle.session_reader.specs.Sessions.{Between, Session, session_of};
+ghost use Rattle.session_reader.specs.Fetching.{to_come};
 ghost use Rattle.slonik_exec.specs.Heard.{AreDistinct};
-ghost use Rattle.cluster_engine.specs.Agreed.{Agrees, Follows};
-ghost use Rattle.cluster_engine.specs.Calls.{Makes, StaysCertain, StaysQuiet, AllCertain, is_sure_reply};
+ghost use Rattle.cluster_engine.specs.Agreed.{Follows};
+ghost use Rattle.cluster_engine.specs.Calls.{Makes, Obeys, StaysCertain, StaysQuiet, AllCertain, is_sure_reply};
 ghost use Rattle.cluster_engine.specs.Clustered.{cluster_of};
 ghost use Rattle.cluster_engine.specs.Failing.{Pays};
-ghost use Rattle.slon_model.specs.Names.{find_named};
-ghost use Rattle.slon_model.specs.declared.command.Command.TheVariants.{Database as DatabaseCommand};
-ghost use Rattle.session_text.specs.Replies.{NumbersFit};
-ghost use Rattle.slon_model.specs.Lines.{Says};
-ghost use Rattle.slon_main.specs.Running.{counts, begun, Tells, NeverFails, Shelves, AsksOn, HasCause, ReadsLine};
-ghost use Rattle.cluster_engine.specs.Calls.{Obeys};
 ghost use Rattle.cluster_engine.specs.Telling.{KeepsTelling};
-ghost use Rattle.slon_main.specs.Running.{Replies, MeansInPart, RunsLine, Starts, RunsSession, NamesMade};
-ghost use Rattle.slon_main.specs.Running.{BadOnly, StopsAt, is_of_store, is_of_output, is_of_command, is_of_line};
-ghost use Rattle.slon_main.specs.Running.{is_no_store};
+ghost use Rattle.slon_main.specs.Going.{Came, ComesOn, Running, RunsOn};
+ghost use Rattle.slon_main.specs.Running.{Begun, counts, begun, Tells, NeverFails, Shelves, AsksOn, HasCause};
+ghost use Rattle.slon_main.specs.Running.{FetchesSo};
+ghost use Rattle.slon_main.specs.Running.{Replies, RepliesInPart, Starts, RunsSession, NamesMade, StopsAt};
+ghost use Rattle.slon_main.specs.Running.{is_of_store, is_of_output, is_of_command, is_no_store};
 
 use cluster_engine::{Cluster, NoMemory};
-use session_text::{
-    LineFault, LineReader, NextLine, ReadStop, numbers_fit, print_line, read_command,
-};
+use session_reader::{ReadFault, SessionReader};
+use session_text::{numbers_fit, print_line};
 use slon_base::{Files, OutFault, Shelf, Sink, Text};
 use slon_model::{Command, Reply};
 use std::alloc::Global;
@@ -50,33 +49,31 @@ pub enum Stop {
     TooLong,
 }
 
-/// Reads the next line, which has this number, and says whether there was one.
-fn read_line<F: Files>(
-    reader: &mut LineReader,
+/// Reads the next command of the session, if there is one.
+fn fetch<F: Files>(
+    alloc: Global,
+    reader: &mut SessionReader,
     files: &mut F,
-    line: &mut Vec<u8>,
-    number: u64,
-) -> Result<bool, Stop>
+) -> Result<Option<Command>, Stop>
     requires { 0 < length (F.filed files.old).stack }
     ensures files { Stays (F.filed files.old) (F.filed files.new) }
     ensures cause { (shelf out : ℕ) → HasCause (counts (F.filed files.old).faults shelf out)
         (counts (F.filed files.new).faults shelf out) result }
-    ensures limit { IfOk result (λ _. reader.new.taken ≤ session_limit) }
-    ensures moves { IfOk result (λ more. more ≡ true → reader.old.taken < reader.new.taken) }
-    ensures reads { (bytes : List ℕ) → Comes reader.old (F.filed files.old) bytes →
-        ReadsLine number line.new.items bytes reader.old reader.new (F.filed files.new) result }
+    ensures within { reader.new.lines.taken ≤ session_limit }
+    ensures moves { IfOk result (λ found. IfSome found (λ _. reader.old.lines.taken < reader.new.lines.taken)) }
+    ensures spoken { IfOk result (λ found. IfSome found IsSpoken) }
+    ensures fetches { (names : List ℕ → Option (List ℕ)) → (F.filed files.old).names ≡ Some names →
+        (bytes : List ℕ) → Comes reader.old.lines (F.filed files.old) bytes →
+        FetchesSo names (to_come names Between reader.old bytes) reader.new (F.filed files.new) result }
 {
-    match reader.next_line(files, line) {
-        Ok(next) => match next {
-            NextLine::Line => Ok(true),
-            NextLine::End => Ok(false),
-            NextLine::TooLong => Err(Stop::BadLine { number }),
+    match reader.next_command(alloc, files) {
+        Ok(found) => Ok(found),
+        Err(fault) => match fault {
+            ReadFault::BadLine { number } => Err(Stop::BadLine { number }),
+            ReadFault::Failed => Err(Stop::Read),
+            ReadFault::NoMemory => Err(Stop::NoMemory),
+            ReadFault::PastLimit => Err(Stop::TooLong),
         },
-        Err(stop) => Err(match stop {
-            ReadStop::Failed => Stop::Read,
-            ReadStop::NoMemory => Stop::NoMemory,
-            ReadStop::PastLimit => Stop::TooLong,
-        }),
     }
 }
 
@@ -164,7 +161,7 @@ fn make_named<S: Shelf>(
     make(cluster, shelf, copy)
 }
 
-/// Runs a command that a line can say, and replies.
+/// Runs a command that a session can say, and replies.
 fn obey<S: Shelf>(
     alloc: Global,
     cluster: &mut Cluster<S::Store>,
@@ -240,7 +237,7 @@ fn answer<O: Sink>(alloc: Global, reply: &Reply, out: &mut O) -> Result<(), Stop
     }
 }
 
-/// Obeys a command that a line can say, and writes the reply.
+/// Obeys a command that a session can say, and writes the reply.
 fn run_command<S: Shelf, O: Sink>(
     alloc: Global,
     command: Command,
@@ -264,7 +261,7 @@ fn run_command<S: Shelf, O: Sink>(
     ensures cut { Tells (S.shelved shelf.old) → IsErrOf result Stop.Write →
         (lines : List (List ℕ)) → (O.poured out.old).pieces ≡ Some lines →
         (w : World) → Follows w (cluster_of S.Store.kept cluster.old) →
-        MeansInPart (Says command) (S.shelved shelf.old) w lines (O.poured out.new).pieces
+        RepliesInPart (S.shelved shelf.old) command w lines (O.poured out.new).pieces
         (cluster_of S.Store.kept cluster.old) (cluster_of S.Store.kept cluster.new) }
     ensures silent { IsErrOf result Stop.NoMemory → (O.poured out.new).pieces ≡ (O.poured out.old).pieces }
     ensures named { IfErr result (NamesMade command (cluster_of S.Store.kept cluster.old)) }
@@ -277,38 +274,51 @@ fn run_command<S: Shelf, O: Sink>(
     answer(alloc, &reply, out)
 }
 
-/// Runs the line of this number: what it says is obeyed, and the reply is written.
-fn run_line<S: Shelf, O: Sink>(
+/// Reads the next command of the session and runs it, and says whether there was one.
+fn run_next<F: Files, S: Shelf, O: Sink>(
     alloc: Global,
-    line: &[u8],
-    number: u64,
+    reader: &mut SessionReader,
     cluster: &mut Cluster<S::Store>,
+    files: &mut F,
     shelf: &mut S,
     out: &mut O,
-) -> Result<(), Stop>
+) -> Result<bool, Stop>
+    requires entered { 0 < length (F.filed files.old).stack }
     requires distinct { AreDistinct (cluster_of S.Store.kept cluster.old).bases }
+    ensures files { Stays (F.filed files.old) (F.filed files.new) }
     ensures shelf { Shelves (S.shelved shelf.old) (S.shelved shelf.new) }
+    ensures later { (O.poured out.old).faults ≤ (O.poured out.new).faults }
+    ensures cause { HasCause (counts (F.filed files.old).faults (S.shelved shelf.old).faults (O.poured out.old).faults)
+        (counts (F.filed files.new).faults (S.shelved shelf.new).faults (O.poured out.new).faults) result }
     ensures asked { AsksOn (S.shelved shelf.old).asked (cluster_of S.Store.kept cluster.old)
         (S.shelved shelf.new).asked (cluster_of S.Store.kept cluster.new) result }
-    ensures later { (O.poured out.old).faults ≤ (O.poured out.new).faults }
-    ensures cause { (files : ℕ) → HasCause (counts files (S.shelved shelf.old).faults (O.poured out.old).faults)
-        (counts files (S.shelved shelf.new).faults (O.poured out.new).faults) result }
-    ensures stop { IfErr result (λ stop. is_of_line stop ≡ true) }
-    ensures bad { BadOnly number (meaning line.now) result }
-    ensures runs { Tells (S.shelved shelf.old) → RunsLine number (meaning line.now) (S.shelved shelf.old)
-        (cluster_of S.Store.kept cluster.old) (cluster_of S.Store.kept cluster.new) (O.poured out.old).pieces
-        (O.poured out.new).pieces result }
     ensures distinct { IfOk result (λ _. AreDistinct (cluster_of S.Store.kept cluster.new).bases) }
+    ensures within { reader.new.lines.taken ≤ session_limit }
+    ensures moves { IfOk result (λ more. more ≡ true → reader.old.lines.taken < reader.new.lines.taken) }
+    ensures comes { (names : List ℕ → Option (List ℕ)) (said : Session) → (F.filed files.old).names ≡ Some names →
+        Came names said reader.old (F.filed files.old) →
+        ComesOn names said (record { reader = reader.new; files = F.filed files.new }) result }
+    ensures runs { (b : Begun) → (F.filed files.old).names ≡ Some b.names →
+        (S.shelved shelf.old).promise ≡ b.shelf.promise → Tells b.shelf →
+        Running b (record {
+          reader = reader.old;
+          files = F.filed files.old;
+          output = (O.poured out.old).pieces;
+          cluster = cluster_of S.Store.kept cluster.old;
+        }) →
+        RunsOn b (record {
+          reader = reader.new;
+          files = F.filed files.new;
+          output = (O.poured out.new).pieces;
+          cluster = cluster_of S.Store.kept cluster.new;
+        }) result }
 {
-    match read_command(alloc, line, number) {
-        Ok(said) => match said {
-            None => Ok(()),
-            Some(command) => run_command(alloc, command, cluster, shelf, out),
-        },
-        Err(fault) => Err(match fault {
-            LineFault::BadLine { number } => Stop::BadLine { number },
-            LineFault::NoMemory => Stop::NoMemory,
-        }),
+    match fetch(alloc, reader, files)? {
+        None => Ok(false),
+        Some(command) => {
+            run_command(alloc, command, cluster, shelf, out)?;
+            Ok(true)
+        }
     }
 }
 
@@ -326,23 +336,20 @@ pub fn run_session<F: Files, S: Shelf, O: Sink>(
     ensures later { (O.poured out.old).faults ≤ (O.poured out.new).faults }
     ensures cause { HasCause (counts (F.filed files.old).faults (S.shelved shelf.old).faults (O.poured out.old).faults)
         (counts (F.filed files.new).faults (S.shelved shelf.new).faults (O.poured out.new).faults) result }
-    ensures place { (bytes : List ℕ) → top (F.filed files.old).stack ≡ Some bytes → StopsAt bytes result }
+    ensures place { (names : List ℕ → Option (List ℕ)) (bytes : List ℕ) → (F.filed files.old).names ≡ Some names →
+        top (F.filed files.old).stack ≡ Some bytes → StopsAt (session_of names bytes) result }
     ensures asked { AsksOn (S.shelved shelf.old).asked (cluster_of S.Store.kept cluster.old)
         (S.shelved shelf.new).asked (cluster_of S.Store.kept cluster.new) result }
-    ensures runs { (bytes : List ℕ) (limit : ℕ) → top (F.filed files.old).stack ≡ Some bytes →
+    ensures runs { (names : List ℕ → Option (List ℕ)) (bytes : List ℕ) (limit : ℕ) →
+        (F.filed files.old).names ≡ Some names → top (F.filed files.old).stack ≡ Some bytes →
         Tells (S.shelved shelf.old) → (O.poured out.old).pieces ≡ Some [] →
         Starts limit (cluster_of S.Store.kept cluster.old) →
-        RunsSession (begun (S.shelved shelf.old) limit bytes) (O.poured out.new).pieces
+        RunsSession (begun (S.shelved shelf.old) limit names bytes) (O.poured out.new).pieces
         (cluster_of S.Store.kept cluster.new) (top (F.filed files.new).stack) result }
 {
-    let Ok(mut reader) = LineReader::new(alloc) else {
+    let Ok(mut reader) = SessionReader::new(alloc) else {
         return Err(Stop::NoMemory);
     };
-    let mut line = Vec::new(alloc);
-    let mut number: u64 = 1;
-    while read_line(&mut reader, files, &mut line, number)? {
-        run_line(alloc, &line, number, cluster, shelf, out)?;
-        number += 1;
-    }
+    while run_next(alloc, &mut reader, cluster, files, shelf, out)? {}
     Ok(())
 }

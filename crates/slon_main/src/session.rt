@@ -1,14 +1,16 @@
 // A session from its words to its end.
-ghost use Rattle.std.specs.Prelude.{◌≡◌, ℕ, ◌<◌, ◌≤◌, List, length, true, None, Some, [], is_some};
+ghost use Rattle.std.specs.Prelude.{◌≡◌, ℕ, ◌<◌, List, Option, length, true, None, Some, [], is_some};
 ghost use Rattle.std.specs.Option.{option_map};
 ghost use Rattle.slon_base.specs.Outside.{top};
-ghost use Rattle.session_text.specs.Reading.{session_limit};
+ghost use Rattle.session_reader.specs.Sessions.{session_of};
+ghost use Rattle.session_reader.specs.Sessions.{Ended as ReachesItsEnd};
 ghost use Rattle.std.specs.Prelude.{string_bytes, IfOk};
 ghost use Rattle.slon_main.specs.Ending as ending;
 ghost use Rattle.cluster_engine.specs.Clustered.{cluster_of};
 ghost use Rattle.slon_main.specs.Running.{counts, AreAsked, Tells};
-ghost use Rattle.slon_main.specs.Ending.{Closes, ClosesAt, hands_back, FaultOnly, NoneRose, IsWhole, is_run, is_whole};
-ghost use Rattle.slon_main.specs.Ending.{is_refused, is_lost, EndsRun, EndsAt, Holds, Lacks, LeavesIt, MissingOnly};
+ghost use Rattle.slon_main.specs.Ending.{Closes, ClosesAt, hands_back, FaultOnly, NoneRose, Told, told_of, is_run};
+ghost use Rattle.slon_main.specs.Ending.{is_whole, is_refused, is_lost, EndsRun, EndsAt, Holds, Lacks, LeavesIt};
+ghost use Rattle.slon_main.specs.Ending.{MissingOnly};
 ghost use Rattle.slon_main.specs.Ending.{UsageOnly, unread};
 
 use crate::run::{Stop, run_session};
@@ -136,9 +138,11 @@ fn run_entered<F: Files, S: Shelf, O: Sink>(
     ensures faults { FaultOnly result.status (counts (F.filed files.old).faults (S.shelved shelf.old).faults
         (O.poured out.old).faults) (counts (F.filed files.new).faults (S.shelved shelf.new).faults
         (O.poured out.new).faults) }
-    ensures place { (bytes : List ℕ) → top (F.filed files.old).stack ≡ Some bytes → EndsAt result.status bytes }
-    ensures ends { (bytes : List ℕ) → top (F.filed files.old).stack ≡ Some bytes → Tells (S.shelved shelf.old) →
-        (O.poured out.old).pieces ≡ Some [] → EndsRun (S.shelved shelf.old) result.status bytes
+    ensures place { (names : List ℕ → Option (List ℕ)) (bytes : List ℕ) → (F.filed files.old).names ≡ Some names →
+        top (F.filed files.old).stack ≡ Some bytes → EndsAt result.status (session_of names bytes) }
+    ensures ends { (names : List ℕ → Option (List ℕ)) (bytes : List ℕ) → (F.filed files.old).names ≡ Some names →
+        top (F.filed files.old).stack ≡ Some bytes → Tells (S.shelved shelf.old) →
+        (O.poured out.old).pieces ≡ Some [] → EndsRun (S.shelved shelf.old) result.status (told_of names bytes)
         (O.poured out.new).pieces (unread (F.filed files.old) (F.filed files.new))
         (option_map (cluster_of S.Store.kept) result.cluster) }
     ensures asked { (S.shelved shelf.old).asked ≡ Some [] → AreAsked (S.shelved shelf.new).asked }
@@ -172,7 +176,7 @@ fn session_word(words: &[Text]) -> Option<&Text>
 /// Runs the session that the words name, and writes the reply to each of its commands.
 ///
 /// The words are the name of a session and nothing else; a word that begins with `-` is no name. The session is read
-/// line by line and each line is run as it is read; each reply is written with its newline in one piece. The last line
+/// command by command and each is run as it is read; each reply is written with its newline in one piece. The last line
 /// written says why a session stopped, and `status` how it ended.
 pub fn slon_main<F: Files, S: Shelf, O: Sink>(
     alloc: Global,
@@ -181,8 +185,8 @@ pub fn slon_main<F: Files, S: Shelf, O: Sink>(
     shelf: &mut S,
     out: &mut O,
 ) -> Ended<S::Store>
-    ensures ends { (bytes : List ℕ) → Holds words.now bytes (F.filed files.old) → Tells (S.shelved shelf.old) →
-        (O.poured out.old).pieces ≡ Some [] → EndsRun (S.shelved shelf.old) result.status bytes
+    ensures ends { (told : Told) → Holds words.now told (F.filed files.old) → Tells (S.shelved shelf.old) →
+        (O.poured out.old).pieces ≡ Some [] → EndsRun (S.shelved shelf.old) result.status told
         (O.poured out.new).pieces (unread (F.filed files.old) (F.filed files.new))
         (option_map (cluster_of S.Store.kept) result.cluster) }
     ensures asked { (S.shelved shelf.old).asked ≡ Some [] → AreAsked (S.shelved shelf.new).asked }
@@ -193,13 +197,11 @@ pub fn slon_main<F: Files, S: Shelf, O: Sink>(
     ensures faults { FaultOnly result.status (counts (F.filed files.old).faults (S.shelved shelf.old).faults
         (O.poured out.old).faults) (counts (F.filed files.new).faults (S.shelved shelf.new).faults
         (O.poured out.new).faults) }
-    ensures complete { (bytes : List ℕ) → Holds words.now bytes (F.filed files.old) → IsWhole bytes →
+    ensures complete { (told : Told) → Holds words.now told (F.filed files.old) → told.said.end ≡ ReachesItsEnd →
         NoneRose (counts (F.filed files.old).faults (S.shelved shelf.old).faults (O.poured out.old).faults)
         (counts (F.filed files.new).faults (S.shelved shelf.new).faults (O.poured out.new).faults) →
         is_whole result.status ≡ true }
-    ensures place { (bytes : List ℕ) → Holds words.now bytes (F.filed files.old) → EndsAt result.status bytes }
-    ensures long { (bytes : List ℕ) → Holds words.now bytes (F.filed files.old) → result.status ≡ Status.TooLong →
-        session_limit < length bytes }
+    ensures place { (told : Told) → Holds words.now told (F.filed files.old) → EndsAt result.status told.said }
     ensures usage { result.status ≡ Status.Usage → UsageOnly words.now (O.poured out.old) (O.poured out.new) }
     ensures refused { ending.session_word words.now ≡ None → is_refused result.status ≡ true }
     ensures missing { result.status ≡ Status.Missing →

@@ -56,6 +56,20 @@ fn words_of(alloc: Global, word: Option<&str>) -> Result<Vec<Text>, Fail> {
     Ok(words)
 }
 
+/// Runs the session `s` over these files.
+pub fn run_over(
+    alloc: Global,
+    files: &[(&str, &[u8])],
+    fails: Fails,
+) -> Result<(Status, MemSink), Fail> {
+    let words = words_of(alloc, Some("s"))?;
+    let mut files = MemFiles::new(alloc, named(alloc, files)?, vec![in alloc; fails.files]?);
+    let mut shelf = shelf_of(alloc, fails)?;
+    let mut out = MemSink::new(alloc, vec![in alloc; fails.out]?, 1);
+    let ended = slon_main(alloc, words.as_slice(), &mut files, &mut shelf, &mut out);
+    Ok((ended.status, out))
+}
+
 /// Runs the session of this word, where the files hold these bytes as `s`. A write that fails takes one byte.
 pub fn run(
     alloc: Global,

@@ -1,0 +1,4 @@
+pub mod Blocks
+pub mod Going
+pub mod Heard
+pub mod Spoken
