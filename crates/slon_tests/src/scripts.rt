@@ -360,9 +360,13 @@ fn outcomes(crash: Crash) -> [[&'static str; 5]; 3] {
     ]
 }
 
-/// The last five replies are these.
-fn ends_so(written: &str, wanted: &[&'static str; 5]) -> bool {
-    let mut lines = written.lines().skip(5);
+/// The last replies are these.
+fn ends_so(written: &str, wanted: &[&'static str]) -> bool {
+    let count = written.lines().count();
+    if count < wanted.len() {
+        return false;
+    }
+    let mut lines = written.lines().skip(count - wanted.len());
     wanted.iter().all(|line| lines.next() == Some(line))
 }
 
@@ -414,4 +418,77 @@ fn joins_crash_at_every_call(rt: HostRuntime) -> Result<(), Fail> {
         crash_at_each(alloc, "b", true)? == to,
         "kept at the new node",
     )
+}
+
+// ---- a commit on a table of a set, whose store crashes at each call
+
+/// The replies of the session of a commit with a crash.
+fn committed(alloc: Global, crash: Crash) -> Result<MemSink, Fail> {
+    let mut wanted = nothing_wanted(alloc);
+    wanted.push_all(DATABASES)?;
+    wanted.push_script(NODES, CLUSTER)?;
+    let front = wanted.session.as_str();
+    let calls = crash.calls;
+    let whole = format!(in alloc;
+        "{front}begin a x\ninsert a x public.t p 1\ncrash a after {calls} {}\ncommit a x\ncrash a\nup a\nrows a public.t\n",
+        keeping(crash.keep)
+    )?;
+    let (is, out) = run(alloc, Some("s"), whole.as_bytes(), NOTHING)?;
+    require(is == Status::Done, "a commit")?;
+    Ok(out)
+}
+
+/// What may be replied to `commit`, `crash`, `up` and `rows`.
+fn commit_outcomes(keep: bool) -> [[&'static str; 4]; 3] {
+    let down = "no 16 down a";
+    let doubt = if keep {
+        ["doubt a ok actions 1", down, "ok kept", "ok rows 1 p=1"]
+    } else {
+        ["doubt a ok actions 1", down, "ok lost", "ok rows 0"]
+    };
+    [
+        ["ok actions 1", "ok", "ok", "ok rows 1 p=1"],
+        ["no 10 fault a 1", down, "ok", "ok rows 0"],
+        doubt,
+    ]
+}
+
+/// Whether the crash of a commit was told. The replies are those of one of the outcomes.
+fn is_commit_told(alloc: Global, crash: Crash) -> Result<bool, Fail> {
+    let out = committed(alloc, crash)?;
+    let written = str::from_utf8(out.written())?;
+    let [done, failed, doubted] = commit_outcomes(crash.keep);
+    if ends_so(written, &done) {
+        return Ok(false);
+    }
+    require(
+        ends_so(written, &failed) || ends_so(written, &doubted),
+        written,
+    )?;
+    Ok(true)
+}
+
+/// A commit with a crash at each call of the store: the first calls are told, and those behind are not reached.
+fn commit_at_each(alloc: Global, keep: bool) -> Result<u32, Fail> {
+    let mut told = 0;
+    for calls in 0..20 {
+        let crash = Crash {
+            database: "a",
+            calls,
+            keep,
+        };
+        if is_commit_told(alloc, crash)? {
+            require(told == calls, "a call that is not told")?;
+            told = calls + 1;
+        }
+    }
+    Ok(told)
+}
+
+/// The transaction begins, puts the row, its row of the log and the stamp, and commits.
+#[test]
+fn commits_crash_at_every_call(rt: HostRuntime) -> Result<(), Fail> {
+    let alloc = rt.alloc();
+    require(commit_at_each(alloc, false)? == 5, "a commit that is lost")?;
+    require(commit_at_each(alloc, true)? == 5, "a commit that is kept")
 }
