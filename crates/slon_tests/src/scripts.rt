@@ -422,15 +422,22 @@ fn joins_crash_at_every_call(rt: HostRuntime) -> Result<(), Fail> {
 
 // ---- a commit on a table of a set, whose store crashes at each call
 
+/// A transaction that writes a row of the table.
+const WRITES: &[Step] = &[
+    ("begin a x", "ok xid 1"),
+    ("insert a x public.t p 1", "ok action 1"),
+];
+
 /// The replies of the session of a commit with a crash.
 fn committed(alloc: Global, crash: Crash) -> Result<MemSink, Fail> {
     let mut wanted = nothing_wanted(alloc);
     wanted.push_all(DATABASES)?;
     wanted.push_script(NODES, CLUSTER)?;
+    wanted.push_all(WRITES)?;
     let front = wanted.session.as_str();
     let calls = crash.calls;
     let whole = format!(in alloc;
-        "{front}begin a x\ninsert a x public.t p 1\ncrash a after {calls} {}\ncommit a x\ncrash a\nup a\nrows a public.t\n",
+        "{front}crash a after {calls} {}\ncommit a x\ncrash a\nup a\nrows a public.t\n",
         keeping(crash.keep)
     )?;
     let (is, out) = run(alloc, Some("s"), whole.as_bytes(), NOTHING)?;
