@@ -6,4 +6,5 @@ pub mod Moving
 pub mod Stepping
 pub mod Telling
 pub mod Trials
+pub mod Turns
 pub mod Walking

@@ -1,7 +1,7 @@
 -- What the calls on the databases of a session do, from what their parts do.
-use Rattle.std.proofs.Common.{◌+◌, ◌≡◌, ◌∙◌, ℕ, ◌<◌, ◌≤◌, Bool, true, false, cond, List, length, map, set, is_some}
+use Rattle.std.proofs.Common.{◌+◌, ◌≡◌, ◌∙◌, ℕ, ◌<◌, ◌≤◌, Bool, true, false, cond, List, [], length, map, set, is_some}
 use Rattle.std.proofs.Common.{nat_lt, Option, Some, None, Result, Ok, Err, IfOk, IfErr, OnErr, is_err, refl, sym, ap}
-use Rattle.std.proofs.Common.{subst, true≢false}
+use Rattle.std.proofs.Common.{subst, true≢false, unwrap_or}
 use Rattle.std.specs.List.{position}
 use Rattle.std.specs.Str.{bytes_eq}
 use Rattle.std.proofs.lemmas.Bool.{lt-ltb, le-ltb, false≢true}
@@ -11,7 +11,7 @@ use Rattle.slon_base.specs.declared.fault.Halt.TheVariants.{Doubt}
 use Rattle.slon_model.specs.declared.fault.DbFault.{DbFault}
 use Rattle.slon_model.specs.declared.fault.DbFault.TheVariants.{NotEmpty, Halt}
 use Rattle.slon_model.specs.declared.command.Command.{Command}
-use Rattle.slon_model.specs.declared.command.Command.TheVariants.{Database, Slonik, Step, Kill}
+use Rattle.slon_model.specs.declared.command.Command.TheVariants.{Database, Slonik, Step, Kill, Start, Stop}
 use Rattle.slon_model.specs.declared.reading.Reading.{Reading}
 use Rattle.slon_model.specs.declared.reply.Answer.TheVariants.{Done}
 use Rattle.slon_model.specs.declared.reply.Answered.{Answered}
@@ -27,7 +27,7 @@ use Rattle.app_store.specs.Base.{Base}
 use Rattle.app_store.specs.Handed.{HandsOn}
 use Rattle.app_store.specs.Serves.{ServesOn, Founds, is_memory, trouble, settled}
 use Rattle.cluster_engine.specs.Agreed.{Clustered}
-use Rattle.cluster_engine.specs.Calls.{is_one, is_reading, IsActed, with_base, with_base_behind, with_given, with_more}
+use Rattle.cluster_engine.specs.Calls.{is_one, is_reading, takes_none, IsActed, with_base, with_base_behind, with_given, with_more}
 use Rattle.cluster_engine.specs.Calls.{fused, grant, Moves}
 use Rattle.cluster_engine.specs.Calls.{Grants, Misses, Asks, Acts, Made, making_reply, is_not_empty, Adopts, Rejects}
 use Rattle.cluster_engine.specs.Calls.{Keeps}
@@ -64,11 +64,11 @@ if_memory P (Err e) fault reply is memory holds = tt
 
 -- ---- the words of a command
 
-pub same_words : (s : Subject) (database : List ℕ) (transaction table : Option (List ℕ)) → database ≡ subject_name s →
-    transaction ≡ transaction_named s → table ≡ table_named s →
+pub same_words : (s : Subject) (database : List ℕ) (transaction table : Option (List ℕ)) →
+    Some database ≡ subject_name s → transaction ≡ transaction_named s → table ≡ table_named s →
     record { database = database; transaction = transaction; table = table } ≡ words_of s
 same_words s database transaction table named by on = λ i.
-    record { database = named i; transaction = by i; table = on i }
+    record { database = unwrap_or (named i) []; transaction = by i; table = on i }
 
 -- an answer names the database alone
 pub same_answer : (words : Words) (database : List ℕ) (done : Answered) → database ≡ words.database →
@@ -85,19 +85,28 @@ answer_memory (AnsweredInDoubt answer) = refl
 
 -- the word by which a command names its one database
 pub record Names (command : Command) (word : List ℕ) : Type 0 where
-  pub is : word ≡ subject_name (subject_of command)
+  pub is : Some word ≡ subject_name (subject_of command)
   pub one : is_one (subject_of command) ≡ true
+
+-- a command for one database names it
+pub unnamed : (command : Command) → is_one (subject_of command) ≡ true → None ≡ subject_name (subject_of command) → ⊥
+unnamed command one none = go (subject_of command) one none
+  where
+    go : (s : Subject) → is_one s ≡ true → None ≡ subject_name s → ⊥
+    go (OnOne name task) one none = cc
+    go others one none = false≢true one
 
 pub moves_none : (command : Command) (c : Clustered) (word name : List ℕ) → Names command word → name ≡ word →
     find_named word c.bases ≡ None →
     Moves command c (Refused (refused.NoDatabase name)) c
 moves_none command c word name names same none = go (subject_of command) refl names.is names.one
   where
-    go : (s : Subject) → subject_of command ≡ s → word ≡ subject_name s → is_one s ≡ true →
+    go : (s : Subject) → subject_of command ≡ s → Some word ≡ subject_name s → is_one s ≡ true →
         Moves command c (Refused (refused.NoDatabase name)) c
     go (OnOne one task) about named other =
-        Misses one task about (ap (λ w. find_named w c.bases) (sym named) ∙ none)
-        (ap (λ w. Refused (refused.NoDatabase w)) (same ∙ named)) refl
+        let is : word ≡ one = cc in
+        Misses one task about (ap (λ w. find_named w c.bases) (sym is) ∙ none)
+        (ap (λ w. Refused (refused.NoDatabase w)) (same ∙ is)) refl
     go others about named other = absurd (false≢true other)
 
 -- the element x at an index, which a word names, became y, with an answer
@@ -131,10 +140,11 @@ moves_at f command c items t asked = go
     new : Clustered
     new = record c { bases = map f (set items t.i t.y) }
 
-    go : (s : Subject) → subject_of command ≡ s → t.word ≡ subject_name s → is_one s ≡ true →
+    go : (s : Subject) → subject_of command ≡ s → Some t.word ≡ subject_name s → is_one s ≡ true →
         ServesOn s (f t.x).1 t.result (f t.y).1 → HandsOn s (f t.x).1 t.result →
         Moves command old (reply_of (words_of s) t.result) new
     go (OnOne one task) about named other serves hands =
+        let is : t.word ≡ one = cc in
         Asks (record {
           name = one;
           task = task;
@@ -142,7 +152,7 @@ moves_at f command c items t asked = go
           behind = (f t.y).1;
           result = t.result;
           about = about;
-          found = ap (λ w. find_named w old.bases) (sym named)
+          found = ap (λ w. find_named w old.bases) (sym is)
               ∙ find_position f t.word items t.i t.x asked.at;
           serves = serves;
           hands = hands;
@@ -150,7 +160,7 @@ moves_at f command c items t asked = go
           told = refl;
           same = ap (λ bs. record c { bases = bs })
               (put_position f t.word items t.i t.x t.y (asked.at, asked.same))
-              ∙ ap (λ w. with_base w (f t.y).1 old) named;
+              ∙ ap (λ w. with_base w (f t.y).1 old) is;
         })
     go others about named other serves hands = absurd (false≢true other)
 
@@ -204,19 +214,28 @@ pub no_reading : (c : Command) (script : List ℕ) (reading : Reading) → c ≡
     is_reading (subject_of c) ≡ false → ⊥
 no_reading c script reading is other = true≢false (sym (ap (λ x. is_reading (subject_of x)) is) ∙ other)
 
--- a command that makes no database and is about no script
+-- a command that makes no database and is about no script and no slon
 pub record IsOther (c : Command) : Type 0 where
   pub database : (name : List ℕ) → c ≡ Database name → ⊥
   pub slonik : (script : List ℕ) (reading : Reading) → c ≡ Slonik script reading → ⊥
   pub step : (script : List ℕ) → c ≡ Step script → ⊥
   pub kill : (script : List ℕ) → c ≡ Kill script → ⊥
+  pub start : (node : ℕ) → c ≡ Start node → ⊥
+  pub stop : (node : ℕ) → c ≡ Stop node → ⊥
 
 pub one_left : (c : Command) → IsOther c → is_one (subject_of c) ≡ true
 one_left (Database name) other = absurd (other.database name refl)
 one_left (Slonik script reading) other = absurd (other.slonik script reading refl)
 one_left (Step script) other = absurd (other.step script refl)
 one_left (Kill script) other = absurd (other.kill script refl)
+one_left (Start node) other = absurd (other.start node refl)
+one_left (Stop node) other = absurd (other.stop node refl)
 one_left others other = refl
+
+-- nothing is promised of the memory of a command that is not to turn a slon off
+pub spared : (c : Command) (b : Bool) → ((node : ℕ) → c ≡ Stop node → ⊥) → takes_none (subject_of c) ≡ true → b ≡ true
+spared (Stop node) b other none = absurd (other node refl)
+spared others b other none = absurd (false≢true none)
 
 -- what was granted: all is as it was, and the name is free
 pub record IsGranted (name : List ℕ) (old mid : Clustered) : Type 0 where

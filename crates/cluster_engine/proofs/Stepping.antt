@@ -20,16 +20,17 @@ use Rattle.slon_model.specs.declared.reply.Refusal.TheVariants as refused
 use Rattle.slon_model.specs.declared.reply.Reply.{Reply}
 use Rattle.slon_model.specs.declared.reply.Reply.TheVariants.{Accepted, Refused}
 use Rattle.slon_model.specs.Names.{find_named}
-use Rattle.slon_model.specs.Tasks.{Task, ToFound, Act, ToRead, ToStep, ToForget, Subject, OnNew, OnOne, OnAll}
-use Rattle.slon_model.specs.Tasks.{Words, words_of}
+use Rattle.slon_model.specs.Tasks.{Task, ToFound, Act, ToRead, ToStep, ToForget, ToStart, ToStop, Subject, OnNew}
+use Rattle.slon_model.specs.Tasks.{OnOne, OnAll, Words, words_of}
 use Rattle.slon_model.specs.Place.{Place, bare_place}
 use Rattle.slon_model.specs.Moves.{commits_at}
 use Rattle.slon_model.specs.Deciding.{Decision, Refuses, Accepts as Agreed, Overflows, decide, result_of, move_of, sure}
 use Rattle.slon_model.specs.Deciding.{unsure, Fate, AllStand, Breaks, DoubtsAt}
 use Rattle.slon_model.specs.Deciding.{Choice, AsDue, AtFault, Wavers, Among, result_by, place_by, Takes}
-use Rattle.slon_model.specs.Sessions.{Running, Commit, Stated, Outcome, no_change, first_beyond}
+use Rattle.slon_model.specs.Sessions.{Memory, Running, Commit, Stated, Outcome, no_change, first_beyond}
 use Rattle.slon_model.specs.Scripts.{Stepping, quiet, done_by, single, ordered, order_step, step_todo, step_of, read_as}
 use Rattle.slon_model.specs.Scripts.{kill_of}
+use Rattle.slon_model.specs.Turns.{at_node, switched}
 use Rattle.slon_model.specs.World.{World, Happening, Step, Grants as StepGrants, Denies as StepDenies}
 use Rattle.slon_model.specs.World.{Misses as StepMisses, Asks as StepAsks, database_due, due, due_on, ask, asked, after}
 use Rattle.slon_model.specs.World.{Acts as StepActs, after_on, adopted, changed, is_accepted, reply_of, outcome}
@@ -37,17 +38,18 @@ use Rattle.slon_model.specs.World.{MayEnd, reply_by, world_by, doubt_reply}
 use Rattle.slon_model.proofs.Names.{all_found}
 use Rattle.slon_laws.specs.Sound.{Sound}
 use Rattle.slon_laws.specs.Spelled.{IsSpelled}
+use Rattle.slon_laws.proofs.Memories.{remembered_kept}
 use Rattle.app_store.specs.Base.{Base}
 use Rattle.app_store.specs.Fits.{Ready}
 use Rattle.app_store.specs.Serves.{Founds, is_failure, trouble, settled}
 use Rattle.slonik_exec.proofs.Lists.{Fitting, fitting, missing_fits, same_length}
-use Rattle.cluster_engine.specs.Agreed.{Clustered, FitsScripts, Agrees, Follows}
+use Rattle.cluster_engine.specs.Agreed.{Clustered, Agrees, Follows}
 use Rattle.cluster_engine.specs.Calls.{grant, Moves, Grants, Misses, Asks, Acts, StepsOn, Steps, fused, is_sure_reply}
 use Rattle.cluster_engine.specs.Calls.{Adopts, Rejects, Keeps, Makes, Obeys}
 use Rattle.cluster_engine.proofs.Lifting.{same_some, fits_more}
 use Rattle.cluster_engine.proofs.Moving.{IsGranted}
 use Rattle.cluster_engine.proofs.Certain.{never_fails}
-use Rattle.cluster_engine.proofs.Walking.{remembered_scripts}
+use Rattle.cluster_engine.proofs.Walking.{fits_kept}
 
 -- ---- steps that the rules allow
 
@@ -103,8 +105,7 @@ steps command old reply new (Asks s) w follows =
           (record {
             limit = follows.agrees.limit;
             fits = fit.puts place s.behind comes.2;
-            scripts = subst (λ rs. FitsScripts rs old.scripts) (sym (remembered_scripts place w.memory))
-                follows.agrees.scripts;
+            memory = fits_kept w.memory _ old.memory (remembered_kept place w.memory) follows.agrees.memory;
           });
     })
 steps command old reply new (Acts act about acted) w follows =
@@ -180,6 +181,15 @@ todo_commits name run [] w = Never refl
 todo_commits name run (Single o ∷ rest) w = order_commits (record { name = name; run = run; rest = rest }) w o
 todo_commits name run (Tries block ∷ rest) w = Never refl
 
+switched_commits : (node : ℕ) (m : Memory) (w : World) → MayCommit (switched node m w)
+switched_commits node m w =
+    elim (is_some (at_node node w)) as (λ b. MayCommit (cond b
+    (record { reply = Accepted Done; commits = []; falls = None; memory = m })
+    (no_change w (Refused (refused.NoNode node))))) [
+      | true ↦ Never refl
+      | false ↦ Never refl
+    ]
+
 act_commits : (act : Act) (w : World) → MayCommit (outcome act w)
 act_commits (ToRead name (Wrong refusal)) w =
     elim (is_some (find_named name w.memory.scripts)) as (λ b. MayCommit (cond b
@@ -203,6 +213,8 @@ act_commits (ToForget name) w =
       | None ↦ Never refl
       | Some run ↦ Never refl
     ]
+act_commits (ToStart node) w = switched_commits node _ w
+act_commits (ToStop node) w = switched_commits node _ w
 
 -- a doubt is told where a step commits
 doubt_unsure : (before : ℕ) (cs : List Commit) (answer : Answer) → before < length cs →
@@ -285,7 +297,7 @@ makes name kept old reply new (Keeps b result made memory kept_it told same) emp
             limit = agrees.limit;
             fits = fits_more name
                 (place_by ToFound bare_place comes.0) b w.places old.bases agrees.fits comes.2;
-            scripts = agrees.scripts;
+            memory = agrees.memory;
           });
     }
 

@@ -23,10 +23,10 @@ use Rattle.slon_model.specs.declared.reply.Reply.{Reply}
 use Rattle.slon_model.specs.declared.reply.Reply.TheVariants.{Accepted, Refused}
 use Rattle.slon_model.specs.Names.{Named, find_named, without}
 use Rattle.slon_model.specs.Tasks.{Act, ToRead, ToStep, ToForget}
-use Rattle.slon_model.specs.Place.{Place, is_running, fallen, node_id}
+use Rattle.slon_model.specs.Place.{Place, fallen}
 use Rattle.slon_model.specs.Deciding.{AllStand, Breaks, DoubtsAt}
 use Rattle.slon_model.specs.Sessions.{World, Memory, Running, Commit, Stated, Outcome, no_change, stand, with_memory}
-use Rattle.slon_model.specs.Sessions.{in_doubt, changed, remembered, forgotten, felled, felled_at, after_outcome}
+use Rattle.slon_model.specs.Sessions.{in_doubt, changed, felled, felled_at, after_outcome}
 use Rattle.slon_model.specs.Scripts.{Stepping, going_on, without_script, running, ending, single, done_by}
 use Rattle.slon_model.specs.Scripts.{order_step, ordered, step_of, step_todo, read_as, kill_of}
 use Rattle.slon_model.specs.World.{outcome, has_todo, is_left, is_accepted, broken_at, wavering, wavering_at}
@@ -34,43 +34,34 @@ use Rattle.slon_model.specs.World.{doubt_reply}
 use Rattle.slon_model.proofs.Names.{bytes_same, find-without}
 use Rattle.slon_base.specs.Keeper.{key_cmp}
 use Rattle.slon_laws.proofs.Keys.{key_test}
+use Rattle.slon_laws.proofs.Memories.{IsKept, remembered_kept}
 use Rattle.app_store.specs.Base.{Base}
 use Rattle.slonik_exec.specs.Databases.{FitsAll, AreReady, TriesAll, Runs, told_by, is_calm}
 use Rattle.slonik_exec.specs.Executing as executing
 use Rattle.slonik_exec.specs.Executing.{Comes, Executes}
 use Rattle.slonik_exec.proofs.Trying.{tries_itself}
-use Rattle.cluster_engine.specs.Agreed.{Scripts, Clustered, FitsRun, FitsFound, FitsScripts, Agrees, Follows}
+use Rattle.cluster_engine.specs.Agreed.{Scripts, Remembered, Clustered, FitsRun, FitsFound, FitsScripts, FitsMemory}
+use Rattle.cluster_engine.specs.Agreed.{Agrees, Follows}
 use Rattle.cluster_engine.specs.Calls.{ActsOn, IsActed}
-use Rattle.cluster_engine.specs.Walking.{KeepsTo, Keeps, Fares, Stood, Broke, Wavered, Walks, stepping, WalksOn}
+use Rattle.cluster_engine.specs.Walking.{IsQuietly, KeepsTo, Keeps, Fares, Stood, Broke, Wavered, Walks, stepping}
+use Rattle.cluster_engine.specs.Walking.{WalksOn}
 use Rattle.cluster_engine.specs.declared.scripts.Started.{Started}
 use Rattle.cluster_engine.specs.declared.scripts.Walked.{Walked}
 
 -- ---- a world with another memory
 
-forgotten_scripts : (node : Option ℕ) (m : Memory) → (forgotten node m).scripts ≡ m.scripts
-forgotten_scripts None m = refl
-forgotten_scripts (Some node) m = refl
-
--- a database that goes down takes no script along
-pub remembered_scripts : (q : Place) (m : Memory) → (remembered q m).scripts ≡ m.scripts
-remembered_scripts q m =
-    elim (is_running q.standing) as (λ b. (cond b m (forgotten (node_id q) m)).scripts ≡ m.scripts) [
-      | true ↦ refl
-      | false ↦ forgotten_scripts (node_id q) m
-    ]
-
 -- what is kept of a world v, where a step on its databases leads to x, and with another memory to y
 record Moves (m : Memory) (v x y : World) : Type 0 where
   limit : y.limit ≡ v.limit
   places : x.places ≡ y.places
-  scripts : y.memory.scripts ≡ m.scripts
+  memory : IsKept m y.memory
 
 changed_moves : (name : List ℕ) (q : Place) (m : Memory) (v : World) →
     Moves m v (changed name q v) (changed name q (with_memory m v))
-changed_moves name q m v = record { limit = refl; places = refl; scripts = remembered_scripts q m }
+changed_moves name q m v = record { limit = refl; places = refl; memory = remembered_kept q m }
 
 same_moves : (m : Memory) (v : World) → Moves m v v (with_memory m v)
-same_moves m v = record { limit = refl; places = refl; scripts = refl }
+same_moves m v = record { limit = refl; places = refl; memory = record { scripts = refl; started = refl } }
 
 felled_moves : (falls : Option (List ℕ)) (m : Memory) (v : World) →
     Moves m v (felled falls v) (felled falls (with_memory m v))
@@ -95,6 +86,14 @@ wavering_moves (c ∷ cs) stands m v = by (find_named c.name v.places)
         Moves m v (wavering_at c stands found v) (wavering_at c stands found (with_memory m v))
     by None = same_moves m v
     by (Some p) = changed_moves c.name (in_doubt c stands p) m v
+
+-- what agrees with a memory agrees with one that has the same scripts and slons
+pub fits_kept : (m n : Memory) (r : Remembered) → IsKept m n → FitsMemory m r → FitsMemory n r
+fits_kept m n r kept fits =
+    record {
+      scripts = subst (λ rs. FitsScripts rs r.scripts) (sym kept.scripts) fits.scripts;
+      started = kept.started ∙ fits.started;
+    }
 
 -- ---- scripts by their names
 
@@ -157,17 +156,17 @@ fits_lacking name runs scripts fits none other =
 
 -- ---- what concerns no database
 
-pub keeps_acted : (act : Act) (old : Clustered) (reply : Reply) (scripts : Scripts) →
-    Keeps act old.scripts reply scripts → told_by reply ≡ None →
-    IsActed act old reply (record old { scripts = scripts })
-keeps_acted act old reply scripts keeps calm = record {
+pub quietly_acted : (act : Act) (old : Clustered) (reply : Reply) (r : Remembered) →
+    ((w : World) → Follows w old → IsQuietly (outcome act w) reply (λ m. FitsMemory m r)) → told_by reply ≡ None →
+    IsActed act old reply (record old { memory = r })
+quietly_acted act old reply r quietly calm = record {
   runs = subst (λ t. TriesAll (is_calm reply) t old.bases old.bases) (sym calm)
       (tries_itself (is_calm reply) old.bases);
   limit = refl;
   given = refl;
   goes = λ w follows.
       let o = outcome act w in
-      let kept = keeps w follows.agrees.scripts in
+      let kept = quietly w follows in
       let after : after_outcome o w ≡ with_memory o.memory w =
       ap (λ f. felled f (stand o.commits (with_memory o.memory w))) kept.falls
       ∙ ap (λ cs. stand cs (with_memory o.memory w)) kept.commits in
@@ -175,10 +174,29 @@ keeps_acted act old reply scripts keeps calm = record {
         fate = AllStand;
         may = tt;
         told = kept.told;
-        agrees = subst (λ v. Agrees v (record old { scripts = scripts })) (sym after)
-            (record { limit = follows.agrees.limit; fits = follows.agrees.fits; scripts = kept.scripts });
+        agrees = subst (λ v. Agrees v (record old { memory = r })) (sym after)
+            (record { limit = follows.agrees.limit; fits = follows.agrees.fits; memory = kept.memory });
       };
 }
+
+-- the code has other scripts
+abbrev pub with_scripts : Scripts → Clustered → Clustered
+with_scripts scripts c = record c { memory = record c.memory { scripts = scripts } }
+
+pub keeps_acted : (act : Act) (old : Clustered) (reply : Reply) (scripts : Scripts) →
+    Keeps act old.memory.scripts reply scripts → told_by reply ≡ None →
+    IsActed act old reply (with_scripts scripts old)
+keeps_acted act old reply scripts keeps calm =
+    quietly_acted act old reply (record old.memory { scripts = scripts })
+    (λ w follows. let kept = keeps w follows.agrees.memory.scripts in record {
+      told = kept.told;
+      commits = kept.commits;
+      falls = kept.falls;
+      memory = record {
+        scripts = kept.memory.agree;
+        started = kept.memory.started ∙ follows.agrees.memory.started;
+      };
+    }) calm
 
 same_known : (o : Option Running) (s : Option Started) → FitsFound o s → is_some o ≡ is_some s
 same_known None None fits = refl
@@ -199,33 +217,46 @@ read_if taken name reading w scripts fits is =
 pub keeps_used : (name : List ℕ) (reading : Reading) (scripts : Scripts) → contains_key scripts name ≡ true →
     Keeps (ToRead name reading) scripts (Refused (refused.ScriptUsed name)) scripts
 keeps_used name reading scripts has w fits =
-    subst (λ o. KeepsTo o (Refused (refused.ScriptUsed name)) scripts)
+    subst (λ o. KeepsTo w.memory o (Refused (refused.ScriptUsed name)) scripts)
     (sym (read_if true name reading w scripts fits has))
-    (record { told = refl; commits = refl; falls = refl; scripts = fits })
+    (record {
+      told = refl;
+      commits = refl;
+      falls = refl;
+      memory = record { agree = fits; started = refl };
+    })
 
 -- a name that is free
 pub keeps_wrong : (name : List ℕ) (refusal : ScriptRefusal) (scripts : Scripts) → contains_key scripts name ≡ false →
     Keeps (ToRead name (Wrong refusal)) scripts (Refused (refused.Script refusal)) scripts
 keeps_wrong name refusal scripts lacks w fits =
-    subst (λ o. KeepsTo o (Refused (refused.Script refusal)) scripts)
+    subst (λ o. KeepsTo w.memory o (Refused (refused.Script refusal)) scripts)
     (sym (read_if false name (Wrong refusal) w scripts fits lacks))
-    (record { told = refl; commits = refl; falls = refl; scripts = fits })
+    (record {
+      told = refl;
+      commits = refl;
+      falls = refl;
+      memory = record { agree = fits; started = refl };
+    })
 
 pub keeps_read : (name : List ℕ) (script : Script) (scripts : Scripts) → contains_key scripts name ≡ false →
     Keeps (ToRead name (Read script)) scripts (Accepted (Statements (length script.statements)))
     (insert scripts name (record { script = script; done = 0 }))
 keeps_read name script scripts lacks w fits =
-    subst (λ o. KeepsTo o (Accepted (Statements (length script.statements)))
+    subst (λ o. KeepsTo w.memory o (Accepted (Statements (length script.statements)))
     (insert scripts name (record { script = script; done = 0 })))
     (sym (read_if false name (Read script) w scripts fits lacks)) (record {
       told = refl;
       commits = refl;
       falls = refl;
-      scripts = fits_put name (running script) (record { script = script; done = 0 })
-          (without name w.memory.scripts) scripts (record { cluster = refl; lines = refl; todo = refl })
-          (λ other apart. subst (λ o. FitsFound o (get scripts other))
-          (sym (find-without other name w.memory.scripts
-          ∙ ap (λ b. cond b None (find_named other w.memory.scripts)) apart)) (fits other));
+      memory = record {
+        agree = fits_put name (running script) (record { script = script; done = 0 })
+            (without name w.memory.scripts) scripts (record { cluster = refl; lines = refl; todo = refl })
+            (λ other apart. subst (λ o. FitsFound o (get scripts other))
+            (sym (find-without other name w.memory.scripts
+            ∙ ap (λ b. cond b None (find_named other w.memory.scripts)) apart)) (fits other));
+        started = refl;
+      };
     })
 
 -- a script that is ended
@@ -236,26 +267,26 @@ keeps_killed name s scripts has w fits =
   where
     by : (o : Option Running) → find_named name w.memory.scripts ≡ o →
         FitsFound (find_named name w.memory.scripts) (Some s) →
-        KeepsTo (outcome (ToForget name) w) (Accepted Done) (remove scripts name)
+        KeepsTo w.memory (outcome (ToForget name) w) (Accepted Done) (remove scripts name)
     by None is f = absurd (subst (λ o. FitsFound o (Some s)) is f)
     by (Some run) is f =
-        subst (λ o. KeepsTo o (Accepted Done) (remove scripts name)) (sym (ap (λ o. kill_of name o w) is)) (record {
+        subst (λ o. KeepsTo w.memory o (Accepted Done) (remove scripts name)) (sym (ap (λ o. kill_of name o w) is)) (record {
           told = refl;
           commits = refl;
           falls = refl;
-          scripts = fits_removed name w.memory.scripts scripts fits;
+          memory = record { agree = fits_removed name w.memory.scripts scripts fits; started = refl };
         })
 
 -- no script of the name
 missed_as : (name : List ℕ) (w : World) (scripts : Scripts) (o : Outcome) → FitsScripts w.memory.scripts scripts →
     get scripts name ≡ None → o ≡ no_change w (Refused (refused.NoScript name)) →
-    KeepsTo o (Refused (refused.NoScript name)) (remove scripts name)
+    KeepsTo w.memory o (Refused (refused.NoScript name)) (remove scripts name)
 missed_as name w scripts o fits none is =
-    subst (λ o. KeepsTo o (Refused (refused.NoScript name)) (remove scripts name)) (sym is) (record {
+    subst (λ o. KeepsTo w.memory o (Refused (refused.NoScript name)) (remove scripts name)) (sym is) (record {
       told = refl;
       commits = refl;
       falls = refl;
-      scripts = fits_lacking name w.memory.scripts scripts fits none;
+      memory = record { agree = fits_lacking name w.memory.scripts scripts fits none; started = refl };
     })
 
 pub keeps_missed : (name : List ℕ) (scripts : Scripts) → get scripts name ≡ None →
@@ -335,14 +366,20 @@ fits_behind true name run started commits w scripts (here, fits) =
     (remove scripts name) (record { cluster = here.cluster; lines = here.lines; todo = refl })
     (λ other apart. fits_removed name w.memory.scripts scripts fits other)
 
+same_started : (goes_on : Bool) (s : Stepping) (commits : List Commit) (m : Memory) →
+    (cond goes_on (going_on s commits m) (without_script s.name m)).started ≡ m.started
+same_started true s commits m = refl
+same_started false s commits m = refl
+
 -- a step of a script that runs, with the databases after it
 pub record Walk (name : List ℕ) (old : Clustered) (w : Walked) (new : Clustered) : Type 0 where
   pub started : Started
-  pub found : get old.scripts name ≡ Some started
+  pub found : get old.memory.scripts name ≡ Some started
   pub walks : WalksOn started old.bases w new.bases
   pub limit : new.limit ≡ old.limit
   pub given : new.given ≡ old.given
-  pub scripts : new.scripts ≡ scripts_behind w.goes_on name started old.scripts
+  pub scripts : new.memory.scripts ≡ scripts_behind w.goes_on name started old.memory.scripts
+  pub started_are : new.memory.started ≡ old.memory.started
 
 ready_of : (w : World) (c : Clustered) → Follows w c → AreReady w c.bases
 ready_of w c follows = record { fits = follows.agrees.fits; sound = follows.sound; spelled = follows.spelled }
@@ -351,17 +388,21 @@ walk_goes : (name : List ℕ) (old : Clustered) (went : Walked) (new : Clustered
     (w : World) → Follows w old → ActsOn (ToStep name) w went.reply new
 walk_goes name old went new walk w follows =
     go (find_named name w.memory.scripts) refl
-    (subst (FitsFound (find_named name w.memory.scripts)) walk.found (follows.agrees.scripts name))
+    (subst (FitsFound (find_named name w.memory.scripts)) walk.found (follows.agrees.memory.scripts name))
   where
     left : (goes_on : Bool) (run : Running) (commits : List Commit) → went.goes_on ≡ goes_on →
         FitsRun run walk.started →
-        FitsScripts (cond goes_on (going_on (stepping name run walk.started) commits w.memory)
-        (without_script name w.memory)).scripts new.scripts
-    left goes_on run commits is here =
-        subst (FitsScripts (cond goes_on (going_on (stepping name run walk.started) commits w.memory)
-        (without_script name w.memory)).scripts)
-        (sym (walk.scripts ∙ ap (λ b. scripts_behind b name walk.started old.scripts) is))
-        (fits_behind goes_on name run walk.started commits w old.scripts (here, follows.agrees.scripts))
+        FitsMemory (cond goes_on (going_on (stepping name run walk.started) commits w.memory)
+        (without_script name w.memory)) new.memory
+    left goes_on run commits is here = record {
+      scripts = subst (FitsScripts (cond goes_on (going_on (stepping name run walk.started) commits w.memory)
+          (without_script name w.memory)).scripts)
+          (sym (walk.scripts ∙ ap (λ b. scripts_behind b name walk.started old.memory.scripts) is))
+          (fits_behind goes_on name run walk.started commits w old.memory.scripts
+          (here, follows.agrees.memory.scripts));
+      started = same_started goes_on (stepping name run walk.started) commits w.memory
+          ∙ follows.agrees.memory.started ∙ sym walk.started_are;
+    }
 
     from : (run : Running) (o : Outcome) → outcome (ToStep name) w ≡ o →
         has_todo (find_named name w.memory.scripts) ≡ is_left run.todo →
@@ -376,9 +417,8 @@ walk_goes name old went new walk w follows =
           agrees = subst (λ x. Agrees (after_outcome x w) new) (sym is) (record {
             limit = after.limit ∙ follows.agrees.limit ∙ sym walk.limit;
             fits = fits;
-            scripts = subst (λ rs. FitsScripts rs new.scripts)
-                (sym (after.scripts ∙ ap (λ (m : Memory). m.scripts) memory))
-                (left went.goes_on run o.commits refl here);
+            memory = fits_kept o.memory _ new.memory after.memory
+                (subst (λ m. FitsMemory m new.memory) (sym memory) (left went.goes_on run o.commits refl here));
           });
         }
     from run o is todo here (Broke other count ends told some can fits) =
@@ -391,7 +431,7 @@ walk_goes name old went new walk w follows =
           agrees = record {
             limit = after.limit ∙ follows.agrees.limit ∙ sym walk.limit;
             fits = subst (λ ps. FitsAll ps new.bases) after.places fits;
-            scripts = subst (λ rs. FitsScripts rs new.scripts) (sym after.scripts) (left false run [] ends here);
+            memory = fits_kept m _ new.memory after.memory (left false run [] ends here);
           };
         }
     from run o is todo here (Wavered before stands ends less told fits) =
@@ -405,7 +445,7 @@ walk_goes name old went new walk w follows =
               (stand (take before x.commits) (with_memory m w))) new) (sym is) (record {
                 limit = after.limit ∙ follows.agrees.limit ∙ sym walk.limit;
                 fits = subst (λ ps. FitsAll ps new.bases) after.places fits;
-                scripts = subst (λ rs. FitsScripts rs new.scripts) (sym after.scripts) (left false run [] ends here);
+                memory = fits_kept m _ new.memory after.memory (left false run [] ends here);
               });
         }
 
@@ -477,19 +517,19 @@ none_ended name key copy old new same t =
     (keeps_missed name old (took_found name key None old new t)))
 
 pub none_stepped : (name key copy : List ℕ) (old : Clustered) (new : Scripts) → copy ≡ name →
-    Took name key None old.scripts new →
-    IsActed (ToStep name) old (Refused (refused.NoScript copy)) (record old { scripts = new })
+    Took name key None old.memory.scripts new →
+    IsActed (ToStep name) old (Refused (refused.NoScript copy)) (with_scripts new old)
 none_stepped name key copy old new same t =
+    let scripts = old.memory.scripts in
     keeps_acted (ToStep name) old (Refused (refused.NoScript copy)) new
-    (subst (λ n. Keeps (ToStep name) old.scripts (Refused (refused.NoScript n)) new) (sym same)
-    (subst (Keeps (ToStep name) old.scripts (Refused (refused.NoScript name)))
-    (took_map name key None old.scripts new t)
-    (keeps_unstepped name old.scripts (took_found name key None old.scripts new t)))) refl
+    (subst (λ n. Keeps (ToStep name) scripts (Refused (refused.NoScript n)) new) (sym same)
+    (subst (Keeps (ToStep name) scripts (Refused (refused.NoScript name))) (took_map name key None scripts new t)
+    (keeps_unstepped name scripts (took_found name key None scripts new t)))) refl
 
 -- what concerns no database, where there was memory
 pub kept_acted : {E : Type 0} (act : Act) (old : Clustered) (scripts : Scripts) (result : Result Reply E) →
-    IfOk result (λ reply. Keeps act old.scripts reply scripts) → IfOk result (λ reply. told_by reply ≡ None) →
-    IfOk result (λ reply. IsActed act old reply (record old { scripts = scripts }))
+    IfOk result (λ reply. Keeps act old.memory.scripts reply scripts) → IfOk result (λ reply. told_by reply ≡ None) →
+    IfOk result (λ reply. IsActed act old reply (with_scripts scripts old))
 kept_acted act old scripts (Ok reply) keeps calm = keeps_acted act old reply scripts keeps calm
 kept_acted act old scripts (Err e) keeps calm = tt
 
@@ -544,7 +584,7 @@ pub record Stepped (name : List ℕ) (old : Clustered) (went : Walked) (left : S
   where
     pub started : Started
     pub key : List ℕ
-    pub took : Took name key (Some started) old.scripts left
+    pub took : Took name key (Some started) old.memory.scripts left
     pub bases : Named Base
     pub same : bases ≡ old.bases
     pub runs : Runs bases went.reply news
@@ -552,34 +592,35 @@ pub record Stepped (name : List ℕ) (old : Clustered) (went : Walked) (left : S
 
 stepped_acted : (name : List ℕ) (old : Clustered) (went : Walked) (left : Scripts) (news : Named Base)
     (scripts : Scripts) → (s : Stepped name old went left news) →
-    scripts ≡ scripts_behind went.goes_on name s.started old.scripts →
-    IsActed (ToStep name) old went.reply (record old { bases = news; scripts = scripts })
+    scripts ≡ scripts_behind went.goes_on name s.started old.memory.scripts →
+    IsActed (ToStep name) old went.reply (record (with_scripts scripts old) { bases = news })
 stepped_acted name old went left news scripts s is =
-    walk_acted name old went (record old { bases = news; scripts = scripts }) (record {
+    walk_acted name old went (record (with_scripts scripts old) { bases = news }) (record {
       started = s.started;
-      found = took_found name s.key (Some s.started) old.scripts left s.took;
+      found = took_found name s.key (Some s.started) old.memory.scripts left s.took;
       walks = subst (λ bs. WalksOn s.started bs went news) s.same s.walks;
       limit = refl;
       given = refl;
       scripts = is;
+      started_are = refl;
     }) (subst (λ bs. Runs bs went.reply news) s.same s.runs)
 
 -- the script ends
 pub stops_acted : (name : List ℕ) (old : Clustered) (went : Walked) (left : Scripts) (news : Named Base) →
     Stepped name old went left news → went.goes_on ≡ false →
-    IsActed (ToStep name) old went.reply (record old { bases = news; scripts = left })
+    IsActed (ToStep name) old went.reply (record (with_scripts left old) { bases = news })
 stops_acted name old went left news s off =
     stepped_acted name old went left news left s
-    (sym (took_map name s.key (Some s.started) old.scripts left s.took)
-    ∙ sym (ap (λ b. scripts_behind b name s.started old.scripts) off))
+    (sym (took_map name s.key (Some s.started) old.memory.scripts left s.took)
+    ∙ sym (ap (λ b. scripts_behind b name s.started old.memory.scripts) off))
 
 -- or goes on behind the statement
 pub goes_acted : (name : List ℕ) (old : Clustered) (went : Walked) (left : Scripts) (news : Named Base)
     (scripts : Scripts) → (s : Stepped name old went left news) → (went.goes_on ≡ true)
     × (scripts ≡ insert left name (record { script = s.started.script; done = s.started.done + 1 })) →
-    IsActed (ToStep name) old went.reply (record old { bases = news; scripts = scripts })
+    IsActed (ToStep name) old went.reply (record (with_scripts scripts old) { bases = news })
 goes_acted name old went left news scripts s (on, put) =
     stepped_acted name old went left news scripts s
     (put ∙ ap (λ m. insert m name (record { script = s.started.script; done = s.started.done + 1 }))
-    (sym (took_map name s.key (Some s.started) old.scripts left s.took))
-    ∙ sym (ap (λ b. scripts_behind b name s.started old.scripts) on))
+    (sym (took_map name s.key (Some s.started) old.memory.scripts left s.took))
+    ∙ sym (ap (λ b. scripts_behind b name s.started old.memory.scripts) on))

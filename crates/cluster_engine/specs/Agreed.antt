@@ -3,7 +3,7 @@ use Rattle.std.specs.Prelude.{◌≡◌, ℕ, List, drop, Option, Some, None}
 use Rattle.std.specs.FinMap.{FinMap, get}
 use Rattle.slon_base.specs.Keeper.{key_cmp}
 use Rattle.slon_model.specs.Names.{Named, find_named}
-use Rattle.slon_model.specs.Sessions.{World, Running}
+use Rattle.slon_model.specs.Sessions.{World, Memory, Running}
 use Rattle.slon_laws.specs.Sound.{Sound}
 use Rattle.slon_laws.specs.Spelled.{IsSpelled}
 use Rattle.slon_laws.specs.Worlds.{AllPlaces}
@@ -15,13 +15,18 @@ use Rattle.cluster_engine.specs.declared.scripts.Started.{Started}
 abbrev pub Scripts : Type 0
 Scripts = FinMap key_cmp Started
 
+-- What the code keeps of a session besides its databases: its scripts, and the nodes whose slon is on.
+pub record Remembered : Type 0 where
+  pub scripts : Scripts
+  pub started : List ℕ
+
 -- What the code keeps of a session: how many databases it allows, how many stores it was given, its databases in the
--- order of their making, and its scripts.
+-- order of their making, and the rest.
 pub record Clustered : Type 0 where
   pub limit : ℕ
   pub given : ℕ
   pub bases : Named Base
-  pub scripts : Scripts
+  pub memory : Remembered
 
 -- A script that runs agrees with one of the rules. The numbers that it emitted, and since when it waits, are not kept.
 pub record FitsRun (run : Running) (s : Started) : Type 0 where
@@ -38,11 +43,16 @@ FitsFound run s = ⊥
 abbrev pub FitsScripts : Named Running → Scripts → Type 0
 FitsScripts runs scripts = (name : List ℕ) → FitsFound (find_named name runs) (get scripts name)
 
+-- what is in memory agrees; nothing is kept yet of queues, cuts and the clock
+pub record FitsMemory (m : Memory) (r : Remembered) : Type 0 where
+  pub scripts : FitsScripts m.scripts r.scripts
+  pub started : m.started ≡ r.started
+
 -- The rules agree with the code.
 pub record Agrees (w : World) (c : Clustered) : Type 0 where
   pub limit : w.limit ≡ c.limit
   pub fits : FitsAll w.places c.bases
-  pub scripts : FitsScripts w.memory.scripts c.scripts
+  pub memory : FitsMemory w.memory c.memory
 
 -- They do, and each database has what each one of a legal history has.
 pub record Follows (w : World) (c : Clustered) : Type 0 where

@@ -7,4 +7,9 @@ use Rattle.cluster_engine.specs.declared.cluster.Cluster.{Cluster}
 
 abbrev pub cluster_of : {K : Type 0} {g : Ghosts K} → (K → Kept) → Cluster K g → Clustered
 cluster_of kept c =
-    record { limit = c.limit; given = c.given; bases = bases_of kept c.databases.items; scripts = c.scripts }
+    record {
+      limit = c.limit;
+      given = c.given;
+      bases = bases_of kept c.databases.items;
+      memory = record { scripts = c.scripts; started = c.started.items };
+    }

@@ -8,7 +8,7 @@ use Rattle.slon_model.specs.declared.reply.Reply.{Reply}
 use Rattle.slon_model.specs.declared.reply.Reply.TheVariants.{Refused}
 use Rattle.slon_model.specs.Names.{Named, find_named}
 use Rattle.slon_model.specs.Tasks.{Act}
-use Rattle.slon_model.specs.Sessions.{World, Running, Outcome, stand, after_outcome}
+use Rattle.slon_model.specs.Sessions.{World, Memory, Running, Outcome, stand, after_outcome}
 use Rattle.slon_model.specs.Scripts.{Stepping, going_on, without_script, statement_step, step_todo}
 use Rattle.slon_model.specs.World.{outcome, CanFail, broken_at, wavering, doubt_reply, is_left}
 use Rattle.app_store.specs.Base.{Base}
@@ -19,16 +19,25 @@ use Rattle.cluster_engine.specs.declared.scripts.Walked.{Walked}
 
 -- ---- what concerns no database
 
--- the reply that is due, no commit, and scripts that agree after it
-pub record KeepsTo (o : Outcome) (reply : Reply) (new : Scripts) : Type 0 where
+-- the reply that is due, no commit, and this memory
+pub record IsQuietly (o : Outcome) (reply : Reply) (IsLeft : Memory → Type 0) : Type 0 where
   pub told : reply ≡ o.reply
   pub commits : o.commits ≡ []
   pub falls : o.falls ≡ None
-  pub scripts : FitsScripts o.memory.scripts new
+  pub memory : IsLeft o.memory
+
+-- scripts that agree, and no slon is turned
+pub record LeavesScripts (old : Memory) (scripts : Scripts) (new : Memory) : Type 0 where
+  pub agree : FitsScripts new.scripts scripts
+  pub started : new.started ≡ old.started
+
+abbrev pub KeepsTo : Memory → Outcome → Reply → Scripts → Type 0
+KeepsTo old o reply new = IsQuietly o reply (LeavesScripts old new)
 
 -- from every world whose scripts agree
 abbrev pub Keeps : Act → Scripts → Reply → Scripts → Type 0
-Keeps act old reply new = (w : World) → FitsScripts w.memory.scripts old → KeepsTo (outcome act w) reply new
+Keeps act old reply new =
+    (w : World) → FitsScripts w.memory.scripts old → KeepsTo w.memory (outcome act w) reply new
 
 -- ---- a statement
 

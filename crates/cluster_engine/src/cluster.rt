@@ -1,5 +1,5 @@
 // The databases of a session, and what each command does with them.
-ghost use Rattle.std.specs.Prelude.{None, ◌≡◌, length, true, false, Some, IfOk};
+ghost use Rattle.std.specs.Prelude.{None, ◌≡◌, length, true, false, Some, IfOk, is_ok};
 ghost use Rattle.std.specs.List.{position};
 ghost use Rattle.std.specs.Str.{bytes_eq};
 ghost use Rattle.slon_base.specs.Keeper.{nothing};
@@ -7,25 +7,26 @@ ghost use Rattle.slon_model.specs.declared.reply.Answer.TheVariants.{Done as IsD
 ghost use Rattle.slon_model.specs.declared.reply.Reply.TheVariants.{Accepted as IsAccepted};
 ghost use Rattle.slon_model.specs.Names.{find_named};
 ghost use Rattle.slon_model.specs.Spoken.{IsSpoken};
-ghost use Rattle.slon_model.specs.Tasks.{subject_of, ToRead, ToStep, ToForget};
+ghost use Rattle.slon_model.specs.Tasks.{subject_of, ToRead, ToStep, ToForget, ToStart, ToStop};
 ghost use Rattle.slon_model.specs.World.{start};
 ghost use Rattle.app_store.specs.Base.{base_of};
 ghost use Rattle.slonik_exec.specs.Heard.{AreDistinct};
 ghost use Rattle.cluster_engine.specs.Agreed.{Agrees};
 ghost use Rattle.cluster_engine.specs.Calls as calls;
 ghost use Rattle.cluster_engine.specs.Calls.{Moves, IsActed, Steps, ReplyCaused, StaysCertain, StaysQuiet, Adopts};
-ghost use Rattle.cluster_engine.specs.Calls.{Makes, MakingReplyCaused, MakesCertain, is_one, is_reading};
+ghost use Rattle.cluster_engine.specs.Calls.{Makes, MakingReplyCaused, MakesCertain, is_one, is_reading, takes_none};
 ghost use Rattle.cluster_engine.specs.Clustered.{cluster_of};
 
 use crate::scripts::{Started, Walked, end_script, key_of, run_next, start_script};
+use crate::slons::{add_slon, remove_slon};
 use app_store::Database;
 use node_keeper::{Fuse, Keeper};
 use slon_base::{ByteMap, Text};
 use slon_model::{Answer, Command, DbFault, Reading, Refusal, Reply};
-use slonik_exec::{Named, NoMemory, answered, index_of, refused};
+use slonik_exec::{Named, NoMemory, answered, has_node, index_of, refused};
 use std::alloc::Global;
 
-/// The databases of a session, in the order of their making, and the scripts that run.
+/// The databases of a session, in the order of their making, the scripts that run, and which slons are on.
 #[derive(Drop)]
 pub struct Cluster<K: Keeper> {
     alloc: Global,
@@ -34,6 +35,8 @@ pub struct Cluster<K: Keeper> {
     given: u32,
     databases: Vec<Named<K>>,
     scripts: ByteMap<Started>,
+    // The nodes whose slon is on.
+    started: Vec<u32>,
 }
 
 /// Whether the store of a new database held a row.
@@ -57,6 +60,7 @@ impl<K: Keeper> Cluster<K> {
             given: 0,
             databases: Vec::new(alloc),
             scripts: ByteMap::new(alloc),
+            started: Vec::new(alloc),
         }
     }
 
@@ -101,7 +105,9 @@ impl<K: Keeper> Cluster<K> {
         ensures { IfOk result (λ reply. Moves command.now (cluster_of K.kept self.old) reply
             (cluster_of K.kept self.new)) }
     {
-        let database = command.name();
+        let Some(database) = command.name() else {
+            unreachable!();
+        };
         let Some(i) = self.index_of(database) else {
             let database = database.copy(self.alloc)?;
             return Ok(Reply::Refused(Refusal::NoDatabase { database }));
@@ -154,19 +160,45 @@ impl<K: Keeper> Cluster<K> {
         end_script(self.alloc, &mut self.scripts, name)
     }
 
-    /// Grants a new database, has a database that is there obey, and steps and ends scripts.
+    /// Turns the slon of a node on, if a database is the node.
+    fn turn_on(&mut self, node: u32) -> Result<Reply, NoMemory>
+        ensures { IfOk result (λ reply. IsActed (ToStart node) (cluster_of K.kept self.old) reply
+            (cluster_of K.kept self.new)) }
+    {
+        if !has_node(&self.databases, node) {
+            return Ok(Reply::Refused(Refusal::NoNode { node }));
+        }
+        add_slon(&mut self.started, node)?;
+        Ok(Reply::Accepted(Answer::Done))
+    }
+
+    /// Turns the slon of a node off, if a database is the node.
+    fn turn_off(&mut self, node: u32) -> Reply
+        ensures { IsActed (ToStop node) (cluster_of K.kept self.old) result (cluster_of K.kept self.new) }
+    {
+        if !has_node(&self.databases, node) {
+            return Reply::Refused(Refusal::NoNode { node });
+        }
+        remove_slon(&mut self.started, node);
+        Reply::Accepted(Answer::Done)
+    }
+
+    /// Grants a new database, has a database that is there obey, steps and ends scripts, and turns slons on and off.
     fn obey(&mut self, command: &Command) -> Result<Reply, NoMemory>
         requires spoken { IsSpoken command.now }
         requires distinct { AreDistinct (cluster_of K.kept self.old).bases }
         requires read { is_reading (subject_of command.now) ≡ false }
-        ensures { IfOk result (λ reply. Moves command.now (cluster_of K.kept self.old) reply
+        ensures moves { IfOk result (λ reply. Moves command.now (cluster_of K.kept self.old) reply
             (cluster_of K.kept self.new)) }
+        ensures spares { takes_none (subject_of command.now) ≡ true → is_ok result ≡ true }
     {
         match command {
             Command::Database { name } => self.grant(name),
             Command::Slonik { .. } => unreachable!(),
             Command::Step { script } => self.walk(script),
             Command::Kill { script } => self.end(script),
+            Command::Start { node } => self.turn_on(*node),
+            Command::Stop { node } => Ok(self.turn_off(*node)),
             _ => self.ask(command),
         }
     }
@@ -192,6 +224,7 @@ impl<K: Keeper> Cluster<K> {
         ensures quiet { IfOk result (λ reply. StaysQuiet reply (cluster_of K.kept self.old)
             (cluster_of K.kept self.new)) }
         ensures distinct { IfOk result (λ reply. AreDistinct (cluster_of K.kept self.new).bases) }
+        ensures spares { takes_none (subject_of command) ≡ true → is_ok result ≡ true }
     {
         match command {
             Command::Slonik { script, reading } => self.start(&script, reading),

@@ -31,7 +31,8 @@ pub(crate) struct Walked {
     pub(crate) goes_on: bool,
 }
 
-pub(crate) fn is_accepted(reply: &Reply) -> bool
+/// Whether a reply says that the command was accepted, and the commit not in doubt.
+pub fn is_accepted(reply: &Reply) -> bool
     ensures { result ≡ world.is_accepted reply.now }
 {
     match reply {

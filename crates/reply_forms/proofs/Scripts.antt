@@ -1,5 +1,6 @@
 -- What a command about a script comes to is told in words that have their forms, and the scripts that run say lines.
-use Rattle.std.proofs.Common.{◌≡◌, ℕ, true, false, cond, not, List, [], ◌∷◌, Option, Some, None, refl}
+use Rattle.std.proofs.Common.{◌≡◌, ℕ, true, false, cond, not, List, [], ◌∷◌, Option, Some, None, refl, sym}
+use Rattle.std.proofs.Common.{subst}
 use Rattle.std.specs.Prelude.{is_some, codes, Result, Ok, Err}
 use Rattle.std.specs.List.{AllByRecursion}
 use Rattle.std.specs.Str.{bytes_eq}
@@ -9,17 +10,18 @@ use Rattle.slonik_script.specs.declared.script.Statement.{Statement}
 use Rattle.slonik_script.specs.declared.script.Statement.TheVariants.{Single, Try as Tries}
 use Rattle.slon_model.specs.declared.reading.Reading.{Reading}
 use Rattle.slon_model.specs.declared.reading.Reading.TheVariants.{Read, Wrong}
-use Rattle.slon_model.specs.declared.reply.Answer.TheVariants.{Echoed}
+use Rattle.slon_model.specs.declared.reply.Answer.TheVariants.{Done, Echoed}
 use Rattle.slon_model.specs.declared.reply.Refusal.{Refusal}
 use Rattle.slon_model.specs.declared.reply.Refusal.TheVariants as refused
 use Rattle.slon_model.specs.declared.reply.Reply.{Reply}
-use Rattle.slon_model.specs.declared.reply.Reply.TheVariants.{Refused}
+use Rattle.slon_model.specs.declared.reply.Reply.TheVariants.{Accepted, Refused}
 use Rattle.slon_model.specs.Names.{Named, find_named, without}
 use Rattle.slon_model.specs.Spoken.{IsName, IsOrder, IsStatement, AreStatements, AreNodeLines, IsReading, IsAct}
-use Rattle.slon_model.specs.Tasks.{Act, ToRead, ToStep, ToForget}
-use Rattle.slon_model.specs.Sessions.{World, Running, Stated, Outcome, first_beyond, no_change}
+use Rattle.slon_model.specs.Tasks.{Act, ToRead, ToStep, ToForget, ToStart, ToStop}
+use Rattle.slon_model.specs.Sessions.{World, Memory, Running, Stated, Outcome, first_beyond, no_change}
 use Rattle.slon_model.specs.Scripts.{Stepping, ending, done_by, single, order_step, statement_step, step_todo, step_of}
 use Rattle.slon_model.specs.Scripts.{ordered, quiet, read_as, kill_of}
+use Rattle.slon_model.specs.Turns.{at_node, switched}
 use Rattle.slon_model.specs.World.{outcome}
 use Rattle.slon_model.proofs.Names.{all_found}
 use Rattle.reply_forms.proofs.Words.{Reads}
@@ -120,6 +122,17 @@ kill_ends : (name : List ℕ) (o : Option Running) (w : World) → IsName name �
 kill_ends name None w named known = unchanged w _ known named
 kill_ends name (Some run) w named known = ended name w _ known tt
 
+-- ---- the slon of a node
+
+switched_ends : (node : ℕ) (m : Memory) (w : World) → m.scripts ≡ w.memory.scripts → Known w → Ends (switched node m w)
+switched_ends node m w same known =
+    elim (is_some (at_node node w))
+    as (λ b. Ends (cond b (record { reply = Accepted Done; commits = []; falls = None; memory = m })
+    (no_change w (Refused (refused.NoNode node))))) [
+      | true ↦ record { reply = tt; commits = tt; scripts = subst AreRunning (sym same) known.scripts }
+      | false ↦ unchanged w _ known tt
+    ]
+
 -- ---- each command
 
 pub outcome_ends : (act : Act) (w : World) → IsAct act → Known w → Ends (outcome act w)
@@ -133,3 +146,5 @@ outcome_ends (ToStep name) w act known =
     step_ends name (find_named name w.memory.scripts) w act.0 known
     (λ run found. all_found RunReads name run w.memory.scripts known.scripts found)
 outcome_ends (ToForget name) w act known = kill_ends name (find_named name w.memory.scripts) w act.0 known
+outcome_ends (ToStart node) w act known = switched_ends node _ w refl known
+outcome_ends (ToStop node) w act known = switched_ends node _ w refl known

@@ -8,9 +8,9 @@ use Rattle.slon_model.specs.declared.reply.Reply.TheVariants.{Accepted}
 use Rattle.slon_model.specs.Names.{Named, find_named, put_named}
 use Rattle.slon_model.specs.Spoken.{IsName, IsSubject, IsSpoken}
 use Rattle.slon_model.specs.Tasks.{Act, ToStep}
-use Rattle.slon_model.specs.Place.{Place, is_running, node_id, fallen}
+use Rattle.slon_model.specs.Place.{Place, fallen}
 use Rattle.slon_model.specs.Deciding.{Fate, AllStand, Breaks, DoubtsAt, place_by}
-use Rattle.slon_model.specs.Sessions.{World, Memory, Commit, start, forgotten, remembered, changed, in_doubt}
+use Rattle.slon_model.specs.Sessions.{World, Memory, Commit, start, changed, in_doubt}
 use Rattle.slon_model.specs.Sessions.{felled, felled_at}
 use Rattle.slon_model.specs.World.{Happening, Step, Grants, Denies, Misses, Asks, Acts, Acting, Leads, outcome}
 use Rattle.slon_model.specs.World.{memory_after, spoilt, broken_at, wavering, wavering_at, doubt_reply, CanFail, MayEnd}
@@ -18,27 +18,16 @@ use Rattle.slon_model.specs.World.{reply_by, world_by}
 use Rattle.slon_laws.specs.Turning.{Carries}
 use Rattle.slon_laws.specs.Worlds.{AllSpoken}
 use Rattle.slon_laws.proofs.Acting.{acting_carries}
+use Rattle.slon_laws.proofs.Memories.{remembered_kept}
 use Rattle.reply_forms.proofs.Words.{Reads}
 use Rattle.reply_forms.proofs.Statements.{AreNamed, AreCommits, name_found}
 use Rattle.reply_forms.proofs.Scripts.{AreRunning, Known, Ends, without_running, outcome_ends}
 
 -- ---- the scripts of a session
 
--- nothing that a database forgets is a script
-remembered_scripts : (q : Place) (m : Memory) → (remembered q m).scripts ≡ m.scripts
-remembered_scripts q m = by (is_running q.standing)
-  where
-    down : (o : Option ℕ) → (forgotten o m).scripts ≡ m.scripts
-    down None = refl
-    down (Some node) = refl
-
-    by : (b : Bool) → (cond b m (forgotten (node_id q) m)).scripts ≡ m.scripts
-    by true = refl
-    by false = down (node_id q)
-
 changed_running : (name : List ℕ) (q : Place) (w : World) → AreRunning w.memory.scripts →
     AreRunning (changed name q w).memory.scripts
-changed_running name q w all = subst AreRunning (sym (remembered_scripts q w.memory)) all
+changed_running name q w all = subst AreRunning (sym (remembered_kept q w.memory).scripts) all
 
 felled_running : (o : Option (List ℕ)) (w : World) → AreRunning w.memory.scripts →
     AreRunning (felled o w).memory.scripts

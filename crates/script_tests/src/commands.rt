@@ -30,6 +30,8 @@ fn verb(command: &Command) -> &'static str {
         Command::Slonik { .. } => "slonik",
         Command::Step { .. } => "step",
         Command::Kill { .. } => "kill",
+        Command::Start { .. } => "start",
+        Command::Stop { .. } => "stop",
     }
 }
 
@@ -69,6 +71,7 @@ fn push_rest(line: &mut String, command: &Command) -> Result<(), Fail> {
         }
         Command::Delete { key, .. } => push_word(line, key),
         Command::Crash { crash, .. } => push_crash(line, crash),
+        Command::Start { node } | Command::Stop { node } => Ok(write!(line, " {node}")?),
         _ => Ok(()),
     }
 }
@@ -84,7 +87,7 @@ fn push_some(line: &mut String, word: Option<&Text>) -> Result<(), Fail> {
 /// Writes a command in its one spelling.
 fn spell(line: &mut String, command: &Command) -> Result<(), Fail> {
     line.push_str(verb(command))?;
-    push_word(line, command.name())?;
+    push_some(line, command.name())?;
     push_some(line, command.transaction())?;
     push_some(line, command.table())?;
     push_rest(line, command)
@@ -151,6 +154,8 @@ const COMMANDS: &[(&str, &str)] = &[
     ("up a", "up a"),
     ("step s-1", "step s-1"),
     ("kill s", "kill s"),
+    ("start 1", "start 1"),
+    ("stop 2147483647", "stop 2147483647"),
     (
         "database abcdefghijklmnopqrstuvwxyz01234",
         "database abcdefghijklmnopqrstuvwxyz01234",
@@ -189,6 +194,13 @@ const BAD_LINES: &[&str] = &[
     "table a s.abcdefghijklmnopqrstuvwxyz_01234x 1",
     "step",
     "kill a b",
+    "start",
+    "start 0",
+    "start 01",
+    "start 2147483648",
+    "start 99999999999999999999999",
+    "stop a",
+    "stop 1 2",
     "slonik s <<",
     "begin a",
     "begin a t u",

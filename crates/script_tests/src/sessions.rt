@@ -20,7 +20,10 @@ fn tell_reading(seen: &mut String, reading: &Reading) -> Result<(), Fail> {
 
 /// Writes the name in a command, and of a script what it was read as.
 fn tell_command(seen: &mut String, command: &Command) -> Result<(), Fail> {
-    write!(seen, "[{}]", command.name().as_str())?;
+    match command.name() {
+        Some(name) => write!(seen, "[{}]", name.as_str())?,
+        None => seen.push_str("[]")?,
+    }
     match command {
         Command::Slonik { reading, .. } => tell_reading(seen, reading),
         _ => Ok(()),

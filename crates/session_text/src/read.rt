@@ -15,6 +15,9 @@ use thiserror::Error;
 /// The greatest number of columns of a table.
 const COLUMN_LIMIT: u32 = 16;
 
+/// The greatest id of a node.
+const GREATEST_ID: u32 = 2_147_483_647;
+
 /// Why a line was not read.
 #[derive(Clone, Copy, Debug, Drop, Error, PartialEq, Eq)]
 pub enum LineFault {
@@ -140,6 +143,30 @@ fn kill_of(alloc: Global, words: &[&[u8]]) -> Result<Command, Misread>
     })
 }
 
+/// `start N`
+fn start_of(words: &[&[u8]]) -> Result<Command, Misread>
+    ensures { Gives (lines.start_of (map (λ word. word.now) words.now)) result }
+{
+    let [node] = words else {
+        return Err(Misread::BadForm);
+    };
+    Ok(Command::Start {
+        node: number_of(node, 1, GREATEST_ID)?,
+    })
+}
+
+/// `stop N`
+fn stop_of(words: &[&[u8]]) -> Result<Command, Misread>
+    ensures { Gives (lines.stop_of (map (λ word. word.now) words.now)) result }
+{
+    let [node] = words else {
+        return Err(Misread::BadForm);
+    };
+    Ok(Command::Stop {
+        node: number_of(node, 1, GREATEST_ID)?,
+    })
+}
+
 /// Whether a word is this verb.
 fn is_verb(word: &[u8], verb: &str) -> bool
     ensures { result ≡ bytes_eq word.now verb.now }
@@ -179,6 +206,10 @@ fn command_of(alloc: Global, verb: &[u8], rest: &[&[u8]]) -> Result<Command, Mis
         step_of(alloc, rest)
     } else if is_verb(verb, "kill") {
         kill_of(alloc, rest)
+    } else if is_verb(verb, "start") {
+        start_of(rest)
+    } else if is_verb(verb, "stop") {
+        stop_of(rest)
     } else {
         Err(Misread::BadForm)
     }

@@ -95,21 +95,20 @@ pub fn values_of(alloc: Global, words: &[&[u8]]) -> Result<TextList, Misread>
 
 /// The number from `low` to `high` that the word spells.
 pub fn number_of(word: &[u8], low: u32, high: u32) -> Result<u32, Misread>
-    requires { high < 2 ^ 24 }
     ensures { Gives (number_between low high word.now) result }
 {
     if !is_plain_number(word) {
         return Err(Misread::BadForm);
     }
-    let mut number = 0;
+    let mut number = 0_u64;
     for digit in word {
-        number = 10 * number + u32::from(*digit - b'0');
-        if number > high {
+        number = 10 * number + u64::from(*digit - b'0');
+        if number > u64::from(high) {
             return Err(Misread::BadForm);
         }
     }
-    if number < low {
+    if number < u64::from(low) {
         return Err(Misread::BadForm);
     }
-    Ok(number)
+    Ok(number as u32)
 }

@@ -10,16 +10,18 @@ use Rattle.slon_model.specs.declared.reading.Reading.{Reading}
 use Rattle.slon_model.specs.declared.reading.Reading.TheVariants.{Read, Wrong}
 use Rattle.slon_model.specs.declared.reply.Refusal.{Refusal}
 use Rattle.slon_model.specs.declared.reply.Refusal.TheVariants as refused
-use Rattle.slon_model.specs.declared.reply.Reply.TheVariants.{Refused}
+use Rattle.slon_model.specs.declared.reply.Answer.TheVariants.{Done}
+use Rattle.slon_model.specs.declared.reply.Reply.TheVariants.{Accepted, Refused}
 use Rattle.slon_model.specs.Names.{Named, find_named, put_named}
-use Rattle.slon_model.specs.Tasks.{Act, ToRead, ToStep, ToForget}
+use Rattle.slon_model.specs.Tasks.{Act, ToRead, ToStep, ToForget, ToStart, ToStop}
 use Rattle.slon_model.specs.Place.{Place, fallen}
 use Rattle.slon_model.specs.Moves.{is_last_stamp}
 use Rattle.slon_model.specs.Deciding.{Fate, AllStand, Breaks, DoubtsAt}
-use Rattle.slon_model.specs.Sessions.{World, Running, Commit, Stated, committing, in_doubt, stood_at, stood, felled}
-use Rattle.slon_model.specs.Sessions.{felled_at, beyond_at, first_beyond, no_change}
+use Rattle.slon_model.specs.Sessions.{World, Memory, Running, Commit, Stated, committing, in_doubt, stood_at, stood}
+use Rattle.slon_model.specs.Sessions.{felled, felled_at, beyond_at, first_beyond, no_change}
 use Rattle.slon_model.specs.Scripts.{Stepping, done_by, single, order_step, statement_step, step_todo, step_of, read_as}
 use Rattle.slon_model.specs.Scripts.{ordered, kill_of}
+use Rattle.slon_model.specs.Turns.{at_node, switched}
 use Rattle.slon_model.specs.World.{Happening, Acting, outcome, broken_at, wavering, wavering_at}
 use Rattle.slon_model.specs.World.{world_by}
 use Rattle.slon_laws.specs.Turning.{Commits, Falls, Doubts, Carries}
@@ -65,6 +67,15 @@ kill_within : (name : List ℕ) (o : Option Running) (w : World) → AreWithin (
 kill_within name None w = refl
 kill_within name (Some run) w = refl
 
+switched_within : (node : ℕ) (m : Memory) (w : World) → AreWithin (switched node m w).commits w.places
+switched_within node m w = by (is_some (at_node node w))
+  where
+    by : (b : Bool) →
+        AreWithin (cond b (record { reply = Accepted Done; commits = []; falls = None; memory = m })
+        (no_change w (Refused (refused.NoNode node)))).commits w.places
+    by true = refl
+    by false = refl
+
 outcome_within : (act : Act) (w : World) → AreWithin (outcome act w).commits w.places
 outcome_within (ToRead name reading) w = by (is_some (find_named name w.memory.scripts))
   where
@@ -74,6 +85,8 @@ outcome_within (ToRead name reading) w = by (is_some (find_named name w.memory.s
     by false = read_within name reading w
 outcome_within (ToStep name) w = step_within name (find_named name w.memory.scripts) w
 outcome_within (ToForget name) w = kill_within name (find_named name w.memory.scripts) w
+outcome_within (ToStart node) w = switched_within node _ w
+outcome_within (ToStop node) w = switched_within node _ w
 
 -- ---- commits that stand
 

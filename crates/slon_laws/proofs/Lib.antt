@@ -7,6 +7,7 @@ pub mod Keeps
 pub mod Keys
 pub mod Laws
 pub mod Locks
+pub mod Memories
 pub mod Opens
 pub mod Sounds
 pub mod Spells

@@ -6,7 +6,6 @@ ghost use Rattle.slon_model.specs.declared.command.Command.TheVariants.{Database
 ghost use Rattle.slon_model.specs.Names.{find_named};
 ghost use Rattle.slon_model.specs.Printed.{reply_line};
 ghost use Rattle.slon_model.specs.Spoken.{IsSpoken};
-ghost use Rattle.slon_model.specs.World as world;
 ghost use Rattle.slon_model.specs.World.{World};
 ghost use Rattle.session_text.specs.Handing.{Stays, Comes};
 ghost use Rattle.session_text.specs.Reading.{session_limit};
@@ -25,7 +24,7 @@ ghost use Rattle.slon_main.specs.Running.{FetchesSo};
 ghost use Rattle.slon_main.specs.Running.{Replies, RepliesInPart, Starts, RunsSession, NamesMade, StopsAt};
 ghost use Rattle.slon_main.specs.Running.{is_of_store, is_of_output, is_of_command, is_no_store};
 
-use cluster_engine::{Cluster, NoMemory};
+use cluster_engine::{Cluster, NoMemory, is_accepted};
 use session_reader::{ReadFault, SessionReader};
 use session_text::{numbers_fit, print_line};
 use slon_base::{Files, OutFault, Shelf, Sink, Text};
@@ -198,16 +197,6 @@ fn obey<S: Shelf>(
             Ok(reply) => Ok(reply),
             Err(NoMemory) => Err(Stop::NoMemory),
         },
-    }
-}
-
-fn is_accepted(reply: &Reply) -> bool
-    ensures { result ≡ world.is_accepted reply.now }
-{
-    match reply {
-        Reply::Accepted(_) => true,
-        Reply::Refused(_) => false,
-        Reply::InDoubt { .. } => false,
     }
 }
 

@@ -19,5 +19,6 @@ pub mod Sets
 pub mod Snapshots
 pub mod Spoken
 pub mod Tasks
+pub mod Turns
 pub mod Views
 pub mod World

@@ -6,7 +6,6 @@ use Rattle.std.specs.List.{list_any}
 use Rattle.slonik_script.specs.declared.script.Statement.{Statement}
 use Rattle.slon_model.specs.declared.reply.Answer.{Answer}
 use Rattle.slon_model.specs.declared.reply.Refusal.{Refusal}
-use Rattle.slon_model.specs.declared.reply.Refusal.TheVariants as refused
 use Rattle.slon_model.specs.declared.reply.Reply.{Reply}
 use Rattle.slon_model.specs.Names.{Named, find_named, put_named}
 use Rattle.slon_model.specs.Maps.{Map, Map2, without_entry}

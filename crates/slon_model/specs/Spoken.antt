@@ -1,5 +1,5 @@
 -- What the parts of a command are like that a session says.
-use Rattle.std.specs.Prelude.{◌≡◌, ◌≤◌, ℕ, true, List, [], length}
+use Rattle.std.specs.Prelude.{◌≡◌, ◌≤◌, ℕ, true, List, [], length, Option, Some, None}
 use Rattle.std.specs.List.{list_all, AllByRecursion}
 use Rattle.slonik_script.specs.declared.refusal.ScriptRefusal.{ScriptRefusal}
 use Rattle.slonik_script.specs.declared.refusal.ScriptRefusal.TheVariants.{UnknownOption, MissingOption, NotInProfile}
@@ -11,10 +11,10 @@ use Rattle.slonik_script.specs.declared.script.Statement.TheVariants.{Single}
 use Rattle.slon_model.specs.declared.command.Command.{Command}
 use Rattle.slon_model.specs.declared.reading.Reading.{Reading}
 use Rattle.slon_model.specs.declared.reading.Reading.TheVariants.{Read, Wrong}
-use Rattle.slon_model.specs.Forms.{is_name, is_table_name, is_value, is_line}
+use Rattle.slon_model.specs.Forms.{is_name, is_table_name, is_value, is_line, greatest_id}
 use Rattle.slon_model.specs.Rows.{Change, Put, Set, Remove}
-use Rattle.slon_model.specs.Tasks.{Task, ToMake, ToOpen, ToWrite, ToCommit, ToAbort, ToList, Act, ToRead}
-use Rattle.slon_model.specs.Tasks.{Subject, OnNew, OnOne, OnAll, script_named, subject_of}
+use Rattle.slon_model.specs.Tasks.{Task, ToMake, ToOpen, ToWrite, ToCommit, ToAbort, ToList, Act, ToRead, ToStart}
+use Rattle.slon_model.specs.Tasks.{ToStop, Subject, OnNew, OnOne, OnAll, script_named, subject_of}
 
 abbrev pub IsName : List ℕ → Type 0
 IsName word = is_name word ≡ true
@@ -92,12 +92,22 @@ abbrev pub IsReading : Reading → Type 0
 IsReading (Read script) = AreNodeLines script.nodes × AreStatements script.statements
 IsReading (Wrong refusal) = IsLine (wrong_text refusal)
 
+-- the id of a node
+abbrev pub IsNode : ℕ → Type 0
+IsNode node = (1 ≤ node) × (node ≤ greatest_id)
+
 abbrev pub IsRead : Act → Type 0
 IsRead (ToRead name reading) = IsReading reading
+IsRead (ToStart node) = IsNode node
+IsRead (ToStop node) = IsNode node
 IsRead others = Unit {0}
 
+abbrev pub AreNames : Option (List ℕ) → Type 0
+AreNames None = Unit {0}
+AreNames (Some name) = IsName name
+
 abbrev pub IsAct : Act → Type 0
-IsAct act = IsName (script_named act) × IsRead act
+IsAct act = AreNames (script_named act) × IsRead act
 
 abbrev pub IsSubject : Subject → Type 0
 IsSubject (OnNew name) = IsName name

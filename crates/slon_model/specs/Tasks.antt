@@ -1,10 +1,11 @@
--- What a command is about: a new database, a task of one database, or a script, which concerns the whole session.
-use Rattle.std.specs.Prelude.{ℕ, List, [], ◌∷◌, Option, Some, None}
+-- What a command is about: a new database, a task of one database, or a script or a slon, which concern the whole
+-- session.
+use Rattle.std.specs.Prelude.{ℕ, List, [], ◌∷◌, Option, Some, None, unwrap_or}
 use Rattle.slon_model.specs.declared.command.Crash.{Crash as CrashKind}
 use Rattle.slon_model.specs.declared.command.Command.{Command}
 use Rattle.slon_model.specs.declared.command.Command.TheVariants.{Database, Table, Begin, Insert, Update, Delete}
 use Rattle.slon_model.specs.declared.command.Command.TheVariants.{Commit, Abort, Rows, Status, Crash, Up}
-use Rattle.slon_model.specs.declared.command.Command.TheVariants.{Slonik, Step, Kill}
+use Rattle.slon_model.specs.declared.command.Command.TheVariants.{Slonik, Step, Kill, Start, Stop}
 use Rattle.slon_model.specs.declared.reading.Reading.{Reading}
 use Rattle.slon_model.specs.Rows.{Row, Change, Put, Set, Remove}
 
@@ -27,11 +28,13 @@ pub data Task : Type 0 where
   ToCrash : (crash : CrashKind) → Task
   ToRise : Task
 
--- What a session is to do with its scripts.
+-- What a session is to do with its scripts, and with the slon of a node.
 pub data Act : Type 0 where
   ToRead : (name : List ℕ) (reading : Reading) → Act
   ToStep : (name : List ℕ) → Act
   ToForget : (name : List ℕ) → Act
+  ToStart : (node : ℕ) → Act
+  ToStop : (node : ℕ) → Act
 
 pub data Subject : Type 0 where
   OnNew : (name : List ℕ) → Subject
@@ -67,18 +70,21 @@ subject_of (Up database) = OnOne database ToRise
 subject_of (Slonik name reading) = OnAll (ToRead name reading)
 subject_of (Step name) = OnAll (ToStep name)
 subject_of (Kill name) = OnAll (ToForget name)
+subject_of (Start node) = OnAll (ToStart node)
+subject_of (Stop node) = OnAll (ToStop node)
 
 -- ---- the words that a command names
 
-abbrev pub script_named : Act → List ℕ
-script_named (ToRead name reading) = name
-script_named (ToStep name) = name
-script_named (ToForget name) = name
+abbrev pub script_named : Act → Option (List ℕ)
+script_named (ToRead name reading) = Some name
+script_named (ToStep name) = Some name
+script_named (ToForget name) = Some name
+script_named others = None
 
--- the name of what it is about
-abbrev pub subject_name : Subject → List ℕ
-subject_name (OnNew name) = name
-subject_name (OnOne database task) = database
+-- the name of the database or of the script that it is about
+abbrev pub subject_name : Subject → Option (List ℕ)
+subject_name (OnNew name) = Some name
+subject_name (OnOne database task) = Some database
 subject_name (OnAll act) = script_named act
 
 abbrev pub transaction_named : Subject → Option (List ℕ)
@@ -101,4 +107,5 @@ pub record Words : Type 0 where
   pub table : Option (List ℕ)
 
 abbrev pub words_of : Subject → Words
-words_of s = record { database = subject_name s; transaction = transaction_named s; table = table_named s }
+words_of s =
+    record { database = unwrap_or (subject_name s) []; transaction = transaction_named s; table = table_named s }

@@ -17,14 +17,15 @@ use Rattle.slon_model.specs.declared.reply.Refusal.TheVariants as refused
 use Rattle.slon_model.specs.declared.reply.Reply.{Reply}
 use Rattle.slon_model.specs.declared.reply.Reply.TheVariants.{Accepted, Refused, InDoubt}
 use Rattle.slon_model.specs.Names.{find_named}
-use Rattle.slon_model.specs.Tasks.{Task, ToFound, Act, ToRead, ToStep, ToForget, Subject, OnNew, OnOne, OnAll}
-use Rattle.slon_model.specs.Tasks.{subject_of, Words, words_of}
+use Rattle.slon_model.specs.Tasks.{Task, ToFound, Act, ToRead, ToStep, ToForget, ToStart, ToStop, Subject, OnNew}
+use Rattle.slon_model.specs.Tasks.{OnOne, OnAll, subject_of, Words, words_of}
 use Rattle.slon_model.specs.Place.{Place, is_running, bare_place, fallen}
 use Rattle.slon_model.specs.Deciding.{Choice, AsDue, Among, Fate, AllStand, Breaks, DoubtsAt, decide, result_of, sure}
 use Rattle.slon_model.specs.Deciding.{place_by, Takes}
 pub use Rattle.slon_model.specs.Sessions.{World, start, changed, adopted}
 use Rattle.slon_model.specs.Sessions.{Memory, Running, Commit, in_doubt, stand, with_memory, Outcome, after_outcome}
 use Rattle.slon_model.specs.Scripts.{slonik_outcome, step_outcome, kill_outcome, without_script}
+use Rattle.slon_model.specs.Turns.{start_outcome, stop_outcome}
 use Rattle.slon_model.specs.Printed.{reply_line}
 
 -- ---- replies
@@ -76,11 +77,13 @@ abbrev pub ask : Words → Task → Option Place → Reply
 ask words task None = Refused (refused.NoDatabase words.database)
 ask words task (Some p) = reply_of words (sure (result_of (decide task p)))
 
--- What a script comes to.
+-- What a script or a turn comes to.
 abbrev pub outcome : Act → World → Outcome
 outcome (ToRead name reading) = slonik_outcome name reading
 outcome (ToStep name) = step_outcome name
 outcome (ToForget name) = kill_outcome name
+outcome (ToStart node) = start_outcome node
+outcome (ToStop node) = stop_outcome node
 
 abbrev pub due_on : Subject → World → Reply
 due_on (OnNew name) w = database_due name w

@@ -97,17 +97,28 @@ pub enum Command {
     Kill {
         script: Text,
     },
+    /// Turns the slon of a node on.
+    Start {
+        /// The id of the node.
+        node: u32,
+    },
+    /// Turns the slon of a node off, which forgets what it was handed and what it fetched.
+    Stop {
+        /// The id of the node.
+        node: u32,
+    },
 }
 
 impl Command {
-    /// The database that it names, or the script.
-    pub fn name(&self) -> &Text
-        ensures { result.now ≡ subject_name (subject_of self.now) }
+    /// The database or the script that it names, if it names one.
+    pub fn name(&self) -> Option<&Text>
+        ensures { option_map (λ word. word.now) result ≡ subject_name (subject_of self.now) }
     {
         match self {
-            Command::Database { name } => name,
+            Command::Start { .. } | Command::Stop { .. } => None,
+            Command::Database { name } => Some(name),
             Command::Slonik { script, .. } | Command::Step { script } | Command::Kill { script } =>
-                script,
+                Some(script),
             Command::Table { database, .. }
             | Command::Begin { database, .. }
             | Command::Insert { database, .. }
@@ -118,7 +129,7 @@ impl Command {
             | Command::Rows { database, .. }
             | Command::Status { database }
             | Command::Crash { database, .. }
-            | Command::Up { database } => database,
+            | Command::Up { database } => Some(database),
         }
     }
 

@@ -108,6 +108,15 @@ const REFUSED_THERE: &[Step] = &[
     ("create set (id = 5, origin = 2);", "no 41 notinitialised 2"),
 ];
 
+/// A node that joins behind the set knows it, and is not its origin.
+const LATE: &[Step] = &[
+    ("store node (id = 4, event node = 1);", "ok event 1 5"),
+    (
+        "set add table (set id = 1, origin = 4, id = 5, fully qualified name = 'public.v');",
+        "no 55 notorigin 1",
+    ),
+];
+
 /// While a transaction is open on a table, and while a node is down.
 const BUSY: &[Step] = &[
     ("begin a x", "ok xid 1"),
@@ -196,6 +205,7 @@ fn statements_are_answered(rt: HostRuntime) -> Result<(), Fail> {
     wanted.push("step s", "no 94 noscript s")?;
     wanted.push_each(NODES, REFUSED)?;
     wanted.push_each(OTHERS, REFUSED_THERE)?;
+    wanted.push_script(NODES, LATE)?;
     wanted.push_all(BUSY)?;
     wanted.push_each(NODES, &[TAKEN])?;
     wanted.push_all(DOWN)?;
@@ -236,6 +246,32 @@ fn a_table_of_a_set_is_written(rt: HostRuntime) -> Result<(), Fail> {
     wanted.push("up a", "ok")?;
     wanted.push("rows a public.t", "ok rows 1 p=1")?;
     wanted.push("status a", "ok node 1 log 0 progress 1 4 progress 2 0")?;
+    expect_wanted(alloc, &wanted)
+}
+
+/// The slon of a node is turned on and off, whatever its database is, as long as one is the node.
+const SLONS: &[Step] = &[
+    ("start 1", "no 44 nonode 1"),
+    (
+        "slonik s <<\ncluster name = c;\nnode 1 admin conninfo = 'dbname=a';\ninit cluster (id = 1);\n>>",
+        "ok statements 1",
+    ),
+    ("step s", "ok"),
+    ("start 1", "ok"),
+    ("start 1", "ok"),
+    ("stop 2", "no 44 nonode 2"),
+    ("crash a", "ok"),
+    ("stop 1", "ok"),
+    ("stop 1", "ok"),
+    ("start 1", "ok"),
+];
+
+#[test]
+fn slons_are_turned_on_and_off(rt: HostRuntime) -> Result<(), Fail> {
+    let alloc = rt.alloc();
+    let mut wanted = nothing_wanted(alloc);
+    wanted.push_all(DATABASES)?;
+    wanted.push_all(SLONS)?;
     expect_wanted(alloc, &wanted)
 }
 

@@ -1,4 +1,4 @@
--- A cluster of two nodes is made, a table comes into a set, and a commit on it is logged.
+-- A cluster of two nodes is made, a table comes into a set, the slons are turned on, and a commit on it is logged.
 use Rattle.std.proofs.Common.{◌≡◌, List, [], ◌∷◌, codes, refl, None}
 use Rattle.slonik_script.specs.declared.script.Command.TheVariants as order
 use Rattle.slon_model.specs.declared.reply.Answer.TheVariants as answer
@@ -6,7 +6,7 @@ use Rattle.slon_model.specs.declared.reply.Refusal.TheVariants as refused
 use Rattle.slon_model.specs.declared.reply.Reply.{Reply}
 use Rattle.slon_model.specs.declared.reply.Reply.TheVariants.{Accepted, Refused}
 use Rattle.slon_model.specs.Rows.{Put}
-use Rattle.slon_model.specs.Tasks.{OnNew, OnOne, ToMake, ToOpen, ToCommit, ToTell}
+use Rattle.slon_model.specs.Tasks.{OnNew, OnOne, OnAll, ToMake, ToOpen, ToCommit, ToTell, ToStart, ToStop}
 use Rattle.slon_model.specs.Sessions.{start}
 use Rattle.slon_worked.proofs.Running.{Worked, Asks, Takes, replies, Head, reads, step, refused_each}
 
@@ -34,6 +34,11 @@ session =
     ∷ step (codes "s")
     ∷ step (codes "s")
     ∷ step (codes "s")
+    ∷ Asks (OnAll (ToStart 1))
+    ∷ Asks (OnAll (ToStart 2))
+    ∷ Asks (OnAll (ToStart 3))
+    ∷ Asks (OnAll (ToStop 2))
+    ∷ Asks (OnAll (ToStop 3))
     ∷ Asks (OnOne (codes "a") (ToOpen (codes "x")))
     ∷ Takes (codes "a") 1 (codes "public.t") (Put (codes "p") (codes "1" ∷ []))
     ∷ Asks (OnOne (codes "a") (ToCommit (codes "x")))
@@ -59,6 +64,11 @@ expected =
     ∷ Accepted (answer.Emitted 1 4)
     ∷ Accepted (answer.Ended 0)
     ∷ Refused (refused.NoScript (codes "s"))
+    ∷ Accepted answer.Done
+    ∷ Accepted answer.Done
+    ∷ Refused (refused.NoNode 3)
+    ∷ Accepted answer.Done
+    ∷ Refused (refused.NoNode 3)
     ∷ Accepted (answer.Opened 1)
     ∷ Accepted (answer.Acted 1)
     ∷ Accepted (answer.Committed 1)

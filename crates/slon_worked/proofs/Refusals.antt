@@ -151,6 +151,17 @@ configuring : replies (start 16)
     ∷ Accepted (answer.Emitted 1 6) ∷ [])))
 configuring = refl
 
+-- a node that joins behind the set knows it, and is not its origin
+late : replies (start 16)
+    (begun
+    (tried (codes "g") head (order.StoreNode 3 1 None)
+    (refused_each (codes "r") head (order.SetAddTable 1 3 2 (codes "public.v") None None ∷ []) [])))
+    ≡ begun_replies
+    (Accepted (answer.Statements 1)
+    ∷ Accepted (answer.Emitted 1 5)
+    ∷ each_refused (refused.NotOrigin 1 ∷ []) [])
+late = refl
+
 -- ---- a database that is down
 
 down : replies (start 16)

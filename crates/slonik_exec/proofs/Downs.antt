@@ -1,8 +1,8 @@
--- The first database that is down or a node, by the code and by the rules.
-use Rattle.std.proofs.Common.{◌≡◌, ◌∙◌, ℕ, ◌&&◌, Bool, true, false, cond, not, List, [], ◌∷◌, filter, is_some, Option}
+-- The first database that is down or a node, and whether one is this node, by the code and by the rules.
+use Rattle.std.proofs.Common.{◌≡◌, ◌∙◌, ℕ, ◌&&◌, ◌||◌, Bool, true, false, cond, not, List, [], ◌∷◌, filter, is_some, Option}
 use Rattle.std.proofs.Common.{Some, None, refl, sym, ap}
 use Rattle.std.specs.Prelude.{find, filter_map}
-use Rattle.std.specs.List.{cons_option}
+use Rattle.std.specs.List.{cons_option, list_any}
 use Rattle.std.specs.Option.{option_map}
 use Rattle.slon_base.specs.Keeper.{Kept}
 use Rattle.slon_base.specs.declared.keeper.Keeper.{Ghosts}
@@ -11,13 +11,14 @@ use Rattle.slon_model.specs.Names.{Named}
 use Rattle.slon_model.specs.Place.{Place, Standing, IsRunning, IsFallen, IsDoubtful, is_running, node_id}
 use Rattle.slon_model.specs.Reaching.{down_among}
 use Rattle.slon_model.specs.Membership.{first_id}
+use Rattle.slon_model.specs.Turns.{is_id}
 use Rattle.node_state.specs.declared.memory.Identity.{Identity}
 use Rattle.app_store.specs.Base.{Memory, Base, base_of}
 use Rattle.app_store.specs.Fits.{Fits, StandsAs, IsNamed}
 use Rattle.app_store.proofs.Standing.{named_up}
 use Rattle.slonik_exec.specs.declared.databases.Named.{Named as NamedDatabase}
 use Rattle.slonik_exec.specs.Databases.{FitsAll, bases_of}
-use Rattle.slonik_exec.specs.Reached.{IsDown, IsDownNode, IsFirstNode}
+use Rattle.slonik_exec.specs.Reached.{IsDown, IsDownNode, IsFirstNode, HasNode}
 use Rattle.slonik_exec.proofs.Seats.{same_up}
 
 -- what code asks of a database
@@ -156,3 +157,27 @@ firsts kept (p ∷ ps) (d ∷ ds) all =
 pub is_first_node_by : {K : Type 0} {g : Ghosts K} (kept : K → Kept) (ds : List (NamedDatabase K g))
     (found : Option (NamedDatabase K g)) → found ≡ find is_node ds → IsFirstNode (bases_of kept ds) (id_in found)
 is_first_node_by kept ds found is w all = firsts kept w.places ds all ∙ ap id_in (sym is)
+
+-- ---- one node
+
+-- what code asks of a database
+abbrev pub is_this : {K : Type 0} {g : Ghosts K} → ℕ → NamedDatabase K g → Bool
+is_this node d = is_id node (option_map (λ i. i.id) d.database.state.node.identity)
+
+step_this : {X : Type 0} (b : Bool) (x : X) (rest : Option X) (later : Bool) → is_some rest ≡ later →
+    is_some (cond b (Some x) rest) ≡ b || later
+step_this true x rest later is = refl
+step_this false x rest later is = is
+
+these : {K : Type 0} {g : Ghosts K} (kept : K → Kept) (node : ℕ) (ps : Named Place) (ds : List (NamedDatabase K g)) →
+    FitsAll ps (bases_of kept ds) → is_some (find (λ e. is_id node (node_id e.1)) ps) ≡ list_any (is_this node) ds
+these kept node [] [] all = refl
+these kept node [] (d ∷ ds) all = absurd all
+these kept node (p ∷ ps) [] all = absurd all
+these kept node (p ∷ ps) (d ∷ ds) all =
+    step_this (is_id node (node_id p.1)) p _ _ (these kept node ps ds all.2)
+    ∙ ap (λ o. is_id node o || list_any (is_this node) ds) (sym (named_fits p.1 (base_of kept d.database) all.1))
+
+pub has_node_by : {K : Type 0} {g : Ghosts K} (kept : K → Kept) (node : ℕ) (ds : List (NamedDatabase K g))
+    (found : Bool) → found ≡ list_any (is_this node) ds → HasNode node (bases_of kept ds) found
+has_node_by kept node ds found is w all = these kept node w.places ds all ∙ sym is

@@ -1,5 +1,5 @@
 -- How code reaches a database by a NODE line, and what that is by the rules.
-use Rattle.std.specs.Prelude.{◌≡◌, ℕ, ◌<◌, ◌==◌, ◌&&◌, if◌then◌else◌, true, false, List, [], length}
+use Rattle.std.specs.Prelude.{◌≡◌, ℕ, ◌<◌, ◌==◌, ◌&&◌, if◌then◌else◌, Bool, true, false, List, [], length}
 use Rattle.std.specs.Prelude.{get_or, Option, Some, None, is_some, option_map, unwrap_or, Ok, Err}
 use Rattle.std.specs.List.{position}
 use Rattle.std.specs.Str.{bytes_eq}
@@ -12,6 +12,7 @@ use Rattle.slon_model.specs.Place.{Place, is_running}
 use Rattle.slon_model.specs.Sessions.{World, Running, seat}
 use Rattle.slon_model.specs.Reaching.{database_in, database_of_line, reach, down_among, any_down}
 use Rattle.slon_model.specs.Membership.{first_node}
+use Rattle.slon_model.specs.Turns.{at_node}
 use Rattle.node_state.specs.declared.memory.Identity.{Identity}
 use Rattle.app_store.specs.Base.{Base}
 use Rattle.slonik_exec.specs.declared.databases.Named.{Named as NamedDatabase}
@@ -121,3 +122,7 @@ IsDownNode bases found =
 -- the first node
 abbrev pub IsFirstNode : Named Base → Option ℕ → Type 0
 IsFirstNode bases found = (w : World) → FitsAll w.places bases → first_node w ≡ found
+
+-- whether a database is this node
+abbrev pub HasNode : ℕ → Named Base → Bool → Type 0
+HasNode node bases found = (w : World) → FitsAll w.places bases → is_some (at_node node w) ≡ found

@@ -8,7 +8,7 @@ ghost use Rattle.node_store.specs.Acting.{Acts};
 ghost use Rattle.node_store.specs.Looking.{OfConfig};
 ghost use Rattle.slonik_exec.specs.Databases.{bases_of};
 ghost use Rattle.slonik_exec.specs.Heard.{test_of, CanAsk, Knows, AreDistinct, RunsHeard, Hears, KeepsFound};
-ghost use Rattle.slonik_exec.specs.Reached.{AreFree, IsDown, IsDownNode, IsFirstNode};
+ghost use Rattle.slonik_exec.specs.Reached.{AreFree, IsDown, IsDownNode, IsFirstNode, HasNode};
 
 use crate::databases::Named;
 use crate::replies::told;
@@ -45,6 +45,15 @@ pub fn first_node<K: Keeper>(databases: &[Named<K>]) -> Option<u32>
         .iter()
         .find(|named| named.database.node_id().is_some())?;
     node.database.node_id()
+}
+
+/// Whether a database is this node, or would be by a commit in doubt.
+pub fn has_node<K: Keeper>(databases: &[Named<K>], node: u32) -> bool
+    ensures { HasNode node (bases_of K.kept databases.now) result }
+{
+    databases
+        .iter()
+        .any(|named| named.database.node_id() == Some(node))
 }
 
 /// What all nodes are asked.

@@ -17,7 +17,9 @@ mod short;
 pub use caller::Caller;
 pub use command::run_command;
 pub use databases::{Named, index_of};
-pub use knowing::{Heard, Question, down_database, down_node, first_node, known_somewhere};
+pub use knowing::{
+    Heard, Question, down_database, down_node, first_node, has_node, known_somewhere,
+};
 pub use reaching::{Reached, database_in, database_of_line, reach};
 pub use replies::{answered, copied, halted, refused, told};
 pub use short::NoMemory;

@@ -1,4 +1,4 @@
-use Rattle.std.proofs.Common.{◌≡◌, ◌∙◌, sym, subst, refl, Ok, Err, IfOk}
+use Rattle.std.proofs.Common.{◌≡◌, ◌∙◌, sym, ap, subst, refl, Ok, Err, IfOk, [], unwrap_or}
 use Rattle.slon_model.specs.declared.reply.Reply.{Reply}
 use Rattle.slon_model.specs.Tasks.{subject_of, words_of}
 use Rattle.slon_model.specs.World.{refusal_of, reply_of}
@@ -9,23 +9,24 @@ use Rattle.cluster_engine.proofs.Moving.{moves_none, moves_at, same_answer, answ
 use Rattle.cluster_engine.proofs.Moving.{if_memory}
 use Rattle.cluster_engine.proofs.cluster.Cluster.ask.Goals as goal
 
-pub returns-in_default : goal.returns-in_default
-returns-in_default g c =
+pub returns-in_default-index_of : goal.returns-in_default-index_of
+returns-in_default-index_of g c =
     moves_none c.args.command.now (cluster_of g.K.Keeper.kept c.args.self.now) _ _
-    (record { is = c.name-database.ensures; one = c.requires.one }) c.in_ok-database.ensures
-    (find_missing (named_base {g = g.K.Keeper} g.K.Keeper.kept) c.name-database.result.now
-    c.args.self.now.databases.items (sym c.index_of.ensures ∙ c.in_default.is))
+    (record { is = c.in-Some.ensures; one = c.requires.one }) c.in_ok-database.ensures
+    (find_missing (named_base {g = g.K.Keeper} g.K.Keeper.kept) c.in-Some.database.now
+    c.args.self.now.databases.items (sym c.index_of.ensures ∙ c.in_default-index_of.is))
 
 pub returns-in-Ok : goal.returns-in-Ok
 returns-in-Ok g c =
     let words = words_of (subject_of c.args.command.now) in
     if_told _ c.answered.result (reply_of words (Ok c.in-Ok.done))
     (subst (λ (r : Reply). IfOk c.answered.result (λ told. told ≡ r))
-    (same_answer words c.name-database.result.now c.in-Ok.done c.name-database.ensures) c.answered.ensures)
+    (same_answer words c.in-Some.database.now c.in-Ok.done (ap (λ o. unwrap_or o []) c.in-Some.ensures))
+    c.answered.ensures)
     (moves_at (named_base g.K.Keeper.kept) c.args.command.now (cluster_of g.K.Keeper.kept c.args.self.now) _
-    (record { word = c.name-database.result.now; i = _; x = _; y = _; result = Ok c.in-Ok.done }) (record {
-      names = record { is = c.name-database.ensures; one = c.requires.one };
-      at = record { at = sym c.index_of.ensures ∙ c.in-Some.is; held = c.index_mut.ensures.value };
+    (record { word = c.in-Some.database.now; i = _; x = _; y = _; result = Ok c.in-Ok.done }) (record {
+      names = record { is = c.in-Some.ensures; one = c.requires.one };
+      at = record { at = sym c.index_of.ensures ∙ c.in-Some-index_of.is; held = c.index_mut.ensures.value };
       same = refl;
       serves = c.in-Ok.ensures.serves;
       hands = c.in-Ok.ensures.hands;
@@ -37,13 +38,13 @@ returns-in-Err g c =
     if_memory _ c.refused.result c.in-Err.fault (reply_of (words_of (subject_of c.args.command.now))
     (Err c.in-Err.fault))
     (subst (λ words. IfOk c.refused.result (λ told. told ≡ refusal_of words c.in-Err.fault))
-    (same_words (subject_of c.args.command.now) _ _ _ c.name-database.ensures c.transaction.ensures c.table.ensures)
+    (same_words (subject_of c.args.command.now) _ _ _ c.in-Some.ensures c.transaction.ensures c.table.ensures)
     c.refused.ensures.reply) c.refused.ensures.memory
     (λ memory. moves_at (named_base g.K.Keeper.kept) c.args.command.now
     (cluster_of g.K.Keeper.kept c.args.self.now) _
-    (record { word = c.name-database.result.now; i = _; x = _; y = _; result = Err c.in-Err.fault }) (record {
-      names = record { is = c.name-database.ensures; one = c.requires.one };
-      at = record { at = sym c.index_of.ensures ∙ c.in-Some.is; held = c.index_mut.ensures.value };
+    (record { word = c.in-Some.database.now; i = _; x = _; y = _; result = Err c.in-Err.fault }) (record {
+      names = record { is = c.in-Some.ensures; one = c.requires.one };
+      at = record { at = sym c.index_of.ensures ∙ c.in-Some-index_of.is; held = c.index_mut.ensures.value };
       same = refl;
       serves = c.in-Err.ensures.serves;
       hands = c.in-Err.ensures.hands;

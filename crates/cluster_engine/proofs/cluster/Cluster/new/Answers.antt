@@ -7,5 +7,5 @@ pub returns-clause-agrees : goal.returns-clause-agrees
 returns-clause-agrees g c = record {
   limit = refl;
   fits = subst (λ xs. FitsAll [] (bases_of {g = g.K.Keeper} g.K.Keeper.kept xs)) (sym c.new.ensures.items) tt;
-  scripts = none_fit c.new-2.result c.new-2.ensures;
+  memory = record { scripts = none_fit c.new-2.result c.new-2.ensures; started = sym c.new-3.ensures.items };
 }

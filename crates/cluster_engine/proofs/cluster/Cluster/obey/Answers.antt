@@ -1,25 +1,35 @@
 use Rattle.std.proofs.Common.{ap}
-use Rattle.slon_model.specs.Tasks.{subject_of, ToStep, ToForget}
+use Rattle.slon_model.specs.Tasks.{subject_of, ToStep, ToForget, ToStart, ToStop}
+use Rattle.cluster_engine.specs.Calls.{Acts}
 use Rattle.cluster_engine.specs.Clustered.{cluster_of}
-use Rattle.cluster_engine.proofs.Moving.{granted_moves, acts_moves, one_left}
+use Rattle.cluster_engine.proofs.Moving.{granted_moves, acts_moves, one_left, spared}
 use Rattle.cluster_engine.proofs.cluster.Cluster.obey.Goals as goal
 
-pub returns-in-Database : goal.returns-in-Database
-returns-in-Database g c =
+pub returns-in-Database-clause-moves : goal.returns-in-Database-clause-moves
+returns-in-Database-clause-moves g c =
     granted_moves c.grant.result c.args.command.now c.in-Database.name (cluster_of g.K.Keeper.kept c.args.self.now)
     c.in-Database.is c.grant.ensures
 
-pub returns-in-Step : goal.returns-in-Step
-returns-in-Step g c =
+pub returns-in-Step-clause-moves : goal.returns-in-Step-clause-moves
+returns-in-Step-clause-moves g c =
     acts_moves c.walk.result c.args.command.now (ToStep c.in-Step.script)
     (cluster_of g.K.Keeper.kept c.args.self.now) (cluster_of g.K.Keeper.kept c.walk.new.self)
     (ap subject_of c.in-Step.is) c.walk.ensures
 
-pub returns-in-Kill : goal.returns-in-Kill
-returns-in-Kill g c =
+pub returns-in-Kill-clause-moves : goal.returns-in-Kill-clause-moves
+returns-in-Kill-clause-moves g c =
     acts_moves c.end.result c.args.command.now (ToForget c.in-Kill.script)
     (cluster_of g.K.Keeper.kept c.args.self.now) (cluster_of g.K.Keeper.kept c.end.new.self)
     (ap subject_of c.in-Kill.is) c.end.ensures
+
+pub returns-in-Start-clause-moves : goal.returns-in-Start-clause-moves
+returns-in-Start-clause-moves g c =
+    acts_moves c.turn_on.result c.args.command.now (ToStart c.in-Start.node)
+    (cluster_of g.K.Keeper.kept c.args.self.now) (cluster_of g.K.Keeper.kept c.turn_on.new.self)
+    (ap subject_of c.in-Start.is) c.turn_on.ensures
+
+pub returns-in-Stop-clause-moves : goal.returns-in-Stop-clause-moves
+returns-in-Stop-clause-moves g c = Acts (ToStop c.in-Stop.node) (ap subject_of c.in-Stop.is) c.turn_off.ensures
 
 pub ask-requires-clause-one : goal.ask-requires-clause-one
 ask-requires-clause-one g c = one_left c.args.command.now (record {
@@ -27,4 +37,21 @@ ask-requires-clause-one g c = one_left c.args.command.now (record {
   slonik = c.in_default.not-Slonik;
   step = c.in_default.not-Step;
   kill = c.in_default.not-Kill;
+  start = c.in_default.not-Start;
+  stop = c.in_default.not-Stop;
 })
+
+pub returns-in-Database-clause-spares : goal.returns-in-Database-clause-spares
+returns-in-Database-clause-spares g c = spared c.args.command.now _ (λ node is. let other = c.in-Database.is in cc)
+
+pub returns-in-Step-clause-spares : goal.returns-in-Step-clause-spares
+returns-in-Step-clause-spares g c = spared c.args.command.now _ (λ node is. let other = c.in-Step.is in cc)
+
+pub returns-in-Kill-clause-spares : goal.returns-in-Kill-clause-spares
+returns-in-Kill-clause-spares g c = spared c.args.command.now _ (λ node is. let other = c.in-Kill.is in cc)
+
+pub returns-in-Start-clause-spares : goal.returns-in-Start-clause-spares
+returns-in-Start-clause-spares g c = spared c.args.command.now _ (λ node is. let other = c.in-Start.is in cc)
+
+pub returns-in_default-clause-spares : goal.returns-in_default-clause-spares
+returns-in_default-clause-spares g c = spared c.args.command.now _ c.in_default.not-Stop

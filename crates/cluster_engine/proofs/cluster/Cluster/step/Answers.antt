@@ -1,7 +1,7 @@
 use Rattle.std.proofs.Common.{ap}
 use Rattle.slon_model.specs.Tasks.{subject_of, ToRead}
 use Rattle.cluster_engine.specs.Clustered.{cluster_of}
-use Rattle.cluster_engine.proofs.Moving.{acts_moves, unread}
+use Rattle.cluster_engine.proofs.Moving.{acts_moves, unread, spared}
 use Rattle.cluster_engine.proofs.Telling.{promises}
 use Rattle.cluster_engine.proofs.cluster.Cluster.step.Goals as goal
 
@@ -22,18 +22,20 @@ returns-in-Slonik g c =
       certain = all.certain;
       quiet = all.quiet;
       distinct = all.distinct c.requires.distinct;
+      spares = spared c.args.command _ (λ node is. let other = c.in-Slonik.is in cc);
     }
 
 pub returns-in_default : goal.returns-in_default
 returns-in_default g c =
     let old = cluster_of g.K.Keeper.kept c.args.self.now in
     let new = cluster_of g.K.Keeper.kept c.obey.new.self in
-    let all = promises c.args.command old c.obey.result new c.obey.ensures in
+    let all = promises c.args.command old c.obey.result new c.obey.ensures.moves in
     record {
-      moves = c.obey.ensures;
+      moves = c.obey.ensures.moves;
       steps = all.steps;
       cause = all.cause;
       certain = all.certain;
       quiet = all.quiet;
       distinct = all.distinct c.requires.distinct;
+      spares = c.obey.ensures.spares;
     }

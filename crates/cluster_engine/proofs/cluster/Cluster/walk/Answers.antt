@@ -5,7 +5,7 @@ use Rattle.slonik_exec.specs.Databases.{bases_of}
 use Rattle.slon_model.specs.Tasks.{ToStep}
 use Rattle.cluster_engine.specs.Calls.{IsActed}
 use Rattle.cluster_engine.specs.Clustered.{cluster_of}
-use Rattle.cluster_engine.proofs.Walking.{none_stepped, stops_acted, goes_acted}
+use Rattle.cluster_engine.proofs.Walking.{with_scripts, none_stepped, stops_acted, goes_acted}
 use Rattle.cluster_engine.proofs.cluster.Cluster.walk.Goals as goal
 
 pub returns-in_default : goal.returns-in_default
@@ -23,9 +23,8 @@ returns-then-not-goes_on g c =
     with_items_is c.args.self.now.databases c.run_next.new.databases
     (c.run_next.auto.databases ∙ c.deref_mut.ensures.len) in
     subst (λ xs. IsActed (ToStep c.args.name.now) (cluster_of g.K.Keeper.kept c.args.self.now)
-    c.in_ok-reply.field-0.reply (record (cluster_of g.K.Keeper.kept c.args.self.now) {
+    c.in_ok-reply.field-0.reply (record (with_scripts c.remove.new.self (cluster_of g.K.Keeper.kept c.args.self.now)) {
       bases = bases_of {g = g.K.Keeper} g.K.Keeper.kept xs;
-      scripts = c.remove.new.self;
     })) (sym items)
     (stops_acted c.args.name.now (cluster_of g.K.Keeper.kept c.args.self.now) c.in_ok-reply.field-0 c.remove.new.self
     (bases_of g.K.Keeper.kept c.run_next.new.databases) (record {
@@ -48,9 +47,8 @@ returns g c =
     with_items_is c.args.self.now.databases c.run_next.new.databases
     (c.run_next.auto.databases ∙ c.deref_mut.ensures.len) in
     subst (λ xs. IsActed (ToStep c.args.name.now) (cluster_of g.K.Keeper.kept c.args.self.now)
-    c.in_ok-reply.field-0.reply (record (cluster_of g.K.Keeper.kept c.args.self.now) {
+    c.in_ok-reply.field-0.reply (record (with_scripts c.insert.new.self (cluster_of g.K.Keeper.kept c.args.self.now)) {
       bases = bases_of {g = g.K.Keeper} g.K.Keeper.kept xs;
-      scripts = c.insert.new.self;
     })) (sym items)
     (goes_acted c.args.name.now (cluster_of g.K.Keeper.kept c.args.self.now) c.in_ok-reply.field-0 c.remove.new.self
     (bases_of g.K.Keeper.kept c.run_next.new.databases) c.insert.new.self (record {
