@@ -1,11 +1,11 @@
 // The work of each command on the store: what is read first, and then the transaction.
-ghost use Rattle.std.specs.Prelude.{◌≡◌, ◌<◌, ◌^◌, ◌≤◌, ℕ, List, length, map, Option, Some, None, true, false, is_some};
-ghost use Rattle.std.specs.Prelude.{if◌then◌else◌, IfOk, IfErr, OnOk, unwrap_or};
+ghost use Rattle.std.specs.Prelude.{◌≡◌, ◌<◌, ◌^◌, ℕ, map, Option, Some, None, true, false, is_some};
+ghost use Rattle.std.specs.Prelude.{IfOk, IfErr, OnOk};
 ghost use Rattle.std.specs.Option.{option_map};
 ghost use Rattle.std.specs.FinMap.{get, entries};
 ghost use Rattle.slon_base.specs.Keeper.{Store, sight, nothing};
 ghost use Rattle.slon_base.specs.Codec.{number_bytes, text_bytes, list_bytes, IsText, AllTexts, AreTexts};
-ghost use Rattle.slon_model.specs.Rows.{Row, column_value, updated};
+ghost use Rattle.slon_model.specs.Rows.{Row, updated};
 ghost use Rattle.app_store.specs.Spelled.{tables, rows, first_rows, new_table, new_ceiling, new_rows, IsSmall};
 ghost use Rattle.store_rows.specs.Steps.{Safe, IsOutside, IsWithinLimit, is_failed};
 ghost use Rattle.app_store.specs.Steps.{Looks, Says, Leaves, LeavesOr, Tries, TriesOr};
@@ -21,6 +21,7 @@ use crate::opens::Transaction;
 use crate::scan::scan_table;
 use crate::spelling::spell_table;
 use crate::transact::{Made, Put, transact, transact_rows};
+use change_capture::updated_values;
 use node_state::{NodeMemory, log_rows};
 use slon_base::{Bytes, Keeper, Text, TextList};
 use slon_model::{ColumnList, TableRows};
@@ -165,17 +166,6 @@ pub(crate) fn make_rows<K: Keeper>(
     )
 }
 
-/// The same values, copied.
-pub(crate) fn copy_values(alloc: Global, values: &[Text]) -> Result<TextList, AllocError>
-    ensures { IfOk result (λ row. row ≡ values.now) }
-{
-    let mut row = TextList::new(alloc);
-    for value in values {
-        row.push(value.copy(alloc)?)?;
-    }
-    Ok(row)
-}
-
 /// The same columns, copied.
 pub(crate) fn copy_columns(alloc: Global, columns: &[(u32, Text)]) -> Result<ColumnList, AllocError>
     ensures { IfOk result (λ copied. copied ≡ columns.now) }
@@ -185,38 +175,6 @@ pub(crate) fn copy_columns(alloc: Global, columns: &[(u32, Text)]) -> Result<Col
         copied.push(*column, value.copy(alloc)?)?;
     }
     Ok(copied)
-}
-
-/// A row with new values for columns.
-fn with_columns(
-    alloc: Global,
-    values: &[Text],
-    columns: &[(u32, Text)],
-) -> Result<TextList, AllocError>
-    requires { length values.now < 2 ^ 32 }
-    ensures { IfOk result (λ row. row ≡ updated columns.now values.now) }
-{
-    let mut row = TextList::new(alloc);
-    let mut number = 2;
-    for value in values {
-        let value = find_column(columns, number).unwrap_or(value);
-        row.push(value.copy(alloc)?)?;
-        number += 1;
-    }
-    Ok(row)
-}
-
-/// The new value of a column, if it has one.
-fn find_column(columns: &[(u32, Text)], number: usize) -> Option<&Text>
-    ensures { (old : List ℕ) →
-        unwrap_or (option_map (λ value. value.now) result) old ≡ column_value columns.now number old }
-{
-    for (column, value) in columns {
-        if *column as usize == number {
-            return Some(value);
-        }
-    }
-    None
 }
 
 /// The spelled values of a row with new values for columns.
@@ -235,7 +193,7 @@ pub(crate) fn update_values(
 {
     match read_alone::<TextList>(alloc, ROWS, values.as_slice()) {
         Ok(values) => {
-            let row = with_columns(alloc, values.as_slice(), columns)?;
+            let row = updated_values(alloc, values.as_slice(), columns)?;
             Ok(spelling(alloc, &row)?)
         }
         Err(stop) => Err(stop),

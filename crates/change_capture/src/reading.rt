@@ -10,7 +10,7 @@ use slon_model::{ColumnList, is_part};
 use std::alloc::{AllocError, Global};
 
 /// The number of the column of the first value behind the key.
-const FIRST_VALUE_COLUMN: u64 = 2;
+pub(crate) const FIRST_VALUE_COLUMN: u64 = 2;
 
 /// Whether the text is what is printed for this number.
 fn is_number(alloc: Global, text: &Text, number: u64) -> Result<bool, AllocError>

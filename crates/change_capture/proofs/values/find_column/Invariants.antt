@@ -1,6 +1,6 @@
 use Rattle.std.proofs.Common.{◌≡◌, ℕ, List, drop}
 use Rattle.slon_model.specs.Rows.{column_value}
-use Rattle.app_store.proofs.work.find_column.Given as goal
+use Rattle.change_capture.proofs.values.find_column.Given as goal
 
 abbrev pub invariant-loop-column : goal.invariant-loop-column
 invariant-loop-column l = (old : List ℕ) → column_value

@@ -1,5 +1,5 @@
 use Rattle.std.proofs.Common.{◌≡◌, ◌++◌, drop}
-use Rattle.app_store.proofs.work.copy_values.Given as goal
+use Rattle.change_capture.proofs.values.copy_values.Given as goal
 
 abbrev pub invariant-loop-value : goal.invariant-loop-value
 invariant-loop-value l = l.row ++ drop l.value-index l.values ≡ l.values

@@ -1,6 +1,6 @@
 use Rattle.std.proofs.Common.{◌≡◌, ◌+◌, ◌++◌, drop}
 use Rattle.slon_model.specs.Rows.{with_columns}
-use Rattle.app_store.proofs.work.with_columns.Given as goal
+use Rattle.change_capture.proofs.values.updated_values.Given as goal
 
 -- the values so far, and what is made of those that are left
 abbrev pub invariant-loop-value : goal.invariant-loop-value
