@@ -221,8 +221,7 @@ pub fn has_table<K: Keeper>(database: &mut Database<K>, name: &Text) -> Result<b
 ///
 /// What stopped the store; the database is down then.
 pub fn writer<K: Keeper>(database: &mut Database<K>, name: &Text) -> Result<Option<u64>, DbFault>
-    requires up { database.old.state.up ≡ true }
-    requires name { IsText name.now }
+    requires { database.old.state.up ≡ true }
     ensures acts { Acts (halts result) (base_of K.kept database.old) (base_of K.kept database.new) }
     ensures looks { Looks (λ p found. found ≡ writer_of (name.now ∷ []) p)
         (base_of K.kept database.old) result (base_of K.kept database.new) }

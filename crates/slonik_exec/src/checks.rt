@@ -161,8 +161,7 @@ pub(crate) fn check_writers<K: Keeper>(
     seat: &mut Named<K>,
     table: &Text,
 ) -> Result<Option<Reply>, NoMemory>
-    requires up { seat.old.database.state.up ≡ true }
-    requires text { IsText table.now }
+    requires { seat.old.database.state.up ≡ true }
     ensures checks { IfOk result (λ found. Checks seat.old.name (base_of K.kept seat.old.database) found
         (base_of K.kept seat.new.database)) }
     ensures refuses { IfOk result (λ found. AtSeat seat.old.name (λ s.

@@ -22,6 +22,7 @@ use Rattle.slonik_exec.proofs.Sitting.{runs_refused, tries_checked, same_checked
 use Rattle.slonik_exec.proofs.Still.{node_still}
 use Rattle.slonik_exec.proofs.Trying.{runs_then}
 use Rattle.slonik_exec.proofs.Works.{Checked, checked_as, checked_at, none_left}
+use Rattle.slonik_exec.proofs.sets.set_add_table.Given.{Over}
 use Rattle.slonik_exec.proofs.sets.set_add_table.Goals as goal
 
 pub returns-in-Refused : goal.returns-in-Refused
@@ -183,12 +184,12 @@ offset_bounds-databases-i-2 g c =
     let inside = here.here.inside in
     search (rules, inside, c.well_formed)
 
-pub add_table-requires-clause-up : goal.add_table-requires-clause-up
-add_table-requires-clause-up g c =
+-- the database is up still, and a node, behind what all nodes were asked
+still_here : (g : Over) (c : goal.After-index-databases-i-2 g) →
+    IsNodeAt {g = g.K.Keeper} (name_on c.args.origin c.args.caller.lines.now) c.check_new.new.databases c.in-At.i
+still_here g c =
     let t = table_as c.args.table in
-    let a : Addresses = record { lines = c.args.caller.lines.now; cluster = c.args.caller.cluster.now } in
-    let origin = c.args.origin in
-    let name = name_on origin a.lines in
+    let name = name_on c.args.origin c.args.caller.lines.now in
     let f = named_base g.K.Keeper.kept in
     let olds = c.args.databases.now in
     let i = c.in-At.i in
@@ -197,59 +198,32 @@ add_table-requires-clause-up g c =
     let x = get_or olds i c.index-databases-i.result in
     let y = c.check_set.new.seat in
     let at = worked_at f name olds i c.index-databases-i.result y here.here.at c.in_ok-reply.ensures.name in
-    let found = find_position f name olds i x at.is in
     let first : Checked name (set_checks t.set_id t.name) (f x).1 None (f y).1
     = checked_at (own_at at.is) (checked_as (none_left c.in_ok-reply.field-0 c.in_default.not-Some) (record {
       checks = c.in_ok-reply.ensures.checks;
       refuses = c.in_ok-reply.ensures.refuses;
     })) in
     let mids = map f (set olds i y) in
-    let passed : Passed name t (map f olds) mids
-    = record { base = (f x).1; new = (f y).1; found = found; first = first; put = put_worked at } in
     let late = c.check_new.new.databases in
     let news = bases_of g.K.Keeper.kept late in
     let runs : RunsFound mids None news
     = subst (λ o. RunsFound mids o news) (none_left c.in_ok-reply-2.field-0 c.in_default-3.not-Some)
     c.in_ok-reply-2.ensures.runs in
     let same = subst (AreSame (map f olds)) (put_worked at)
-    (same_checked (f y).1 name (map f olds) found first.checks.1) in
-    let still = node_still g.K.Keeper.kept name olds late i (same_then (map f olds) mids news same runs.1) here in
-    let z = get_or late i c.index-databases-i-2.result in
-    still.here.up z (get_or_default late i c.index-databases-i-2.result z still.here.inside)
+    (same_checked (f y).1 name (map f olds) (find_position f name olds i x at.is) first.checks.1) in
+    node_still g.K.Keeper.kept name olds late i (same_then (map f olds) mids news same runs.1) here
+
+pub add_table-requires-clause-up : goal.add_table-requires-clause-up
+add_table-requires-clause-up g c =
+    let still = still_here g c in
+    let z = get_or c.check_new.new.databases c.in-At.i c.index-databases-i-2.result in
+    still.here.up z (get_or_default _ _ c.index-databases-i-2.result z still.here.inside)
 
 pub add_table-requires-clause-node : goal.add_table-requires-clause-node
 add_table-requires-clause-node g c =
-    let t = table_as c.args.table in
-    let a : Addresses = record { lines = c.args.caller.lines.now; cluster = c.args.caller.cluster.now } in
-    let origin = c.args.origin in
-    let name = name_on origin a.lines in
-    let f = named_base g.K.Keeper.kept in
-    let olds = c.args.databases.now in
-    let i = c.in-At.i in
-    let here : IsNodeAt {g = g.K.Keeper} name olds i
-    = subst (IsNodeHere {g = g.K.Keeper} name olds) c.in-At.is c.in_ok-i.ensures.here in
-    let x = get_or olds i c.index-databases-i.result in
-    let y = c.check_set.new.seat in
-    let at = worked_at f name olds i c.index-databases-i.result y here.here.at c.in_ok-reply.ensures.name in
-    let found = find_position f name olds i x at.is in
-    let first : Checked name (set_checks t.set_id t.name) (f x).1 None (f y).1
-    = checked_at (own_at at.is) (checked_as (none_left c.in_ok-reply.field-0 c.in_default.not-Some) (record {
-      checks = c.in_ok-reply.ensures.checks;
-      refuses = c.in_ok-reply.ensures.refuses;
-    })) in
-    let mids = map f (set olds i y) in
-    let passed : Passed name t (map f olds) mids
-    = record { base = (f x).1; new = (f y).1; found = found; first = first; put = put_worked at } in
-    let late = c.check_new.new.databases in
-    let news = bases_of g.K.Keeper.kept late in
-    let runs : RunsFound mids None news
-    = subst (λ o. RunsFound mids o news) (none_left c.in_ok-reply-2.field-0 c.in_default-3.not-Some)
-    c.in_ok-reply-2.ensures.runs in
-    let same = subst (AreSame (map f olds)) (put_worked at)
-    (same_checked (f y).1 name (map f olds) found first.checks.1) in
-    let still = node_still g.K.Keeper.kept name olds late i (same_then (map f olds) mids news same runs.1) here in
-    let z = get_or late i c.index-databases-i-2.result in
-    still.node z (get_or_default late i c.index-databases-i-2.result z still.here.inside)
+    let still = still_here g c in
+    let z = get_or c.check_new.new.databases c.in-At.i c.index-databases-i-2.result in
+    still.node z (get_or_default _ _ c.index-databases-i-2.result z still.here.inside)
 
 pub returns : goal.returns
 returns g c =
