@@ -1,5 +1,5 @@
 -- Commands of a script that are not run yet.
-use Rattle.std.proofs.Common.{◌≡◌, ℕ, Bool, List, Option, Err, refl}
+use Rattle.std.proofs.Common.{◌≡◌, ℕ, List, Option, Err, refl}
 use Rattle.slonik_script.specs.declared.script.Command.{Command as Order}
 use Rattle.slonik_script.specs.declared.script.Command.TheVariants as order
 use Rattle.slon_model.specs.declared.reply.Refusal.TheVariants as refused

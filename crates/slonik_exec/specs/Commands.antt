@@ -6,7 +6,6 @@ use Rattle.slonik_script.specs.declared.script.Command.{Command}
 use Rattle.slonik_script.specs.declared.script.Command.TheVariants.{InitCluster, StoreNode, StorePath, DropPath}
 use Rattle.slonik_script.specs.declared.script.Command.TheVariants.{CreateSet}
 use Rattle.slonik_script.specs.declared.script.Command.TheVariants.{SetAddTable}
-use Rattle.slon_model.specs.Membership.{comment_of}
 
 -- its ids are in their range, and its texts can be stored
 abbrev pub IsRunnable : Command → Type 0

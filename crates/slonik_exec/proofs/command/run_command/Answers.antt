@@ -1,4 +1,4 @@
-use Rattle.std.proofs.Common.{◌∙◌, map, IfOk, Some, Err, ap, sym, subst, refl}
+use Rattle.std.proofs.Common.{◌∙◌, IfOk, Some, Err, ap, sym, subst, refl}
 use Rattle.slon_model.specs.Membership as membership
 use Rattle.slon_model.specs.Membership.{comment_of}
 use Rattle.slon_model.specs.Scripts.{ordered}
