@@ -13,10 +13,10 @@ use Rattle.set_config.specs.Holds.{AreIds, pair_key}
 
 -- ---- tests
 
-eq_of : (a b : ℕ) → (a == b) ≡ true → a ≡ b
+pub eq_of : (a b : ℕ) → (a == b) ≡ true → a ≡ b
 eq_of a b is = grind (arith, common_steps)
 
-self_eq : (a : ℕ) → (a == a) ≡ true
+pub self_eq : (a : ℕ) → (a == a) ≡ true
 self_eq a = grind (arith, common_steps)
 
 pub not_eq : (a b : ℕ) → (a ≡ b → ⊥) → (a == b) ≡ false
@@ -25,7 +25,7 @@ not_eq a b differ = elim (a == b) as (λ t. (a == b) ≡ t → t ≡ false) [
   | false ↦ λ is. refl
 ] refl
 
-twice : {A : Type 0} (b : Bool) (x y z : A) → cond b x z ≡ cond b x (cond b y z)
+pub twice : {A : Type 0} (b : Bool) (x y z : A) → cond b x z ≡ cond b x (cond b y z)
 twice true x y z = refl
 twice false x y z = refl
 
@@ -95,7 +95,7 @@ alters_one id now old new look = record {
 }
 
 -- a row of a map of maps that was put
-row-with : {X : Type 0} (q first : ℕ) (row : Map X) (m : Map2 X) →
+pub row-with : {X : Type 0} (q first : ℕ) (row : Map X) (m : Map2 X) →
     row_at q (with_entry first row m) ≡ cond (q == first) row (row_at q m)
 row-with q first row m =
     ap (λ o. unwrap_or o []) (entry-with q first row m)

@@ -1,14 +1,16 @@
 -- A store that shows what is known of the cluster, with one row changed.
-use Rattle.std.proofs.Common.{◌≡◌, ℕ, true, false, cond, List, Option, Some, None, refl, sym, ap, ◌∙◌, option_map}
-use Rattle.std.proofs.Common.{is_some}
-use Rattle.std.specs.Prelude.{◌==◌}
+use Rattle.std.proofs.Common.{◌≡◌, ℕ, true, false, cond, List, Option, Some, None, refl, sym, ap, subst, ◌∙◌}
+use Rattle.std.proofs.Common.{option_map, is_some}
+use Rattle.std.specs.Prelude.{◌==◌, Result, Ok, Err}
 use Rattle.std.proofs.lemmas.Bool.{false≢true}
 use Rattle.std.specs.FinMap.{get}
 use Rattle.slon_base.specs.Keeper.{Store, Kept}
 use Rattle.slon_base.specs.Codec.{number_bytes, text_bytes, IsText}
 use Rattle.store_rows.specs.Rows.{IsId}
-use Rattle.store_rows.specs.Space.{IsSpace, IsPending, written}
-use Rattle.store_rows.proofs.Spaces.{Turns, altered}
+use Rattle.store_rows.specs.Space.{IsSpace, IsPending, Becomes, written}
+use Rattle.store_rows.specs.Steps.{Gives, IsOutside}
+use Rattle.store_rows.specs.declared.stop.Stop.{Stop}
+use Rattle.store_rows.proofs.Spaces.{Turns, altered, same_space, pending_as}
 use Rattle.node_rows.specs.declared.rows.NodeRow.{NodeRow}
 use Rattle.node_rows.specs.declared.rows.SetRow.{SetRow}
 use Rattle.node_rows.specs.declared.rows.TableRow.{TableRow}
@@ -136,7 +138,46 @@ with_subscriptions {i = i} {now = now} m turns s = record {
       ∙ s.others space other;
 }
 
+-- ---- a map with the same entries
+
+-- the same of what is pending then
+pub becomes_as : {T : Type 0} (P Q : Store → Type 0) (new : Kept) (result : Result T Stop) →
+    ((m : Store) → P m → Q m) → Becomes P new result → Becomes Q new result
+becomes_as P Q new (Ok x) on p = pending_as on p
+becomes_as P Q new (Err stop) on p = p
+
+pub same_sets : {base : Store} {c : Config} {m : Store} (new : Map SetRow) →
+    ((s : ℕ) → entry_at s new ≡ entry_at s c.sets) → Shows base c m → Shows base (record c { sets = new }) m
+same_sets new same s = record {
+  config = whole s.config.nodes s.config.paths (same_space s.config.sets (λ i one. same i)) s.config.tables
+      s.config.subscriptions s.config.fences;
+  others = s.others;
+}
+
+pub same_tables : {base : Store} {c : Config} {m : Store} (new : Map TableRow) →
+    ((t : ℕ) → IsId t → entry_at t new ≡ entry_at t c.tables) → Shows base c m →
+    Shows base (record c { tables = new }) m
+same_tables new same s = record {
+  config = whole s.config.nodes s.config.paths s.config.sets (same_space s.config.tables same)
+      s.config.subscriptions s.config.fences;
+  others = s.others;
+}
+
+pub same_subscriptions : {base : Store} {c : Config} {m : Store} (new : Map2 Subscription) →
+    ((i : ℕ × ℕ) → AreIds i → pair_at i.0 i.1 new ≡ pair_at i.0 i.1 c.subscriptions) → Shows base c m →
+    Shows base (record c { subscriptions = new }) m
+same_subscriptions new same s = record {
+  config = whole s.config.nodes s.config.paths s.config.sets s.config.tables
+      (same_space s.config.subscriptions same) s.config.fences;
+  others = s.others;
+}
+
 -- ---- what is read
+
+-- a stop for the store, or for want of memory, that is passed on
+pub gives_stop : {U : Type 0} (P : U → Type 0) {stop : Stop} (result : Result U Stop) →
+    (y : Stop) × (result ≡ Err y) × (y ≡ stop) → IsOutside stop → Gives P result
+gives_stop P result (y, is, same) outside = subst (Gives P) (sym (is ∙ ap (λ e. Err e) same)) outside
 
 -- whether there is a row of a node
 pub heard_of : {base : Store} {c : Config} {k : Kept} (p : IsPending (Shows base c) k) (node : ℕ) → IsId node →

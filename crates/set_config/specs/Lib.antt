@@ -1,2 +1,2 @@
-pub mod Built
 pub mod Holds
+pub mod Rows

@@ -1,14 +1,15 @@
 // What a node knows of the cluster, changed by events.
 ghost use Rattle.std.specs.Prelude.{◌≡◌, ◌<◌, ◌^◌, true, is_some};
 ghost use Rattle.slon_base.specs.Keeper.{Store};
+ghost use Rattle.store_rows.specs.Rows.{IsId};
 ghost use Rattle.store_rows.specs.Steps.{Safe};
 ghost use Rattle.store_rows.specs.Space.{IsPending, Becomes};
 ghost use Rattle.node_rows.specs.Reading.{IsFeeding};
 ghost use Rattle.node_rows.specs.Spellings.{CanBody};
 ghost use Rattle.slon_model.specs.Config.{Config, change_by};
 ghost use Rattle.set_config.specs.Holds.{Shows};
-ghost use Rattle.set_config.specs.Built.{IsBuilt};
 
+use crate::handing::{drop_set, move_set, take_over};
 use crate::nodes::{drop_node, store_node};
 use crate::paths::{drop_path, store_path};
 use crate::sets::{add_table, store_set};
@@ -28,8 +29,8 @@ fn change_feeding<K: Keeper>(
 ) -> Result<(), Stop>
     requires opened { is_some (K.kept keeper.old).pending ≡ true }
     requires can { CanBody body.now }
+    requires origin { IsId origin }
     requires number { number < 2 ^ 63 }
-    requires built { IsBuilt body.now }
     requires kind { IsFeeding body.now }
     ensures safe { Safe (K.kept keeper.old) (K.kept keeper.new) result }
     ensures turns { (base : Store) (c : Config) → IsPending (Shows base c) (K.kept keeper.old) →
@@ -53,14 +54,21 @@ fn change_feeding<K: Keeper>(
             enable_subscription(alloc, keeper, *set, *receiver, number)
         }
         Body::UnsubscribeSet { set, receiver } => unsubscribe_set(alloc, keeper, *set, *receiver),
+        Body::MoveSet {
+            set,
+            new,
+            era,
+            feeds,
+            ..
+        } => move_set(alloc, keeper, *set, *new, *era, feeds.as_slice()),
         Body::AcceptSet { .. } => Ok(()),
+        Body::FailoverSet { sets, .. } => take_over(alloc, keeper, origin, sets.as_slice()),
         _ => unreachable!(),
     }
 }
 
 /// Makes in what is pending the change that the body of an event names, where `origin` emitted the event with this
-/// number. The change of a set that is dropped, moved or taken over from a failed node is not built, so no such body
-/// may be given.
+/// number.
 pub fn change<K: Keeper>(
     alloc: Global,
     keeper: &mut K,
@@ -70,8 +78,8 @@ pub fn change<K: Keeper>(
 ) -> Result<(), Stop>
     requires opened { is_some (K.kept keeper.old).pending ≡ true }
     requires can { CanBody body.now }
+    requires origin { IsId origin }
     requires number { number < 2 ^ 63 }
-    requires built { IsBuilt body.now }
     ensures safe { Safe (K.kept keeper.old) (K.kept keeper.new) result }
     ensures turns { (base : Store) (c : Config) → IsPending (Shows base c) (K.kept keeper.old) →
         Becomes (Shows base (change_by origin number body.now c)) (K.kept keeper.new) result }
@@ -97,7 +105,7 @@ pub fn change<K: Keeper>(
             name,
             comment,
         } => add_table(alloc, keeper, *set, *table, name, comment),
-        Body::DropSet { .. } => unreachable!(),
+        Body::DropSet { set } => drop_set(alloc, keeper, *set),
         feeding => change_feeding(alloc, keeper, origin, number, feeding),
     }
 }

@@ -2,6 +2,7 @@
 #![tactic(auto)]
 
 mod config;
+mod handing;
 mod layout;
 mod nodes;
 mod paths;

@@ -18,3 +18,6 @@ returns-in-SetAddTable-clause-turns g c base config p =
 
 pub returns-in-DropNode-clause-turns : goal.returns-in-DropNode-clause-turns
 returns-in-DropNode-clause-turns g c base config p = rw c.in-DropNode.is (c.drop_node.ensures.turns base config p)
+
+pub returns-in-DropSet-clause-turns : goal.returns-in-DropSet-clause-turns
+returns-in-DropSet-clause-turns g c base config p = rw c.in-DropSet.is (c.drop_set.ensures.turns base config p)
