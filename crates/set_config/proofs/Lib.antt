@@ -3,6 +3,8 @@ pub mod Changed
 pub mod Entries
 pub mod Holding
 pub mod Keyed
+pub mod Ordering
 pub mod Ranges
+pub mod Reading
 pub mod Receiving
 pub mod Sweeping

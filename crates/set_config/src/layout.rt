@@ -14,3 +14,6 @@ pub const TABLES: u8 = 7;
 
 /// The space of the subscriptions, by the ids of the set and of the receiver.
 pub const SUBSCRIPTIONS: u8 = 8;
+
+/// The space of the fences, by the id of the failed node.
+pub const FENCES: u8 = 14;

@@ -4,9 +4,11 @@
 mod config;
 mod handing;
 mod layout;
+mod loading;
 mod nodes;
 mod paths;
 mod sets;
 mod subscriptions;
 
 pub use config::change;
+pub use loading::{Config, load};

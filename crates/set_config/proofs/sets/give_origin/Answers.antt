@@ -18,7 +18,8 @@ pub returns-in-None-clause-turns : goal.returns-in-None-clause-turns
 returns-in-None-clause-turns g c base config p =
     let found = c.in_ok-find_set.ensures.gives base config p in
     pending_as
-    (shows_unchanged config c.args.set (λ row. record row { origin = c.args.origin; era = c.args.era }) (sym c.in-None.is ∙ found))
+    (shows_unchanged config c.args.set (λ row. record row { origin = c.args.origin; era = c.args.era })
+    (sym c.in-None.is ∙ found))
     (pending_same p c.in_ok-find_set.ensures.same)
 
 pub returns-in-Some-clause-turns : goal.returns-in-Some-clause-turns

@@ -36,7 +36,8 @@ returns-clause-turns g c base config p =
     (sym key) list.spelled) in
     becomes (Shows base (record config { subscriptions = without_entry set config.subscriptions }))
     (each (take_receiver set) c.as_slice.result.now) {old = g.K.Keeper.kept c.scan_rows.new.keeper} _
-    c.drop_receivers.result c.drop_receivers.ensures.put c.drop_receivers.ensures.only (pending_same p c.in_ok-rows.ensures.same)
+    c.drop_receivers.result c.drop_receivers.ensures.put c.drop_receivers.ensures.only
+    (pending_same p c.in_ok-rows.ensures.same)
     (λ m s. subst (λ rows. Shows base (record config { subscriptions = without_entry set config.subscriptions })
     (each (take_receiver set) rows m)) (sym is)
     (shows_cleared set list.rows m c.requires.can (are_map list.rows (λ e can. can.0) list.can)
