@@ -10,9 +10,9 @@ use Rattle.slon_model.specs.Maps.{number_at, pair_at}
 use Rattle.slon_model.specs.Events.{Event}
 use Rattle.slon_model.specs.Deeds.{Doing, Emits, Commits, knowledge, with_deeds, met, told_progress}
 use Rattle.slon_model.specs.Views.{Views, views_emitted}
-use Rattle.set_config.specs.Built.{IsBuilt}
+use Rattle.event_store.specs.Keeping.{KeepsViews}
 use Rattle.event_store.specs.Streams.{streams_of, emitted, given}
-use Rattle.event_store.specs.Following.{EmittingAdds, BuiltAdds, CommittingStays, HearingStays}
+use Rattle.event_store.specs.Following.{EmittingAdds, KeepingAdds, CommittingStays, HearingStays}
 use Rattle.event_store.specs.Following.{FirstHasNone, FirstHears, JoiningGives, GivenHears}
 use Rattle.event_store.specs.Giving.{HearsOfOthers}
 use Rattle.event_store.proofs.Holding.{whole, moved}
@@ -27,15 +27,15 @@ adds n d e is behind =
     ∙ ap (λ b. record (emitted e s) { views = views; events = cond b (e ∷ s.events) s.events })
     (lt-ltb (number_at e.origin low) e.number behind)
 
-built_views : (e : Event) (body : Body) (views : Views) → IsBuilt body → views_emitted e body views ≡ views
-built_views e (MoveSet set old new era feeds) views built = absurd built
-built_views e (FailoverSet failed limit sets) views built = absurd built
-built_views e others views built = refl
+kept_views : (e : Event) (body : Body) (views : Views) → KeepsViews body → views_emitted e body views ≡ views
+kept_views e (MoveSet set old new era feeds) views keeps = absurd keeps
+kept_views e (FailoverSet failed limit sets) views keeps = absurd keeps
+kept_views e others views keeps = refl
 
-pub built_adds : BuiltAdds
-built_adds n d e is behind built =
+pub keeping_adds : KeepingAdds
+keeping_adds n d e is behind keeps =
     let s = streams_of n in
-    adds n d e is behind ∙ ap (λ views. record (emitted e s) { views = views }) (built_views e e.body s.views built)
+    adds n d e is behind ∙ ap (λ views. record (emitted e s) { views = views }) (kept_views e e.body s.views keeps)
 
 pub stays : CommittingStays
 stays n d xid is = ap (λ doing. streams_of (with_deeds (record d { doing = doing } ∷ []) n)) is

@@ -2,7 +2,8 @@
 use Rattle.std.proofs.Common.{◌≡◌, ℕ, Result, Err, sym, ap, subst, ◌∙◌}
 use Rattle.store_rows.specs.declared.stop.Stop.{Stop}
 use Rattle.store_rows.specs.declared.stop.Stop.TheVariants.{Failed, NoMemory, BadRow, TooBig}
-use Rattle.store_rows.specs.Steps.{IsOutside, IsOfSpace, Gives}
+use Rattle.store_rows.specs.Steps.{IsOutside, IsOfSpace}
+pub use Rattle.set_config.proofs.Holding.{gives_stop}
 use Rattle.event_store.specs.Formed.{Lacks, StopsAt, Reads, ReadsBelow}
 
 -- what was read is in its form
@@ -31,11 +32,6 @@ pub passes_on : {U : Type 0} (few many : ℕ → Type 0) {stop : Stop} (result :
     Reads many result
 passes_on few many {stop} result (y, is, same) on stops =
     subst (λ r. Reads many r) (sym (is ∙ ap (λ e. Err e) same)) (stops_as few many stop on stops)
-
--- a stop for the store, or for want of memory, that is passed on
-pub gives_stop : {U : Type 0} (P : U → Type 0) {stop : Stop} (result : Result U Stop) →
-    (y : Stop) × (result ≡ Err y) × (y ≡ stop) → IsOutside stop → Gives P result
-gives_stop P result (y, is, same) outside = subst (Gives P) (sym (is ∙ ap (λ e. Err e) same)) outside
 
 -- a stop for the store or for want of memory
 pub outside_below : {U : Type 0} (handed : ℕ → Type 0) {stop : Stop} (result : Result U Stop) →

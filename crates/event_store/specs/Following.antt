@@ -8,7 +8,7 @@ use Rattle.slon_model.specs.Deeds.{Node, Deed, Emits, Commits, knowledge, with_d
 use Rattle.slon_model.specs.Views.{views_emitted}
 use Rattle.slon_model.specs.Sessions.{Running}
 use Rattle.slon_model.specs.Membership.{first_of_cluster, joining}
-use Rattle.set_config.specs.Built.{IsBuilt}
+use Rattle.event_store.specs.Keeping.{KeepsViews}
 use Rattle.event_store.specs.Streams.{Streams, streams_of, emitted, given}
 use Rattle.event_store.specs.Holds.{HoldsStreams, is_stream}
 use Rattle.event_store.specs.Giving.{HearsOfOthers}
@@ -23,9 +23,9 @@ EmittingAdds = (n : Node) (d : Deed) (e : Event) → d.doing ≡ Emits e → IsB
     streams_of (with_deeds (d ∷ []) n)
     ≡ record (emitted e (streams_of n)) { views = views_emitted e e.body (streams_of n).views }
 
--- An event whose change is built changes no view.
-abbrev pub BuiltAdds : Type 0
-BuiltAdds = (n : Node) (d : Deed) (e : Event) → d.doing ≡ Emits e → IsBehindLow e n → IsBuilt e.body →
+-- An event that keeps the views changes nothing else.
+abbrev pub KeepingAdds : Type 0
+KeepingAdds = (n : Node) (d : Deed) (e : Event) → d.doing ≡ Emits e → IsBehindLow e n → KeepsViews e.body →
     streams_of (with_deeds (d ∷ []) n) ≡ emitted e (streams_of n)
 
 -- What an application commits changes nothing of the streams.

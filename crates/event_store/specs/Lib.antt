@@ -4,6 +4,7 @@ pub mod Following
 pub mod Formed
 pub mod Giving
 pub mod Holds
+pub mod Keeping
 pub mod Seen
 pub mod Spellings
 pub mod Streams

@@ -1,13 +1,13 @@
 // Laws of the streams of a node: how they follow how it began and what it did since, and what they leave as it was.
 ghost use Rattle.event_store.specs.Apart.{ConfigStays, StreamsStay};
-ghost use Rattle.event_store.specs.Following.{EmittingAdds, BuiltAdds, CommittingStays, HearingStays};
+ghost use Rattle.event_store.specs.Following.{EmittingAdds, KeepingAdds, CommittingStays, HearingStays};
 ghost use Rattle.event_store.specs.Following.{FirstHasNone, FirstHears, JoiningGives, GivenHears};
 
 /// The streams of a node follow what it does: an event that it emits is added to them, and a transaction of an
 /// application changes nothing of them.
 pub fn streams_follow_deeds()
     ensures adds { EmittingAdds }
-    ensures built { BuiltAdds }
+    ensures keeps { KeepingAdds }
     ensures stays { CommittingStays }
     ensures hears { HearingStays }
 {}

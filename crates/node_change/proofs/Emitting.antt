@@ -14,7 +14,7 @@ use Rattle.slon_model.specs.Events.{Event}
 use Rattle.slon_model.specs.Config.{change}
 use Rattle.slon_model.specs.Deeds.{Node, Deed, Doing, Emits, Logged, knowledge, with_deeds}
 use Rattle.slon_model.specs.Logs.{logged}
-use Rattle.set_config.specs.Built.{IsBuilt}
+use Rattle.event_store.specs.Keeping.{KeepsViews}
 use Rattle.set_config.specs.Holds.{Shows}
 use Rattle.set_config.proofs.Entries.{entry-with}
 use Rattle.log_switch.specs.Holds.{HoldsLog}
@@ -23,7 +23,7 @@ use Rattle.event_store.specs.Following.{IsBehindLow}
 use Rattle.event_store.specs.Holds.{HoldsStreams, ShowsStreams}
 use Rattle.event_store.specs.Streams.{streams_of, emitted}
 use Rattle.event_store.proofs.Apart.{config_stays, streams_stay}
-use Rattle.event_store.proofs.Deeds.{built_adds, hearing_stays}
+use Rattle.event_store.proofs.Deeds.{keeping_adds, hearing_stays}
 use Rattle.event_store.proofs.Holding.{moved}
 use Rattle.node_state.specs.Held.{NodeHeld, items_of, IsMet}
 use Rattle.node_state.specs.Known.{IsHomed}
@@ -36,7 +36,7 @@ pub record Emission (n : Node) (e : Event) (m mid new : Store) : Type 0 where
   pub held : NodeHeld n m
   pub own : e.origin ≡ n.id
   pub next : e.number ≡ next_number (streams_of n)
-  pub built : IsBuilt e.body
+  pub keeps : KeepsViews e.body
   pub can : CanBody e.body
   pub home : IsHomed e.body (knowledge n).config
   pub streams : ShowsStreams m (emitted e (streams_of n)) mid
@@ -78,20 +78,20 @@ emits_held {n} {e} {m} {mid} {new} em d is none =
     done = record d { doing = Emits e }
 
     known : (id : ℕ) → IsMet id (knowledge n).config → IsMet id (change e (knowledge n).config)
-    known id = change_known e.origin e.number id e.body (knowledge n).config em.built
+    known id = change_known e.origin e.number id e.body (knowledge n).config em.keeps
 
     adds : streams_of (with_deeds (done ∷ []) n) ≡ emitted e (streams_of n)
-    adds = built_adds n done e refl (behind_low em) em.built
+    adds = keeping_adds n done e refl (behind_low em) em.keeps
 
     emits : NodeHeld (with_deeds (done ∷ []) n) new
     emits = record {
       id = em.held.id;
       cluster = em.held.cluster;
       config = em.config.config;
-      orderly = change_orderly e.origin e.number e.body (knowledge n).config em.built em.can em.held.orderly;
-      homes = change_homed e.origin e.number e.body (knowledge n).config em.built em.home em.held.homes;
+      orderly = change_orderly e.origin e.number e.body (knowledge n).config em.keeps em.can em.held.orderly;
+      homes = change_homed e.origin e.number e.body (knowledge n).config em.keeps em.home em.held.homes;
       self = known n.id em.held.self;
-      met = change_met e (knowledge n).config (knowledge n).progress em.built
+      met = change_met e (knowledge n).config (knowledge n).progress em.keeps
           (subst (λ id. IsMet id (change e (knowledge n).config)) (sym em.own) (known n.id em.held.self)) em.held.met;
       streams = subst (λ s. HoldsStreams s new) (sym adds)
           (streams_stay mid new (emitted e (streams_of n)) (change e (knowledge n).config) em.config

@@ -21,7 +21,7 @@ use Rattle.slon_model.specs.Maps.{without_pair}
 use Rattle.slon_model.specs.Snapshots.{Rising}
 use Rattle.slon_model.specs.Events.{Event}
 use Rattle.slon_model.specs.Config.{Config, named_node, enabled, change_by, change}
-use Rattle.set_config.specs.Built.{IsBuilt}
+use Rattle.event_store.specs.Keeping.{KeepsViews}
 use Rattle.set_config.proofs.Entries.{entry-with}
 use Rattle.node_state.specs.Held.{IsOrdered, AreOrdered, IsOrderly, AreHomed, IsMet, AreMet}
 use Rattle.node_state.specs.Known.{IsHomed}
@@ -174,33 +174,33 @@ enabled_ordered : (set receiver number : ℕ) (m : Map2 Subscription) (o : Optio
 enabled_ordered set receiver number m None one two are = are
 enabled_ordered set receiver number m (Some s) one two are = with_one set receiver _ m one two are
 
-pub change_orderly : (origin number : ℕ) (body : Body) (c : Config) → IsBuilt body → CanBody body → IsOrderly c →
+pub change_orderly : (origin number : ℕ) (body : Body) (c : Config) → KeepsViews body → CanBody body → IsOrderly c →
     IsOrderly (change_by origin number body c)
-change_orderly origin number (StoreNode node comment) c built can o =
+change_orderly origin number (StoreNode node comment) c keeps can o =
     whole (ordered_with node _ c.nodes can.0 o.nodes) o.paths o.sets o.tables o.subscriptions o.fences
-change_orderly origin number (DropNode node) c built can o =
+change_orderly origin number (DropNode node) c keeps can o =
     whole (ordered_with node _ c.nodes can o.nodes) o.paths o.sets o.tables o.subscriptions o.fences
-change_orderly origin number (StorePath server client conninfo) c built can o =
+change_orderly origin number (StorePath server client conninfo) c keeps can o =
     whole o.nodes (with_one client server conninfo c.paths can.1 can.0 o.paths) o.sets o.tables o.subscriptions o.fences
-change_orderly origin number (DropPath server client) c built can o =
+change_orderly origin number (DropPath server client) c keeps can o =
     whole o.nodes (without_one client server c.paths can.1 o.paths) o.sets o.tables o.subscriptions o.fences
-change_orderly origin number (StoreSet set by comment) c built can o =
+change_orderly origin number (StoreSet set by comment) c keeps can o =
     whole o.nodes o.paths (ordered_with set _ c.sets can.0 o.sets) o.tables o.subscriptions o.fences
-change_orderly origin number (DropSet set) c built can o = absurd built
-change_orderly origin number (SetAddTable set table name comment) c built can o =
+change_orderly origin number (DropSet set) c keeps can o = absurd keeps
+change_orderly origin number (SetAddTable set table name comment) c keeps can o =
     whole o.nodes o.paths o.sets (ordered_with table _ c.tables can.1 o.tables) o.subscriptions o.fences
-change_orderly origin number (SubscribeSet set provider receiver forward) c built can o =
+change_orderly origin number (SubscribeSet set provider receiver forward) c keeps can o =
     whole (named_ordered receiver c.nodes can.2 o.nodes) o.paths o.sets o.tables
     (with_one set receiver _ c.subscriptions can.0 can.2 o.subscriptions) o.fences
-change_orderly origin number (EnableSubscription set provider receiver forward era) c built can o =
+change_orderly origin number (EnableSubscription set provider receiver forward era) c keeps can o =
     whole o.nodes o.paths o.sets o.tables
     (enabled_ordered set receiver number c.subscriptions (pair_at set receiver c.subscriptions) can.0 can.2
     o.subscriptions) o.fences
-change_orderly origin number (UnsubscribeSet set receiver) c built can o =
+change_orderly origin number (UnsubscribeSet set receiver) c keeps can o =
     whole o.nodes o.paths o.sets o.tables (without_one set receiver c.subscriptions can.0 o.subscriptions) o.fences
-change_orderly origin number (MoveSet set old new era feeds) c built can o = absurd built
-change_orderly origin number (FailoverSet failed limit sets) c built can o = absurd built
-change_orderly origin number others c built can o = o
+change_orderly origin number (MoveSet set old new era feeds) c keeps can o = absurd keeps
+change_orderly origin number (FailoverSet failed limit sets) c keeps can o = absurd keeps
+change_orderly origin number others c keeps can o = o
 
 -- ---- each table is in a set that is known
 
@@ -220,15 +220,15 @@ homes_with id row sets [] homes = tt
 homes_with id row sets (e ∷ es) homes =
     (known_with e.1.set_id id row sets homes.0, homes_with id row sets es homes.1)
 
-pub change_homed : (origin number : ℕ) (body : Body) (c : Config) → IsBuilt body → IsHomed body c → AreHomed c →
+pub change_homed : (origin number : ℕ) (body : Body) (c : Config) → KeepsViews body → IsHomed body c → AreHomed c →
     AreHomed (change_by origin number body c)
-change_homed origin number (StoreSet set by comment) c built home homes = homes_with set _ c.sets c.tables homes
-change_homed origin number (SetAddTable set table name comment) c built home homes =
+change_homed origin number (StoreSet set by comment) c keeps home homes = homes_with set _ c.sets c.tables homes
+change_homed origin number (SetAddTable set table name comment) c keeps home homes =
     all_with (λ e. is_some (entry_at e.1.set_id c.sets) ≡ true) table _ c.tables home homes
-change_homed origin number (DropSet set) c built home homes = absurd built
-change_homed origin number (MoveSet set old new era feeds) c built home homes = absurd built
-change_homed origin number (FailoverSet failed limit sets) c built home homes = absurd built
-change_homed origin number others c built home homes = homes
+change_homed origin number (DropSet set) c keeps home homes = absurd keeps
+change_homed origin number (MoveSet set old new era feeds) c keeps home homes = absurd keeps
+change_homed origin number (FailoverSet failed limit sets) c keeps home homes = absurd keeps
+change_homed origin number others c keeps home homes = homes
 
 -- ---- the nodes that are known
 
@@ -244,24 +244,24 @@ known_named q node nodes is = step (is_some (entry_at node nodes))
     step false = known_with q node row nodes is
 
 -- a node that is known is known still when an event has changed the configuration
-pub change_known : (origin number q : ℕ) (body : Body) (c : Config) → IsBuilt body → IsMet q c →
+pub change_known : (origin number q : ℕ) (body : Body) (c : Config) → KeepsViews body → IsMet q c →
     IsMet q (change_by origin number body c)
-change_known origin number q (StoreNode node comment) c built is = known_with q node _ c.nodes is
-change_known origin number q (DropNode node) c built is = known_with q node _ c.nodes is
-change_known origin number q (SubscribeSet set provider receiver forward) c built is =
+change_known origin number q (StoreNode node comment) c keeps is = known_with q node _ c.nodes is
+change_known origin number q (DropNode node) c keeps is = known_with q node _ c.nodes is
+change_known origin number q (SubscribeSet set provider receiver forward) c keeps is =
     known_named q receiver c.nodes is
-change_known origin number q (DropSet set) c built is = absurd built
-change_known origin number q (MoveSet set old new era feeds) c built is = absurd built
-change_known origin number q (FailoverSet failed limit sets) c built is = absurd built
-change_known origin number q others c built is = is
+change_known origin number q (DropSet set) c keeps is = absurd keeps
+change_known origin number q (MoveSet set old new era feeds) c keeps is = absurd keeps
+change_known origin number q (FailoverSet failed limit sets) c keeps is = absurd keeps
+change_known origin number q others c keeps is = is
 
 -- and so are the nodes that events are there of, with the one that emitted this event
-pub change_met : (e : Event) (c : Config) (progress : Map ℕ) → IsBuilt e.body → IsMet e.origin (change e c) →
+pub change_met : (e : Event) (c : Config) (progress : Map ℕ) → KeepsViews e.body → IsMet e.origin (change e c) →
     AreMet progress c → AreMet (with_entry e.origin e.number progress) (change e c)
-change_met e c progress built here met =
+change_met e c progress keeps here met =
     all_with (λ p. is_some (entry_at p.0 (change e c).nodes) ≡ true) e.origin e.number progress here
     (each progress met)
   where
     each : (ps : Map ℕ) → AreMet ps c → AreMet ps (change e c)
     each [] met = tt
-    each (p ∷ ps) met = (change_known e.origin e.number p.0 e.body c built met.0, each ps met.1)
+    each (p ∷ ps) met = (change_known e.origin e.number p.0 e.body c keeps met.0, each ps met.1)

@@ -1,12 +1,11 @@
 -- The least receiver of a set, by the keys of the subscriptions.
-use Rattle.std.proofs.Common.{◌≡◌, ℕ, ◌<◌, Bool, true, false, cond, List, [], ◌∷◌, ◌++◌, length, Option, Some, None}
+use Rattle.std.proofs.Common.{◌≡◌, ℕ, ◌<◌, Bool, true, false, cond, List, [], ◌∷◌, Option, Some, None}
 use Rattle.std.proofs.Common.{refl, sym, ap, subst, ◌∙◌, arith, is_some}
 use Rattle.std.specs.Prelude.{◌==◌, nat_lt, find, Result}
 use Rattle.std.specs.List.{AllByRecursion}
 use Rattle.std.specs.Option.{option_map}
-use Rattle.std.specs.declared.cmp.Ordering.TheVariants.{Less, Equal, Greater}
-use Rattle.std.specs.Ordering.{nat_cmp, ordering_then}
-use Rattle.std.specs.Cmp.{nat_cmp_total, tied_itself}
+use Rattle.std.specs.declared.cmp.Ordering.TheVariants.{Less, Equal}
+use Rattle.std.specs.Cmp.{tied_itself}
 use Rattle.std.specs.Cmp.Lexicographic.{nat_list_cmp_total}
 use Rattle.std.specs.FinMap.{entries, entries_sorted, get-entries}
 use Rattle.std.specs.FinMap.Entries as sorted
@@ -26,6 +25,7 @@ use Rattle.node_rows.specs.Spellings.{subscription_bytes, CanSubscription}
 use Rattle.slon_model.specs.Maps.{Map, Map2, ids, entry_at, row_at, pair_at}
 use Rattle.set_config.specs.Holds.{AreIds, pair_key}
 use Rattle.set_config.proofs.Entries.{not_eq}
+use Rattle.set_config.proofs.Ordering.{less_front, first_before, second_before}
 use Rattle.event_store.specs.Formed.{Lacks, Reads}
 use Rattle.node_state.specs.Held.{IsOrdered, AreOrdered}
 use Rattle.node_state.proofs.Formed.{reads_as}
@@ -34,35 +34,6 @@ use Rattle.node_change.specs.Receivers.{IsPairKey, receiver_of}
 use Rattle.node_change.proofs.Orderly.{row_ordered, lesser, higher}
 
 -- ---- the order of keys
-
--- fronts of one length decide
-less_front : (u v x y : List ℕ) → length u ≡ length v → key_cmp u v ≡ Less → key_cmp (u ++ x) (v ++ y) ≡ Less
-less_front [] [] x y same less = absurd cc
-less_front [] (b ∷ v) x y same less = absurd (omega (arith, same))
-less_front (a ∷ u) [] x y same less = absurd (omega (arith, same))
-less_front (a ∷ u) (b ∷ v) x y same less =
-    elim (nat_cmp a b) as (λ o. ordering_then o (key_cmp u v) ≡ Less →
-    ordering_then o (key_cmp (u ++ x) (v ++ y)) ≡ Less) [
-      | Less ↦ λ is. refl
-      | Equal ↦ λ is. less_front u v x y (omega (arith, same)) is
-      | Greater ↦ λ is. is
-    ] less
-
--- what follows the same front decides
-same_front : (p x y : List ℕ) → key_cmp (p ++ x) (p ++ y) ≡ key_cmp x y
-same_front [] x y = refl
-same_front (a ∷ p) x y =
-    ap (λ o. ordering_then o (key_cmp (p ++ x) (p ++ y))) (tied_itself nat_cmp_total a) ∙ same_front p x y
-
--- the keys of a lesser set come before, and so does that of a lesser receiver of the same set
-set_before : (i j : ℕ × ℕ) → i.0 < j.0 → IsId j.0 → key_cmp (pair_key i) (pair_key j) ≡ Less
-set_before i j less id =
-    less_front (number_bytes i.0) (number_bytes j.0) (number_bytes i.1) (number_bytes j.1)
-    (length-number_bytes i.0 ∙ sym (length-number_bytes j.0)) (numbers_ordered i.0 j.0 less (omega (arith, id.1)))
-
-receiver_before : (set a b : ℕ) → a < b → IsId b → key_cmp (pair_key (set, a)) (pair_key (set, b)) ≡ Less
-receiver_before set a b less id =
-    same_front (number_bytes set) (number_bytes a) (number_bytes b) ∙ numbers_ordered a b less (omega (arith, id.1))
 
 -- the keys of a set come behind the key of the set alone
 set_behind : (set receiver : ℕ) → key_cmp (number_bytes set) (pair_key (set, receiver)) ≡ Less
@@ -207,11 +178,11 @@ receiver_is {subscriptions} set i id ordered next =
         let bad : false ≡ true = ap is_some (sym none) ∙ there is in cc)
         (λ more. no_head f fs (least f.0 ordered.ids_are.0
         (subst (λ s. key_cmp (pair_key (set, f.0)) (pair_key (s, i.1)) ≡ Less) (sym is)
-        (receiver_before set f.0 i.1 more next.can.1)))))
+        (second_before set f.0 i.1 more next.can.1)))))
     by false differ [] ordered there least = refl
     by false differ (f ∷ fs) ordered there least =
         let greater = above i.0 set differ (no_lesser set i id next.after) in
-        absurd (no_head f fs (least f.0 ordered.ids_are.0 (set_before (set, f.0) i greater next.can.0)))
+        absurd (no_head f fs (least f.0 ordered.ids_are.0 (first_before (set, f.0) i greater next.can.0)))
 
 -- ---- the form of the key
 

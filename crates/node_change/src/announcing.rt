@@ -6,7 +6,7 @@ ghost use Rattle.store_rows.specs.Steps.{Safe};
 ghost use Rattle.node_rows.specs.Spellings.{CanBody};
 ghost use Rattle.txn_core.specs.Snapshots.{seen_as};
 ghost use Rattle.slon_model.specs.Deeds.{Node, knowledge};
-ghost use Rattle.set_config.specs.Built.{IsBuilt};
+ghost use Rattle.event_store.specs.Keeping.{KeepsViews};
 ghost use Rattle.event_store.specs.Seen.{event_by};
 ghost use Rattle.event_store.specs.Spellings.{CanSnapshot};
 ghost use Rattle.node_state.specs.Held.{HoldsNode};
@@ -39,7 +39,7 @@ pub fn announce<K: Keeper>(
     requires opened { is_some (K.kept keeper.old).pending ≡ true }
     requires own { IsId own }
     requires can { CanSnapshot (seen_as taken.now) × CanBody body.now }
-    requires built { IsBuilt body.now }
+    requires keeps { KeepsViews body.now }
     ensures safe { Safe (K.kept keeper.old) (K.kept keeper.new) result }
     ensures turns { (n : Node) (m : Store) → n.id ≡ own → (K.kept keeper.old).pending ≡ Some (Some m) →
         HoldsNode (Some n) m → IsHomed body.now (knowledge n).config →

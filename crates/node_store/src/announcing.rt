@@ -4,7 +4,7 @@ ghost use Rattle.std.specs.Option.{option_map};
 ghost use Rattle.node_rows.specs.Spellings.{CanBody};
 ghost use Rattle.slon_model.specs.Place.{Place, is_running, taken};
 ghost use Rattle.txn_core.specs.Snapshots.{seen_as};
-ghost use Rattle.set_config.specs.Built.{IsBuilt};
+ghost use Rattle.event_store.specs.Keeping.{KeepsViews};
 ghost use Rattle.event_store.specs.Spellings.{CanSnapshot};
 ghost use Rattle.app_store.specs.Base.{base_of};
 ghost use Rattle.app_store.specs.Fits.{Ready};
@@ -49,7 +49,7 @@ pub fn announce<K: Keeper>(database: &mut Database<K>, body: &Body) -> Result<(u
     requires up { database.old.state.up ≡ true }
     requires node { is_some database.old.state.node.identity ≡ true }
     requires can { CanBody body.now }
-    requires built { IsBuilt body.now }
+    requires keeps { KeepsViews body.now }
     ensures acts { Acts (trouble (answered (emitted (own_id database.old.state.node.identity)) result))
         (base_of K.kept database.old) (base_of K.kept database.new) }
     ensures announces { Announces body.now (base_of K.kept database.old)
@@ -77,7 +77,7 @@ fn emit<K: Keeper>(
     requires up { database.old.state.up ≡ true }
     requires own { option_map (λ i. i.id) database.old.state.node.identity ≡ Some own }
     requires can { CanSnapshot (seen_as taken.now) × CanBody body.now }
-    requires built { IsBuilt body.now }
+    requires keeps { KeepsViews body.now }
     requires room { database.old.state.stamp + 1 < 2 ^ 63 }
     ensures acts { Acts (trouble (answered (emitted own) result)) (base_of K.kept database.old)
         (base_of K.kept database.new) }

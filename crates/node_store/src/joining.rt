@@ -6,7 +6,7 @@ ghost use Rattle.store_rows.specs.Rows.{IsId};
 ghost use Rattle.app_store.specs.Base.{base_of, base_with};
 ghost use Rattle.node_rows.specs.Spellings.{CanBody};
 ghost use Rattle.txn_core.specs.Snapshots.{seen_as};
-ghost use Rattle.set_config.specs.Built.{IsBuilt};
+ghost use Rattle.event_store.specs.Keeping.{KeepsViews};
 ghost use Rattle.event_store.specs.Spellings.{CanSnapshot};
 ghost use Rattle.node_rows.specs.declared.body.Body.TheVariants.{StoreNode};
 ghost use Rattle.node_keeper.specs.Fused.{fuse_kept};
@@ -149,7 +149,7 @@ fn join_as<K: Keeper>(
     requires ids { IsId joining.own × IsId joining.new × IsText joining.cluster.now }
     requires own { option_map (λ i. i.id) from.old.state.node.identity ≡ Some joining.own }
     requires can { CanSnapshot (seen_as taken.now) × CanBody body.now }
-    requires built { IsBuilt body.now }
+    requires keeps { KeepsViews body.now }
     requires room { (joining.event_stamp < 2 ^ 63) × (joining.node_stamp < 2 ^ 63) }
     requires stamps { (joining.event_stamp ≡ from.old.state.stamp + 1) × (joining.node_stamp ≡ to.old.state.stamp + 1) }
     ensures acts { ActsBoth (record { from = base_of K.kept from.old; to = base_of K.kept to.old }) result

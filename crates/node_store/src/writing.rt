@@ -12,7 +12,7 @@ ghost use Rattle.node_rows.specs.declared.body.Body.TheVariants.{StoreNode};
 ghost use Rattle.node_change.specs.Becoming.{IsNode};
 ghost use Rattle.slon_model.specs.Maps.{entry_at};
 ghost use Rattle.slon_model.specs.Deeds.{Node, knowledge};
-ghost use Rattle.set_config.specs.Built.{IsBuilt};
+ghost use Rattle.event_store.specs.Keeping.{KeepsViews};
 ghost use Rattle.event_store.specs.Emitting.{next_number};
 ghost use Rattle.event_store.specs.Seen.{event_by};
 ghost use Rattle.event_store.specs.Spellings.{CanSnapshot};
@@ -62,7 +62,7 @@ pub(crate) fn write_event<K: Keeper>(
     requires idle { is_some (K.kept keeper.old).pending ≡ false }
     requires own { IsId own }
     requires can { CanSnapshot (seen_as taken.now) × CanBody body.now }
-    requires built { IsBuilt body.now }
+    requires keeps { KeepsViews body.now }
     requires room { stamp < 2 ^ 63 }
     ensures enters { Enters (K.kept keeper.old) (K.kept keeper.new) result }
     ensures writes { (n : Node) (m : Store) → n.id ≡ own → (K.kept keeper.old).held ≡ Some m → HoldsNode (Some n) m →
@@ -172,7 +172,7 @@ pub(crate) fn write_both<K: Keeper>(
     requires idle { (is_some (K.kept from.old).pending ≡ false) × (is_some (K.kept to.old).pending ≡ false) }
     requires ids { IsId joining.own × IsId joining.new × IsText joining.cluster.now }
     requires can { CanSnapshot (seen_as taken.now) × CanBody body.now }
-    requires built { IsBuilt body.now }
+    requires keeps { KeepsViews body.now }
     requires room { (joining.event_stamp < 2 ^ 63) × (joining.node_stamp < 2 ^ 63) }
     ensures enters { EntersBoth (K.kept from.old) (K.kept from.new) (K.kept to.old) (K.kept to.new) result }
     ensures writes { (n : Node) (run : Running) (m t : Store) (comment : List ℕ) → n.id ≡ joining.entry.own →

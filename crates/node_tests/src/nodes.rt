@@ -1,6 +1,6 @@
 // A database that becomes the first node of a cluster, and emits the events of its configuration.
 ghost use Rattle.node_rows.specs.Spellings.{CanBody};
-ghost use Rattle.set_config.specs.Built.{IsBuilt};
+ghost use Rattle.event_store.specs.Keeping.{KeepsViews};
 ghost use Rattle.std.specs.Prelude.{IfOk};
 
 use app_store::{Database, DbFault, Fuse};
@@ -64,7 +64,7 @@ fn emit(
     database: &mut Database<MemKeeper>,
     body: &Body,
 ) -> Result<Result<(u64, bool), DbFault>, Fail>
-    requires { CanBody body.now × IsBuilt body.now }
+    requires { CanBody body.now × KeepsViews body.now }
 {
     if !database.is_up() || database.node_id().is_none() {
         return Err(Fail::new("no node that is up"));
@@ -74,7 +74,7 @@ fn emit(
 
 /// A second node.
 fn second(alloc: Global) -> Result<Body, Fail>
-    ensures { IfOk result (λ b. CanBody b × IsBuilt b) }
+    ensures { IfOk result (λ b. CanBody b × KeepsViews b) }
 {
     Ok(Body::StoreNode {
         node: 2,
@@ -84,7 +84,7 @@ fn second(alloc: Global) -> Result<Body, Fail>
 
 /// A set of the first node.
 fn some_set(alloc: Global) -> Result<Body, Fail>
-    ensures { IfOk result (λ b. CanBody b × IsBuilt b) }
+    ensures { IfOk result (λ b. CanBody b × KeepsViews b) }
 {
     Ok(Body::StoreSet {
         set: 1,
@@ -95,7 +95,7 @@ fn some_set(alloc: Global) -> Result<Body, Fail>
 
 /// A table of that set.
 fn some_table(alloc: Global) -> Result<Body, Fail>
-    ensures { IfOk result (λ b. CanBody b × IsBuilt b) }
+    ensures { IfOk result (λ b. CanBody b × KeepsViews b) }
 {
     Ok(Body::SetAddTable {
         set: 1,

@@ -1,7 +1,7 @@
 // A statement has the node that it reached emit an event.
 ghost use Rattle.std.specs.Prelude.{◌≡◌, true, is_some, Ok, Some, List, ℕ, [], ◌∷◌, IfOk};
 ghost use Rattle.node_rows.specs.Spellings.{CanBody};
-ghost use Rattle.set_config.specs.Built.{IsBuilt};
+ghost use Rattle.event_store.specs.Keeping.{KeepsViews};
 ghost use Rattle.app_store.specs.Base.{base_of};
 ghost use Rattle.slonik_exec.specs.Answering.{Answers};
 ghost use Rattle.slonik_exec.specs.Emitting.{Emits};
@@ -24,7 +24,7 @@ pub(crate) fn emit<K: Keeper>(
     requires up { seat.old.database.state.up ≡ true }
     requires node { is_some seat.old.database.state.node.identity ≡ true }
     requires can { CanBody body.now }
-    requires built { IsBuilt body.now }
+    requires keeps { KeepsViews body.now }
     ensures answers { IfOk result (λ reply. Answers seat.old.name (base_of K.kept seat.old.database) reply
         (base_of K.kept seat.new.database)) }
     ensures emits { IfOk result (λ reply. Emits seat.old.name body.now (base_of K.kept seat.old.database) reply

@@ -1,11 +1,11 @@
-use Rattle.event_store.proofs.Deeds.{adds, built_adds, stays, hearing_stays}
+use Rattle.event_store.proofs.Deeds.{adds, keeping_adds, stays, hearing_stays}
 use Rattle.event_store.proofs.following.streams_follow_deeds.Goals as goal
 
 pub returns-clause-adds : goal.returns-clause-adds
 returns-clause-adds c = adds
 
-pub returns-clause-built : goal.returns-clause-built
-returns-clause-built c = built_adds
+pub returns-clause-keeps : goal.returns-clause-keeps
+returns-clause-keeps c = keeping_adds
 
 pub returns-clause-stays : goal.returns-clause-stays
 returns-clause-stays c = stays
