@@ -6,6 +6,8 @@ mod applied;
 #[cfg(test)]
 mod codec;
 #[cfg(test)]
+mod handing;
+#[cfg(test)]
 mod joining;
 #[cfg(test)]
 mod logged;
