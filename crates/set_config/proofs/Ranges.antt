@@ -114,13 +114,14 @@ pub record RowsOf {I J X : Type 0} (prefix : List ℕ) (tail : J → List ℕ) (
   pub spelled : es ≡ spelled_rows prefix tail value rows
   pub stand : AllAre (λ e. entry (at e.0) ≡ Some e.1) rows
 
+-- a pair is that of an id, with what stands there
 one_more : {I J X : Type 0} {prefix : List ℕ} {tail : J → List ℕ} {IsTail : J → Type 0} {at : J → I}
-    {value : X → List ℕ} {Can : X → Type 0} {entry : I → Option X} {es : Entries} (e : List ℕ × List ℕ) (j : J) →
-    IsTail j → e.0 ≡ prefix ++ tail j → (o : Option X) → entry (at j) ≡ o → AllOf Can o →
+    {value : X → List ℕ} {Can : X → Type 0} {entry : I → Option X} {es : Entries} (e : List ℕ × List ℕ)
+    (k : (j : J) × IsTail j × (e.0 ≡ prefix ++ tail j)) (o : Option X) → entry (at k.0) ≡ o → AllOf Can o →
     Some e.1 ≡ option_map value o → RowsOf prefix tail IsTail at value Can entry es →
     RowsOf prefix tail IsTail at value Can entry (e ∷ es)
-one_more e j one key None is can found more = absurd cc
-one_more {value = value} {es = es} e j one key (Some x) is can found more =
+one_more e k None is can found more = absurd cc
+one_more {value = value} {es = es} e (j, one, key) (Some x) is can found more =
     let worth : e.1 ≡ value x = cc in
     let behind = more.spelled in
     record {
@@ -143,7 +144,7 @@ rows_from {key = key} {prefix = prefix} {at = at} {value = value} {entry = entry
     let c = range.covers k.0 k.1 (ap (λ q. starts_with nat_eq q prefix) (sym k.2) ∙ got.0.1) in
     let here = k.2 ∙ ap key c.2 in
     let one = range.one c.0 c.1 in
-    one_more e c.0 c.1 (here ∙ range.spelled c.0) (entry (at c.0)) refl (is.spelled (at c.0) one)
+    one_more e (c.0, c.1, here ∙ range.spelled c.0) (entry (at c.0)) refl (is.spelled (at c.0) one)
     (sym got.0.0 ∙ ap (get space) here ∙ is.lookups (at c.0) one) (rows_from es range is got.1)
 
 -- the pairs that a scan goes over are rows of what stands
@@ -171,12 +172,12 @@ none_there value (Some x) is = absurd cc
 
 looked : {I J X : Type 0} {key : I → List ℕ} {IsOne : I → Type 0} {prefix : List ℕ} {tail : J → List ℕ}
     {IsTail : J → Type 0} {at : J → I} (value : X → List ℕ) (entry : I → Option X) {same : J → J → Bool} (j : J)
-    (rows : List (J × X)) → IsTest same → IsRange key IsOne prefix tail IsTail at → IsTail j →
-    AllAre (λ e. IsTail e.0 × (entry (at e.0) ≡ Some e.1)) rows →
-    find key_cmp (prefix ++ tail j) (spelled_rows prefix tail value rows) ≡ option_map value (entry (at j)) →
+    (rows : List (J × X)) → IsTest same → IsRange key IsOne prefix tail IsTail at →
+    AllAre (λ e. IsTail e.0 × (entry (at e.0) ≡ Some e.1)) rows → IsTail j
+    × (find key_cmp (prefix ++ tail j) (spelled_rows prefix tail value rows) ≡ option_map value (entry (at j))) →
     row_of same j rows ≡ entry (at j)
-looked {at = at} value entry j [] test range one rows found = none_there value (entry (at j)) found
-looked {prefix = prefix} {tail = tail} {at = at} value entry {same = same} j (r ∷ rs) test range one rows found =
+looked {at = at} value entry j [] test range rows (one, found) = none_there value (entry (at j)) found
+looked {prefix = prefix} {tail = tail} {at = at} value entry {same = same} j (r ∷ rs) test range rows (one, found) =
     elim (is_eq (key_cmp (prefix ++ tail j) (prefix ++ tail r.0))) as
     (λ b. is_eq (key_cmp (prefix ++ tail j) (prefix ++ tail r.0)) ≡ b →
     cond b (Some (value r.1)) (find key_cmp (prefix ++ tail j) (spelled_rows prefix tail value rs))
@@ -192,7 +193,7 @@ looked {prefix = prefix} {tail = tail} {at = at} value entry {same = same} j (r 
           ∙ ap (λ k. is_eq (key_cmp (prefix ++ tail j) (prefix ++ tail k))) (sym (test.of j r.0 is))
           ∙ tied (prefix ++ tail j) in
           cc))
-          ∙ looked value entry j rs test range one rows.1 got
+          ∙ looked value entry j rs test range rows.1 (one, got)
     ] refl found
 
 -- what stands is found among the rows
@@ -204,8 +205,10 @@ pub row_found : {I J X : Type 0} {key : I → List ℕ} {IsOne : I → Type 0} {
     row_of same j r.rows ≡ entry (at j)
 row_found {prefix = prefix} {tail = tail} {IsTail = IsTail} {at = at} {value = value} {entry = entry} space j test
     range is r one =
-    looked value entry j r.rows test range one
+    looked value entry j r.rows test range
     (both_are (λ e. IsTail e.0) (λ e. entry (at e.0) ≡ Some e.1) r.rows (are_map r.rows (λ e can. can.0) r.can)
-    r.stand)
-    (ap (find key_cmp (prefix ++ tail j)) (sym r.spelled) ∙ find_in prefix (tail j) space (range.some j)
-    ∙ ap (get space) (sym (range.spelled j)) ∙ is.lookups (at j) (range.one j one))
+    r.stand) (
+      one,
+      ap (find key_cmp (prefix ++ tail j)) (sym r.spelled) ∙ find_in prefix (tail j) space (range.some j)
+          ∙ ap (get space) (sym (range.spelled j)) ∙ is.lookups (at j) (range.one j one),
+    )

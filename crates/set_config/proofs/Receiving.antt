@@ -6,7 +6,7 @@ use Rattle.slon_base.specs.Codec.{AllAre}
 use Rattle.slon_base.specs.Keeper.{Store}
 use Rattle.store_rows.specs.Rows.{IsId}
 use Rattle.node_rows.specs.declared.rows.Subscription.{Subscription}
-use Rattle.slon_model.specs.Maps.{Map, Map2, entry_at, with_entry, without_entry, row_at, pair_at, without_pair}
+use Rattle.slon_model.specs.Maps.{Map2, entry_at, with_entry, without_entry, row_at, pair_at, without_pair}
 use Rattle.slon_model.specs.Events.{Feed}
 use Rattle.slon_model.specs.Config.{Config, fed}
 use Rattle.set_config.specs.Holds.{Shows}
@@ -27,13 +27,6 @@ shows_each {c = c} set (e ∷ es) m id ids s =
     (with_subscriptions m (drops_pair (set, e.0) c.subscriptions (id, ids.0)) s)
 
 -- ---- what stands at two ids
-
--- a row of one set is another
-row_if : {X : Type 0} (b t : Bool) (a q : ℕ) (row : Map X) (m : Map2 X) →
-    entry_at q row ≡ cond t None (pair_at a q m) →
-    entry_at q (cond b row (row_at a m)) ≡ cond b (cond t None (pair_at a q m)) (pair_at a q m)
-row_if true t a q row m is = is
-row_if false t a q row m is = refl
 
 -- where one receiver of a set was taken away
 pair-taking : {X : Type 0} (set a q : ℕ) (e : ℕ × X) (m : Map2 X) → pair_at a q (taking set e m)
