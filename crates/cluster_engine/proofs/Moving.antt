@@ -27,8 +27,8 @@ use Rattle.app_store.specs.Base.{Base}
 use Rattle.app_store.specs.Handed.{HandsOn}
 use Rattle.app_store.specs.Serves.{ServesOn, Founds, is_memory, trouble, settled}
 use Rattle.cluster_engine.specs.Agreed.{Clustered}
-use Rattle.cluster_engine.specs.Calls.{is_one, is_reading, takes_none, IsActed, with_base, with_base_behind, with_given, with_more}
-use Rattle.cluster_engine.specs.Calls.{fused, grant, Moves}
+use Rattle.cluster_engine.specs.Calls.{is_one, is_reading, takes_none, IsActed, with_base, with_base_behind}
+use Rattle.cluster_engine.specs.Calls.{with_given, with_more, fused, grant, Moves}
 use Rattle.cluster_engine.specs.Calls.{Grants, Misses, Asks, Acts, Made, making_reply, is_not_empty, Adopts, Rejects}
 use Rattle.cluster_engine.specs.Calls.{Keeps}
 use Rattle.slonik_exec.proofs.Lists.{IsAt, find_position, put_position}

@@ -22,7 +22,8 @@ agreed m = record { reply = Accepted Done; commits = []; falls = None; memory = 
 
 -- whether a database is the node, by the code and by the rules
 switched_as : (node : ℕ) (m : Memory) (w : World) (old : Clustered) (found : Bool) → Follows w old →
-    HasNode node old.bases found → switched node m w ≡ cond found (agreed m) (no_change w (Refused (refused.NoNode node)))
+    HasNode node old.bases found →
+    switched node m w ≡ cond found (agreed m) (no_change w (Refused (refused.NoNode node)))
 switched_as node m w old found follows has =
     ap (λ b. cond b (agreed m) (no_change w (Refused (refused.NoNode node)))) (has w follows.agrees.fits)
 

@@ -270,7 +270,8 @@ keeps_killed name s scripts has w fits =
         KeepsTo w.memory (outcome (ToForget name) w) (Accepted Done) (remove scripts name)
     by None is f = absurd (subst (λ o. FitsFound o (Some s)) is f)
     by (Some run) is f =
-        subst (λ o. KeepsTo w.memory o (Accepted Done) (remove scripts name)) (sym (ap (λ o. kill_of name o w) is)) (record {
+        subst (λ o. KeepsTo w.memory o (Accepted Done) (remove scripts name))
+        (sym (ap (λ o. kill_of name o w) is)) (record {
           told = refl;
           commits = refl;
           falls = refl;

@@ -1,6 +1,6 @@
 -- The first database that is down or a node, and whether one is this node, by the code and by the rules.
-use Rattle.std.proofs.Common.{◌≡◌, ◌∙◌, ℕ, ◌&&◌, ◌||◌, Bool, true, false, cond, not, List, [], ◌∷◌, filter, is_some, Option}
-use Rattle.std.proofs.Common.{Some, None, refl, sym, ap}
+use Rattle.std.proofs.Common.{◌≡◌, ◌∙◌, ℕ, ◌&&◌, ◌||◌, Bool, true, false, cond, not, List, [], ◌∷◌, filter, is_some}
+use Rattle.std.proofs.Common.{Option, Some, None, refl, sym, ap}
 use Rattle.std.specs.Prelude.{find, filter_map}
 use Rattle.std.specs.List.{cons_option, list_any}
 use Rattle.std.specs.Option.{option_map}
