@@ -1,3 +1,4 @@
+pub mod Bytes
 pub mod Capture
 pub mod Doubts
 pub mod Refusals
