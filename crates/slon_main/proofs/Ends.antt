@@ -207,13 +207,13 @@ ends_short shelf told unread written status has is none =
     subst (λ s. EndsRun shelf s told written unread has) (sym is) (
       bare,
       ran_nothing shelf database_limit told.said.commands written bare none (record {
-        agrees = record { limit = refl; fits = tt; scripts = none_fit empty refl };
+        agrees = record { limit = refl; fits = tt; memory = record { scripts = none_fit empty refl; started = refl } };
         given = refl;
       }),
     )
   where
     bare : Clustered
-    bare = record { limit = database_limit; given = 0; bases = []; scripts = empty }
+    bare = record { limit = database_limit; given = 0; bases = []; memory = record { scripts = empty; started = [] } }
 
 -- where the session could not be entered
 pub read_faults : {C : Type 0} (line : List ℕ) (cluster : Option C) (before behind shelf : ℕ) (o : Outcome C) →
