@@ -58,20 +58,31 @@ const NODE: &str = "ok node 2 log 0 progress 1 1 progress 2 0";
 
 const NONE: &str = "ok node 0 log 0";
 
+/// A second node joins, and both tell the same behind a crash of each.
+fn join_and_crash(
+    alloc: Global,
+    first: &mut Database<MemKeeper>,
+    second: &mut Database<MemKeeper>,
+) -> Result<(), Fail> {
+    require(found(alloc, first)? == Ok(false), "the first node")?;
+    let joined = join_second(alloc, first, second)?;
+    require(matches!(joined, Ok((1, Joined::Done))), "the second node")?;
+    expect_both(alloc, first, second, [EVENT, NODE])?;
+    crash_and_rise(alloc, first)?;
+    crash_and_rise(alloc, second)?;
+    expect_both(alloc, first, second, [EVENT, NODE])
+}
+
+/// The same of a database that is made for it.
+fn join_a_second(alloc: Global, first: &mut Database<MemKeeper>) -> Result<(), Fail> {
+    let mut second = create(alloc, 0, false)?;
+    join_and_crash(alloc, first, &mut second)
+}
+
 #[test]
 fn second_nodes_join(rt: HostRuntime) -> Result<(), Fail> {
-    let alloc = rt.alloc();
-    let mut first = create(alloc, 0, false)?;
-    let mut second = create(alloc, 0, false)?;
-    require(found(alloc, &mut first)? == Ok(false), "the first node")?;
-    match join_second(alloc, &mut first, &mut second)? {
-        Ok((1, Joined::Done)) => {}
-        _ => return Err(Fail::new("the second node")),
-    }
-    expect_both(alloc, &mut first, &mut second, [EVENT, NODE])?;
-    crash_and_rise(alloc, &mut first)?;
-    crash_and_rise(alloc, &mut second)?;
-    expect_both(alloc, &mut first, &mut second, [EVENT, NODE])
+    let mut first = create(rt.alloc(), 0, false)?;
+    join_a_second(rt.alloc(), &mut first)
 }
 
 /// A database goes down and comes up again.
@@ -89,22 +100,42 @@ fn made(alloc: Global, fails: u64, keep: bool) -> Result<Option<Database<MemKeep
     Ok(made.is_ok().then_some(database))
 }
 
-/// Joins where these calls fail, and tells whether one commit was in doubt.
-fn walk(alloc: Global, fails: [u64; 2], keep: bool) -> Result<bool, Fail> {
-    let (Some(mut first), Some(mut second)) = (
-        made(alloc, fails[0], keep)?,
-        made(alloc, fails[1], keep)?,
-    ) else {
-        return Ok(false);
-    };
-    if found(alloc, &mut first)? != Ok(false) {
+/// Joins two databases whose stores may fail, and tells whether one commit was in doubt.
+fn try_join(
+    alloc: Global,
+    first: &mut Database<MemKeeper>,
+    second: &mut Database<MemKeeper>,
+    keep: bool,
+) -> Result<bool, Fail> {
+    if found(alloc, first)? != Ok(false) {
         return Ok(false);
     }
-    let joined = join_second(alloc, &mut first, &mut second)?;
-    rise(&mut first)?;
-    rise(&mut second)?;
-    expect_both(alloc, &mut first, &mut second, told_behind(&joined, keep))?;
+    let joined = join_second(alloc, first, second)?;
+    rise(first)?;
+    rise(second)?;
+    expect_both(alloc, first, second, told_behind(&joined, keep))?;
     Ok(matches!(joined, Ok((_, Joined::EventInDoubt | Joined::NodeInDoubt))))
+}
+
+/// The same where this call of the store of the second one fails.
+fn try_second(
+    alloc: Global,
+    first: &mut Database<MemKeeper>,
+    fails: u64,
+    keep: bool,
+) -> Result<bool, Fail> {
+    match made(alloc, fails, keep)? {
+        None => Ok(false),
+        Some(mut second) => try_join(alloc, first, &mut second, keep),
+    }
+}
+
+/// The same where these calls fail.
+fn walk(alloc: Global, fails: [u64; 2], keep: bool) -> Result<bool, Fail> {
+    match made(alloc, fails[0], keep)? {
+        None => Ok(false),
+        Some(mut first) => try_second(alloc, &mut first, fails[1], keep),
+    }
 }
 
 /// What the two databases tell behind a join, where a commit in doubt is kept or not.
