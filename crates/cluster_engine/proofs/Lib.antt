@@ -6,5 +6,6 @@ pub mod Moving
 pub mod Stepping
 pub mod Telling
 pub mod Trials
+pub mod Taking
 pub mod Turns
 pub mod Walking

@@ -11,7 +11,8 @@ use Rattle.slon_base.specs.declared.fault.Halt.TheVariants.{Doubt}
 use Rattle.slon_model.specs.declared.fault.DbFault.{DbFault}
 use Rattle.slon_model.specs.declared.fault.DbFault.TheVariants.{NotEmpty, Halt}
 use Rattle.slon_model.specs.declared.command.Command.{Command}
-use Rattle.slon_model.specs.declared.command.Command.TheVariants.{Database, Slonik, Step, Kill, Start, Stop}
+use Rattle.slon_model.specs.declared.command.Command.TheVariants.{Database, Slonik, Step, Kill, Start, Stop, Cut, Join}
+use Rattle.slon_model.specs.declared.command.Command.TheVariants.{Sync}
 use Rattle.slon_model.specs.declared.reading.Reading.{Reading}
 use Rattle.slon_model.specs.declared.reply.Answer.TheVariants.{Done}
 use Rattle.slon_model.specs.declared.reply.Answered.{Answered}
@@ -214,7 +215,7 @@ pub no_reading : (c : Command) (script : List ℕ) (reading : Reading) → c ≡
     is_reading (subject_of c) ≡ false → ⊥
 no_reading c script reading is other = true≢false (sym (ap (λ x. is_reading (subject_of x)) is) ∙ other)
 
--- a command that makes no database and is about no script and no slon
+-- a command that makes no database, and is about no script, no slon and no cut
 pub record IsOther (c : Command) : Type 0 where
   pub database : (name : List ℕ) → c ≡ Database name → ⊥
   pub slonik : (script : List ℕ) (reading : Reading) → c ≡ Slonik script reading → ⊥
@@ -222,6 +223,9 @@ pub record IsOther (c : Command) : Type 0 where
   pub kill : (script : List ℕ) → c ≡ Kill script → ⊥
   pub start : (node : ℕ) → c ≡ Start node → ⊥
   pub stop : (node : ℕ) → c ≡ Stop node → ⊥
+  pub cut : (node other : ℕ) → c ≡ Cut node other → ⊥
+  pub join : (node other : ℕ) → c ≡ Join node other → ⊥
+  pub sync : (node : ℕ) → c ≡ Sync node → ⊥
 
 pub one_left : (c : Command) → IsOther c → is_one (subject_of c) ≡ true
 one_left (Database name) other = absurd (other.database name refl)
@@ -230,12 +234,20 @@ one_left (Step script) other = absurd (other.step script refl)
 one_left (Kill script) other = absurd (other.kill script refl)
 one_left (Start node) other = absurd (other.start node refl)
 one_left (Stop node) other = absurd (other.stop node refl)
+one_left (Cut a b) other = absurd (other.cut a b refl)
+one_left (Join a b) other = absurd (other.join a b refl)
+one_left (Sync node) other = absurd (other.sync node refl)
 one_left others other = refl
 
--- nothing is promised of the memory of a command that is not to turn a slon off
-pub spared : (c : Command) (b : Bool) → ((node : ℕ) → c ≡ Stop node → ⊥) → takes_none (subject_of c) ≡ true → b ≡ true
-spared (Stop node) b other none = absurd (other node refl)
-spared others b other none = absurd (false≢true none)
+-- and takes memory
+pub none_left : (c : Command) → IsOther c → takes_none (subject_of c) ≡ false
+none_left (Stop node) other = absurd (other.stop node refl)
+none_left (Join a b) other = absurd (other.join a b refl)
+none_left others other = refl
+
+-- nothing is promised where a command takes memory
+pub spared : (c : Command) (b : Bool) → takes_none (subject_of c) ≡ false → takes_none (subject_of c) ≡ true → b ≡ true
+spared c b takes none = absurd (false≢true (sym takes ∙ none))
 
 -- what was granted: all is as it was, and the name is free
 pub record IsGranted (name : List ℕ) (old mid : Clustered) : Type 0 where

@@ -20,8 +20,8 @@ use Rattle.slon_model.specs.declared.reply.Refusal.TheVariants as refused
 use Rattle.slon_model.specs.declared.reply.Reply.{Reply}
 use Rattle.slon_model.specs.declared.reply.Reply.TheVariants.{Accepted, Refused}
 use Rattle.slon_model.specs.Names.{find_named}
-use Rattle.slon_model.specs.Tasks.{Task, ToFound, Act, ToRead, ToStep, ToForget, ToStart, ToStop, Subject, OnNew}
-use Rattle.slon_model.specs.Tasks.{OnOne, OnAll, Words, words_of}
+use Rattle.slon_model.specs.Tasks.{Task, ToFound, Act, ToRead, ToStep, ToForget, ToStart, ToStop, ToCut, ToJoin, ToSync}
+use Rattle.slon_model.specs.Tasks.{Subject, OnNew, OnOne, OnAll, Words, words_of}
 use Rattle.slon_model.specs.Place.{Place, bare_place}
 use Rattle.slon_model.specs.Moves.{commits_at}
 use Rattle.slon_model.specs.Deciding.{Decision, Refuses, Accepts as Agreed, Overflows, decide, result_of, move_of, sure}
@@ -30,7 +30,7 @@ use Rattle.slon_model.specs.Deciding.{Choice, AsDue, AtFault, Wavers, Among, res
 use Rattle.slon_model.specs.Sessions.{Memory, Running, Commit, Stated, Outcome, no_change, first_beyond}
 use Rattle.slon_model.specs.Scripts.{Stepping, quiet, done_by, single, ordered, order_step, step_todo, step_of, read_as}
 use Rattle.slon_model.specs.Scripts.{kill_of}
-use Rattle.slon_model.specs.Turns.{at_node, switched}
+use Rattle.slon_model.specs.Turns.{at_node, switched, turned, turned_by, turn_by, sync_turn}
 use Rattle.slon_model.specs.World.{World, Happening, Step, Grants as StepGrants, Denies as StepDenies}
 use Rattle.slon_model.specs.World.{Misses as StepMisses, Asks as StepAsks, database_due, due, due_on, ask, asked, after}
 use Rattle.slon_model.specs.World.{Acts as StepActs, after_on, adopted, changed, is_accepted, reply_of, outcome}
@@ -190,6 +190,17 @@ switched_commits node m w =
       | false ↦ Never refl
     ]
 
+turned_commits : (w : World) (m : Memory) (stated : Stated) → MayCommit (turned w m stated)
+turned_commits w m stated = by (first_beyond stated.commits w.places)
+  where
+    by : (o : Option (List ℕ)) → MayCommit (turned_by w m stated o)
+    by None = Accepts stated.answer refl
+    by (Some name) = Never refl
+
+turn_commits : (w : World) (m : Memory) (due : Result Stated Refusal) → MayCommit (turn_by w m due)
+turn_commits w m (Err refusal) = Never refl
+turn_commits w m (Ok stated) = turned_commits w m stated
+
 act_commits : (act : Act) (w : World) → MayCommit (outcome act w)
 act_commits (ToRead name (Wrong refusal)) w =
     elim (is_some (find_named name w.memory.scripts)) as (λ b. MayCommit (cond b
@@ -215,6 +226,9 @@ act_commits (ToForget name) w =
     ]
 act_commits (ToStart node) w = switched_commits node _ w
 act_commits (ToStop node) w = switched_commits node _ w
+act_commits (ToCut node other) w = Never refl
+act_commits (ToJoin node other) w = Never refl
+act_commits (ToSync node) w = turn_commits w w.memory (sync_turn node w)
 
 -- a doubt is told where a step commits
 doubt_unsure : (before : ℕ) (cs : List Commit) (answer : Answer) → before < length cs →

@@ -27,6 +27,7 @@ use Rattle.slon_model.specs.Place.{Place, fallen}
 use Rattle.slon_model.specs.Deciding.{AllStand, Breaks, DoubtsAt}
 use Rattle.slon_model.specs.Sessions.{World, Memory, Running, Commit, Stated, Outcome, no_change, stand, with_memory}
 use Rattle.slon_model.specs.Sessions.{in_doubt, changed, felled, felled_at, after_outcome}
+use Rattle.slon_model.specs.Turns.{switches_of}
 use Rattle.slon_model.specs.Scripts.{Stepping, going_on, without_script, running, ending, single, done_by}
 use Rattle.slon_model.specs.Scripts.{order_step, ordered, step_of, step_todo, read_as, kill_of}
 use Rattle.slon_model.specs.World.{outcome, has_todo, is_left, is_accepted, broken_at, wavering, wavering_at}
@@ -51,19 +52,19 @@ use Rattle.cluster_engine.specs.declared.scripts.Walked.{Walked}
 -- ---- a world with another memory
 
 -- what is kept of a world v, where a step on its databases leads to x, and with another memory to y
-record Moves (m : Memory) (v x y : World) : Type 0 where
-  limit : y.limit ≡ v.limit
-  places : x.places ≡ y.places
-  memory : IsKept m y.memory
+pub record Moves (m : Memory) (v x y : World) : Type 0 where
+  pub limit : y.limit ≡ v.limit
+  pub places : x.places ≡ y.places
+  pub memory : IsKept m y.memory
 
 changed_moves : (name : List ℕ) (q : Place) (m : Memory) (v : World) →
     Moves m v (changed name q v) (changed name q (with_memory m v))
 changed_moves name q m v = record { limit = refl; places = refl; memory = remembered_kept q m }
 
 same_moves : (m : Memory) (v : World) → Moves m v v (with_memory m v)
-same_moves m v = record { limit = refl; places = refl; memory = record { scripts = refl; started = refl } }
+same_moves m v = record { limit = refl; places = refl; memory = record { scripts = refl; switches = refl } }
 
-felled_moves : (falls : Option (List ℕ)) (m : Memory) (v : World) →
+pub felled_moves : (falls : Option (List ℕ)) (m : Memory) (v : World) →
     Moves m v (felled falls v) (felled falls (with_memory m v))
 felled_moves None m v = same_moves m v
 felled_moves (Some name) m v = by (find_named name v.places)
@@ -72,12 +73,12 @@ felled_moves (Some name) m v = by (find_named name v.places)
     by None = same_moves m v
     by (Some p) = changed_moves name (fallen p.told p) m v
 
-broken_moves : (name : List ℕ) (count : ℕ) (found : Option Place) (m : Memory) (v : World) →
+pub broken_moves : (name : List ℕ) (count : ℕ) (found : Option Place) (m : Memory) (v : World) →
     Moves m v (broken_at name count found v) (broken_at name count found (with_memory m v))
 broken_moves name count None m v = same_moves m v
 broken_moves name count (Some p) m v = changed_moves name (fallen count p) m v
 
-wavering_moves : (cs : List Commit) (stands : Bool) (m : Memory) (v : World) →
+pub wavering_moves : (cs : List Commit) (stands : Bool) (m : Memory) (v : World) →
     Moves m v (wavering cs stands v) (wavering cs stands (with_memory m v))
 wavering_moves [] stands m v = same_moves m v
 wavering_moves (c ∷ cs) stands m v = by (find_named c.name v.places)
@@ -87,12 +88,12 @@ wavering_moves (c ∷ cs) stands m v = by (find_named c.name v.places)
     by None = same_moves m v
     by (Some p) = changed_moves c.name (in_doubt c stands p) m v
 
--- what agrees with a memory agrees with one that has the same scripts and slons
+-- what agrees with a memory agrees with one that has the same scripts and switches
 pub fits_kept : (m n : Memory) (r : Remembered) → IsKept m n → FitsMemory m r → FitsMemory n r
 fits_kept m n r kept fits =
     record {
       scripts = subst (λ rs. FitsScripts rs r.scripts) (sym kept.scripts) fits.scripts;
-      started = kept.started ∙ fits.started;
+      switches = kept.switches ∙ fits.switches;
     }
 
 -- ---- scripts by their names
@@ -194,7 +195,7 @@ keeps_acted act old reply scripts keeps calm =
       falls = kept.falls;
       memory = record {
         scripts = kept.memory.agree;
-        started = kept.memory.started ∙ follows.agrees.memory.started;
+        switches = kept.memory.switches ∙ follows.agrees.memory.switches;
       };
     }) calm
 
@@ -223,7 +224,7 @@ keeps_used name reading scripts has w fits =
       told = refl;
       commits = refl;
       falls = refl;
-      memory = record { agree = fits; started = refl };
+      memory = record { agree = fits; switches = refl };
     })
 
 -- a name that is free
@@ -236,7 +237,7 @@ keeps_wrong name refusal scripts lacks w fits =
       told = refl;
       commits = refl;
       falls = refl;
-      memory = record { agree = fits; started = refl };
+      memory = record { agree = fits; switches = refl };
     })
 
 pub keeps_read : (name : List ℕ) (script : Script) (scripts : Scripts) → contains_key scripts name ≡ false →
@@ -255,7 +256,7 @@ keeps_read name script scripts lacks w fits =
             (λ other apart. subst (λ o. FitsFound o (get scripts other))
             (sym (find-without other name w.memory.scripts
             ∙ ap (λ b. cond b None (find_named other w.memory.scripts)) apart)) (fits other));
-        started = refl;
+        switches = refl;
       };
     })
 
@@ -275,7 +276,7 @@ keeps_killed name s scripts has w fits =
           told = refl;
           commits = refl;
           falls = refl;
-          memory = record { agree = fits_removed name w.memory.scripts scripts fits; started = refl };
+          memory = record { agree = fits_removed name w.memory.scripts scripts fits; switches = refl };
         })
 
 -- no script of the name
@@ -287,7 +288,7 @@ missed_as name w scripts o fits none is =
       told = refl;
       commits = refl;
       falls = refl;
-      memory = record { agree = fits_lacking name w.memory.scripts scripts fits none; started = refl };
+      memory = record { agree = fits_lacking name w.memory.scripts scripts fits none; switches = refl };
     })
 
 pub keeps_missed : (name : List ℕ) (scripts : Scripts) → get scripts name ≡ None →
@@ -367,10 +368,10 @@ fits_behind true name run started commits w scripts (here, fits) =
     (remove scripts name) (record { cluster = here.cluster; lines = here.lines; todo = refl })
     (λ other apart. fits_removed name w.memory.scripts scripts fits other)
 
-same_started : (goes_on : Bool) (s : Stepping) (commits : List Commit) (m : Memory) →
-    (cond goes_on (going_on s commits m) (without_script s.name m)).started ≡ m.started
-same_started true s commits m = refl
-same_started false s commits m = refl
+same_switches : (goes_on : Bool) (s : Stepping) (commits : List Commit) (m : Memory) →
+    switches_of (cond goes_on (going_on s commits m) (without_script s.name m)) ≡ switches_of m
+same_switches true s commits m = refl
+same_switches false s commits m = refl
 
 -- a step of a script that runs, with the databases after it
 pub record Walk (name : List ℕ) (old : Clustered) (w : Walked) (new : Clustered) : Type 0 where
@@ -380,9 +381,9 @@ pub record Walk (name : List ℕ) (old : Clustered) (w : Walked) (new : Clustere
   pub limit : new.limit ≡ old.limit
   pub given : new.given ≡ old.given
   pub scripts : new.memory.scripts ≡ scripts_behind w.goes_on name started old.memory.scripts
-  pub started_are : new.memory.started ≡ old.memory.started
+  pub switches : new.memory.switches ≡ old.memory.switches
 
-ready_of : (w : World) (c : Clustered) → Follows w c → AreReady w c.bases
+pub ready_of : (w : World) (c : Clustered) → Follows w c → AreReady w c.bases
 ready_of w c follows = record { fits = follows.agrees.fits; sound = follows.sound; spelled = follows.spelled }
 
 walk_goes : (name : List ℕ) (old : Clustered) (went : Walked) (new : Clustered) → Walk name old went new →
@@ -401,8 +402,8 @@ walk_goes name old went new walk w follows =
           (sym (walk.scripts ∙ ap (λ b. scripts_behind b name walk.started old.memory.scripts) is))
           (fits_behind goes_on name run walk.started commits w old.memory.scripts
           (here, follows.agrees.memory.scripts));
-      started = same_started goes_on (stepping name run walk.started) commits w.memory
-          ∙ follows.agrees.memory.started ∙ sym walk.started_are;
+      switches = same_switches goes_on (stepping name run walk.started) commits w.memory
+          ∙ follows.agrees.memory.switches ∙ sym walk.switches;
     }
 
     from : (run : Running) (o : Outcome) → outcome (ToStep name) w ≡ o →
@@ -603,7 +604,7 @@ stepped_acted name old went left news scripts s is =
       limit = refl;
       given = refl;
       scripts = is;
-      started_are = refl;
+      switches = refl;
     }) (subst (λ bs. Runs bs went.reply news) s.same s.runs)
 
 -- the script ends

@@ -4,6 +4,7 @@ use Rattle.std.specs.FinMap.{FinMap, get}
 use Rattle.slon_base.specs.Keeper.{key_cmp}
 use Rattle.slon_model.specs.Names.{Named, find_named}
 use Rattle.slon_model.specs.Sessions.{World, Memory, Running}
+use Rattle.slon_model.specs.Turns.{Switches, switches_of}
 use Rattle.slon_laws.specs.Sound.{Sound}
 use Rattle.slon_laws.specs.Spelled.{IsSpelled}
 use Rattle.slon_laws.specs.Worlds.{AllPlaces}
@@ -15,10 +16,10 @@ use Rattle.cluster_engine.specs.declared.scripts.Started.{Started}
 abbrev pub Scripts : Type 0
 Scripts = FinMap key_cmp Started
 
--- What the code keeps of a session besides its databases: its scripts, and the nodes whose slon is on.
+-- What the code keeps of a session besides its databases: its scripts, and what is switched.
 pub record Remembered : Type 0 where
   pub scripts : Scripts
-  pub started : List ℕ
+  pub switches : Switches
 
 -- What the code keeps of a session: how many databases it allows, how many stores it was given, its databases in the
 -- order of their making, and the rest.
@@ -43,10 +44,10 @@ FitsFound run s = ⊥
 abbrev pub FitsScripts : Named Running → Scripts → Type 0
 FitsScripts runs scripts = (name : List ℕ) → FitsFound (find_named name runs) (get scripts name)
 
--- what is in memory agrees; nothing is kept yet of queues, cuts and the clock
+-- what is in memory agrees; nothing is kept yet of queues and the clock
 pub record FitsMemory (m : Memory) (r : Remembered) : Type 0 where
   pub scripts : FitsScripts m.scripts r.scripts
-  pub started : m.started ≡ r.started
+  pub switches : switches_of m ≡ r.switches
 
 -- The rules agree with the code.
 pub record Agrees (w : World) (c : Clustered) : Type 0 where

@@ -16,7 +16,8 @@ use Rattle.slon_model.specs.declared.reply.Refusal.TheVariants as refused
 use Rattle.slon_model.specs.declared.reply.Reply.{Reply}
 use Rattle.slon_model.specs.declared.reply.Reply.TheVariants.{Accepted, Refused, InDoubt}
 use Rattle.slon_model.specs.Names.{find_named, put_named}
-use Rattle.slon_model.specs.Tasks.{Task, Act, ToRead, ToStop, Subject, OnNew, OnOne, OnAll, subject_of, words_of}
+use Rattle.slon_model.specs.Tasks.{Task, Act, ToRead, ToStop, ToJoin, Subject, OnNew, OnOne, OnAll, subject_of}
+use Rattle.slon_model.specs.Tasks.{words_of}
 use Rattle.slon_model.specs.Deciding.{Choice, Fate}
 use Rattle.slon_model.specs.World.{World, Happening, Step, due, reply_of, MayEnd, reply_by, world_by}
 use Rattle.app_store.specs.Base.{Base}
@@ -40,6 +41,7 @@ is_reading others = false
 -- it takes no memory
 abbrev pub takes_none : Subject → Bool
 takes_none (OnAll (ToStop node)) = true
+takes_none (OnAll (ToJoin node other)) = true
 takes_none others = false
 
 -- the command is to make a database

@@ -11,5 +11,8 @@ cluster_of kept c =
       limit = c.limit;
       given = c.given;
       bases = bases_of kept c.databases.items;
-      memory = record { scripts = c.scripts; started = c.started.items };
+      memory = record {
+        scripts = c.scripts;
+        switches = record { started = c.started.items; cuts = c.cuts.items };
+      };
     }

@@ -9,6 +9,7 @@ use Rattle.slon_model.specs.declared.reply.Reply.TheVariants.{Refused}
 use Rattle.slon_model.specs.Names.{Named, find_named}
 use Rattle.slon_model.specs.Tasks.{Act}
 use Rattle.slon_model.specs.Sessions.{World, Memory, Running, Outcome, stand, after_outcome}
+use Rattle.slon_model.specs.Turns.{switches_of}
 use Rattle.slon_model.specs.Scripts.{Stepping, going_on, without_script, statement_step, step_todo}
 use Rattle.slon_model.specs.World.{outcome, CanFail, broken_at, wavering, doubt_reply, is_left}
 use Rattle.app_store.specs.Base.{Base}
@@ -26,10 +27,10 @@ pub record IsQuietly (o : Outcome) (reply : Reply) (IsLeft : Memory → Type 0) 
   pub falls : o.falls ≡ None
   pub memory : IsLeft o.memory
 
--- scripts that agree, and no slon is turned
+-- scripts that agree, and nothing is switched
 pub record LeavesScripts (old : Memory) (scripts : Scripts) (new : Memory) : Type 0 where
   pub agree : FitsScripts new.scripts scripts
-  pub started : new.started ≡ old.started
+  pub switches : switches_of new ≡ switches_of old
 
 abbrev pub KeepsTo : Memory → Outcome → Reply → Scripts → Type 0
 KeepsTo old o reply new = IsQuietly o reply (LeavesScripts old new)

@@ -7,7 +7,7 @@ ghost use Rattle.slon_model.specs.declared.reply.Answer.TheVariants.{Done as IsD
 ghost use Rattle.slon_model.specs.declared.reply.Reply.TheVariants.{Accepted as IsAccepted};
 ghost use Rattle.slon_model.specs.Names.{find_named};
 ghost use Rattle.slon_model.specs.Spoken.{IsSpoken};
-ghost use Rattle.slon_model.specs.Tasks.{subject_of, ToRead, ToStep, ToForget, ToStart, ToStop};
+ghost use Rattle.slon_model.specs.Tasks.{subject_of, ToRead, ToStep, ToForget, ToStart, ToStop, ToCut, ToJoin, ToSync};
 ghost use Rattle.slon_model.specs.World.{start};
 ghost use Rattle.app_store.specs.Base.{base_of};
 ghost use Rattle.slonik_exec.specs.Heard.{AreDistinct};
@@ -18,15 +18,16 @@ ghost use Rattle.cluster_engine.specs.Calls.{Makes, MakingReplyCaused, MakesCert
 ghost use Rattle.cluster_engine.specs.Clustered.{cluster_of};
 
 use crate::scripts::{Started, Walked, end_script, key_of, run_next, start_script};
-use crate::slons::{add_slon, remove_slon};
+use crate::slons::{add_cut, add_slon, remove_cut, remove_slon};
 use app_store::Database;
 use node_keeper::{Fuse, Keeper};
 use slon_base::{ByteMap, Text};
 use slon_model::{Answer, Command, DbFault, Reading, Refusal, Reply};
-use slonik_exec::{Named, NoMemory, answered, has_node, index_of, refused};
+use slonik_exec::{Named, NoMemory, answered, has_node, index_of, refused, take_sync};
 use std::alloc::Global;
 
-/// The databases of a session, in the order of their making, the scripts that run, and which slons are on.
+/// The databases of a session, in the order of their making, the scripts that run, which slons are on, and which
+/// nodes are cut off from one another.
 #[derive(Drop)]
 pub struct Cluster<K: Keeper> {
     alloc: Global,
@@ -37,6 +38,8 @@ pub struct Cluster<K: Keeper> {
     scripts: ByteMap<Started>,
     // The nodes whose slon is on.
     started: Vec<u32>,
+    // The pairs of nodes that are cut off from one another.
+    cuts: Vec<(u32, u32)>,
 }
 
 /// Whether the store of a new database held a row.
@@ -61,6 +64,7 @@ impl<K: Keeper> Cluster<K> {
             databases: Vec::new(alloc),
             scripts: ByteMap::new(alloc),
             started: Vec::new(alloc),
+            cuts: Vec::new(alloc),
         }
     }
 
@@ -183,7 +187,34 @@ impl<K: Keeper> Cluster<K> {
         Reply::Accepted(Answer::Done)
     }
 
-    /// Grants a new database, has a database that is there obey, steps and ends scripts, and turns slons on and off.
+    /// Cuts two nodes off from one another.
+    fn cut(&mut self, node: u32, other: u32) -> Result<Reply, NoMemory>
+        ensures { IfOk result (λ reply. IsActed (ToCut node other) (cluster_of K.kept self.old) reply
+            (cluster_of K.kept self.new)) }
+    {
+        add_cut(&mut self.cuts, node, other)?;
+        Ok(Reply::Accepted(Answer::Done))
+    }
+
+    /// Joins two nodes again.
+    fn join(&mut self, node: u32, other: u32) -> Reply
+        ensures { IsActed (ToJoin node other) (cluster_of K.kept self.old) result (cluster_of K.kept self.new) }
+    {
+        remove_cut(&mut self.cuts, node, other);
+        Reply::Accepted(Answer::Done)
+    }
+
+    /// The slon of a node has its turn to emit a SYNC.
+    fn sync(&mut self, node: u32) -> Result<Reply, NoMemory>
+        requires distinct { AreDistinct (cluster_of K.kept self.old).bases }
+        ensures { IfOk result (λ reply. IsActed (ToSync node) (cluster_of K.kept self.old) reply
+            (cluster_of K.kept self.new)) }
+    {
+        take_sync(self.alloc, &mut self.databases, &self.started, node)
+    }
+
+    /// Grants a new database, has a database that is there obey, steps and ends scripts, turns slons on and off and gives
+    /// them their turns, and cuts nodes off from one another.
     fn obey(&mut self, command: &Command) -> Result<Reply, NoMemory>
         requires spoken { IsSpoken command.now }
         requires distinct { AreDistinct (cluster_of K.kept self.old).bases }
@@ -199,6 +230,9 @@ impl<K: Keeper> Cluster<K> {
             Command::Kill { script } => self.end(script),
             Command::Start { node } => self.turn_on(*node),
             Command::Stop { node } => Ok(self.turn_off(*node)),
+            Command::Cut { node, other } => self.cut(*node, *other),
+            Command::Join { node, other } => Ok(self.join(*node, *other)),
+            Command::Sync { node } => self.sync(*node),
             _ => self.ask(command),
         }
     }

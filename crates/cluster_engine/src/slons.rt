@@ -1,6 +1,7 @@
-// The nodes whose slon is on. There are at most as many as databases, so each is looked for one by one.
+// What a session switches: the nodes whose slon is on, and the pairs of nodes that are cut off from one another. There
+// are few of both, so each is looked for one by one.
 ghost use Rattle.std.specs.Prelude.{◌≡◌, OnOk};
-ghost use Rattle.slon_model.specs.Turns.{with_started, without_started};
+ghost use Rattle.slon_model.specs.Turns.{with_started, without_started, cuts_both, are_cut, with_cut, without_cut};
 
 use std::alloc::AllocError;
 
@@ -19,4 +20,35 @@ pub(crate) fn remove_slon(started: &mut Vec<u32>, node: u32)
     ensures { started.new.items ≡ without_started node started.old.items }
 {
     started.retain(|other| *other != node);
+}
+
+/// Whether a cut is between these two nodes, whichever of them it names first.
+fn is_between(cut: &(u32, u32), node: u32, other: u32) -> bool
+    ensures { result ≡ cuts_both node other cut.now }
+{
+    *cut == (node, other) || *cut == (other, node)
+}
+
+/// Whether two nodes are cut off from one another.
+pub(crate) fn are_cut(cuts: &[(u32, u32)], node: u32, other: u32) -> bool
+    ensures { result ≡ are_cut node other cuts.now }
+{
+    cuts.iter().any(|cut| is_between(cut, node, other))
+}
+
+/// Cuts two nodes off from one another, if they are not.
+pub(crate) fn add_cut(cuts: &mut Vec<(u32, u32)>, node: u32, other: u32) -> Result<(), AllocError>
+    ensures { OnOk result (cuts.new.items ≡ with_cut node other cuts.old.items) }
+{
+    if !are_cut(cuts.as_slice(), node, other) {
+        cuts.push((node, other))?;
+    }
+    Ok(())
+}
+
+/// Joins two nodes again, if they are cut off from one another.
+pub(crate) fn remove_cut(cuts: &mut Vec<(u32, u32)>, node: u32, other: u32)
+    ensures { cuts.new.items ≡ without_cut node other cuts.old.items }
+{
+    cuts.retain(|cut| !is_between(cut, node, other));
 }

@@ -27,7 +27,7 @@ own_progress s own origin is =
 
 -- ---- what is seen with one more row
 
-numbered_unique : (a b : ℕ × ℕ) → IsNumbered a → IsNumbered b → pair_key a ≡ pair_key b → a ≡ b
+pub numbered_unique : (a b : ℕ × ℕ) → IsNumbered a → IsNumbered b → pair_key a ≡ pair_key b → a ≡ b
 numbered_unique a b one two is =
     let parts = number_front a.0 b.0 (number_bytes a.1) (number_bytes b.1) (omega (arith, one.0.1))
     (omega (arith, two.0.1)) is in
@@ -102,7 +102,7 @@ whole views events confirmations cleaned news = record {
   news = news;
 }
 
-elsewhere : (mine : ℕ) (value : Option (List ℕ)) (key : List ℕ) (m : Store) → is_stream mine ≡ true →
+pub elsewhere : (mine : ℕ) (value : Option (List ℕ)) (key : List ℕ) (m : Store) → is_stream mine ≡ true →
     (space : ℕ) → is_stream space ≡ false → write_in mine value key m space ≡ m space
 elsewhere mine value key m is space not_mine =
     ap (λ b. cond b (written value key (m mine)) (m space))

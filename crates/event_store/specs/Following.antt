@@ -1,10 +1,11 @@
 -- What the deeds of a node change in its streams.
 use Rattle.std.specs.Prelude.{◌≡◌, ℕ, ◌<◌, true, List, [], ◌∷◌}
 use Rattle.std.specs.FinMap.{empty}
+use Rattle.std.specs.List.{AllByRecursion}
 use Rattle.slon_base.specs.Keeper.{Store}
 use Rattle.slon_model.specs.Maps.{number_at}
 use Rattle.slon_model.specs.Events.{Event}
-use Rattle.slon_model.specs.Deeds.{Node, Deed, Emits, Commits, knowledge, with_deeds}
+use Rattle.slon_model.specs.Deeds.{Node, Deed, Doing, Emits, Commits, Hears, heard, knowledge, with_deeds}
 use Rattle.slon_model.specs.Views.{views_emitted}
 use Rattle.slon_model.specs.Sessions.{Running}
 use Rattle.slon_model.specs.Membership.{first_of_cluster, joining}
@@ -33,9 +34,21 @@ abbrev pub CommittingStays : Type 0
 CommittingStays = (n : Node) (d : Deed) (xid : ℕ) → d.doing ≡ Commits xid →
     streams_of (with_deeds (d ∷ []) n) ≡ streams_of n
 
+-- Confirmations change what the node was told of others, and nothing else of the streams.
+abbrev pub HearingAdds : Type 0
+HearingAdds = (n : Node) (d : Deed) (confirms : List (ℕ × ℕ × ℕ)) → d.doing ≡ Hears confirms →
+    streams_of (with_deeds (d ∷ []) n)
+    ≡ record (streams_of n) { told = heard confirms (streams_of n).told }
+
+-- it hears no confirmation of its own
+abbrev pub HearsOthers : ℕ → Doing → Type 0
+HearsOthers own (Hears confirms) = AllByRecursion (λ c. c.1 ≡ own → ⊥) confirms
+HearsOthers own others = Unit {0}
+
 -- Whatever it does, a node goes on hearing of others alone.
 abbrev pub HearingStays : Type 0
-HearingStays = (n : Node) (d : Deed) → HearsOfOthers (streams_of n) → HearsOfOthers (streams_of (with_deeds (d ∷ []) n))
+HearingStays = (n : Node) (d : Deed) → HearsOthers n.id d.doing → HearsOfOthers (streams_of n) →
+    HearsOfOthers (streams_of (with_deeds (d ∷ []) n))
 
 -- ---- nodes that begin
 

@@ -1,10 +1,13 @@
 pub mod Apart
+pub mod Behind
 pub mod Emitting
 pub mod Following
 pub mod Formed
 pub mod Giving
+pub mod Hearing
 pub mod Holds
 pub mod Keeping
 pub mod Seen
 pub mod Spellings
 pub mod Streams
+pub mod Syncing

@@ -1,6 +1,7 @@
 -- The streams of events at a node: what it has of them, and what it knows of others.
-use Rattle.std.specs.Prelude.{ℕ, ◌==◌, ◌&&◌, if◌then◌else◌, List, [], ◌∷◌, map, Option, Some, None}
+use Rattle.std.specs.Prelude.{ℕ, ◌==◌, if◌then◌else◌, List, [], ◌∷◌, map, Option}
 use Rattle.slon_model.specs.Maps.{Map, Map2, entry_at, with_entry, pair_at}
+pub use Rattle.slon_model.specs.Events.{event_at}
 use Rattle.slon_model.specs.Events.{Event}
 use Rattle.slon_model.specs.Views.{Views}
 use Rattle.slon_model.specs.Deeds.{Node, knowledge, held, noticed, told_to, told_progress}
@@ -37,11 +38,6 @@ streams_of n =
     }
 
 -- ---- what is looked up
-
--- the event of this origin with this number
-abbrev pub event_at : List Event → ℕ × ℕ → Option Event
-event_at [] i = None
-event_at (e ∷ es) i = if e.origin == i.0 && e.number == i.1 then Some e else event_at es i
 
 -- by origin and node: how far the node is itself, or what it was told of another
 abbrev pub confirmed_at : Streams → ℕ × ℕ → Option ℕ

@@ -1,14 +1,15 @@
 // Laws of the streams of a node: how they follow how it began and what it did since, and what they leave as it was.
 ghost use Rattle.event_store.specs.Apart.{ConfigStays, StreamsStay};
-ghost use Rattle.event_store.specs.Following.{EmittingAdds, KeepingAdds, CommittingStays, HearingStays};
+ghost use Rattle.event_store.specs.Following.{EmittingAdds, KeepingAdds, CommittingStays, HearingAdds, HearingStays};
 ghost use Rattle.event_store.specs.Following.{FirstHasNone, FirstHears, JoiningGives, GivenHears};
 
-/// The streams of a node follow what it does: an event that it emits is added to them, and a transaction of an
-/// application changes nothing of them.
+/// The streams of a node follow what it does: an event that it emits is added to them, a transaction of an application
+/// changes nothing of them, and confirmations change what it was told of others.
 pub fn streams_follow_deeds()
     ensures adds { EmittingAdds }
     ensures keeps { KeepingAdds }
     ensures stays { CommittingStays }
+    ensures confirms { HearingAdds }
     ensures hears { HearingStays }
 {}
 

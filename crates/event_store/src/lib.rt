@@ -4,12 +4,20 @@
 mod event;
 mod following;
 mod giving;
+mod hearing;
+mod lagging;
 mod layout;
+mod reading;
 mod snapshot;
 mod streams;
+mod syncs;
 mod writing;
 
 pub use event::Event;
 pub use following::{streams_begin, streams_follow_deeds, streams_stand_apart};
 pub use giving::give_streams;
+pub use hearing::{confirm, confirmations_rise, confirmed};
+pub use lagging::{least_confirmed, least_is_least};
+pub use reading::after;
 pub use streams::{emit, find_event, progress, store};
+pub use syncs::last_sync;

@@ -19,7 +19,8 @@ ghost use Rattle.event_store.specs.Holds.{HoldsStreams, ShowsStreams};
 ghost use Rattle.event_store.specs.Formed.{HasProgress, HasEvent, Lacks, Reads, ReadsBelow};
 
 use crate::event::{Event, EventRow};
-use crate::layout::{CONFIRMATIONS, EVENTS};
+use crate::hearing::find_confirmed;
+use crate::layout::EVENTS;
 use crate::writing::write_event;
 use node_rows::Body;
 use slon_base::{Keeper, STORED_LIMIT};
@@ -106,7 +107,7 @@ pub fn progress<K: Keeper>(
     ensures form { (m : Store) → sight (K.kept keeper.old) ≡ Some m →
         Reads (Lacks 11 (HasProgress own origin m)) result }
 {
-    get_row(alloc, keeper, CONFIRMATIONS, &(origin, own))
+    find_confirmed(alloc, keeper, origin, own)
 }
 
 /// The event of `origin` with this number, if the node holds it.

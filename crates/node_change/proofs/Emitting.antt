@@ -101,7 +101,7 @@ emits_held {n} {e} {m} {mid} {new} em d is none =
       status = em.held.status;
       still = ap (λ s. s.views) adds ∙ em.held.still;
       behind = behind_more em;
-      hears = hearing_stays n done em.held.hears;
+      hears = hearing_stays n done tt em.held.hears;
       spare = λ space other spare. stays em space (spare_else space spare) ∙ em.held.spare space other spare;
     }
 

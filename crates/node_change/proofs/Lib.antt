@@ -2,6 +2,7 @@ pub mod Both
 pub mod Copies
 pub mod Emitting
 pub mod FirstNodes
+pub mod Hearing
 pub mod Lookups
 pub mod Naming
 pub mod NewNodes

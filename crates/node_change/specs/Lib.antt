@@ -1,5 +1,6 @@
 pub mod Announced
 pub mod Becoming
 pub mod Both
+pub mod Listening
 pub mod Pairs
 pub mod Receivers

@@ -18,6 +18,9 @@ pub const TABLES: u8 = 7;
 /// The space of the subscriptions, by the ids of the set and of the receiver.
 pub const SUBSCRIPTIONS: u8 = 8;
 
+/// The space of the fences, by the id of the failed node.
+pub const FENCES: u8 = 14;
+
 /// The spaces that a new node is given: what is known of the cluster, and the streams but for the views.
 pub const GIVEN: [u8; 10] = [4, 5, 6, 7, 8, 10, 11, 12, 13, 14];
 

@@ -6,11 +6,13 @@ mod copying;
 mod founding;
 mod joining;
 mod layout;
+mod listening;
 mod lookup;
 mod side;
 
 pub use announcing::announce;
 pub use founding::found_node;
 pub use joining::join_node;
-pub use lookup::{find_node_row, find_set_row, first_receiver, has_path, has_table_row};
+pub use listening::listens;
+pub use lookup::{find_node_row, find_set_row, first_receiver, has_fence, has_path, has_table_row};
 pub use side::{Failed, Side, sided};

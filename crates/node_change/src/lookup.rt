@@ -16,7 +16,7 @@ ghost use Rattle.event_store.specs.Formed.{IsRow, Lacks, Reads};
 ghost use Rattle.node_state.specs.Held.{IsOrderly};
 ghost use Rattle.node_change.specs.Receivers.{IsPairKey, receiver_of};
 
-use crate::layout::{NODES, PATHS, SETS, SUBSCRIPTIONS, TABLES};
+use crate::layout::{FENCES, NODES, PATHS, SETS, SUBSCRIPTIONS, TABLES};
 use node_rows::{NodeRow, SetRow};
 use slon_base::Keeper;
 use std::alloc::Global;
@@ -96,6 +96,24 @@ pub fn has_path<K: Keeper>(
         Gives (λ found. found ≡ has_path client server c) result }
 {
     has_row(alloc, keeper, PATHS, &(client, server))
+}
+
+/// Whether the database knows a fence against a node that failed. The row is not read, only whether there is one.
+///
+/// # Errors
+///
+/// What stopped the store, and `NoMemory`.
+pub fn has_fence<K: Keeper>(alloc: Global, keeper: &mut K, node: u32) -> Result<bool, Stop>
+    requires id { IsId node }
+    ensures safe { Safe (K.kept keeper.old) (K.kept keeper.new) result }
+    ensures same { OnOk result ((K.kept keeper.new).pending ≡ (K.kept keeper.old).pending) }
+    ensures only { IfErr result IsOutside }
+    ensures found { (m : Store) → sight (K.kept keeper.old) ≡ Some m →
+        IfOk result (λ found. found ≡ is_some (get (m 14) (number_bytes node))) }
+    ensures says { (m : Store) (c : Config) → sight (K.kept keeper.old) ≡ Some m → HoldsConfig c m →
+        Gives (λ found. found ≡ is_some (entry_at node c.fences)) result }
+{
+    has_row(alloc, keeper, FENCES, &node)
 }
 
 /// Whether the database has heard of a table of this id, in whatever set, live or not. The row is not read, only

@@ -43,7 +43,11 @@ pub(crate) fn get_entry<K: Keeper, X: Spelled>(
 }
 
 /// All rows of a space that has ids as keys, ascending.
-pub(crate) fn all_rows<K: Keeper, X: Spelled>(
+///
+/// # Errors
+///
+/// `BadRow` of the space exactly where a row there is not in its form, what stopped the store, and `NoMemory`.
+pub fn all_rows<K: Keeper, X: Spelled>(
     alloc: Global,
     keeper: &mut K,
     space: u8,

@@ -11,6 +11,7 @@ mod reading;
 mod telling;
 
 pub use closing::find_closed;
+pub use entries::all_rows;
 pub use logging::log_rows;
 pub use memory::{Identity, Member, Members, NodeMemory};
 pub use reading::find_node;

@@ -8,3 +8,4 @@ pub mod Midways
 pub mod Newcomers
 pub mod Outcomes
 pub mod Pairs
+mod Synced

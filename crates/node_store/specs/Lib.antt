@@ -3,3 +3,4 @@ pub mod Finishing
 pub mod Joining
 pub mod Looking
 pub mod Midways
+pub mod Syncing

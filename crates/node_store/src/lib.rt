@@ -7,6 +7,7 @@ mod founding;
 mod joining;
 mod layout;
 mod looking;
+mod syncing;
 mod writing;
 
 pub use announcing::announce;
@@ -18,3 +19,4 @@ pub use looking::{
     names_table, set_origin, writer,
 };
 pub use node_change::Side;
+pub use syncing::is_synced;

@@ -1,7 +1,7 @@
 -- What a command about a script comes to is told in words that have their forms, and the scripts that run say lines.
 use Rattle.std.proofs.Common.{◌≡◌, ℕ, true, false, cond, not, List, [], ◌∷◌, Option, Some, None, refl, sym}
-use Rattle.std.proofs.Common.{subst}
-use Rattle.std.specs.Prelude.{is_some, codes, Result, Ok, Err}
+use Rattle.std.proofs.Common.{subst, eqb, ◌++◌}
+use Rattle.std.specs.Prelude.{◌&&◌, Bool, find, is_some, codes, Result, Ok, Err}
 use Rattle.std.specs.List.{AllByRecursion}
 use Rattle.std.specs.Str.{bytes_eq}
 use Rattle.slonik_script.specs.declared.script.Command.{Command as Order}
@@ -17,15 +17,23 @@ use Rattle.slon_model.specs.declared.reply.Reply.{Reply}
 use Rattle.slon_model.specs.declared.reply.Reply.TheVariants.{Accepted, Refused}
 use Rattle.slon_model.specs.Names.{Named, find_named, without}
 use Rattle.slon_model.specs.Spoken.{IsName, IsOrder, IsStatement, AreStatements, AreNodeLines, IsReading, IsAct}
-use Rattle.slon_model.specs.Tasks.{Act, ToRead, ToStep, ToForget, ToStart, ToStop}
-use Rattle.slon_model.specs.Sessions.{World, Memory, Running, Stated, Outcome, first_beyond, no_change}
+use Rattle.slon_model.specs.Tasks.{Act, ToRead, ToStep, ToForget, ToStart, ToStop, ToCut, ToJoin, ToSync}
+use Rattle.slon_model.specs.Deeds.{Node}
+use Rattle.slon_model.specs.Place.{Place, is_running, node_id}
+use Rattle.slon_model.specs.Sessions.{World, Memory, Running, Stated, Outcome, Seat, seat_of, first_beyond, no_change}
+use Rattle.slon_model.specs.Sessions.{bind, when, checked}
 use Rattle.slon_model.specs.Scripts.{Stepping, ending, done_by, single, order_step, statement_step, step_todo, step_of}
 use Rattle.slon_model.specs.Scripts.{ordered, quiet, read_as, kill_of}
-use Rattle.slon_model.specs.Turns.{at_node, switched}
+use Rattle.slon_model.specs.Turns.{is_id, at_node, switched, with_cuts, seat_at, on_turn, turned}
+use Rattle.slon_model.specs.Turns.{turned_by, turn_by, is_synced, sync_turn}
+use Rattle.slon_model.specs.Membership.{synced}
+use Rattle.slon_model.specs.Rows.{member}
 use Rattle.slon_model.specs.World.{outcome}
 use Rattle.slon_model.proofs.Names.{all_found}
 use Rattle.reply_forms.proofs.Words.{Reads}
+use Rattle.reply_forms.proofs.Words.{RefusalReads}
 use Rattle.reply_forms.proofs.Statements.{Gives, AreNamed, AreCommits, StatedReads, all_filter, ordered_gives}
+use Rattle.reply_forms.proofs.Statements.{bind_gives, checked_gives, when_tells}
 
 -- what a script says: its NODE lines are lines, and so are the texts of what is left of it
 abbrev pub RunReads : Running → Type 0
@@ -133,6 +141,72 @@ switched_ends node m w same known =
       | false ↦ unchanged w _ known tt
     ]
 
+-- ---- nodes that are cut off from one another
+
+cuts_end : (cuts : List (ℕ × ℕ)) (w : World) → Known w → Ends (with_cuts cuts w)
+cuts_end cuts w known = record { reply = tt; commits = tt; scripts = known.scripts }
+
+-- ---- turns that commit
+
+-- a database whose name is a name
+abbrev IsSeat : Seat → Type 0
+IsSeat s = IsName s.name
+
+found_in : {X : Type 0} (P : X → Type 0) (test : X → Bool) (xs : List X) (x : X) → AllByRecursion P xs →
+    find test xs ≡ Some x → P x
+found_in P test [] x all found = absurd cc
+found_in P test (y ∷ ys) x all found =
+    elim (test y) as (λ b. cond b (Some y) (find test ys) ≡ Some x → P x) [
+      | true ↦ λ here. let same : y ≡ x = cc in subst P same all.0
+      | false ↦ λ later. found_in P test ys x all.1 later
+    ] found
+
+seat_gives : (none : Refusal) (e : List ℕ × Place) (n : Option Node) → RefusalReads none → IsName e.0 →
+    Gives IsSeat (seat_of none e n)
+seat_gives none e None reads named = reads
+seat_gives none e (Some n) reads named = named
+
+seated : (node : ℕ) (o : Option (List ℕ × Place)) → ((e : List ℕ × Place) → o ≡ Some e → IsName e.0) →
+    Gives IsSeat (seat_at node o)
+seated node None named = tt
+seated node (Some e) named =
+    elim (is_running e.1.standing)
+    as (λ b. Gives IsSeat (cond b (seat_of (refused.NoNode node) e e.1.node) (Err (refused.Down e.0)))) [
+      | true ↦ seat_gives (refused.NoNode node) e e.1.node tt (named e refl)
+      | false ↦ named e refl
+    ]
+
+at_named : (node : ℕ) (w : World) → Known w → (e : List ℕ × Place) → at_node node w ≡ Some e → IsName e.0
+at_named node w known e found = found_in (λ e. IsName e.0) (λ e. is_id node (node_id e.1)) w.places e known.named found
+
+turn_reads : (node : ℕ) (w : World) → Known w → Gives IsSeat (on_turn node w)
+turn_reads node w known =
+    bind_gives IsSeat IsSeat (seat_at node (at_node node w)) _
+    (seated node (at_node node w) (λ e found. at_named node w known e found))
+    (λ s named. checked_gives IsSeat (when (not (member node w.memory.started)) (refused.Off node) ∷ []) s
+    (when_tells _ (refused.Off node) tt, tt) named)
+
+turned_ends : (w : World) (m : Memory) (stated : Stated) → m.scripts ≡ w.memory.scripts → Known w →
+    StatedReads stated → Ends (turned w m stated)
+turned_ends w m stated same known reads = by (first_beyond stated.commits w.places)
+  where
+    by : (o : Option (List ℕ)) → Ends (turned_by w m stated o)
+    by None =
+        record { reply = reads.0; commits = reads.1; scripts = subst AreRunning (sym same) known.scripts }
+    by (Some name) = record { reply = tt; commits = tt; scripts = known.scripts }
+
+turn_ends : (w : World) (m : Memory) (due : Result Stated Refusal) → m.scripts ≡ w.memory.scripts → Known w →
+    Gives StatedReads due → Ends (turn_by w m due)
+turn_ends w m (Err refusal) same known reads = unchanged w (Refused refusal) known reads
+turn_ends w m (Ok stated) same known reads = turned_ends w m stated same known reads
+
+-- a SYNC
+sync_reads : (node : ℕ) (w : World) → Known w → Gives StatedReads (sync_turn node w)
+sync_reads node w known =
+    bind_gives IsSeat StatedReads (on_turn node w) _ (turn_reads node w known)
+    (λ s named. checked_gives StatedReads (when (is_synced s) refused.Nothing ∷ []) (synced s)
+    (when_tells _ refused.Nothing tt, tt) (tt, (named, tt)))
+
 -- ---- each command
 
 pub outcome_ends : (act : Act) (w : World) → IsAct act → Known w → Ends (outcome act w)
@@ -148,3 +222,7 @@ outcome_ends (ToStep name) w act known =
 outcome_ends (ToForget name) w act known = kill_ends name (find_named name w.memory.scripts) w act.0 known
 outcome_ends (ToStart node) w act known = switched_ends node _ w refl known
 outcome_ends (ToStop node) w act known = switched_ends node _ w refl known
+outcome_ends (ToCut node other) w act known = cuts_end _ w known
+outcome_ends (ToJoin node other) w act known = cuts_end _ w known
+outcome_ends (ToSync node) w act known =
+    turn_ends w w.memory (sync_turn node w) refl known (sync_reads node w known)

@@ -20,7 +20,7 @@ use Rattle.slon_model.specs.Reaching.{database_in, database_up, database_by, dat
 use Rattle.slon_model.specs.Reaching.{nodes_of, down_among, any_down, known_somewhere, origin_checks, origin_of}
 use Rattle.slon_model.specs.Reaching.{receiver_with}
 use Rattle.slon_model.specs.Membership.{comment_of, already, first_node, stored_by, init_cluster, store_node}
-use Rattle.slon_model.specs.Membership.{is_dropped, store_path, drop_path}
+use Rattle.slon_model.specs.Membership.{is_dropped, store_path, drop_path, synced, sync_node}
 use Rattle.slon_model.specs.Sets.{create_set, NewTable, set_add_table}
 use Rattle.slon_model.specs.Scripts.{first_word, ordered}
 use Rattle.slon_model.proofs.Names.{bytes_same}
@@ -39,7 +39,7 @@ abbrev pub Gives : {A : Type 0} → (A → Type 0) → Result A Refusal → Type
 Gives P (Ok a) = P a
 Gives P (Err refusal) = RefusalReads refusal
 
-bind_gives : {A B : Type 0} (P : A → Type 0) (Q : B → Type 0) (r : Result A Refusal) (f : A → Result B Refusal) →
+pub bind_gives : {A B : Type 0} (P : A → Type 0) (Q : B → Type 0) (r : Result A Refusal) (f : A → Result B Refusal) →
     Gives P r → ((a : A) → P a → Gives Q (f a)) → Gives Q (bind r f)
 bind_gives P Q (Ok a) f one next = next a one
 bind_gives P Q (Err refusal) f one next = one
@@ -54,11 +54,11 @@ unless_gives : {A : Type 0} (P : A → Type 0) (o : Option Refusal) (a : A) → 
 unless_gives P None a reads one = one
 unless_gives P (Some refusal) a reads one = reads
 
-checked_gives : {A : Type 0} (P : A → Type 0) (checks : List (Option Refusal)) (a : A) → AllByRecursion Tells checks →
+pub checked_gives : {A : Type 0} (P : A → Type 0) (checks : List (Option Refusal)) (a : A) → AllByRecursion Tells checks →
     P a → Gives P (checked checks a)
 checked_gives P checks a all one = unless_gives P (first_refusal checks) a (first_tells checks all) one
 
-when_tells : (b : Bool) (refusal : Refusal) → RefusalReads refusal → Tells (when b refusal)
+pub when_tells : (b : Bool) (refusal : Refusal) → RefusalReads refusal → Tells (when b refusal)
 when_tells true refusal reads = reads
 when_tells false refusal reads = tt
 
@@ -236,9 +236,13 @@ table_gives origin t run w line runs =
     (receives, (when_tells _ _ line, (any_tells w runs.named, (when_tells _ _ tt, (when_tells _ _ line, (busy, tt))))))
     (tt, (named, tt)))
 
+sync_gives : (id : ℕ) (run : Running) (w : World) → Runs run w → Gives StatedReads (sync_node id run w)
+sync_gives id run w runs =
+    bind_gives IsSeat StatedReads (reach run id w) _ (reach_gives run id w runs) (λ s named. (tt, (named, tt)))
+
 -- the word of a statement that cannot be run yet is on one line
 word_line : (o : Order) → IsLine (first_word o)
-word_line (order.Sync id) = refl
+word_line (order.Sleep seconds) = refl
 word_line others = refl
 
 -- What a command of a script comes to reads well.
@@ -252,4 +256,5 @@ ordered_gives (order.DropPath server client) run w texts runs = drop_gives serve
 ordered_gives (order.CreateSet id origin comment) run w texts runs = set_gives id origin comment run w runs
 ordered_gives (order.SetAddTable set origin id name key comment) run w texts runs =
     table_gives origin (record { set_id = set; id = id; name = name; comment = comment_of comment }) run w texts runs
+ordered_gives (order.Sync id) run w texts runs = sync_gives id run w runs
 ordered_gives others run w texts runs = word_line others

@@ -32,6 +32,9 @@ fn verb(command: &Command) -> &'static str {
         Command::Kill { .. } => "kill",
         Command::Start { .. } => "start",
         Command::Stop { .. } => "stop",
+        Command::Cut { .. } => "cut",
+        Command::Join { .. } => "join",
+        Command::Sync { .. } => "sync",
     }
 }
 
@@ -71,7 +74,12 @@ fn push_rest(line: &mut String, command: &Command) -> Result<(), Fail> {
         }
         Command::Delete { key, .. } => push_word(line, key),
         Command::Crash { crash, .. } => push_crash(line, crash),
-        Command::Start { node } | Command::Stop { node } => Ok(write!(line, " {node}")?),
+        Command::Start { node } | Command::Stop { node } | Command::Sync { node } => {
+            Ok(write!(line, " {node}")?)
+        }
+        Command::Cut { node, other } | Command::Join { node, other } => {
+            Ok(write!(line, " {node} {other}")?)
+        }
         _ => Ok(()),
     }
 }
@@ -156,6 +164,9 @@ const COMMANDS: &[(&str, &str)] = &[
     ("kill s", "kill s"),
     ("start 1", "start 1"),
     ("stop 2147483647", "stop 2147483647"),
+    ("cut 1 2", "cut 1 2"),
+    ("join 2147483647 2147483647", "join 2147483647 2147483647"),
+    ("sync 7", "sync 7"),
     (
         "database abcdefghijklmnopqrstuvwxyz01234",
         "database abcdefghijklmnopqrstuvwxyz01234",
@@ -201,6 +212,12 @@ const BAD_LINES: &[&str] = &[
     "start 99999999999999999999999",
     "stop a",
     "stop 1 2",
+    "cut 1",
+    "cut 1 0",
+    "join 1 2 3",
+    "join 2147483648 1",
+    "sync",
+    "sync 01",
     "slonik s <<",
     "begin a",
     "begin a t u",

@@ -62,7 +62,12 @@ fn answers_are_printed(rt: HostRuntime) -> Result<(), Fail> {
 fn answers_of_scripts_are_printed(rt: HostRuntime) -> Result<(), Fail> {
     expect_answer(&rt, Answer::Statements { count: 6 }, "ok statements 6")?;
     expect_answer(&rt, Answer::Emitted { node: 1, number: 4 }, "ok event 1 4")?;
-    expect_answer(&rt, Answer::Ended { status: 255 }, "ok ended 255")
+    expect_answer(&rt, Answer::Ended { status: 255 }, "ok ended 255")?;
+    let (events, confirms) = (4, 0);
+    let heard = Answer::Heard { events, confirms };
+    expect_answer(&rt, heard, "ok events 4 confirms 0")?;
+    let lost = Answer::LostOnTheWay { events, confirms };
+    expect_answer(&rt, lost, "ok lost events 4 confirms 0")
 }
 
 /// The refusal of this code, with the number 7 where it has one.
@@ -84,7 +89,12 @@ fn numbered(code: u32) -> Refusal {
         55 => Refusal::NotOrigin { set: 7 },
         56 => Refusal::SetLocked { set: 7 },
         57 => Refusal::BadWidth { columns: 7 },
+        60 => Refusal::Nothing,
+        61 => Refusal::NotListed { server: 7 },
+        62 => Refusal::NotKnown { node: 7 },
         66 => Refusal::Busy { xid: 7 },
+        67 => Refusal::Off { node: 7 },
+        68 => Refusal::Severed { node: 7, other: 7 },
         75 => Refusal::NoPath { node: 7 },
         78 => Refusal::SameNode { node: 7 },
         80 => Refusal::Script(ScriptRefusal::BadToken { line: 7 }),
@@ -112,7 +122,12 @@ const NUMBERED: &[(u32, &str)] = &[
     (55, "no 55 notorigin 7"),
     (56, "no 56 setlocked 7"),
     (57, "no 57 badwidth 7"),
+    (60, "no 60 nothing"),
+    (61, "no 61 notlisted 7"),
+    (62, "no 62 notknown 7"),
     (66, "no 66 busy 7"),
+    (67, "no 67 off 7"),
+    (68, "no 68 cut 7 7"),
     (75, "no 75 nopath 7"),
     (78, "no 78 samenode 7"),
     (80, "no 80 badtoken 7"),

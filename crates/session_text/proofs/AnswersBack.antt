@@ -1,5 +1,6 @@
 -- An answer is read back from its text.
-use Rattle.std.proofs.Common.{◌≡◌, ℕ, eqb, if◌then◌else◌, true, List, [], ◌∷◌, ◌++◌, map, length, refl, ap, ◌∙◌}
+use Rattle.std.proofs.Common.{◌≡◌, ◌<◌, ◌^◌, ℕ, eqb, if◌then◌else◌, true, List, [], ◌∷◌, ◌++◌, map, length, refl, ap}
+use Rattle.std.proofs.Common.{◌∙◌}
 use Rattle.std.proofs.Common.{append_assoc, codes}
 use Rattle.std.proofs.lemmas.List.{append-nil}
 use Rattle.std.specs.Fmt.{decimal}
@@ -8,7 +9,8 @@ use Rattle.std.specs.Str.{bytes_eq}
 use Rattle.std.specs.Str.Parse.{digits_value}
 use Rattle.slon_model.specs.declared.reply.Answer.{Answer}
 use Rattle.slon_model.specs.declared.reply.Answer.TheVariants.{Done, Opened, Acted, Unchanged, Committed, Listed, Kept}
-use Rattle.slon_model.specs.declared.reply.Answer.TheVariants.{Lost, Status, Statements, Emitted, Echoed, Ended}
+use Rattle.slon_model.specs.declared.reply.Answer.TheVariants.{Lost, Status, Statements, Emitted, Echoed, Ended, Heard}
+use Rattle.slon_model.specs.declared.reply.Answer.TheVariants.{LostOnTheWay}
 use Rattle.slon_model.specs.Printed.{rows_text, progress_text, kept_text, answer_text}
 use Rattle.session_text.specs.Replies.{ProgressFits, KeptFits, KeptHasForm, is_word_byte, AnswerHasForm}
 use Rattle.slon_lemmas.proofs.Splitting.{lacks, lacks_by, lacks-append, lacks-decimal, split_last}
@@ -131,6 +133,16 @@ abbrev event_of : List (List ℕ) → Answer
 event_of [] = Done
 event_of (node ∷ number) = Emitted (digits_value 10 node) (number_of number)
 
+-- the numbers of the words behind `events`: a number, `confirms` and a number
+abbrev counted_of : (ℕ → ℕ → Answer) → List (List ℕ) → Answer
+counted_of made (events ∷ name ∷ confirms) = made (digits_value 10 events) (number_of confirms)
+counted_of made others = Done
+
+-- what was lost: a commit, or what a poll brought
+abbrev lost_of : List (List ℕ) → Answer
+lost_of [] = Lost
+lost_of (name ∷ rest) = counted_of LostOnTheWay rest
+
 -- the answer of the words behind `ok`
 abbrev pub answer_of : List (List ℕ) → Answer
 answer_of [] = Done
@@ -141,12 +153,13 @@ answer_of (kind ∷ rest) =
     else (if bytes_eq kind (codes "actions") then Committed (number_of rest)
     else (if bytes_eq kind (codes "rows") then listed_of rest
     else (if bytes_eq kind (codes "kept") then Kept
-    else (if bytes_eq kind (codes "lost") then Lost
+    else (if bytes_eq kind (codes "lost") then lost_of rest
+    else (if bytes_eq kind (codes "events") then counted_of Heard rest
     else (if bytes_eq kind (codes "statements") then Statements (number_of rest)
     else (if bytes_eq kind (codes "event") then event_of rest
     else (if bytes_eq kind (codes "echo") then Echoed (text_of rest)
     else (if bytes_eq kind (codes "ended") then Ended (number_of rest)
-    else status_of rest))))))))))
+    else status_of rest)))))))))))
 
 -- The text of an answer begins with `ok`, and the words behind it are read back.
 pub record IsAnswered (answer : Answer) : Type 0 where
@@ -196,6 +209,22 @@ event_back node number h =
           ∙ ap (Emitted node) (number_text_back number h.1);
     }
 
+-- the words of two counts
+counted_words : (events confirms : ℕ) → events < 2 ^ 64 →
+    slice_split (λ b. eqb b 32) (decimal events ++ codes " confirms " ++ decimal confirms)
+    ≡ decimal events ∷ codes "confirms" ∷ slice_split (λ b. eqb b 32) (decimal confirms)
+counted_words events confirms small =
+    ap (slice_split (λ b. eqb b 32)) (append_assoc (decimal events) (codes " confirms ") (decimal confirms))
+    ∙ split_word (decimal events) (codes "confirms " ++ decimal confirms)
+    (codes "confirms" ∷ slice_split (λ b. eqb b 32) (decimal confirms)) (lacks-decimal 32 events refl small) refl
+
+counted_back : (made : ℕ → ℕ → Answer) (events confirms : ℕ) → (events < 2 ^ 64) × (confirms < 2 ^ 64) →
+    counted_of made (decimal events ∷ codes "confirms" ∷ slice_split (λ b. eqb b 32) (decimal confirms))
+    ≡ made events confirms
+counted_back made events confirms h =
+    ap (λ n. made n (number_of (slice_split (λ b. eqb b 32) (decimal confirms)))) (number_back events h.0)
+    ∙ ap (made events) (number_text_back confirms h.1)
+
 pub answer_back : (answer : Answer) → AnswerHasForm answer → IsAnswered answer
 answer_back Done h = record { rest = []; words = refl; back = refl }
 answer_back (Opened xid) h = record { rest = _; words = refl; back = ap Opened (number_text_back xid h) }
@@ -214,6 +243,16 @@ answer_back Lost h = record { rest = _; words = refl; back = refl }
 answer_back (Status node log progress kept) h = status_back node log progress kept h
 answer_back (Statements count) h = record { rest = _; words = refl; back = ap Statements (number_text_back count h) }
 answer_back (Emitted node number) h = event_back node number h
+answer_back (Heard events confirms) h = record {
+  rest = codes "events" ∷ _;
+  words = ap (λ l. codes "ok" ∷ codes "events" ∷ l) (counted_words events confirms h.0);
+  back = counted_back Heard events confirms h;
+}
+answer_back (LostOnTheWay events confirms) h = record {
+  rest = codes "lost" ∷ codes "events" ∷ _;
+  words = ap (λ l. codes "ok" ∷ codes "lost" ∷ codes "events" ∷ l) (counted_words events confirms h.0);
+  back = counted_back LostOnTheWay events confirms h;
+}
 answer_back (Echoed text) h = record { rest = _; words = refl; back = ap Echoed (text_back text) }
 answer_back (Ended status) h =
     record { rest = _; words = refl; back = ap Ended (number_text_back status (below_word status h)) }
@@ -245,6 +284,13 @@ kept_lacks (k ∷ ks) fits forms =
     (lacks_by is_word_byte 10 k.2 refl forms.0))
     (kept_lacks ks fits.1 forms.1)
 
+counted_lacks : (events confirms : ℕ) → (events < 2 ^ 64) × (confirms < 2 ^ 64) →
+    lacks 10 (decimal events ++ codes " confirms " ++ decimal confirms) ≡ true
+counted_lacks events confirms h =
+    lacks-append 10 (decimal events ++ codes " confirms ") (decimal confirms)
+    (lacks-append 10 (decimal events) (codes " confirms ") (lacks-decimal 10 events refl h.0) refl)
+    (lacks-decimal 10 confirms refl h.1)
+
 pub answer_lacks : (answer : Answer) → AnswerHasForm answer → lacks 10 (answer_text answer) ≡ true
 answer_lacks (Opened xid) h = lacks-decimal 10 xid refl h
 answer_lacks (Acted number) h = lacks-decimal 10 number refl h
@@ -267,6 +313,8 @@ answer_lacks (Emitted node number) h =
     lacks-append 10 (decimal node ++ codes " ") (decimal number)
     (lacks-append 10 (decimal node) (codes " ") (lacks-decimal 10 node refl (below_half node h.0)) refl)
     (lacks-decimal 10 number refl h.1)
+answer_lacks (Heard events confirms) h = counted_lacks events confirms h
+answer_lacks (LostOnTheWay events confirms) h = counted_lacks events confirms h
 answer_lacks (Echoed text) h = h
 answer_lacks (Ended status) h = lacks-decimal 10 status refl (below_word status h)
 answer_lacks others h = refl

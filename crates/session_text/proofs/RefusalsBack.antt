@@ -15,11 +15,14 @@ use Rattle.slon_model.specs.declared.reply.Refusal.TheVariants.{AlreadyNode, NoN
 use Rattle.slon_model.specs.declared.reply.Refusal.TheVariants.{TableExists, NameUsed, NoTable, NoTransaction}
 use Rattle.slon_model.specs.declared.reply.Refusal.TheVariants.{Duplicate, NotOrigin, SetLocked, BadWidth, TableUsed}
 use Rattle.slon_model.specs.declared.reply.Refusal.TheVariants.{Busy, NoPath, SameNode, Script, ScriptUsed, NoScript}
+use Rattle.slon_model.specs.declared.reply.Refusal.TheVariants.{Nothing, NotListed, NotKnown, Off, Severed}
 use Rattle.slon_model.specs.declared.reply.Refusal.TheVariants.{NotBuilt}
 use Rattle.slon_model.specs.Printed.{refusal_text}
 use Rattle.session_text.specs.Replies.{ScriptHasForm, RefusalHasForm}
 use Rattle.slon_lemmas.proofs.Splitting.{lacks, lacks-append, lacks-decimal}
-use Rattle.session_text.proofs.Parting.{name_lacks, table_lacks, number_of, number_text_back, text_of, text_back}
+use Rattle.std.specs.Str.Parse.{digits_value}
+use Rattle.session_text.proofs.Parting.{name_lacks, table_lacks, number_of, number_back, number_text_back, text_of}
+use Rattle.session_text.proofs.Parting.{text_back}
 use Rattle.session_text.proofs.Parting.{below_word, below_half, split_word}
 
 -- ---- reading
@@ -28,6 +31,11 @@ use Rattle.session_text.proofs.Parting.{below_word, below_half, split_word}
 abbrev fault_of : List (List ℕ) → Refusal
 fault_of [] = Duplicate
 fault_of (database ∷ count) = Fault database (number_of count)
+
+-- the two nodes of the words behind `cut`
+abbrev severed_of : List (List ℕ) → Refusal
+severed_of [] = Duplicate
+severed_of (node ∷ other) = Severed (digits_value 10 node) (number_of other)
 
 abbrev by_number : (ℕ → Refusal) → List (List ℕ) → Refusal
 by_number made rest = made (number_of rest)
@@ -46,7 +54,9 @@ readings =
     ∷ (codes "46", by_number HasReceivers) ∷ (codes "47", by_number NoSet) ∷ (codes "50", by_text TableExists)
     ∷ (codes "51", by_text NameUsed) ∷ (codes "52", by_text NoTable) ∷ (codes "53", by_text NoTransaction)
     ∷ (codes "54", λ _. Duplicate) ∷ (codes "55", by_number NotOrigin) ∷ (codes "56", by_number SetLocked)
-    ∷ (codes "57", by_number BadWidth) ∷ (codes "58", by_text TableUsed) ∷ (codes "66", by_number Busy)
+    ∷ (codes "57", by_number BadWidth) ∷ (codes "58", by_text TableUsed) ∷ (codes "60", λ _. Nothing)
+    ∷ (codes "61", by_number NotListed) ∷ (codes "62", by_number NotKnown) ∷ (codes "66", by_number Busy)
+    ∷ (codes "67", by_number Off) ∷ (codes "68", severed_of)
     ∷ (codes "75", by_number NoPath) ∷ (codes "78", by_number SameNode)
     ∷ (codes "80", by_number (λ n. Script (BadToken n))) ∷ (codes "81", by_number (λ n. Script (BadSyntax n)))
     ∷ (codes "82", by_text (λ t. Script (UnknownOption t))) ∷ (codes "83", by_text (λ t. Script (MissingOption t)))
@@ -116,6 +126,26 @@ fault_back database count h =
           (lacks-decimal 10 count refl h.1);
     }
 
+severed_back : (node other : ℕ) → (node < 2 ^ 32) × (other < 2 ^ 32) → IsRefused (Severed node other)
+severed_back node other h =
+    let digits = slice_split (λ b. eqb b 32) (decimal other) in
+    let first = below_half node h.0 in
+    let second = below_half other h.1 in
+    let parts =
+    ap (slice_split (λ b. eqb b 32)) (append_assoc (decimal node) (codes " ") (decimal other))
+    ∙ split_word (decimal node) (decimal other) digits (lacks-decimal 32 node refl first) refl in
+    record {
+      rest = codes "68" ∷ codes "cut" ∷ decimal node ∷ digits;
+      words = ap (λ l. codes "no" ∷ codes "68" ∷ codes "cut" ∷ l) parts;
+      back =
+          ap (λ n. Severed n (number_of digits)) (number_back node first)
+          ∙ ap (Severed node) (number_text_back other second);
+      line =
+          lacks-append 10 (decimal node ++ codes " ") (decimal other)
+          (lacks-append 10 (decimal node) (codes " ") (lacks-decimal 10 node refl first) refl)
+          (lacks-decimal 10 other refl second);
+    }
+
 script_back : (refusal : ScriptRefusal) → ScriptHasForm refusal → IsRefused (Script refusal)
 script_back (BadToken line) h = numbered (λ n. Script (BadToken n)) _ line h refl refl refl
 script_back (BadSyntax place) h = numbered (λ n. Script (BadSyntax n)) _ place h refl refl refl
@@ -156,7 +186,12 @@ refusal_back (NotOrigin set) h = numbered NotOrigin _ set (below_half set h) ref
 refusal_back (SetLocked set) h = numbered SetLocked _ set (below_half set h) refl refl refl
 refusal_back (BadWidth columns) h = numbered BadWidth _ columns h refl refl refl
 refusal_back (TableUsed table) h = worded TableUsed _ table h refl refl refl
+refusal_back Nothing h = record { rest = _; words = refl; back = refl; line = refl }
+refusal_back (NotListed server) h = numbered NotListed _ server (below_half server h) refl refl refl
+refusal_back (NotKnown node) h = numbered NotKnown _ node (below_half node h) refl refl refl
 refusal_back (Busy xid) h = numbered Busy _ xid h refl refl refl
+refusal_back (Off node) h = numbered Off _ node (below_half node h) refl refl refl
+refusal_back (Severed node other) h = severed_back node other h
 refusal_back (NoPath node) h = numbered NoPath _ node (below_half node h) refl refl refl
 refusal_back (SameNode node) h = numbered SameNode _ node (below_half node h) refl refl refl
 refusal_back (Script refusal) h = script_back refusal h

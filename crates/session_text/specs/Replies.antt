@@ -7,13 +7,14 @@ use Rattle.slonik_script.specs.declared.refusal.ScriptRefusal.TheVariants.{Missi
 use Rattle.slonik_script.specs.declared.refusal.ScriptRefusal.TheVariants.{Undefined, Depth, NoFile}
 use Rattle.slon_model.specs.declared.reply.Answer.{Answer}
 use Rattle.slon_model.specs.declared.reply.Answer.TheVariants.{Opened, Acted, Committed, Listed, Status, Statements}
-use Rattle.slon_model.specs.declared.reply.Answer.TheVariants.{Emitted, Echoed, Ended}
+use Rattle.slon_model.specs.declared.reply.Answer.TheVariants.{Emitted, Echoed, Ended, Heard, LostOnTheWay}
 use Rattle.slon_model.specs.declared.reply.Refusal.{Refusal}
 use Rattle.slon_model.specs.declared.reply.Refusal.TheVariants.{Fault, Locked, Full, BadRow, NotEmpty, Down, NoDatabase}
 use Rattle.slon_model.specs.declared.reply.Refusal.TheVariants.{IdUsed, IsUp, TooBig, NotInitialised, OtherNode}
 use Rattle.slon_model.specs.declared.reply.Refusal.TheVariants.{AlreadyNode, NoNode, NoConninfo, HasReceivers, NoSet}
 use Rattle.slon_model.specs.declared.reply.Refusal.TheVariants.{TableExists, NameUsed, NoTable, NoTransaction}
 use Rattle.slon_model.specs.declared.reply.Refusal.TheVariants.{NotOrigin, SetLocked, BadWidth, TableUsed, Busy, NoPath}
+use Rattle.slon_model.specs.declared.reply.Refusal.TheVariants.{NotListed, NotKnown, Off, Severed}
 use Rattle.slon_model.specs.declared.reply.Refusal.TheVariants.{SameNode, Script, ScriptUsed, NoScript, NotBuilt}
 use Rattle.slon_model.specs.declared.reply.Reply.{Reply}
 use Rattle.slon_model.specs.declared.reply.Reply.TheVariants.{Accepted, Refused, InDoubt}
@@ -41,6 +42,8 @@ AnswerFits (Status node log progress kept) =
 AnswerFits (Statements count) = count < 2 ^ 64
 AnswerFits (Emitted node number) = (node < 2 ^ 32) × (number < 2 ^ 64)
 AnswerFits (Ended status) = status < 256
+AnswerFits (Heard events confirms) = (events < 2 ^ 64) × (confirms < 2 ^ 64)
+AnswerFits (LostOnTheWay events confirms) = (events < 2 ^ 64) × (confirms < 2 ^ 64)
 AnswerFits others = Unit {0}
 
 abbrev pub ScriptFits : ScriptRefusal → Type 0
@@ -65,7 +68,11 @@ RefusalFits (NoSet set) = set < 2 ^ 32
 RefusalFits (NotOrigin set) = set < 2 ^ 32
 RefusalFits (SetLocked set) = set < 2 ^ 32
 RefusalFits (BadWidth columns) = columns < 2 ^ 64
+RefusalFits (NotListed server) = server < 2 ^ 32
+RefusalFits (NotKnown node) = node < 2 ^ 32
 RefusalFits (Busy xid) = xid < 2 ^ 64
+RefusalFits (Off node) = node < 2 ^ 32
+RefusalFits (Severed node other) = (node < 2 ^ 32) × (other < 2 ^ 32)
 RefusalFits (NoPath node) = node < 2 ^ 32
 RefusalFits (SameNode node) = node < 2 ^ 32
 RefusalFits (Script refusal) = ScriptFits refusal

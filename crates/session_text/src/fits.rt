@@ -72,6 +72,9 @@ fn answer_fits(answer: &Answer)
             let _numbers = (*node, *number);
         }
         Answer::Ended { status } => space_fits(status),
+        Answer::Heard { events, confirms } | Answer::LostOnTheWay { events, confirms } => {
+            let _numbers = (*events, *confirms);
+        }
         Answer::Done | Answer::Unchanged | Answer::Kept | Answer::Lost | Answer::Echoed { .. } => {}
     }
 }
@@ -103,8 +106,14 @@ fn refusal_fits(refusal: &Refusal)
         | Refusal::NoNode { node }
         | Refusal::NoConninfo { node }
         | Refusal::HasReceivers { node }
+        | Refusal::NotKnown { node }
+        | Refusal::Off { node }
         | Refusal::NoPath { node }
         | Refusal::SameNode { node } => id_fits(node),
+        Refusal::NotListed { server } => id_fits(server),
+        Refusal::Severed { node, other } => {
+            let _numbers = (*node, *other);
+        }
         Refusal::NoSet { set } | Refusal::NotOrigin { set } | Refusal::SetLocked { set } => {
             id_fits(set)
         }

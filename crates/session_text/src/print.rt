@@ -117,6 +117,12 @@ fn push_answer(line: &mut String, answer: &Answer) -> Result<(), AllocError>
         Answer::Emitted { node, number } => write!(line, "ok event {node} {number}"),
         Answer::Echoed { text } => push_named(line, "ok echo ", text),
         Answer::Ended { status } => push_number(line, "ok ended ", u64::from(*status)),
+        Answer::Heard { events, confirms } => {
+            write!(line, "ok events {events} confirms {confirms}")
+        }
+        Answer::LostOnTheWay { events, confirms } => {
+            write!(line, "ok lost events {events} confirms {confirms}")
+        }
     }
 }
 
@@ -194,7 +200,12 @@ fn push_refusal(line: &mut String, refusal: &Refusal) -> Result<(), AllocError>
         Refusal::SetLocked { set } => push_id(line, "no 56 setlocked ", *set),
         Refusal::BadWidth { columns } => push_number(line, "no 57 badwidth ", *columns),
         Refusal::TableUsed { table } => push_named(line, "no 58 tableused ", table),
+        Refusal::Nothing => line.push_str("no 60 nothing"),
+        Refusal::NotListed { server } => push_id(line, "no 61 notlisted ", *server),
+        Refusal::NotKnown { node } => push_id(line, "no 62 notknown ", *node),
         Refusal::Busy { xid } => push_number(line, "no 66 busy ", *xid),
+        Refusal::Off { node } => push_id(line, "no 67 off ", *node),
+        Refusal::Severed { node, other } => write!(line, "no 68 cut {node} {other}"),
         Refusal::NoPath { node } => push_id(line, "no 75 nopath ", *node),
         Refusal::SameNode { node } => push_id(line, "no 78 samenode ", *node),
         Refusal::Script(script) => push_script(line, script),

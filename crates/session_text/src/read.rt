@@ -167,6 +167,51 @@ fn stop_of(words: &[&[u8]]) -> Result<Command, Misread>
     })
 }
 
+/// The id of a node that the word spells.
+fn node_of(word: &[u8]) -> Result<u32, Misread>
+    ensures { Gives (lines.node_in word.now) result }
+{
+    number_of(word, 1, GREATEST_ID)
+}
+
+/// `cut N N`
+fn cut_of(words: &[&[u8]]) -> Result<Command, Misread>
+    ensures { Gives (lines.cut_of (map (λ word. word.now) words.now)) result }
+{
+    let [node, other] = words else {
+        return Err(Misread::BadForm);
+    };
+    Ok(Command::Cut {
+        node: node_of(node)?,
+        other: node_of(other)?,
+    })
+}
+
+/// `join N N`
+fn join_of(words: &[&[u8]]) -> Result<Command, Misread>
+    ensures { Gives (lines.join_of (map (λ word. word.now) words.now)) result }
+{
+    let [node, other] = words else {
+        return Err(Misread::BadForm);
+    };
+    Ok(Command::Join {
+        node: node_of(node)?,
+        other: node_of(other)?,
+    })
+}
+
+/// `sync N`
+fn sync_of(words: &[&[u8]]) -> Result<Command, Misread>
+    ensures { Gives (lines.sync_of (map (λ word. word.now) words.now)) result }
+{
+    let [node] = words else {
+        return Err(Misread::BadForm);
+    };
+    Ok(Command::Sync {
+        node: node_of(node)?,
+    })
+}
+
 /// Whether a word is this verb.
 fn is_verb(word: &[u8], verb: &str) -> bool
     ensures { result ≡ bytes_eq word.now verb.now }
@@ -210,6 +255,12 @@ fn command_of(alloc: Global, verb: &[u8], rest: &[&[u8]]) -> Result<Command, Mis
         start_of(rest)
     } else if is_verb(verb, "stop") {
         stop_of(rest)
+    } else if is_verb(verb, "cut") {
+        cut_of(rest)
+    } else if is_verb(verb, "join") {
+        join_of(rest)
+    } else if is_verb(verb, "sync") {
+        sync_of(rest)
     } else {
         Err(Misread::BadForm)
     }

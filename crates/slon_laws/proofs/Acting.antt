@@ -1,7 +1,7 @@
 -- What each way in which a database is changed keeps is kept by every step of a script, whichever stores fail.
 use Rattle.std.proofs.Common.{◌≡◌, ℕ, zero, suc, Bool, true, false, cond, List, [], ◌∷◌, Option, Some, None, refl, sym}
-use Rattle.std.proofs.Common.{subst}
-use Rattle.std.specs.Prelude.{take, drop, is_some, Result, Ok, Err}
+use Rattle.std.proofs.Common.{subst, eqb}
+use Rattle.std.specs.Prelude.{◌&&◌, take, drop, is_some, Result, Ok, Err}
 use Rattle.slonik_script.specs.declared.script.Command.{Command as Order}
 use Rattle.slonik_script.specs.declared.script.Command.TheVariants as order
 use Rattle.slonik_script.specs.declared.script.Statement.{Statement}
@@ -13,15 +13,16 @@ use Rattle.slon_model.specs.declared.reply.Refusal.TheVariants as refused
 use Rattle.slon_model.specs.declared.reply.Answer.TheVariants.{Done}
 use Rattle.slon_model.specs.declared.reply.Reply.TheVariants.{Accepted, Refused}
 use Rattle.slon_model.specs.Names.{Named, find_named, put_named}
-use Rattle.slon_model.specs.Tasks.{Act, ToRead, ToStep, ToForget, ToStart, ToStop}
+use Rattle.slon_model.specs.Tasks.{Act, ToRead, ToStep, ToForget, ToStart, ToStop, ToCut, ToJoin, ToSync}
 use Rattle.slon_model.specs.Place.{Place, fallen}
 use Rattle.slon_model.specs.Moves.{is_last_stamp}
 use Rattle.slon_model.specs.Deciding.{Fate, AllStand, Breaks, DoubtsAt}
-use Rattle.slon_model.specs.Sessions.{World, Memory, Running, Commit, Stated, committing, in_doubt, stood_at, stood}
+use Rattle.slon_model.specs.Sessions.{World, Memory, Running, Commit, Stated, Seat, committing, in_doubt, stood_at}
+use Rattle.slon_model.specs.Sessions.{stood}
 use Rattle.slon_model.specs.Sessions.{felled, felled_at, beyond_at, first_beyond, no_change}
 use Rattle.slon_model.specs.Scripts.{Stepping, done_by, single, order_step, statement_step, step_todo, step_of, read_as}
 use Rattle.slon_model.specs.Scripts.{ordered, kill_of}
-use Rattle.slon_model.specs.Turns.{at_node, switched}
+use Rattle.slon_model.specs.Turns.{at_node, switched, turned, turned_by, turn_by, sync_turn}
 use Rattle.slon_model.specs.World.{Happening, Acting, outcome, broken_at, wavering, wavering_at}
 use Rattle.slon_model.specs.World.{world_by}
 use Rattle.slon_laws.specs.Turning.{Commits, Falls, Doubts, Carries}
@@ -76,6 +77,18 @@ switched_within node m w = by (is_some (at_node node w))
     by true = refl
     by false = refl
 
+turned_within : (w : World) (m : Memory) (stated : Stated) → AreWithin (turned w m stated).commits w.places
+turned_within w m stated = by (first_beyond stated.commits w.places) refl
+  where
+    by : (o : Option (List ℕ)) → first_beyond stated.commits w.places ≡ o →
+        AreWithin (turned_by w m stated o).commits w.places
+    by None is = is
+    by (Some name) is = refl
+
+turn_within : (w : World) (m : Memory) (due : Result Stated Refusal) → AreWithin (turn_by w m due).commits w.places
+turn_within w m (Err refusal) = refl
+turn_within w m (Ok stated) = turned_within w m stated
+
 outcome_within : (act : Act) (w : World) → AreWithin (outcome act w).commits w.places
 outcome_within (ToRead name reading) w = by (is_some (find_named name w.memory.scripts))
   where
@@ -87,6 +100,9 @@ outcome_within (ToStep name) w = step_within name (find_named name w.memory.scri
 outcome_within (ToForget name) w = kill_within name (find_named name w.memory.scripts) w
 outcome_within (ToStart node) w = switched_within node _ w
 outcome_within (ToStop node) w = switched_within node _ w
+outcome_within (ToCut node other) w = refl
+outcome_within (ToJoin node other) w = refl
+outcome_within (ToSync node) w = turn_within w w.memory (sync_turn node w)
 
 -- ---- commits that stand
 

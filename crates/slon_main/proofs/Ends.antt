@@ -1,6 +1,6 @@
 -- The end of a run, with its last line.
-use Rattle.std.proofs.Common.{◌≡◌, ◌∙◌, ℕ, ◌<◌, ◌≤◌, List, [], ◌∷◌, ◌++◌, length, append-nil, Option, Some, None, Err}
-use Rattle.std.proofs.Common.{Bool, true, false, is_some, true≢false, refl, sym, ap, subst, arith}
+use Rattle.std.proofs.Common.{◌≡◌, ◌∙◌, ℕ, ◌≤◌, List, [], ◌∷◌, ◌++◌, append-nil, Option, Some, None, Err}
+use Rattle.std.proofs.Common.{Bool, true, false, is_some, true≢false, refl, sym, ap, subst}
 use Rattle.std.specs.FinMap.{empty}
 use Rattle.std.specs.Option.{option_map}
 use Rattle.slon_base.specs.Outside.{Filed, Poured, with_piece, WritesPart, Entered, HoldsFile, top}
@@ -207,13 +207,18 @@ ends_short shelf told unread written status has is none =
     subst (λ s. EndsRun shelf s told written unread has) (sym is) (
       bare,
       ran_nothing shelf database_limit told.said.commands written bare none (record {
-        agrees = record { limit = refl; fits = tt; memory = record { scripts = none_fit empty refl; started = refl } };
+        agrees = record { limit = refl; fits = tt; memory = record { scripts = none_fit empty refl; switches = refl } };
         given = refl;
       }),
     )
   where
     bare : Clustered
-    bare = record { limit = database_limit; given = 0; bases = []; memory = record { scripts = empty; started = [] } }
+    bare = record {
+      limit = database_limit;
+      given = 0;
+      bases = [];
+      memory = record { scripts = empty; switches = record { started = []; cuts = [] } };
+    }
 
 -- where the session could not be entered
 pub read_faults : {C : Type 0} (line : List ℕ) (cluster : Option C) (before behind shelf : ℕ) (o : Outcome C) →

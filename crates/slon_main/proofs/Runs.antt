@@ -8,14 +8,10 @@ use Rattle.std.specs.Str.Lines.{lines}
 use Rattle.slon_base.specs.Outside.{Filed, top, with_piece}
 use Rattle.slon_base.specs.Shelf.{Shelved, Promise}
 use Rattle.slon_model.specs.declared.command.Command.{Command}
-use Rattle.slon_model.specs.declared.command.Command.TheVariants.{Database}
-use Rattle.slon_model.specs.declared.reply.Answer.TheVariants.{Done}
-use Rattle.slon_model.specs.declared.reply.Reply.TheVariants.{Accepted}
 use Rattle.slon_model.specs.Names.{Named, find_named}
 use Rattle.slon_model.specs.Printed.{reply_line}
 use Rattle.slon_model.specs.Spoken.{IsSpoken}
-use Rattle.slon_model.specs.World.{World, Happening, Leads, IsDue, start, commands_of, replies_of, lines_of}
-use Rattle.slon_laws.specs.Worlds.{AllSpoken}
+use Rattle.slon_model.specs.World.{World, start, commands_of, replies_of, lines_of}
 use Rattle.slon_laws.proofs.Worlds.{sound_world, spelled_world}
 use Rattle.session_text.specs.Reading.{session_limit}
 use Rattle.session_text.specs.Handing.{Comes}
@@ -28,15 +24,15 @@ use Rattle.reply_forms.proofs.Forms.{all_with, formed_by}
 use Rattle.app_store.specs.Base.{Base}
 use Rattle.slonik_exec.specs.Databases.{FitsAll}
 use Rattle.cluster_engine.specs.Agreed.{Clustered, Agrees, Follows}
-use Rattle.cluster_engine.specs.Calls.{arms_later, grant, happened, AllQuiet, AllCertain}
+use Rattle.cluster_engine.specs.Calls.{arms_later, happened, AllCertain}
 use Rattle.cluster_engine.specs.Failing.{IsWithin}
 use Rattle.cluster_engine.specs.Telling.{AreTold}
 use Rattle.cluster_engine.proofs.Stepping.{sure_step}
 use Rattle.slon_main.specs.declared.run.Stop.{Stop}
 use Rattle.slon_main.specs.declared.run.Stop.TheVariants.{BadLine, Read, Write, NoMemory, NoStore, TooLong}
-use Rattle.slon_main.specs.Going.{behind_commands, Came, Point, ComesOn, Spot, Running, RunsOn}
-use Rattle.slon_main.specs.Running.{Begun, Pieces, Starts, NeverFails, NoneArms, FetchesSo, Replies, RepliesInPart}
-use Rattle.slon_main.specs.Running.{NamesMade, is_no_store, is_of_command, Ran, RanOn, IsMaking, IsUnread, InLine}
+use Rattle.slon_main.specs.Going.{behind_commands, Came, Point, Spot, Running}
+use Rattle.slon_main.specs.Running.{Begun, Pieces, Starts, NoneArms, FetchesSo, Replies, RepliesInPart}
+use Rattle.slon_main.specs.Running.{NamesMade, is_no_store, is_of_command, Ran, RanOn, IsUnread, InLine}
 use Rattle.slon_main.specs.Running.{InFile, RunsSession, StopsAt}
 use Rattle.slon_main.proofs.Causes.{never_still}
 

@@ -1,6 +1,6 @@
 -- How a session ends, and what is written last.
 use Rattle.std.specs.Prelude.{not, ◌≡◌, ℕ, ◌==◌, ◌≤◌, ◌&&◌, if◌then◌else◌, Bool, true, false, List, [], ◌∷◌, ◌++◌}
-use Rattle.std.specs.Prelude.{length, take, drop, codes, Option, Some, None}
+use Rattle.std.specs.Prelude.{take, drop, codes, Option, Some, None}
 use Rattle.std.specs.Fmt.{decimal}
 use Rattle.slon_base.specs.Counts.{Rose}
 use Rattle.slon_base.specs.Outside.{Filed, Poured, with_piece, WritesPart}

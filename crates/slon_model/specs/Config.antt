@@ -1,5 +1,6 @@
 -- What a node knows of the cluster, and what an event changes in it.
-use Rattle.std.specs.Prelude.{ℕ, ◌==◌, ◌&&◌, if◌then◌else◌, is_some, is_none, Bool, true, false, List, [], ◌∷◌, map}
+use Rattle.std.specs.Prelude.{ℕ, ◌==◌, ◌&&◌, not, if◌then◌else◌, is_some, is_none, Bool, true, false, List, [], ◌∷◌}
+use Rattle.std.specs.Prelude.{map}
 use Rattle.std.specs.Prelude.{filter, find, Option, Some, None, unwrap_or, option_map}
 use Rattle.std.specs.Str.{bytes_eq}
 use Rattle.slon_model.specs.Maps.{Map, Map2, entry_at, with_entry, without_entry, ids, row_at, pair_at, with_pair}
@@ -94,6 +95,22 @@ receivers set c = row_at set c.subscriptions
 
 abbrev pub forwards : ℕ → ℕ → Config → Bool
 forwards set node c = unwrap_or (option_map (λ s. s.forward) (pair_at set node c.subscriptions)) false
+
+-- ---- the listen network
+
+-- A node hears an origin at the origin alone, where it has a path from it and no fence for it; else at every other
+-- server that it has a path from.
+abbrev pub hears_by : Bool → ℕ → ℕ → ℕ → Config → Bool
+hears_by true own server origin c = server == origin
+hears_by false own server origin c = not (server == origin) && has_path own server c
+
+abbrev pub hears : ℕ → ℕ → ℕ → Config → Bool
+hears own server origin c =
+    hears_by (has_path own origin c && is_none (entry_at origin c.fences)) own server origin c
+
+-- the live nodes of which a node hears at a server
+abbrev pub heard_in : ℕ → ℕ → Config → List ℕ
+heard_in own server c = filter (λ origin. not (origin == own) && hears own server origin c) (live_nodes c)
 
 -- ---- an event changes it
 

@@ -12,6 +12,8 @@ pub data Doing : Type 0 where
   Emits : (event : Event) → Doing
   -- a transaction of an application, with at least one action
   Commits : (xid : ℕ) → Doing
+  -- confirmations: an origin, a node, and how far that node is
+  Hears : (confirms : List (ℕ × ℕ × ℕ)) → Doing
 
 -- An action of the origin of an era on a table of its set, as a node logs it.
 pub record Logged : Type 0 where
@@ -49,6 +51,15 @@ pub record Knowledge : Type 0 where
 abbrev pub noticed : Event → Map ℕ → Map ℕ
 noticed e news = if is_sync e.body then news else with_entry e.origin e.number news
 
+-- what a node was told of others, once it hears a confirmation, which rises and never falls
+abbrev pub raised : ℕ × ℕ × ℕ → Map2 ℕ → Map2 ℕ
+raised c told =
+    if nat_lt (number_at c.1 (row_at c.0 told)) c.2 then with_pair c.0 c.1 c.2 told else told
+
+abbrev pub heard : List (ℕ × ℕ × ℕ) → Map2 ℕ → Map2 ℕ
+heard [] told = told
+heard (c ∷ cs) told = heard cs (raised c told)
+
 -- What the node of this id knows after one more deed.
 abbrev pub learned : ℕ → Doing → Knowledge → Knowledge
 learned own (Emits e) k =
@@ -59,6 +70,7 @@ learned own (Emits e) k =
       news = noticed e k.news;
     }
 learned own (Commits xid) k = k
+learned own (Hears confirms) k = record k { told = heard confirms k.told }
 
 -- the deeds, the newest first, one after the other
 abbrev pub learned_all : ℕ → Knowledge → List Deed → Knowledge

@@ -1,5 +1,6 @@
 -- Events: what a node tells all others, in its own order.
-use Rattle.std.specs.Prelude.{ℕ, Bool, true, false, List}
+use Rattle.std.specs.Prelude.{ℕ, zero, suc, ◌==◌, ◌&&◌, if◌then◌else◌, Bool, true, false, List, [], ◌∷◌}
+use Rattle.std.specs.Prelude.{Option, Some, None}
 use Rattle.node_rows.specs.declared.body.Body.{Body}
 use Rattle.node_rows.specs.declared.body.Body.TheVariants.{Sync}
 use Rattle.slon_model.specs.Snapshots.{Snapshot}
@@ -22,3 +23,17 @@ pub record Event : Type 0 where
 abbrev pub is_sync : Body → Bool
 is_sync Sync = true
 is_sync others = false
+
+-- the event of this origin with this number
+abbrev pub event_at : List Event → ℕ × ℕ → Option Event
+event_at [] i = None
+event_at (e ∷ es) i = if e.origin == i.0 && e.number == i.1 then Some e else event_at es i
+
+-- the last SYNC of an origin among these events whose number is at most this one
+abbrev pub sync_or : Option Event → Option Event → Option Event
+sync_or None before = before
+sync_or (Some e) before = if is_sync e.body then Some e else before
+
+abbrev pub last_sync : ℕ → List Event → ℕ → Option Event
+last_sync origin events zero = None
+last_sync origin events (suc n) = sync_or (event_at events (origin, suc n)) (last_sync origin events n)

@@ -1,12 +1,12 @@
--- Statements about nodes and paths: INIT CLUSTER, STORE NODE, STORE PATH, DROP PATH.
+-- Statements about nodes and paths: INIT CLUSTER, STORE NODE, STORE PATH, DROP PATH; and SYNC.
 use Rattle.std.specs.Prelude.{ℕ, ◌==◌, not, is_some, Bool, false, List, [], ◌∷◌, filter_map, Option, Some, None, Result}
-use Rattle.std.specs.Prelude.{option_map, unwrap_or}
+use Rattle.std.specs.Prelude.{Ok, option_map, unwrap_or}
 use Rattle.slon_model.specs.declared.reply.Answer.TheVariants.{Done}
 use Rattle.slon_model.specs.declared.reply.Refusal.{Refusal}
 use Rattle.slon_model.specs.declared.reply.Refusal.TheVariants as refused
 use Rattle.slon_model.specs.Maps.{entry_at}
 use Rattle.node_rows.specs.declared.rows.NodeRow.{NodeRow}
-use Rattle.node_rows.specs.declared.body.Body.TheVariants.{StoreNode, StorePath, DropPath}
+use Rattle.node_rows.specs.declared.body.Body.TheVariants.{Sync, StoreNode, StorePath, DropPath}
 use Rattle.slon_model.specs.Config.{has_path}
 use Rattle.slon_model.specs.Deeds.{Node, knowledge, with_deeds, held, first_knowledge, given_to}
 use Rattle.slon_model.specs.Place.{node_id}
@@ -90,3 +90,13 @@ drop_path server client run w =
     bind (reach run client w) (λ s.
     checked (when (not (has_path client server s.known.config)) (refused.NoPath server) ∷ [])
     (emitting s (tells (DropPath server client) ∷ [])))
+
+-- ---- SYNC
+
+-- the node emits a SYNC
+abbrev pub synced : Seat → Stated
+synced s = emitting s (tells Sync ∷ [])
+
+-- reach the node
+abbrev pub sync_node : ℕ → Running → World → Result Stated Refusal
+sync_node id run w = bind (reach run id w) (λ s. Ok (synced s))

@@ -7,14 +7,16 @@ use Rattle.slonik_script.specs.declared.refusal.ScriptRefusal.TheVariants.{Missi
 use Rattle.slonik_script.specs.declared.refusal.ScriptRefusal.TheVariants.{NotInTry, Undefined, Depth, NoFile, TooMany}
 use Rattle.slon_model.specs.declared.reply.Answer.{Answer}
 use Rattle.slon_model.specs.declared.reply.Answer.TheVariants.{Done, Opened, Acted, Unchanged, Committed, Listed, Kept}
-use Rattle.slon_model.specs.declared.reply.Answer.TheVariants.{Lost, Status, Statements, Emitted, Echoed, Ended}
+use Rattle.slon_model.specs.declared.reply.Answer.TheVariants.{Lost, Status, Statements, Emitted, Echoed, Ended, Heard}
+use Rattle.slon_model.specs.declared.reply.Answer.TheVariants.{LostOnTheWay}
 use Rattle.slon_model.specs.declared.reply.Refusal.{Refusal}
 use Rattle.slon_model.specs.declared.reply.Refusal.TheVariants.{Fault, Locked, Full, BadRow, NotEmpty, Down, NoDatabase}
 use Rattle.slon_model.specs.declared.reply.Refusal.TheVariants.{IdUsed, IsUp, TooBig, NotInitialised, OtherNode}
 use Rattle.slon_model.specs.declared.reply.Refusal.TheVariants.{AlreadyNode, NoNode, NoConninfo, HasReceivers, NoSet}
 use Rattle.slon_model.specs.declared.reply.Refusal.TheVariants.{TableExists, NameUsed, NoTable, NoTransaction}
 use Rattle.slon_model.specs.declared.reply.Refusal.TheVariants.{Duplicate, NotOrigin, SetLocked, BadWidth, TableUsed}
-use Rattle.slon_model.specs.declared.reply.Refusal.TheVariants.{Busy, NoPath, SameNode, Script, ScriptUsed, NoScript}
+use Rattle.slon_model.specs.declared.reply.Refusal.TheVariants.{Nothing, NotListed, NotKnown, Busy, Off, Severed}
+use Rattle.slon_model.specs.declared.reply.Refusal.TheVariants.{NoPath, SameNode, Script, ScriptUsed, NoScript}
 use Rattle.slon_model.specs.declared.reply.Refusal.TheVariants.{NotBuilt}
 use Rattle.slon_model.specs.declared.reply.Reply.{Reply}
 use Rattle.slon_model.specs.declared.reply.Reply.TheVariants.{Accepted, Refused, InDoubt}
@@ -60,6 +62,9 @@ answer_text (Statements count) = codes "ok statements " ++ decimal count
 answer_text (Emitted node number) = codes "ok event " ++ decimal node ++ codes " " ++ decimal number
 answer_text (Echoed text) = codes "ok echo " ++ text
 answer_text (Ended status) = codes "ok ended " ++ decimal status
+answer_text (Heard events confirms) = codes "ok events " ++ decimal events ++ codes " confirms " ++ decimal confirms
+answer_text (LostOnTheWay events confirms) =
+    codes "ok lost events " ++ decimal events ++ codes " confirms " ++ decimal confirms
 
 abbrev pub script_text : ScriptRefusal → List ℕ
 script_text (BadToken line) = codes "no 80 badtoken " ++ decimal line
@@ -101,7 +106,12 @@ refusal_text (NotOrigin set) = codes "no 55 notorigin " ++ decimal set
 refusal_text (SetLocked set) = codes "no 56 setlocked " ++ decimal set
 refusal_text (BadWidth columns) = codes "no 57 badwidth " ++ decimal columns
 refusal_text (TableUsed table) = codes "no 58 tableused " ++ table
+refusal_text Nothing = codes "no 60 nothing"
+refusal_text (NotListed server) = codes "no 61 notlisted " ++ decimal server
+refusal_text (NotKnown node) = codes "no 62 notknown " ++ decimal node
 refusal_text (Busy xid) = codes "no 66 busy " ++ decimal xid
+refusal_text (Off node) = codes "no 67 off " ++ decimal node
+refusal_text (Severed node other) = codes "no 68 cut " ++ decimal node ++ codes " " ++ decimal other
 refusal_text (NoPath node) = codes "no 75 nopath " ++ decimal node
 refusal_text (SameNode node) = codes "no 78 samenode " ++ decimal node
 refusal_text (Script refusal) = script_text refusal

@@ -19,7 +19,7 @@ use Rattle.slon_model.specs.Maps.{Map, with_entry, number_at}
 use Rattle.slon_model.specs.Events.{Event}
 use Rattle.slon_model.specs.Deeds.{Deed, emitted_by}
 use Rattle.slon_model.specs.Sessions.{World, Memory, Running, Commit, Stated, Outcome, no_change, first_beyond}
-use Rattle.slon_model.specs.Membership.{comment_of, init_cluster, store_node, store_path, drop_path}
+use Rattle.slon_model.specs.Membership.{comment_of, init_cluster, store_node, store_path, drop_path, sync_node}
 use Rattle.slon_model.specs.Sets.{create_set, set_add_table}
 
 -- ---- one statement
@@ -35,8 +35,7 @@ first_word (order.UnlockSet id origin) = codes "unlock"
 first_word (order.MoveSet set old new) = codes "move"
 first_word (order.Failover failed backup) = codes "failover"
 first_word (order.WaitForEvent origin confirmed wait_on timeout) = codes "wait"
-first_word (order.Sleep seconds) = codes "sleep"
-first_word others = codes "sync"
+first_word others = codes "sleep"
 
 -- What a command of a script comes to that answers by what nodes do.
 abbrev pub ordered : Order → Running → World → Result Stated Refusal
@@ -47,6 +46,7 @@ ordered (order.DropPath server client) = drop_path server client
 ordered (order.CreateSet id origin comment) = create_set id origin comment
 ordered (order.SetAddTable set origin id name key comment) =
     set_add_table origin (record { set_id = set; id = id; name = name; comment = comment_of comment })
+ordered (order.Sync id) = sync_node id
 ordered others = λ run w. Err (refused.NotBuilt (first_word others))
 
 -- ---- what a script remembers

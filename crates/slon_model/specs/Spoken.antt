@@ -14,7 +14,8 @@ use Rattle.slon_model.specs.declared.reading.Reading.TheVariants.{Read, Wrong}
 use Rattle.slon_model.specs.Forms.{is_name, is_table_name, is_value, is_line, greatest_id}
 use Rattle.slon_model.specs.Rows.{Change, Put, Set, Remove}
 use Rattle.slon_model.specs.Tasks.{Task, ToMake, ToOpen, ToWrite, ToCommit, ToAbort, ToList, Act, ToRead, ToStart}
-use Rattle.slon_model.specs.Tasks.{ToStop, Subject, OnNew, OnOne, OnAll, script_named, subject_of}
+use Rattle.slon_model.specs.Tasks.{ToStop, ToCut, ToJoin, ToSync, Subject, OnNew, OnOne, OnAll, script_named}
+use Rattle.slon_model.specs.Tasks.{subject_of}
 
 abbrev pub IsName : List ℕ → Type 0
 IsName word = is_name word ≡ true
@@ -100,6 +101,9 @@ abbrev pub IsRead : Act → Type 0
 IsRead (ToRead name reading) = IsReading reading
 IsRead (ToStart node) = IsNode node
 IsRead (ToStop node) = IsNode node
+IsRead (ToCut node other) = IsNode node × IsNode other
+IsRead (ToJoin node other) = IsNode node × IsNode other
+IsRead (ToSync node) = IsNode node
 IsRead others = Unit {0}
 
 abbrev pub AreNames : Option (List ℕ) → Type 0

@@ -5,7 +5,8 @@ use Rattle.slon_model.specs.declared.command.Crash.{Crash as CrashKind}
 use Rattle.slon_model.specs.declared.command.Command.{Command}
 use Rattle.slon_model.specs.declared.command.Command.TheVariants.{Database, Table, Begin, Insert, Update, Delete}
 use Rattle.slon_model.specs.declared.command.Command.TheVariants.{Commit, Abort, Rows, Status, Crash, Up}
-use Rattle.slon_model.specs.declared.command.Command.TheVariants.{Slonik, Step, Kill, Start, Stop}
+use Rattle.slon_model.specs.declared.command.Command.TheVariants.{Slonik, Step, Kill, Start, Stop, Cut, Join}
+use Rattle.slon_model.specs.declared.command.Command.TheVariants.{Sync}
 use Rattle.slon_model.specs.declared.reading.Reading.{Reading}
 use Rattle.slon_model.specs.Rows.{Row, Change, Put, Set, Remove}
 
@@ -28,13 +29,16 @@ pub data Task : Type 0 where
   ToCrash : (crash : CrashKind) → Task
   ToRise : Task
 
--- What a session is to do with its scripts, and with the slon of a node.
+-- What a session is to do with its scripts, and with the slons of nodes.
 pub data Act : Type 0 where
   ToRead : (name : List ℕ) (reading : Reading) → Act
   ToStep : (name : List ℕ) → Act
   ToForget : (name : List ℕ) → Act
   ToStart : (node : ℕ) → Act
   ToStop : (node : ℕ) → Act
+  ToCut : (node : ℕ) (other : ℕ) → Act
+  ToJoin : (node : ℕ) (other : ℕ) → Act
+  ToSync : (node : ℕ) → Act
 
 pub data Subject : Type 0 where
   OnNew : (name : List ℕ) → Subject
@@ -72,6 +76,9 @@ subject_of (Step name) = OnAll (ToStep name)
 subject_of (Kill name) = OnAll (ToForget name)
 subject_of (Start node) = OnAll (ToStart node)
 subject_of (Stop node) = OnAll (ToStop node)
+subject_of (Cut node other) = OnAll (ToCut node other)
+subject_of (Join node other) = OnAll (ToJoin node other)
+subject_of (Sync node) = OnAll (ToSync node)
 
 -- ---- the words that a command names
 

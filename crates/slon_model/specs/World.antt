@@ -1,5 +1,6 @@
 -- What the rules know after a history, the one reply that they give to a command, and the histories that they allow.
-use Rattle.std.specs.Prelude.{◌≡◌, ◌<◌, ℕ, if◌then◌else◌, nat_lt, is_some, Bool, true, false, List, [], ◌∷◌, ◌++◌}
+use Rattle.std.specs.Prelude.{◌≡◌, ◌<◌, ℕ, if◌then◌else◌, nat_lt, is_some, Bool, true, false, List, [], ◌∷◌}
+use Rattle.std.specs.Prelude.{◌++◌}
 use Rattle.std.specs.Prelude.{length, take, drop, Option, Some, None, Result, Ok, Err, unwrap_or}
 use Rattle.slon_base.specs.Counts.{Rose}
 use Rattle.slon_base.specs.declared.fault.Halt.{Halt as HaltOf}
@@ -16,16 +17,17 @@ use Rattle.slon_model.specs.declared.reply.Answered.TheVariants.{Sure, InDoubt a
 use Rattle.slon_model.specs.declared.reply.Refusal.TheVariants as refused
 use Rattle.slon_model.specs.declared.reply.Reply.{Reply}
 use Rattle.slon_model.specs.declared.reply.Reply.TheVariants.{Accepted, Refused, InDoubt}
+use Rattle.std.specs.Str.{bytes_eq}
 use Rattle.slon_model.specs.Names.{find_named}
-use Rattle.slon_model.specs.Tasks.{Task, ToFound, Act, ToRead, ToStep, ToForget, ToStart, ToStop, Subject, OnNew}
-use Rattle.slon_model.specs.Tasks.{OnOne, OnAll, subject_of, Words, words_of}
+use Rattle.slon_model.specs.Tasks.{Task, ToFound, Act, ToRead, ToStep, ToForget, ToStart, ToStop, ToCut}
+use Rattle.slon_model.specs.Tasks.{ToJoin, ToSync, Subject, OnNew, OnOne, OnAll, subject_of, Words, words_of}
 use Rattle.slon_model.specs.Place.{Place, is_running, bare_place, fallen}
 use Rattle.slon_model.specs.Deciding.{Choice, AsDue, Among, Fate, AllStand, Breaks, DoubtsAt, decide, result_of, sure}
 use Rattle.slon_model.specs.Deciding.{place_by, Takes}
 pub use Rattle.slon_model.specs.Sessions.{World, start, changed, adopted}
 use Rattle.slon_model.specs.Sessions.{Memory, Running, Commit, in_doubt, stand, with_memory, Outcome, after_outcome}
 use Rattle.slon_model.specs.Scripts.{slonik_outcome, step_outcome, kill_outcome, without_script}
-use Rattle.slon_model.specs.Turns.{start_outcome, stop_outcome}
+use Rattle.slon_model.specs.Turns.{at_node, start_outcome, stop_outcome, cut_outcome, join_outcome, sync_outcome}
 use Rattle.slon_model.specs.Printed.{reply_line}
 
 -- ---- replies
@@ -84,6 +86,9 @@ outcome (ToStep name) = step_outcome name
 outcome (ToForget name) = kill_outcome name
 outcome (ToStart node) = start_outcome node
 outcome (ToStop node) = stop_outcome node
+outcome (ToCut node other) = cut_outcome node other
+outcome (ToJoin node other) = join_outcome node other
+outcome (ToSync node) = sync_outcome node
 
 abbrev pub due_on : Subject → World → Reply
 due_on (OnNew name) w = database_due name w
@@ -124,10 +129,16 @@ abbrev pub has_todo : Option Running → Bool
 has_todo None = false
 has_todo (Some run) = is_left run.todo
 
--- a step may call on the store of each database, where something is left to do
-abbrev pub may_break : Act → World → Bool
-may_break (ToStep name) w = has_todo (find_named name w.memory.scripts)
-may_break others w = false
+-- the database of this name is the node
+abbrev pub is_of : List ℕ → Option (List ℕ × Place) → Bool
+is_of name None = false
+is_of name (Some e) = bytes_eq name e.0
+
+-- a step may call on the store of each database, where something is left to do; a turn on that of its node
+abbrev pub may_break : Act → List ℕ → World → Bool
+may_break (ToStep script) name w = has_todo (find_named script w.memory.scripts)
+may_break (ToSync node) name w = is_of name (at_node node w)
+may_break others name w = false
 
 -- the script ends
 abbrev pub memory_after : Act → Memory → Memory
@@ -162,7 +173,7 @@ CanFail count (Some p) = (is_running p.standing ≡ true) × Rose p.told count
 
 abbrev pub MayEnd : Act → Fate → World → Type 0
 MayEnd act AllStand w = Unit {0}
-MayEnd act (Breaks name count) w = (may_break act w ≡ true) × CanFail count (find_named name w.places)
+MayEnd act (Breaks name count) w = (may_break act name w ≡ true) × CanFail count (find_named name w.places)
 MayEnd act (DoubtsAt before stands) w = before < length (outcome act w).commits
 
 abbrev pub reply_by : Act → Fate → World → Reply

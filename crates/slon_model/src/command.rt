@@ -107,6 +107,20 @@ pub enum Command {
         /// The id of the node.
         node: u32,
     },
+    /// Cuts two nodes off from one another.
+    Cut {
+        node: u32,
+        other: u32,
+    },
+    /// Joins two nodes that were cut off from one another.
+    Join {
+        node: u32,
+        other: u32,
+    },
+    /// Has a node emit a SYNC.
+    Sync {
+        node: u32,
+    },
 }
 
 impl Command {
@@ -115,7 +129,11 @@ impl Command {
         ensures { option_map (λ word. word.now) result ≡ subject_name (subject_of self.now) }
     {
         match self {
-            Command::Start { .. } | Command::Stop { .. } => None,
+            Command::Start { .. }
+            | Command::Stop { .. }
+            | Command::Cut { .. }
+            | Command::Join { .. }
+            | Command::Sync { .. } => None,
             Command::Database { name } => Some(name),
             Command::Slonik { script, .. } | Command::Step { script } | Command::Kill { script } =>
                 Some(script),

@@ -114,6 +114,16 @@ pub enum Answer {
     Ended {
         status: u8,
     },
+    /// How many events and how many confirmations were delivered.
+    Heard {
+        events: u64,
+        confirms: u64,
+    },
+    /// How many of both were lost on the way.
+    LostOnTheWay {
+        events: u64,
+        confirms: u64,
+    },
 }
 
 /// What one database answers to a command that it accepted.
@@ -180,8 +190,18 @@ pub enum Refusal {
     BadWidth { columns: u64 },
     /// 58: some node knows a table of this name in a set.
     TableUsed { table: Text },
+    /// 60: there is nothing to do.
+    Nothing,
+    /// 61: the node hears of no origin at this server.
+    NotListed { server: u32 },
+    /// 62: the server does not know this node.
+    NotKnown { node: u32 },
     /// 66: the open transaction of this id wrote a table of the set.
     Busy { xid: u64 },
+    /// 67: the slon of this node is off.
+    Off { node: u32 },
+    /// 68: these nodes are cut off from one another.
+    Severed { node: u32, other: u32 },
     /// 75: the node has no path to this server.
     NoPath { node: u32 },
     /// 78: this node is named twice.

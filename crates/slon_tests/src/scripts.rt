@@ -275,6 +275,54 @@ fn slons_are_turned_on_and_off(rt: HostRuntime) -> Result<(), Fail> {
     expect_wanted(alloc, &wanted)
 }
 
+/// SYNCs, by turns of slons and by statements of a script that runs beside them: none where nothing happened since the
+/// last one, and none where the slon is off or the database is down. A database that comes up again knows its last one.
+const SYNCED: &[Step] = &[
+    ("sync 1", "no 67 off 1"),
+    ("sync 3", "no 44 nonode 3"),
+    ("start 1", "ok"),
+    ("start 2", "ok"),
+    ("sync 1", "ok event 1 5"),
+    ("sync 1", "no 60 nothing"),
+    ("sync 2", "ok event 2 2"),
+    (
+        "slonik t <<\ncluster name = demo;\nnode 1 admin conninfo = 'dbname=a';\ncreate set (id = 2, origin = 1);\nsync (id = 1);\nsync (id = 2);\n>>",
+        "ok statements 3",
+    ),
+    ("step t", "ok event 1 6"),
+    ("sync 1", "no 60 nothing"),
+    ("step t", "ok event 1 7"),
+    ("step t", "no 45 noconninfo 2"),
+    ("begin a x", "ok xid 1"),
+    ("sync 1", "ok event 1 8"),
+    ("sync 1", "no 60 nothing"),
+    ("abort a x", "ok"),
+    ("sync 1", "ok event 1 9"),
+    ("crash a", "ok"),
+    ("sync 1", "no 16 down a"),
+    ("up a", "ok"),
+    ("sync 1", "ok event 1 10"),
+    ("sync 1", "no 60 nothing"),
+    ("status a", "ok node 1 log 0 progress 1 10 progress 2 0"),
+    ("stop 2", "ok"),
+    ("sync 2", "no 67 off 2"),
+    ("cut 1 2", "ok"),
+    ("cut 2 1", "ok"),
+    ("cut 7 7", "ok"),
+    ("join 2 1", "ok"),
+    ("join 3 4", "ok"),
+];
+
+#[test]
+fn syncs_are_emitted(rt: HostRuntime) -> Result<(), Fail> {
+    let alloc = rt.alloc();
+    let mut wanted = nothing_wanted(alloc);
+    wanted.push_all(DATABASES)?;
+    wanted.push_script(NODES, CLUSTER)?;
+    wanted.push_all(SYNCED)?;
+    expect_wanted(alloc, &wanted)
+}
+
 /// A script that includes a file, which is there or is not, and a file that fails.
 #[test]
 fn files_are_included(rt: HostRuntime) -> Result<(), Fail> {
@@ -406,19 +454,27 @@ fn ends_so(written: &str, wanted: &[&'static str]) -> bool {
     wanted.iter().all(|line| lines.next() == Some(line))
 }
 
-/// Whether the crash was told. The replies are those of one of the outcomes.
-fn is_told(alloc: Global, crash: Crash) -> Result<bool, Fail> {
-    let out = joined(alloc, crash)?;
-    let written = str::from_utf8(out.written())?;
-    let [done, failed, doubted] = outcomes(crash);
-    if ends_so(written, &done) {
+/// Whether the crash was told. The replies are those of one of the outcomes: it was not, it failed, or it is in doubt.
+fn is_among(written: &str, outcomes: [&[&'static str]; 3]) -> Result<bool, Fail> {
+    let [done, failed, doubted] = outcomes;
+    if ends_so(written, done) {
         return Ok(false);
     }
     require(
-        ends_so(written, &failed) || ends_so(written, &doubted),
+        ends_so(written, failed) || ends_so(written, doubted),
         written,
     )?;
     Ok(true)
+}
+
+/// Whether the crash of a join was told.
+fn is_told(alloc: Global, crash: Crash) -> Result<bool, Fail> {
+    let out = joined(alloc, crash)?;
+    let [done, failed, doubted] = outcomes(crash);
+    is_among(
+        str::from_utf8(out.written())?,
+        [done.as_slice(), failed.as_slice(), doubted.as_slice()],
+    )
 }
 
 /// A join with a crash at each call of the store of a database: the first calls are told, and those behind are not
@@ -496,31 +552,40 @@ fn commit_outcomes(keep: bool) -> [[&'static str; 4]; 3] {
     ]
 }
 
-/// Whether the crash of a commit was told. The replies are those of one of the outcomes.
+/// Whether the crash of a commit was told.
 fn is_commit_told(alloc: Global, crash: Crash) -> Result<bool, Fail> {
     let out = committed(alloc, crash)?;
-    let written = str::from_utf8(out.written())?;
     let [done, failed, doubted] = commit_outcomes(crash.keep);
-    if ends_so(written, &done) {
-        return Ok(false);
-    }
-    require(
-        ends_so(written, &failed) || ends_so(written, &doubted),
-        written,
-    )?;
-    Ok(true)
+    is_among(
+        str::from_utf8(out.written())?,
+        [done.as_slice(), failed.as_slice(), doubted.as_slice()],
+    )
 }
 
-/// A commit with a crash at each call of the store: the first calls are told, and those behind are not reached.
-fn commit_at_each(alloc: Global, keep: bool) -> Result<u32, Fail> {
+/// What crashes at the first node.
+#[derive(Clone, Copy)]
+enum Crashing {
+    /// A transaction is committed.
+    Commit,
+    /// Its slon has its turn to emit a SYNC.
+    Sync,
+}
+
+/// This with a crash at each call of the store: the first calls are told, and those behind are not reached. How many are
+/// told.
+fn told_at_each(alloc: Global, keep: bool, crashing: Crashing) -> Result<u32, Fail> {
     let mut told = 0;
-    for calls in 0..20 {
+    for calls in 0..30 {
         let crash = Crash {
             database: "a",
             calls,
             keep,
         };
-        if is_commit_told(alloc, crash)? {
+        let is_told = match crashing {
+            Crashing::Commit => is_commit_told(alloc, crash)?,
+            Crashing::Sync => is_sync_told(alloc, crash)?,
+        };
+        if is_told {
             require(told == calls, "a call that is not told")?;
             told = calls + 1;
         }
@@ -532,6 +597,63 @@ fn commit_at_each(alloc: Global, keep: bool) -> Result<u32, Fail> {
 #[test]
 fn commits_crash_at_every_call(rt: HostRuntime) -> Result<(), Fail> {
     let alloc = rt.alloc();
-    require(commit_at_each(alloc, false)? == 5, "a commit that is lost")?;
-    require(commit_at_each(alloc, true)? == 5, "a commit that is kept")
+    let lost = told_at_each(alloc, false, Crashing::Commit)?;
+    require(lost == 5, "a commit that is lost")?;
+    let kept = told_at_each(alloc, true, Crashing::Commit)?;
+    require(kept == 5, "a commit that is kept")
+}
+
+// ---- a SYNC, whose store crashes at each call
+
+/// The replies of the session of a SYNC with a crash.
+fn synced(alloc: Global, crash: Crash) -> Result<MemSink, Fail> {
+    let mut wanted = nothing_wanted(alloc);
+    wanted.push_all(DATABASES)?;
+    wanted.push_script(NODES, CLUSTER)?;
+    let front = wanted.session.as_str();
+    let calls = crash.calls;
+    let whole = format!(in alloc;
+        "{front}start 1\ncrash a after {calls} {}\nsync 1\ncrash a\nup a\nstatus a\n",
+        keeping(crash.keep)
+    )?;
+    let (is, out) = run(alloc, Some("s"), whole.as_bytes(), NOTHING)?;
+    require(is == Status::Done, "a SYNC")?;
+    Ok(out)
+}
+
+/// What may be replied to `sync`, `crash`, `up` and `status`.
+fn sync_outcomes(keep: bool) -> [[&'static str; 4]; 3] {
+    let down = "no 16 down a";
+    let before = "ok node 1 log 0 progress 1 4 progress 2 0";
+    let behind = "ok node 1 log 0 progress 1 5 progress 2 0";
+    let doubt = if keep {
+        ["doubt a ok event 1 5", down, "ok kept", behind]
+    } else {
+        ["doubt a ok event 1 5", down, "ok lost", before]
+    };
+    [
+        ["ok event 1 5", "ok", "ok", behind],
+        ["no 10 fault a 1", down, "ok", before],
+        doubt,
+    ]
+}
+
+/// Whether the crash of a SYNC was told.
+fn is_sync_told(alloc: Global, crash: Crash) -> Result<bool, Fail> {
+    let out = synced(alloc, crash)?;
+    let [done, failed, doubted] = sync_outcomes(crash.keep);
+    is_among(
+        str::from_utf8(out.written())?,
+        [done.as_slice(), failed.as_slice(), doubted.as_slice()],
+    )
+}
+
+/// The calls are as many, whatever the last one leaves.
+#[test]
+fn syncs_crash_at_every_call(rt: HostRuntime) -> Result<(), Fail> {
+    let alloc = rt.alloc();
+    let lost = told_at_each(alloc, false, Crashing::Sync)?;
+    require(lost > 6 && lost < 30, "a SYNC that is lost")?;
+    let kept = told_at_each(alloc, true, Crashing::Sync)?;
+    require(kept == lost, "a SYNC that is kept")
 }

@@ -10,7 +10,7 @@ use Rattle.slon_model.specs.Tasks.{OnNew, OnOne, OnAll, ToMake, ToOpen, ToCommit
 use Rattle.slon_model.specs.Sessions.{start}
 use Rattle.slon_worked.proofs.Running.{Worked, Asks, Takes, replies, Head, reads, step, refused_each}
 
-abbrev head : Head
+abbrev pub head : Head
 head = record { cluster = codes "demo"; nodes = (1, codes "dbname=a") ∷ (2, codes "dbname=b") ∷ [] }
 
 abbrev session : List Worked

@@ -3,3 +3,4 @@ pub mod Capture
 pub mod Doubts
 pub mod Refusals
 pub mod Running
+pub mod Streams

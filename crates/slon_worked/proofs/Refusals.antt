@@ -211,7 +211,6 @@ scripts : replies (start 16)
     ∷ order.LockSet 1 1
     ∷ order.UnlockSet 1 1
     ∷ order.Failover 1 2
-    ∷ order.Sync 1
     ∷ order.WaitForEvent choice.All choice.All 1 None
     ∷ order.Sleep 1 ∷ []) [])
     ≡ Refused (refused.NoScript (codes "s"))
@@ -235,7 +234,6 @@ scripts : replies (start 16)
     ∷ refused.NotBuilt (codes "lock")
     ∷ refused.NotBuilt (codes "unlock")
     ∷ refused.NotBuilt (codes "failover")
-    ∷ refused.NotBuilt (codes "sync")
     ∷ refused.NotBuilt (codes "wait")
     ∷ refused.NotBuilt (codes "sleep") ∷ []) []
 scripts = refl

@@ -19,6 +19,7 @@ use Rattle.app_store.proofs.Standing.{named_up}
 use Rattle.slonik_exec.specs.declared.databases.Named.{Named as NamedDatabase}
 use Rattle.slonik_exec.specs.Databases.{FitsAll, bases_of}
 use Rattle.slonik_exec.specs.Reached.{IsDown, IsDownNode, IsFirstNode, HasNode}
+use Rattle.slonik_exec.specs.Turning.{is_this}
 use Rattle.slonik_exec.proofs.Seats.{same_up}
 
 -- what code asks of a database
@@ -159,10 +160,6 @@ pub is_first_node_by : {K : Type 0} {g : Ghosts K} (kept : K → Kept) (ds : Lis
 is_first_node_by kept ds found is w all = firsts kept w.places ds all ∙ ap id_in (sym is)
 
 -- ---- one node
-
--- what code asks of a database
-abbrev pub is_this : {K : Type 0} {g : Ghosts K} → ℕ → NamedDatabase K g → Bool
-is_this node d = is_id node (option_map (λ i. i.id) d.database.state.node.identity)
 
 step_this : {X : Type 0} (b : Bool) (x : X) (rest : Option X) (later : Bool) → is_some rest ≡ later →
     is_some (cond b (Some x) rest) ≡ b || later

@@ -22,3 +22,4 @@ pub mod Telling
 pub mod Texts
 pub mod Trying
 pub mod Works
+pub mod Seated

@@ -16,6 +16,7 @@ pub record IsOther (o : Order) : Type 0 where
   pub set : (id origin : ℕ) (comment : Option (List ℕ)) → o ≡ order.CreateSet id origin comment → ⊥
   pub table : (set origin id : ℕ) (name : List ℕ) (key comment : Option (List ℕ)) →
       o ≡ order.SetAddTable set origin id name key comment → ⊥
+  pub sync : (id : ℕ) → o ≡ order.Sync id → ⊥
 
 pub not_built : (o : Order) → IsOther o → (run : Running) (w : World) →
     ordered o run w ≡ Err (refused.NotBuilt (first_word o))
@@ -27,4 +28,5 @@ not_built (order.DropPath server client) other run w = absurd (other.drop server
 not_built (order.CreateSet id origin comment) other run w = absurd (other.set id origin comment refl)
 not_built (order.SetAddTable set origin id name key comment) other run w =
     absurd (other.table set origin id name key comment refl)
+not_built (order.Sync id) other run w = absurd (other.sync id refl)
 not_built others other run w = refl

@@ -8,3 +8,4 @@ pub mod Reached
 pub mod Statements
 pub mod Stored
 pub mod Telling
+pub mod Turning

@@ -15,6 +15,7 @@ use crate::membership::{init_cluster, store_node};
 use crate::paths::{drop_path, store_path};
 use crate::sets::{NewTable, create_set, set_add_table};
 use crate::short::NoMemory;
+use crate::syncing::sync;
 use node_keeper::Keeper;
 use slon_base::Text;
 use slon_model::{Refusal, Reply};
@@ -65,8 +66,7 @@ fn first_word(command: &Command) -> &'static str
         Command::MoveSet { .. } => "move",
         Command::Failover { .. } => "failover",
         Command::WaitForEvent { .. } => "wait",
-        Command::Sleep { .. } => "sleep",
-        _ => "sync",
+        _ => "sleep",
     }
 }
 
@@ -107,6 +107,7 @@ fn is_runnable(command: &Command) -> bool
             fully_qualified_name,
             ..
         } => is_id(*set_id) && is_id(*origin) && is_id(*id) && is_short(fully_qualified_name),
+        Command::Sync { id } => is_id(*id),
         _ => true,
     }
 }
@@ -167,6 +168,7 @@ pub fn run_command<K: Keeper>(
             };
             set_add_table(alloc, databases, caller, *origin, table)
         }
+        Command::Sync { id } => sync(alloc, databases, caller, *id),
         _ => {
             let word = Text::from_str(alloc, first_word(command))?;
             Ok(Reply::Refused(Refusal::NotBuilt { word }))

@@ -13,6 +13,8 @@ mod reaching;
 mod replies;
 mod sets;
 mod short;
+mod syncing;
+mod turns;
 
 pub use caller::Caller;
 pub use command::run_command;
@@ -23,3 +25,5 @@ pub use knowing::{
 pub use reaching::{Reached, database_in, database_of_line, reach};
 pub use replies::{answered, copied, halted, refused, told};
 pub use short::NoMemory;
+pub use syncing::take_sync;
+pub use turns::turn_of;

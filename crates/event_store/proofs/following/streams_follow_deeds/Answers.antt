@@ -1,4 +1,4 @@
-use Rattle.event_store.proofs.Deeds.{adds, keeping_adds, stays, hearing_stays}
+use Rattle.event_store.proofs.Deeds.{adds, keeping_adds, stays, hearing_adds, hearing_stays}
 use Rattle.event_store.proofs.following.streams_follow_deeds.Goals as goal
 
 pub returns-clause-adds : goal.returns-clause-adds
@@ -12,3 +12,6 @@ returns-clause-stays c = stays
 
 pub returns-clause-hears : goal.returns-clause-hears
 returns-clause-hears c = hearing_stays
+
+pub returns-clause-confirms : goal.returns-clause-confirms
+returns-clause-confirms c = hearing_adds

@@ -1,11 +1,11 @@
-use Rattle.std.proofs.Common.{◌∙◌, refl, subst, arith, rules, Option, Bool, Err}
+use Rattle.std.proofs.Common.{arith, Option, Bool, Err}
 use Rattle.std.proofs.lemmas.Result.{err_from_is_err_and}
 use Rattle.slon_base.specs.Outside.{top}
 use Rattle.slon_model.specs.declared.command.Command.{Command}
 use Rattle.cluster_engine.specs.Clustered.{cluster_of}
 use Rattle.slon_main.specs.Going.{ComesOn, RunsOn}
-use Rattle.slon_main.specs.Running.{HasCause, AsksOn}
-use Rattle.slon_main.proofs.Asks.{asked_so, asks_so}
+use Rattle.slon_main.specs.Running.{AsksOn}
+use Rattle.slon_main.proofs.Asks.{asks_so}
 use Rattle.slon_main.proofs.Causes.{stops_as, stops_since, handed_on, tells_kept}
 use Rattle.slon_main.proofs.Runs.{came_on, stops_fetching, stops_ended, stops_running, follows, went_on, ran_all}
 use Rattle.slon_main.proofs.Runs.{fetch_stops, command_stops, command_stopped}

@@ -1,11 +1,11 @@
-use Rattle.std.proofs.Common.{◌∙◌, ◌≡◌, refl, sym, subst, arith, rules, Bool, Err}
+use Rattle.std.proofs.Common.{◌∙◌, refl, arith, rules, Bool, Err}
 use Rattle.std.proofs.lemmas.Result.{err_from_is_err_and}
 use Rattle.slon_base.specs.Outside.{top}
 use Rattle.session_text.proofs.Moving.{stays_on}
 use Rattle.session_reader.specs.Sessions.{session_of}
 use Rattle.cluster_engine.specs.Clustered.{cluster_of}
-use Rattle.slon_main.specs.Running.{HasCause, StopsAt, RunsSession, AsksOn, begun}
-use Rattle.slon_main.proofs.Asks.{asked_so, asks_so}
+use Rattle.slon_main.specs.Running.{StopsAt, RunsSession, AsksOn, begun}
+use Rattle.slon_main.proofs.Asks.{asked_so}
 use Rattle.slon_main.proofs.Causes.{stops_as, stops_since, handed_on}
 use Rattle.slon_main.proofs.Runs.{came_first, begins, ran_nothing}
 use Rattle.slon_main.proofs.run.run_session.Goals as goal

@@ -106,6 +106,19 @@ returns-in-SetAddTable-clause-executes g c =
     (c.in_ok-comment.ensures ∙ ap
     (λ o. comment_of (comment_in o)) c.in-SetAddTable.is) c.set_add_table.ensures.executes)
 
+pub sync-requires : goal.sync-requires
+sync-requires g c = record {
+  can = subst IsRunnable c.in-Sync.is (c.is_runnable.ensures c.if-not-is_runnable.false);
+}
+
+pub returns-in-Sync-clause-executes : goal.returns-in-Sync-clause-executes
+returns-in-Sync-clause-executes g c =
+    let a : Addresses = record { lines = c.args.caller.lines.now; cluster = c.args.caller.cluster.now } in
+    let old = bases_of g.K.Keeper.kept c.args.databases.now in
+    let new = bases_of g.K.Keeper.kept c.sync.new.databases in
+    subst (λ o. IfOk c.sync.result (λ reply. Executes a (ordered o) old reply new)) (sym c.in-Sync.is)
+    c.sync.ensures.executes
+
 pub returns : goal.returns
 returns g c = record {
   runs = runs_refused (refused.NotBuilt c.in_ok-word-in_default.word) (bases_of g.K.Keeper.kept c.args.databases.now)
@@ -118,6 +131,7 @@ returns g c = record {
         drop = c.in_default.not-DropPath;
         set = c.in_default.not-CreateSet;
         table = c.in_default.not-SetAddTable;
+        sync = c.in_default.not-Sync;
       }) run w ∙ ap (λ word. Err (refused.NotBuilt word))
       (sym (c.in_ok-word-in_default.ensures ∙ c.first_word.ensures)))
       refl ready.fits;

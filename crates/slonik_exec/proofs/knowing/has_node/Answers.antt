@@ -1,7 +1,8 @@
 use Rattle.std.proofs.Common.{rules, tests}
 use Rattle.std.proofs.lemmas.Iterator.{YieldsList-from_slice}
 use Rattle.std.proofs.lemmas.Iterator.Search.{any_from_yields_List}
-use Rattle.slonik_exec.proofs.Downs.{is_this, has_node_by}
+use Rattle.slonik_exec.specs.Turning.{is_this}
+use Rattle.slonik_exec.proofs.Downs.{has_node_by}
 use Rattle.slonik_exec.proofs.knowing.has_node.Goals as goal
 
 pub returns : goal.returns

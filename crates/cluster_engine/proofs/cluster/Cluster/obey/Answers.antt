@@ -1,8 +1,9 @@
-use Rattle.std.proofs.Common.{ap}
-use Rattle.slon_model.specs.Tasks.{subject_of, ToStep, ToForget, ToStart, ToStop}
-use Rattle.cluster_engine.specs.Calls.{Acts}
+use Rattle.std.proofs.Common.{Bool, ap}
+use Rattle.slon_model.specs.declared.command.Command.{Command}
+use Rattle.slon_model.specs.Tasks.{subject_of, ToStep, ToForget, ToStart, ToStop, ToCut, ToJoin, ToSync}
+use Rattle.cluster_engine.specs.Calls.{Acts, takes_none}
 use Rattle.cluster_engine.specs.Clustered.{cluster_of}
-use Rattle.cluster_engine.proofs.Moving.{granted_moves, acts_moves, one_left, spared}
+use Rattle.cluster_engine.proofs.Moving.{granted_moves, acts_moves, one_left, none_left, spared}
 use Rattle.cluster_engine.proofs.cluster.Cluster.obey.Goals as goal
 
 pub returns-in-Database-clause-moves : goal.returns-in-Database-clause-moves
@@ -31,6 +32,22 @@ returns-in-Start-clause-moves g c =
 pub returns-in-Stop-clause-moves : goal.returns-in-Stop-clause-moves
 returns-in-Stop-clause-moves g c = Acts (ToStop c.in-Stop.node) (ap subject_of c.in-Stop.is) c.turn_off.ensures
 
+pub returns-in-Cut-clause-moves : goal.returns-in-Cut-clause-moves
+returns-in-Cut-clause-moves g c =
+    acts_moves c.cut.result c.args.command.now (ToCut c.in-Cut.node c.in-Cut.other)
+    (cluster_of g.K.Keeper.kept c.args.self.now) (cluster_of g.K.Keeper.kept c.cut.new.self)
+    (ap subject_of c.in-Cut.is) c.cut.ensures
+
+pub returns-in-Join-clause-moves : goal.returns-in-Join-clause-moves
+returns-in-Join-clause-moves g c =
+    Acts (ToJoin c.in-Join.node c.in-Join.other) (ap subject_of c.in-Join.is) c.join.ensures
+
+pub returns-in-Sync-clause-moves : goal.returns-in-Sync-clause-moves
+returns-in-Sync-clause-moves g c =
+    acts_moves c.sync.result c.args.command.now (ToSync c.in-Sync.node)
+    (cluster_of g.K.Keeper.kept c.args.self.now) (cluster_of g.K.Keeper.kept c.sync.new.self)
+    (ap subject_of c.in-Sync.is) c.sync.ensures
+
 pub ask-requires-clause-one : goal.ask-requires-clause-one
 ask-requires-clause-one g c = one_left c.args.command.now (record {
   database = c.in_default.not-Database;
@@ -39,19 +56,41 @@ ask-requires-clause-one g c = one_left c.args.command.now (record {
   kill = c.in_default.not-Kill;
   start = c.in_default.not-Start;
   stop = c.in_default.not-Stop;
+  cut = c.in_default.not-Cut;
+  join = c.in_default.not-Join;
+  sync = c.in_default.not-Sync;
 })
 
+abbrev takes : Command → Bool
+takes x = takes_none (subject_of x)
+
 pub returns-in-Database-clause-spares : goal.returns-in-Database-clause-spares
-returns-in-Database-clause-spares g c = spared c.args.command.now _ (λ node is. let other = c.in-Database.is in cc)
+returns-in-Database-clause-spares g c = spared c.args.command.now _ (ap takes c.in-Database.is)
 
 pub returns-in-Step-clause-spares : goal.returns-in-Step-clause-spares
-returns-in-Step-clause-spares g c = spared c.args.command.now _ (λ node is. let other = c.in-Step.is in cc)
+returns-in-Step-clause-spares g c = spared c.args.command.now _ (ap takes c.in-Step.is)
 
 pub returns-in-Kill-clause-spares : goal.returns-in-Kill-clause-spares
-returns-in-Kill-clause-spares g c = spared c.args.command.now _ (λ node is. let other = c.in-Kill.is in cc)
+returns-in-Kill-clause-spares g c = spared c.args.command.now _ (ap takes c.in-Kill.is)
 
 pub returns-in-Start-clause-spares : goal.returns-in-Start-clause-spares
-returns-in-Start-clause-spares g c = spared c.args.command.now _ (λ node is. let other = c.in-Start.is in cc)
+returns-in-Start-clause-spares g c = spared c.args.command.now _ (ap takes c.in-Start.is)
+
+pub returns-in-Cut-clause-spares : goal.returns-in-Cut-clause-spares
+returns-in-Cut-clause-spares g c = spared c.args.command.now _ (ap takes c.in-Cut.is)
+
+pub returns-in-Sync-clause-spares : goal.returns-in-Sync-clause-spares
+returns-in-Sync-clause-spares g c = spared c.args.command.now _ (ap takes c.in-Sync.is)
 
 pub returns-in_default-clause-spares : goal.returns-in_default-clause-spares
-returns-in_default-clause-spares g c = spared c.args.command.now _ c.in_default.not-Stop
+returns-in_default-clause-spares g c = spared c.args.command.now _ (none_left c.args.command.now (record {
+  database = c.in_default.not-Database;
+  slonik = c.in_default.not-Slonik;
+  step = c.in_default.not-Step;
+  kill = c.in_default.not-Kill;
+  start = c.in_default.not-Start;
+  stop = c.in_default.not-Stop;
+  cut = c.in_default.not-Cut;
+  join = c.in_default.not-Join;
+  sync = c.in_default.not-Sync;
+}))

@@ -1,5 +1,6 @@
 use Rattle.std.proofs.Common.{ap}
 use Rattle.slon_model.specs.Tasks.{subject_of, ToRead}
+use Rattle.cluster_engine.specs.Calls.{takes_none}
 use Rattle.cluster_engine.specs.Clustered.{cluster_of}
 use Rattle.cluster_engine.proofs.Moving.{acts_moves, unread, spared}
 use Rattle.cluster_engine.proofs.Telling.{promises}
@@ -22,7 +23,7 @@ returns-in-Slonik g c =
       certain = all.certain;
       quiet = all.quiet;
       distinct = all.distinct c.requires.distinct;
-      spares = spared c.args.command _ (λ node is. let other = c.in-Slonik.is in cc);
+      spares = spared c.args.command _ (ap (λ x. takes_none (subject_of x)) c.in-Slonik.is);
     }
 
 pub returns-in_default : goal.returns-in_default

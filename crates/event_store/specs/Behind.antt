@@ -1,0 +1,40 @@
+-- The events of an origin behind a number.
+use Rattle.std.specs.Prelude.{◌≡◌, ℕ, ◌<◌, List, map}
+use Rattle.std.specs.FinMap.{entries}
+use Rattle.slon_base.specs.Codec.{number_bytes, AllAre}
+use Rattle.slon_base.specs.Keeper.{Store, after}
+use Rattle.store_rows.specs.Scan.{ranged, spelled_rows}
+use Rattle.slon_model.specs.Events.{Event as Model}
+use Rattle.slon_model.specs.Snapshots.{Rising}
+use Rattle.set_config.specs.Holds.{pair_key}
+use Rattle.event_store.specs.declared.event.Event.{Event}
+use Rattle.event_store.specs.declared.event.EventRow.{EventRow}
+use Rattle.event_store.specs.Seen.{seen_event}
+use Rattle.event_store.specs.Spellings.{IsStored, event_bytes, CanEvent}
+use Rattle.event_store.specs.Streams.{event_at}
+
+-- an event with its number
+abbrev pub numbered : Event → ℕ × Model
+numbered e = (e.number, seen_event e)
+
+-- the event of this origin whose row stands at a number
+abbrev pub event_of : ℕ → ℕ × EventRow → Event
+event_of origin r = record { origin = origin; number = r.0; taken = r.1.taken; body = r.1.body }
+
+-- the pairs of a store that are those of the origin behind this number are these events
+pub record AreBehind (origin number : ℕ) (m : Store) (events : List Event) : Type 0 where
+  pub can : AllAre (λ e. (e.origin ≡ origin) × CanEvent (seen_event e)) events
+  pub spelled : ranged (number_bytes origin) (after (pair_key (origin, number)) (entries (m 10)))
+      ≡ spelled_rows (number_bytes origin) number_bytes event_bytes (map numbered events)
+
+-- all of them are in their form
+abbrev pub HasBehind : ℕ → ℕ → Store → Type 0
+HasBehind origin number m = (events : List Event) × AreBehind origin number m events
+
+-- These are all events of the origin behind this number that a node holds, ascending by number.
+pub record AreAfter (origin number : ℕ) (held : List Model) (events : List Event) : Type 0 where
+  pub rising : Rising (map (λ e. e.number) events)
+  pub within : AllAre (λ e. (number < e.number) × IsStored e.number) events
+  pub origins : AllAre (λ e. e.origin ≡ origin) events
+  pub events_are : (n : ℕ) → number < n → IsStored n →
+      event_at (map seen_event events) (origin, n) ≡ event_at held (origin, n)

@@ -1,0 +1,42 @@
+use Rattle.std.proofs.Common.{◌≡◌, ◌∙◌, ℕ, sym, ap, subst}
+use Rattle.std.proofs.lemmas.Result.{err_from_is_err_and}
+use Rattle.slon_base.specs.Codec.{AllAre}
+use Rattle.slon_base.specs.Keeper.{Store}
+use Rattle.store_rows.specs.Rows.{IsId}
+use Rattle.store_rows.specs.Steps.{Gives}
+use Rattle.store_rows.proofs.Spaces.{sight_safe}
+use Rattle.node_rows.specs.declared.rows.NodeRow.{NodeRow}
+use Rattle.node_rows.specs.Spellings.{node_bytes, CanNode}
+use Rattle.slon_model.specs.Config.{Config}
+use Rattle.set_config.specs.Holds.{HoldsConfig}
+use Rattle.node_state.specs.Held.{IsOrderly}
+use Rattle.node_state.proofs.Formed.{gives_stop}
+use Rattle.node_state.proofs.Listing.{HoldsMap, held_rows, ids_only}
+use Rattle.node_change.proofs.Hearing.{heard_is}
+use Rattle.node_change.specs.Listening.{heard_among}
+use Rattle.node_change.proofs.listening.listens.Goals as goal
+
+nodes_held : {c : Config} {m : Store} → HoldsConfig c m → IsOrderly c → HoldsMap node_bytes CanNode c.nodes (m 4)
+nodes_held held orderly = record { ordered = orderly.nodes; holds = held.nodes }
+
+pub returns-in_err-nodes-clause-says : goal.returns-in_err-nodes-clause-says
+returns-in_err-nodes-clause-says g c m config seen held orderly =
+    let rows = held_rows config.nodes (m 4) (nodes_held held orderly) in
+    gives_stop _ c.from_residual.result (err_from_is_err_and c.from_residual.result c.from_residual.ensures.1)
+    (c.in_err-nodes.ensures.gives m config.nodes seen rows.0 rows.1)
+
+pub heard_among-requires-clause-nodes : goal.heard_among-requires-clause-nodes
+heard_among-requires-clause-nodes g c =
+    subst (λ es. AllAre (λ (e : ℕ × NodeRow). IsId e.0) es) (sym c.as_slice.ensures.value)
+    (ids_only CanNode c.in_ok-nodes.nodes c.in_ok-nodes.ensures.can)
+
+pub returns-clause-says : goal.returns-clause-says
+returns-clause-says g c m config seen held orderly =
+    let rows = held_rows config.nodes (m 4) (nodes_held held orderly) in
+    let nodes_are =
+    c.as_slice.ensures.value ∙ c.in_ok-nodes.ensures.gives m config.nodes seen rows.0 rows.1 in
+    let later = sight_safe c.in_ok-nodes.ensures.safe c.in_ok-nodes.ensures.same ∙ seen in
+    subst (λ l. Gives (λ origins. origins ≡ l) c.heard_among.result)
+    (ap (heard_among c.args.own c.args.server config) nodes_are
+    ∙ heard_is c.args.own c.args.server config orderly)
+    (c.heard_among.ensures.says m config later held)
