@@ -14,3 +14,9 @@ pub mod Rising
 pub mod Snapshots
 pub mod Turning
 mod LastSync
+pub mod Ordered
+pub mod Regular
+pub mod Backward
+pub mod Queues
+pub mod Flattened
+pub mod Heard

@@ -98,7 +98,7 @@ own_told own origin (p ∷ ps) t ids none =
           ∙ own_told own origin ps t ids none
     ] refl
 
-all_told : (s : Streams) (j : ℕ × ℕ) → AreIds j → HearsOfOthers s →
+pub all_told : (s : Streams) (j : ℕ × ℕ) → AreIds j → HearsOfOthers s →
     pair_at j.0 j.1 (told_progress s.own s.progress s.told) ≡ confirmed_at s j
 all_told s j ids hears =
     elim (j.1 == s.own) as (λ b. (j.1 == s.own) ≡ b →

@@ -1,5 +1,5 @@
 -- The events of an origin behind a number.
-use Rattle.std.specs.Prelude.{◌≡◌, ℕ, ◌<◌, List, map}
+use Rattle.std.specs.Prelude.{◌≡◌, ℕ, ◌<◌, ◌==◌, ◌&&◌, nat_lt, List, map, filter, reverse}
 use Rattle.std.specs.FinMap.{entries}
 use Rattle.slon_base.specs.Codec.{number_bytes, AllAre}
 use Rattle.slon_base.specs.Keeper.{Store, after}
@@ -9,6 +9,7 @@ use Rattle.slon_model.specs.Snapshots.{Rising}
 use Rattle.set_config.specs.Holds.{pair_key}
 use Rattle.event_store.specs.declared.event.Event.{Event}
 use Rattle.event_store.specs.declared.event.EventRow.{EventRow}
+use Rattle.event_store.specs.Regular.{AreFalling}
 use Rattle.event_store.specs.Seen.{seen_event}
 use Rattle.event_store.specs.Spellings.{IsStored, event_bytes, CanEvent}
 use Rattle.event_store.specs.Streams.{event_at}
@@ -31,6 +32,10 @@ pub record AreBehind (origin number : ℕ) (m : Store) (events : List Event) : T
 abbrev pub HasBehind : ℕ → ℕ → Store → Type 0
 HasBehind origin number m = (events : List Event) × AreBehind origin number m events
 
+-- the events of the origin behind this number among these
+abbrev pub events_behind : ℕ → ℕ → List Model → List Model
+events_behind origin number held = filter (λ e. e.origin == origin && nat_lt number e.number) held
+
 -- These are all events of the origin behind this number that a node holds, ascending by number.
 pub record AreAfter (origin number : ℕ) (held : List Model) (events : List Event) : Type 0 where
   pub rising : Rising (map (λ e. e.number) events)
@@ -38,3 +43,8 @@ pub record AreAfter (origin number : ℕ) (held : List Model) (events : List Eve
   pub origins : AllAre (λ e. e.origin ≡ origin) events
   pub events_are : (n : ℕ) → number < n → IsStored n →
       event_at (map seen_event events) (origin, n) ≡ event_at held (origin, n)
+
+-- Where the events that a node holds fall in number, as they do at every node, these are the same the other way round.
+abbrev pub AfterIsAll : Type 0
+AfterIsAll = (origin number : ℕ) (held : List Model) (events : List Event) → AreFalling held →
+    AreAfter origin number held events → map seen_event events ≡ reverse (events_behind origin number held)

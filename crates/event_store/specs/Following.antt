@@ -3,6 +3,8 @@ use Rattle.std.specs.Prelude.{◌≡◌, ℕ, ◌<◌, true, List, [], ◌∷◌
 use Rattle.std.specs.FinMap.{empty}
 use Rattle.std.specs.List.{AllByRecursion}
 use Rattle.slon_base.specs.Keeper.{Store}
+use Rattle.store_rows.specs.Rows.{IsId}
+use Rattle.set_config.specs.Holds.{AreIds}
 use Rattle.slon_model.specs.Maps.{number_at}
 use Rattle.slon_model.specs.Events.{Event}
 use Rattle.slon_model.specs.Deeds.{Node, Deed, Doing, Emits, Commits, Hears, heard, knowledge, with_deeds}
@@ -12,7 +14,8 @@ use Rattle.slon_model.specs.Membership.{first_of_cluster, joining}
 use Rattle.event_store.specs.Keeping.{KeepsViews}
 use Rattle.event_store.specs.Streams.{Streams, streams_of, emitted, given}
 use Rattle.event_store.specs.Holds.{HoldsStreams, is_stream}
-use Rattle.event_store.specs.Giving.{HearsOfOthers}
+use Rattle.event_store.specs.Regular.{IsRegular}
+use Rattle.event_store.specs.Spellings.{IsNumbered}
 
 -- it is behind all that the node has deleted of its origin
 abbrev pub IsBehindLow : Event → Node → Type 0
@@ -40,15 +43,16 @@ HearingAdds = (n : Node) (d : Deed) (confirms : List (ℕ × ℕ × ℕ)) → d.
     streams_of (with_deeds (d ∷ []) n)
     ≡ record (streams_of n) { told = heard confirms (streams_of n).told }
 
--- it hears no confirmation of its own
-abbrev pub HearsOthers : ℕ → Doing → Type 0
-HearsOthers own (Hears confirms) = AllByRecursion (λ c. c.1 ≡ own → ⊥) confirms
-HearsOthers own others = Unit {0}
+-- what it emits is behind all events of the origin that it met, and what it hears is no confirmation of its own
+abbrev pub GoesOn : Node → Doing → Type 0
+GoesOn n (Emits e) = IsNumbered (e.origin, e.number) × (number_at e.origin (knowledge n).progress < e.number)
+GoesOn n (Hears confirms) = AllByRecursion (λ c. (c.1 ≡ n.id → ⊥) × AreIds (c.0, c.1)) confirms
+GoesOn n others = Unit {0}
 
--- Whatever it does, a node goes on hearing of others alone.
-abbrev pub HearingStays : Type 0
-HearingStays = (n : Node) (d : Deed) → HearsOthers n.id d.doing → HearsOfOthers (streams_of n) →
-    HearsOfOthers (streams_of (with_deeds (d ∷ []) n))
+-- Whatever it does so, what holds of the streams of every node holds of its streams still.
+abbrev pub RegularStays : Type 0
+RegularStays = (n : Node) (d : Deed) → GoesOn n d.doing → IsRegular (streams_of n) →
+    IsRegular (streams_of (with_deeds (d ∷ []) n))
 
 -- ---- nodes that begin
 
@@ -62,10 +66,9 @@ FirstHasNone = (id : ℕ) (comment : List ℕ) (run : Running) (m : Store) →
 abbrev pub JoiningGives : Type 0
 JoiningGives = (id : ℕ) (n : Node) (run : Running) → streams_of (joining id n run) ≡ given id (streams_of n)
 
--- Both hear of others alone.
-abbrev pub FirstHears : Type 0
-FirstHears = (id : ℕ) (comment : List ℕ) (run : Running) →
-    HearsOfOthers (streams_of (first_of_cluster id comment run))
+-- It holds of both what holds of the streams of every node.
+abbrev pub FirstRegular : Type 0
+FirstRegular = (id : ℕ) (comment : List ℕ) (run : Running) → IsRegular (streams_of (first_of_cluster id comment run))
 
-abbrev pub GivenHears : Type 0
-GivenHears = (id : ℕ) (s : Streams) → HearsOfOthers (given id s)
+abbrev pub GivenRegular : Type 0
+GivenRegular = (id : ℕ) (s : Streams) → IsId id → IsId s.own → IsRegular s → IsRegular (given id s)

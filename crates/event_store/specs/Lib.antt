@@ -7,7 +7,12 @@ pub mod Giving
 pub mod Hearing
 pub mod Holds
 pub mod Keeping
+pub mod Lines
+pub mod Ordered
+pub mod Queueing
+pub mod Regular
 pub mod Seen
 pub mod Spellings
 pub mod Streams
 pub mod Syncing
+pub mod Telling

@@ -1,7 +1,7 @@
 // Laws of the streams of a node: how they follow how it began and what it did since, and what they leave as it was.
 ghost use Rattle.event_store.specs.Apart.{ConfigStays, StreamsStay};
-ghost use Rattle.event_store.specs.Following.{EmittingAdds, KeepingAdds, CommittingStays, HearingAdds, HearingStays};
-ghost use Rattle.event_store.specs.Following.{FirstHasNone, FirstHears, JoiningGives, GivenHears};
+ghost use Rattle.event_store.specs.Following.{EmittingAdds, KeepingAdds, CommittingStays, HearingAdds, RegularStays};
+ghost use Rattle.event_store.specs.Following.{FirstHasNone, FirstRegular, JoiningGives, GivenRegular};
 
 /// The streams of a node follow what it does: an event that it emits is added to them, a transaction of an application
 /// changes nothing of them, and confirmations change what it was told of others.
@@ -10,15 +10,15 @@ pub fn streams_follow_deeds()
     ensures keeps { KeepingAdds }
     ensures stays { CommittingStays }
     ensures confirms { HearingAdds }
-    ensures hears { HearingStays }
+    ensures regular { RegularStays }
 {}
 
 /// The streams of a node begin with nothing, where it is the first of its cluster, or with what it is given.
 pub fn streams_begin()
     ensures none { FirstHasNone }
-    ensures first { FirstHears }
+    ensures first { FirstRegular }
     ensures joining { JoiningGives }
-    ensures given { GivenHears }
+    ensures given { GivenRegular }
 {}
 
 /// The streams of a node and what it knows of the cluster stand in spaces of their own, so a change of the one leaves

@@ -13,12 +13,10 @@ ghost use Rattle.event_store.specs.Streams.{Streams, given};
 ghost use Rattle.event_store.specs.Holds.{ShowsStreams};
 
 use crate::layout::{CONFIRMATIONS, VIEWS};
+use crate::telling::Confirmation;
 use slon_base::{Keeper, Many};
 use std::alloc::Global;
 use store_rows::{Stop, count_pairs, del_pair, del_row, next_pair, put_row, scan_rows};
-
-/// How far a node is in the stream of an origin: the ids of the origin and of the node, and the number of an event.
-type Confirmation = ((u32, u32), u64);
 
 /// Takes the pairs of a space out of what is pending.
 fn clear_space<K: Keeper>(keeper: &mut K, space: u8) -> Result<(), Stop>

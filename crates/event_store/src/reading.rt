@@ -3,7 +3,7 @@ ghost use Rattle.std.specs.Prelude.{◌≡◌, List, map, Some, OnOk, IfOk, IfEr
 ghost use Rattle.slon_base.specs.Keeper.{Store, sight};
 ghost use Rattle.store_rows.specs.Steps.{Safe, IsWithinLimit, IsOfSpace, Gives};
 ghost use Rattle.event_store.specs.declared.event.Event.{Event};
-ghost use Rattle.event_store.specs.Behind.{event_of, AreBehind, HasBehind, AreAfter};
+ghost use Rattle.event_store.specs.Behind.{event_of, AreBehind, HasBehind, AreAfter, AfterIsAll};
 ghost use Rattle.event_store.specs.Formed.{Lacks, Reads};
 ghost use Rattle.event_store.specs.Holds.{HoldsStreams};
 ghost use Rattle.event_store.specs.Spellings.{IsNumbered};
@@ -68,3 +68,8 @@ pub fn after<K: Keeper>(
     let rows = scan_rows(alloc, keeper, EVENTS, prefix.as_slice(), from.as_slice())?;
     Ok(events_of(alloc, origin, rows)?)
 }
+
+/// What is answered of the events behind a number is all that the node holds of them, in their order.
+pub fn after_is_all()
+    ensures { AfterIsAll }
+{}

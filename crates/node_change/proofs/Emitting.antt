@@ -19,11 +19,14 @@ use Rattle.set_config.specs.Holds.{Shows}
 use Rattle.set_config.proofs.Entries.{entry-with}
 use Rattle.log_switch.specs.Holds.{HoldsLog}
 use Rattle.event_store.specs.Emitting.{EmitsNext, next_number}
-use Rattle.event_store.specs.Following.{IsBehindLow}
+use Rattle.event_store.specs.Following.{IsBehindLow, GoesOn}
 use Rattle.event_store.specs.Holds.{HoldsStreams, ShowsStreams}
+use Rattle.event_store.specs.Spellings.{IsStored}
+use Rattle.store_rows.specs.Rows.{IsId}
 use Rattle.event_store.specs.Streams.{streams_of, emitted}
 use Rattle.event_store.proofs.Apart.{config_stays, streams_stay}
-use Rattle.event_store.proofs.Deeds.{keeping_adds, hearing_stays}
+use Rattle.event_store.proofs.Deeds.{keeping_adds}
+use Rattle.event_store.proofs.Regular.{regular_stays}
 use Rattle.event_store.proofs.Holding.{moved}
 use Rattle.node_state.specs.Held.{NodeHeld, items_of, IsMet}
 use Rattle.node_state.specs.Known.{IsHomed}
@@ -36,6 +39,7 @@ pub record Emission (n : Node) (e : Event) (m mid new : Store) : Type 0 where
   pub held : NodeHeld n m
   pub own : e.origin ≡ n.id
   pub next : e.number ≡ next_number (streams_of n)
+  pub small : IsStored e.number
   pub keeps : KeepsViews e.body
   pub can : CanBody e.body
   pub home : IsHomed e.body (knowledge n).config
@@ -53,6 +57,13 @@ behind_low : {n : Node} {e : Event} {m mid new : Store} → Emission n e m mid n
 behind_low {n} {e} em =
     let low = ap (λ o. number_at o (knowledge n).low) em.own in
     omega (arith, em.held.behind n.id, low, em.next)
+
+-- it has a name in a store, and is behind all events that the node met
+numbered : {n : Node} {e : Event} {m mid new : Store} → Emission n e m mid new → GoesOn n (Emits e)
+numbered {n} {e} em =
+    let same = ap (λ o. number_at o (knowledge n).progress) em.own in
+    let next = em.next in
+    ((subst IsId (sym em.own) em.held.id, em.small), omega (arith, same, next))
 
 -- it has deleted no event still that it has not met
 behind_more : {n : Node} {e : Event} {m mid new : Store} → Emission n e m mid new → (origin : ℕ) →
@@ -101,7 +112,7 @@ emits_held {n} {e} {m} {mid} {new} em d is none =
       status = em.held.status;
       still = ap (λ s. s.views) adds ∙ em.held.still;
       behind = behind_more em;
-      hears = hearing_stays n done tt em.held.hears;
+      regular = regular_stays n done (numbered em) em.held.regular;
       spare = λ space other spare. stays em space (spare_else space spare) ∙ em.held.spare space other spare;
     }
 

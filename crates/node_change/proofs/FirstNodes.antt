@@ -15,9 +15,11 @@ use Rattle.set_config.proofs.Entries.{not_eq}
 use Rattle.set_config.proofs.Holding.{puts}
 use Rattle.set_config.specs.Holds.{HoldsConfig}
 use Rattle.event_store.specs.Holds.{is_stream}
-use Rattle.event_store.proofs.Deeds.{first_has_none, first_hears}
+use Rattle.event_store.proofs.Deeds.{first_has_none}
+use Rattle.event_store.proofs.Regular.{first_regular}
 use Rattle.event_store.proofs.Holding.{moved}
-use Rattle.node_state.specs.Held.{NodeHeld, HoldsNode, IsOrdered, AreOrdered, IsOrderly, is_own, is_of_node}
+use Rattle.event_store.specs.Ordered.{IsOrdered, AreOrdered}
+use Rattle.node_state.specs.Held.{NodeHeld, HoldsNode, IsOrderly, is_own, is_of_node}
 use Rattle.node_change.proofs.Naming.{Made, put_others}
 
 -- the row of the node itself
@@ -88,7 +90,7 @@ first_made id comment run m can none = record { held = held; own = λ space own.
       status = omega arith;
       still = refl;
       behind = λ origin. omega arith;
-      hears = first_hears id comment run;
+      regular = first_regular id comment run;
       spare = λ space other spare. stays space (not_eq space 4 (λ same. false≢true (sym spare ∙ ap is_of_node same)))
           ∙ none space other;
     }

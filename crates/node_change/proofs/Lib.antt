@@ -10,3 +10,4 @@ pub mod Orderly
 pub mod Pairs
 pub mod Receivers
 pub mod Spaces
+pub mod Confirmed

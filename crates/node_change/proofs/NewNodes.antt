@@ -24,7 +24,9 @@ use Rattle.event_store.specs.Giving.{AreConfirmations}
 use Rattle.event_store.specs.Holds.{HoldsStreams, ShowsStreams}
 use Rattle.event_store.specs.Streams.{streams_of, given}
 use Rattle.event_store.proofs.Apart.{config_stays}
-use Rattle.event_store.proofs.Deeds.{joining_gives, given_hears}
+use Rattle.event_store.proofs.Deeds.{joining_gives}
+use Rattle.event_store.proofs.Regular.{given_regular}
+use Rattle.event_store.specs.Regular.{IsRegular}
 use Rattle.event_store.proofs.Holding.{moved}
 use Rattle.node_state.specs.Held.{NodeHeld, HoldsNode, IsMet}
 use Rattle.node_state.proofs.Formed.{reads_as}
@@ -140,7 +142,8 @@ joined_made {n} {new} {run} {m} {t} {mid} j =
       status = omega arith;
       still = refl;
       behind = j.held.behind;
-      hears = given_hears new (streams_of n);
+      regular = subst IsRegular (sym (joining_gives new n run))
+          (given_regular new (streams_of n) j.can.0 j.held.id j.held.regular);
       spare = λ space other spare. stays space (spare_else space spare) ∙ j.none space other;
     }
 

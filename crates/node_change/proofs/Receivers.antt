@@ -27,11 +27,11 @@ use Rattle.set_config.specs.Holds.{AreIds, pair_key}
 use Rattle.set_config.proofs.Entries.{not_eq}
 use Rattle.set_config.proofs.Ordering.{less_front, first_before, second_before}
 use Rattle.event_store.specs.Formed.{Lacks, Reads}
-use Rattle.node_state.specs.Held.{IsOrdered, AreOrdered}
+use Rattle.event_store.specs.Ordered.{IsOrdered, AreOrdered}
 use Rattle.node_state.proofs.Formed.{reads_as}
 use Rattle.node_state.proofs.Listing.{self_eq}
 use Rattle.node_change.specs.Receivers.{IsPairKey, receiver_of}
-use Rattle.node_change.proofs.Orderly.{row_ordered, lesser, higher}
+use Rattle.event_store.proofs.Ordered.{row_ordered, lesser, higher}
 
 -- ---- the order of keys
 

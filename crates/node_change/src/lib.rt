@@ -2,6 +2,7 @@
 #![tactic(auto)]
 
 mod announcing;
+mod confirming;
 mod copying;
 mod founding;
 mod joining;
@@ -11,8 +12,9 @@ mod lookup;
 mod side;
 
 pub use announcing::announce;
+pub use confirming::hear;
 pub use founding::found_node;
 pub use joining::join_node;
-pub use listening::listens;
+pub use listening::{is_known, listens};
 pub use lookup::{find_node_row, find_set_row, first_receiver, has_fence, has_path, has_table_row};
 pub use side::{Failed, Side, sided};

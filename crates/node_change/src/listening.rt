@@ -6,20 +6,52 @@ ghost use Rattle.store_rows.specs.Rows.{IsId};
 ghost use Rattle.store_rows.specs.Steps.{Safe, IsOutside, IsWithinLimit, Gives};
 ghost use Rattle.node_rows.specs.Spellings.{node_bytes, CanNode};
 ghost use Rattle.slon_model.specs.Maps.{entry_at};
-ghost use Rattle.slon_model.specs.Config.{Config, has_path, hears, heard_in};
+ghost use Rattle.slon_model.specs.Config.{Config, has_path, hears, heard_in, is_known, is_live_row};
 ghost use Rattle.set_config.specs.Holds.{HoldsConfig};
-ghost use Rattle.event_store.specs.Formed.{Lacks, Reads};
+ghost use Rattle.event_store.specs.Formed.{IsRow, Lacks, Reads};
+ghost use Rattle.std.specs.FinMap.{get};
+ghost use Rattle.slon_base.specs.Codec.{number_bytes};
 ghost use Rattle.node_state.specs.Handed.{AreRowsOf};
 ghost use Rattle.node_state.specs.Held.{IsOrderly};
 ghost use Rattle.node_change.specs.Listening.{is_heard, heard_among};
 
 use crate::layout::NODES;
-use crate::lookup::{has_fence, has_path};
+use crate::lookup::{find_node_row, has_fence, has_path};
 use node_rows::NodeRow;
 use node_state::all_rows;
 use slon_base::{Keeper, Many};
 use std::alloc::Global;
 use store_rows::Stop;
+
+/// Whether the database knows that a node is live, and knows no fence against it.
+///
+/// # Errors
+///
+/// `BadRow` of space 4 only where the row of the node is not in its form, what stopped the store, and `NoMemory`.
+pub fn is_known<K: Keeper>(alloc: Global, keeper: &mut K, node: u32) -> Result<bool, Stop>
+    requires id { IsId node }
+    ensures safe { Safe (K.kept keeper.old) (K.kept keeper.new) result }
+    ensures same { OnOk result ((K.kept keeper.new).pending ≡ (K.kept keeper.old).pending) }
+    ensures within { IfErr result IsWithinLimit }
+    ensures says { (m : Store) (c : Config) → sight (K.kept keeper.old) ≡ Some m → HoldsConfig c m →
+        Gives (λ known. known ≡ is_known node c) result }
+    ensures form { (m : Store) → sight (K.kept keeper.old) ≡ Some m →
+        Reads (Lacks 4 (IsRow node_bytes CanNode (get (m 4) (number_bytes node)))) result }
+{
+    let row = find_node_row(alloc, keeper, node)?;
+    let fenced = has_fence(alloc, keeper, node)?;
+    Ok(is_live(&row) && !fenced)
+}
+
+/// Whether the row of a node says that it is live.
+fn is_live(row: &Option<NodeRow>) -> bool
+    ensures { result ≡ is_live_row row.now }
+{
+    match row {
+        None => false,
+        Some(row) => row.live,
+    }
+}
 
 /// Whether the node `own` hears an origin at the origin itself: it has a path from it, and no fence against it.
 fn is_direct<K: Keeper>(alloc: Global, keeper: &mut K, own: u32, origin: u32) -> Result<bool, Stop>

@@ -114,7 +114,7 @@ node_grows {n} {xid} {p} {m} {new} g held =
       status = held.status;
       still = held.still;
       behind = held.behind;
-      hears = held.hears;
+      regular = held.regular;
       spare = λ space other spare. others_stay n.id g.rows m space (not_log space spare)
           ∙ held.spare space other spare;
     })

@@ -24,7 +24,7 @@ use Rattle.slon_model.specs.Snapshots.{Rising}
 use Rattle.log_switch.proofs.Numbered.{find_number}
 use Rattle.event_store.specs.Formed.{Lacks, Reads}
 use Rattle.node_state.specs.Handed.{AreRowsOf}
-use Rattle.node_state.specs.Held.{IsOrdered}
+use Rattle.event_store.specs.Ordered.{IsOrdered}
 use Rattle.node_state.proofs.Formed.{none_lacks, stops_at}
 
 -- no prefix is in front of a key that lacks it

@@ -58,6 +58,6 @@ node_stays (Some n) m new same held = record {
   status = held.status;
   still = held.still;
   behind = held.behind;
-  hears = held.hears;
+  regular = held.regular;
   spare = λ space other spare. same space other ∙ held.spare space other spare;
 }

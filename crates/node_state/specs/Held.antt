@@ -10,16 +10,16 @@ use Rattle.change_capture.specs.declared.action.Change.{Change}
 use Rattle.change_capture.specs.declared.action.Change.TheVariants as captured
 use Rattle.change_capture.specs.declared.action.Action.{Action}
 use Rattle.change_capture.specs.Capture.{log_row}
-use Rattle.slon_model.specs.Maps.{Map, Map2, ids, entry_at, number_at}
+use Rattle.slon_model.specs.Maps.{Map, entry_at, number_at}
 use Rattle.slon_model.specs.Rows.{Change as RowsChange, Put, Set, Remove, Action as RowsAction}
-use Rattle.slon_model.specs.Snapshots.{Rising}
 use Rattle.slon_model.specs.Config.{Config}
 use Rattle.slon_model.specs.Deeds.{Node, knowledge, Logged}
 use Rattle.slon_model.specs.Logs.{logged}
 use Rattle.set_config.specs.Holds.{HoldsConfig}
 use Rattle.event_store.specs.Streams.{streams_of}
 use Rattle.event_store.specs.Holds.{HoldsStreams}
-use Rattle.event_store.specs.Giving.{HearsOfOthers}
+use Rattle.event_store.specs.Ordered.{IsOrdered, AreOrdered}
+use Rattle.event_store.specs.Regular.{IsRegular}
 use Rattle.log_switch.specs.Holds.{Logged as Item, HoldsLog}
 
 -- ---- the log
@@ -47,16 +47,6 @@ captured_all [] = []
 captured_all (a ∷ actions) = captured_all actions ++ action_as a ∷ []
 
 -- ---- the maps of a configuration
-
--- the ids of a map are in their range, and ascend
-pub record IsOrdered {X : Type 0} (es : Map X) : Type 0 where
-  pub ids_are : AllAre (λ e. IsId e.0) es
-  pub rising : Rising (ids es)
-
--- and so are those of its rows
-pub record AreOrdered {X : Type 0} (m : Map2 X) : Type 0 where
-  pub firsts : IsOrdered m
-  pub seconds : AllAre (λ e. IsOrdered e.1) m
 
 pub record IsOrderly (c : Config) : Type 0 where
   pub nodes : IsOrdered c.nodes
@@ -106,8 +96,7 @@ pub record NodeHeld (n : Node) (m : Store) : Type 0 where
   pub still : (knowledge n).views ≡ []
   -- it has deleted no event that it has not met
   pub behind : (origin : ℕ) → number_at origin (knowledge n).low ≤ number_at origin (knowledge n).progress
-  -- no other node told it how far it is itself
-  pub hears : HearsOfOthers (streams_of n)
+  pub regular : IsRegular (streams_of n)
   pub spare : (space : ℕ) → is_own space ≡ false → is_of_node space ≡ false → m space ≡ empty
 
 -- a database that is no node has nothing in these spaces

@@ -9,3 +9,4 @@ pub mod Newcomers
 pub mod Outcomes
 pub mod Pairs
 mod Synced
+mod Heard

@@ -5,7 +5,7 @@ use Rattle.std.specs.Prelude.{IfErr}
 use Rattle.slon_base.specs.Keeper.{Kept}
 use Rattle.store_rows.specs.declared.stop.Stop.{Stop}
 use Rattle.store_rows.specs.declared.stop.Stop.TheVariants.{NoMemory}
-use Rattle.store_rows.specs.Steps.{Safe, IsWithinLimit, is_stop_failed}
+use Rattle.store_rows.specs.Steps.{Safe, IsOutside, IsWithinLimit, is_stop_failed}
 use Rattle.store_rows.proofs.Causes.{outside_within}
 use Rattle.app_store.specs.declared.transact.Made.{Made}
 use Rattle.app_store.specs.Steps.{Knows, Starts, Finishes, Tries}
@@ -163,3 +163,9 @@ pub enters_ends : {T : Type 0} {old mid new : Kept} (result : Result T Stop) →
     IfErr result IsWithinLimit → Enters old new result
 enters_ends (Ok x) way safe within = midway_on way safe
 enters_ends (Err stop) way safe within = breaks_on stop way safe within refl
+
+-- a last call, whichever way it ended
+pub enters_on : {T : Type 0} {old mid new : Kept} (result : Result T Stop) → Midway old mid → Safe mid new result →
+    IfErr result IsOutside → Enters old new result
+enters_on (Ok x) way safe only = midway_on way safe
+enters_on (Err stop) way safe only = breaks_on stop way safe (outside_within stop only) refl

@@ -1,7 +1,6 @@
 -- The last SYNC of a database that is up and a node, and whether it has the snapshot that is taken now.
-use Rattle.std.proofs.Common.{◌≡◌, ◌∙◌, Bool, true, false, Option, Some, None, is_some, refl, sym, ap, subst}
+use Rattle.std.proofs.Common.{◌≡◌, ◌∙◌, Bool, true, Option, Some, None, is_some, refl, sym, ap}
 use Rattle.std.proofs.lemmas.Bool.{false≢true}
-use Rattle.std.specs.Option.{option_map}
 use Rattle.slon_model.specs.Deeds.{Node, held, knowledge, progress}
 use Rattle.slon_model.specs.Events.{Event, last_sync}
 use Rattle.slon_model.specs.Place.{Place, taken}

@@ -16,7 +16,7 @@ use Rattle.node_rows.specs.declared.body.Body.{Body}
 use Rattle.slon_model.specs.Rows.{Rows}
 use Rattle.slon_model.specs.Snapshots.{Snapshot}
 use Rattle.slon_model.specs.Events.{Event}
-use Rattle.slon_model.specs.Deeds.{Node, Emits, knowledge, progress}
+use Rattle.slon_model.specs.Deeds.{Node, Emits, Hears, knowledge, progress}
 use Rattle.slon_model.specs.Place.{Place, fallen, taken, deed}
 use Rattle.slon_model.specs.Moves.{is_last_stamp}
 use Rattle.slon_model.specs.Membership.{becoming, first_of_cluster}
@@ -29,6 +29,7 @@ use Rattle.event_store.specs.Emitting.{next_number}
 use Rattle.event_store.specs.Streams.{streams_of}
 use Rattle.node_change.specs.Announced.{HasEmitted}
 use Rattle.node_change.specs.Becoming.{IsNode}
+use Rattle.node_change.specs.Confirming.{HasHeard}
 use Rattle.node_state.specs.declared.memory.NodeMemory.{NodeMemory}
 use Rattle.node_state.specs.declared.memory.Identity.{Identity}
 use Rattle.node_state.specs.Known.{IsKnown, Learns}
@@ -148,3 +149,22 @@ WritesEvent n m event stamp (Ok number) new =
     × (new.pending ≡ Some (Some (put_at meta stamp_key (number_bytes stamp) store)))
     × HasEmitted n (event number) m store
 WritesEvent n m event stamp (Err stop) new = IsOutside stop
+
+-- ---- confirmations
+
+-- what is pending behind the confirmations that a node hears, with the next stamp; or there was no memory, or the store
+-- failed
+abbrev pub WritesHeard : Node → Store → List (ℕ × ℕ × ℕ) → ℕ → Result (Unit {0}) Stop → Kept → Type 0
+WritesHeard n m confirms stamp (Ok u) new =
+    (store : Store) × (new.pending ≡ Some (Some (put_at meta stamp_key (number_bytes stamp) store)))
+    × HasHeard n confirms m store
+WritesHeard n m confirms stamp (Err stop) new = IsOutside stop
+
+abbrev pub hearing : List ℕ → Place → List (ℕ × ℕ × ℕ) → Commit
+hearing name p confirms = record { name = name; becomes = None; deeds = deed p [] [] (Hears confirms) ∷ [] }
+
+-- From every place that fits and is a node: it hears these confirmations, in one commit.
+abbrev pub HearsAll : List (ℕ × ℕ × ℕ) → Base → Result Answered DbFault → Base → Type 0
+HearsAll confirms old result new =
+    (p : Place) (n : Node) → Ready p old → p.node ≡ Some n → is_memory (trouble result) ≡ false → (name : List ℕ) →
+    ActsAs (hearing name p confirms) Done p result new

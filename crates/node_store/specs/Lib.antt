@@ -4,3 +4,4 @@ pub mod Joining
 pub mod Looking
 pub mod Midways
 pub mod Syncing
+pub mod Polling

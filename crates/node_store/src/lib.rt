@@ -4,19 +4,23 @@
 mod announcing;
 mod finishing;
 mod founding;
+mod hearing;
 mod joining;
 mod layout;
 mod looking;
+mod polling;
 mod syncing;
 mod writing;
 
 pub use announcing::announce;
 pub use app_store::{Database, DbFault, Keeper};
 pub use founding::found;
+pub use hearing::hear;
 pub use joining::{Fell, Joined, join};
 pub use looking::{
     first_receiver, has_table, is_dropped, knows_node, knows_path, knows_set, knows_table,
     names_table, set_origin, writer,
 };
 pub use node_change::Side;
+pub use polling::{events_after, knows_live, news_among, origins_at, progress_in, tells};
 pub use syncing::is_synced;

@@ -1,6 +1,7 @@
 // What a node does in its store: it begins, and emits events.
-ghost use Rattle.std.specs.Prelude.{◌≡◌, ◌<◌, ◌^◌, Some, None, true, false, is_some, OnOk, IfErr, List, ℕ};
-ghost use Rattle.slon_base.specs.Codec.{IsText};
+ghost use Rattle.std.specs.Prelude.{◌≡◌, ◌<◌, ◌^◌, Some, None, true, false, is_some, OnOk, IfErr, List, map, ℕ};
+ghost use Rattle.slon_base.specs.Codec.{AllAre, IsText};
+ghost use Rattle.event_store.specs.Telling.{IsOfOther, named};
 ghost use Rattle.slon_model.specs.Membership.{first_of_cluster, joining as joining_node};
 ghost use Rattle.slon_model.specs.Sessions.{Running};
 ghost use Rattle.slon_base.specs.Keeper.{Store, sight};
@@ -18,7 +19,7 @@ ghost use Rattle.event_store.specs.Seen.{event_by};
 ghost use Rattle.event_store.specs.Spellings.{CanSnapshot};
 ghost use Rattle.event_store.specs.Streams.{streams_of};
 ghost use Rattle.node_state.specs.Held.{HoldsNode};
-ghost use Rattle.node_store.specs.Acting.{WritesEvent, WritesNode, KeepsNode};
+ghost use Rattle.node_store.specs.Acting.{WritesEvent, WritesHeard, WritesNode, KeepsNode};
 ghost use Rattle.node_change.specs.Both.{stopped};
 ghost use Rattle.node_state.specs.Known.{IsHomed};
 ghost use Rattle.node_store.specs.Midways.{Enters, EntersSecond, EntersBoth};
@@ -26,7 +27,8 @@ ghost use Rattle.node_store.specs.Joining.{WritesBoth};
 
 use crate::layout::{CONFIRMATIONS, META, STAMP};
 use app_store::begin;
-use node_change::{Failed, Side, announce, found_node, join_node, sided};
+use event_store::Confirmation;
+use node_change::{Failed, Side, announce, found_node, hear, join_node, sided};
 use node_rows::Body;
 use node_state::{NodeMemory, find_node};
 use slon_base::{Keeper, Text};
@@ -200,4 +202,26 @@ pub(crate) fn write_both<K: Keeper>(
             Ok((number, node))
         }
     }
+}
+
+/// Begins a transaction, and has the node hear these confirmations of other nodes, with the stamp of the transaction.
+pub(crate) fn write_heard<K: Keeper>(
+    alloc: Global,
+    keeper: &mut K,
+    own: u32,
+    rows: &[Confirmation],
+    stamp: u64,
+) -> Result<(), Stop>
+    requires idle { is_some (K.kept keeper.old).pending ≡ false }
+    requires own { IsId own }
+    requires rows { AllAre (IsOfOther own) rows.now }
+    requires room { stamp < 2 ^ 63 }
+    ensures enters { Enters (K.kept keeper.old) (K.kept keeper.new) result }
+    ensures writes { (n : Node) (m : Store) → n.id ≡ own → (K.kept keeper.old).held ≡ Some m → HoldsNode (Some n) m →
+        WritesHeard n m (map named rows.now) stamp result (K.kept keeper.new) }
+{
+    let stamp = spelling(alloc, &stamp)?;
+    begin(keeper)?;
+    hear(alloc, keeper, own, rows)?;
+    put_pair(keeper, META, &STAMP, stamp.as_slice())
 }

@@ -24,7 +24,7 @@ fn require_up(database: &Database<MemKeeper>) -> Result<(), Fail>
 }
 
 /// The second database joins the first one as node 2.
-fn join_second(
+pub(crate) fn join_second(
     alloc: Global,
     first: &mut Database<MemKeeper>,
     second: &mut Database<MemKeeper>,

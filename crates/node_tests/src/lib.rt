@@ -10,6 +10,8 @@ mod handing;
 #[cfg(test)]
 mod joining;
 #[cfg(test)]
+mod listening;
+#[cfg(test)]
 mod logged;
 #[cfg(test)]
 mod nodes;

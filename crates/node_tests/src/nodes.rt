@@ -60,7 +60,7 @@ pub(crate) fn found(
 }
 
 /// The node emits an event. Its number, and whether that is in doubt.
-fn emit(
+pub(crate) fn emit(
     database: &mut Database<MemKeeper>,
     body: &Body,
 ) -> Result<Result<(u64, bool), DbFault>, Fail>

@@ -1,4 +1,5 @@
-use Rattle.event_store.proofs.Deeds.{adds, keeping_adds, stays, hearing_adds, hearing_stays}
+use Rattle.event_store.proofs.Deeds.{adds, keeping_adds, stays, hearing_adds}
+use Rattle.event_store.proofs.Regular.{regular_stays}
 use Rattle.event_store.proofs.following.streams_follow_deeds.Goals as goal
 
 pub returns-clause-adds : goal.returns-clause-adds
@@ -10,8 +11,8 @@ returns-clause-keeps c = keeping_adds
 pub returns-clause-stays : goal.returns-clause-stays
 returns-clause-stays c = stays
 
-pub returns-clause-hears : goal.returns-clause-hears
-returns-clause-hears c = hearing_stays
+pub returns-clause-regular : goal.returns-clause-regular
+returns-clause-regular c = regular_stays
 
 pub returns-clause-confirms : goal.returns-clause-confirms
 returns-clause-confirms c = hearing_adds

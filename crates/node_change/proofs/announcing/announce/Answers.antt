@@ -34,6 +34,7 @@ returns-clause-turns g c n m own is held home =
         held = held;
         own = sym own;
         next = emits.0;
+        small = emits.1;
         keeps = c.requires.keeps;
         can = c.requires.can.1;
         home = home;

@@ -38,7 +38,7 @@ returns-in_err-sided-clause-turns g c n run m t own cluster seen held known is n
     hands_stop _ _ (stopped result)
     (stop_handed result (err_from_is_err_and result c.from_residual-in_err-sided.ensures.1))
     (subst (Becomes (ShowsStreams base (given c.args.new s)) (g.T.Keeper.kept c.give_streams.new.keeper))
-    c.in_err-sided.ensures.same (c.give_streams.ensures.turns base s own held.hears shown))
+    c.in_err-sided.ensures.same (c.give_streams.ensures.turns base s own held.regular.others shown))
 
 pub returns-in_err-sided-clause-form : goal.returns-in_err-sided-clause-form
 returns-in_err-sided-clause-form g c m t seen is =
@@ -75,7 +75,7 @@ returns-clause-turns g c n run m t own cluster seen held known is none =
     let shown = copy_pending m t (g.T.Keeper.kept c.copy_spaces.new.to) copied held none in
     let given =
     subst (Becomes (ShowsStreams base (given new s)) (g.T.Keeper.kept c.give_streams.new.keeper))
-    c.in_ok-sided.ensures.same (c.give_streams.ensures.turns base s own held.hears shown) in
+    c.in_ok-sided.ensures.same (c.give_streams.ensures.turns base s own held.regular.others shown) in
     subst (Becomes (IsNode joined t) put) c.sided-2.ensures.same
     (becomes (IsNode joined t) (named new c.args.cluster.now) _ c.put_identity.result c.put_identity.ensures.put
     c.put_identity.ensures.only given

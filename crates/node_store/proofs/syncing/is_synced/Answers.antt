@@ -1,11 +1,9 @@
-use Rattle.std.proofs.Common.{◌≡◌, ◌∙◌, ap, refl, sym, subst, Err, Option, arith, ℕ}
-use Rattle.std.specs.Option.{option_map}
+use Rattle.std.proofs.Common.{◌∙◌, ap, refl, sym, arith}
 use Rattle.slon_model.specs.Deeds.{held, knowledge, progress}
 use Rattle.slon_model.specs.Events.{last_sync}
 use Rattle.slon_model.specs.Place.{is_running}
 use Rattle.event_store.specs.Streams.{streams_of}
 use Rattle.event_store.specs.Syncing.{taken_of}
-use Rattle.txn_core.specs.Snapshots.{seen_as}
 use Rattle.app_store.specs.Base.{base_of}
 use Rattle.app_store.proofs.Pending.{sight-idle}
 use Rattle.app_store.proofs.Upright.{up_at, running}
