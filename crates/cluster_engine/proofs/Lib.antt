@@ -3,6 +3,7 @@ pub mod Charges
 pub mod Failing
 pub mod Lifting
 pub mod Moving
+pub mod Recalling
 pub mod Stepping
 pub mod Telling
 pub mod Trials

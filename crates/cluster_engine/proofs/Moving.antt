@@ -12,7 +12,8 @@ use Rattle.slon_model.specs.declared.fault.DbFault.{DbFault}
 use Rattle.slon_model.specs.declared.fault.DbFault.TheVariants.{NotEmpty, Halt}
 use Rattle.slon_model.specs.declared.command.Command.{Command}
 use Rattle.slon_model.specs.declared.command.Command.TheVariants.{Database, Slonik, Step, Kill, Start, Stop, Cut, Join}
-use Rattle.slon_model.specs.declared.command.Command.TheVariants.{Sync}
+use Rattle.slon_model.specs.declared.command.Command.TheVariants.{Sync, Listen}
+use Rattle.slon_model.specs.declared.command.Delivery.{Delivery}
 use Rattle.slon_model.specs.declared.reading.Reading.{Reading}
 use Rattle.slon_model.specs.declared.reply.Answer.TheVariants.{Done}
 use Rattle.slon_model.specs.declared.reply.Answered.{Answered}
@@ -27,8 +28,9 @@ use Rattle.slon_model.specs.World.{halt_in, refusal_of, reply_of, is_accepted}
 use Rattle.app_store.specs.Base.{Base}
 use Rattle.app_store.specs.Handed.{HandsOn}
 use Rattle.app_store.specs.Serves.{ServesOn, Founds, is_memory, trouble, settled}
+use Rattle.slon_turns.specs.Turning.{Queues}
 use Rattle.cluster_engine.specs.Agreed.{Clustered}
-use Rattle.cluster_engine.specs.Calls.{is_one, is_reading, takes_none, IsActed, with_base, with_base_behind}
+use Rattle.cluster_engine.specs.Calls.{is_one, is_reading, takes_none, IsActed, recalled, with_base, with_base_behind}
 use Rattle.cluster_engine.specs.Calls.{with_given, with_more, fused, grant, Moves}
 use Rattle.cluster_engine.specs.Calls.{Grants, Misses, Asks, Acts, Made, making_reply, is_not_empty, Adopts, Rejects}
 use Rattle.cluster_engine.specs.Calls.{Keeps}
@@ -128,10 +130,10 @@ pub record Asked {X : Type 0} (f : X → List ℕ × Base) (command : Command) (
     pub hands : HandsOn (subject_of command) (f t.x).1 t.result
     pub memory : is_memory (trouble t.result) ≡ false
 
-pub moves_at : {X : Type 0} (f : X → List ℕ × Base) (command : Command) (c : Clustered) (items : List X)
+moves_at : {X : Type 0} (f : X → List ℕ × Base) (command : Command) (c : Clustered) (items : List X)
     (t : Turn X) → Asked f command items t →
     Moves command (record c { bases = map f items }) (reply_of (words_of (subject_of command)) t.result)
-    (record c { bases = map f (set items t.i t.y) })
+    (record c { bases = map f (set items t.i t.y); memory = recalled t.word (f t.x).1 (f t.y).1 c.memory })
 moves_at f command c items t asked = go
     (subject_of command) refl asked.names.is asked.names.one asked.serves asked.hands
   where
@@ -139,7 +141,7 @@ moves_at f command c items t asked = go
     old = record c { bases = map f items }
 
     new : Clustered
-    new = record c { bases = map f (set items t.i t.y) }
+    new = record c { bases = map f (set items t.i t.y); memory = recalled t.word (f t.x).1 (f t.y).1 c.memory }
 
     go : (s : Subject) → subject_of command ≡ s → Some t.word ≡ subject_name s → is_one s ≡ true →
         ServesOn s (f t.x).1 t.result (f t.y).1 → HandsOn s (f t.x).1 t.result →
@@ -159,11 +161,22 @@ moves_at f command c items t asked = go
           hands = hands;
           memory = asked.memory;
           told = refl;
-          same = ap (λ bs. record c { bases = bs })
+          same = ap (λ bs. record c { bases = bs; memory = recalled t.word (f t.x).1 (f t.y).1 c.memory })
               (put_position f t.word items t.i t.x t.y (asked.at, asked.same))
-              ∙ ap (λ w. with_base w (f t.y).1 old) is;
+              ∙ ap (λ w. with_base w (f t.x).1 (f t.y).1 old) is;
         })
     go others about named other serves hands = absurd (false≢true other)
+
+-- the same where these queues are left
+pub moves_with : {X : Type 0} (f : X → List ℕ × Base) (command : Command) (c : Clustered) (items : List X)
+    (t : Turn X) → Asked f command items t → {queues : Queues} →
+    queues ≡ (recalled t.word (f t.x).1 (f t.y).1 c.memory).queues →
+    Moves command (record c { bases = map f items }) (reply_of (words_of (subject_of command)) t.result)
+    (record c { bases = map f (set items t.i t.y); memory = record c.memory { queues = queues } })
+moves_with f command c items t asked left =
+    subst (λ q. Moves command (record c { bases = map f items }) (reply_of (words_of (subject_of command)) t.result)
+    (record c { bases = map f (set items t.i t.y); memory = record c.memory { queues = q } })) (sym left)
+    (moves_at f command c items t asked)
 
 -- ---- whether there may be a new one
 
@@ -226,6 +239,7 @@ pub record IsOther (c : Command) : Type 0 where
   pub cut : (node other : ℕ) → c ≡ Cut node other → ⊥
   pub join : (node other : ℕ) → c ≡ Join node other → ⊥
   pub sync : (node : ℕ) → c ≡ Sync node → ⊥
+  pub listen : (node server : ℕ) (delivery : Delivery) → c ≡ Listen node server delivery → ⊥
 
 pub one_left : (c : Command) → IsOther c → is_one (subject_of c) ≡ true
 one_left (Database name) other = absurd (other.database name refl)
@@ -237,6 +251,7 @@ one_left (Stop node) other = absurd (other.stop node refl)
 one_left (Cut a b) other = absurd (other.cut a b refl)
 one_left (Join a b) other = absurd (other.join a b refl)
 one_left (Sync node) other = absurd (other.sync node refl)
+one_left (Listen node server delivery) other = absurd (other.listen node server delivery refl)
 one_left others other = refl
 
 -- and takes memory

@@ -21,6 +21,7 @@ use Rattle.slon_model.specs.declared.reply.Reply.{Reply}
 use Rattle.slon_model.specs.declared.reply.Reply.TheVariants.{Accepted, Refused}
 use Rattle.slon_model.specs.Names.{find_named}
 use Rattle.slon_model.specs.Tasks.{Task, ToFound, Act, ToRead, ToStep, ToForget, ToStart, ToStop, ToCut, ToJoin, ToSync}
+use Rattle.slon_model.specs.Tasks.{ToListen}
 use Rattle.slon_model.specs.Tasks.{Subject, OnNew, OnOne, OnAll, Words, words_of}
 use Rattle.slon_model.specs.Place.{Place, bare_place}
 use Rattle.slon_model.specs.Moves.{commits_at}
@@ -30,7 +31,9 @@ use Rattle.slon_model.specs.Deciding.{Choice, AsDue, AtFault, Wavers, Among, res
 use Rattle.slon_model.specs.Sessions.{Memory, Running, Commit, Stated, Outcome, no_change, first_beyond}
 use Rattle.slon_model.specs.Scripts.{Stepping, quiet, done_by, single, ordered, order_step, step_todo, step_of, read_as}
 use Rattle.slon_model.specs.Scripts.{kill_of}
-use Rattle.slon_model.specs.Turns.{at_node, switched, turned, turned_by, turn_by, sync_turn}
+use Rattle.slon_model.specs.Turns.{at_node, switched_at, turned, turned_by, turn_by, sync_turn}
+use Rattle.slon_model.specs.Polls.{Poll, polled, left_by, stated_by, listen_by}
+use Rattle.slon_model.specs.declared.command.Delivery.{Delivery}
 use Rattle.slon_model.specs.World.{World, Happening, Step, Grants as StepGrants, Denies as StepDenies}
 use Rattle.slon_model.specs.World.{Misses as StepMisses, Asks as StepAsks, database_due, due, due_on, ask, asked, after}
 use Rattle.slon_model.specs.World.{Acts as StepActs, after_on, adopted, changed, is_accepted, reply_of, outcome}
@@ -38,10 +41,10 @@ use Rattle.slon_model.specs.World.{MayEnd, reply_by, world_by, doubt_reply}
 use Rattle.slon_model.proofs.Names.{all_found}
 use Rattle.slon_laws.specs.Sound.{Sound}
 use Rattle.slon_laws.specs.Spelled.{IsSpelled}
-use Rattle.slon_laws.proofs.Memories.{remembered_kept}
 use Rattle.app_store.specs.Base.{Base}
 use Rattle.app_store.specs.Fits.{Ready}
 use Rattle.app_store.specs.Serves.{Founds, is_failure, trouble, settled}
+use Rattle.slonik_exec.proofs.Seats.{same_up}
 use Rattle.slonik_exec.proofs.Lists.{Fitting, fitting, missing_fits, same_length}
 use Rattle.cluster_engine.specs.Agreed.{Clustered, Agrees, Follows}
 use Rattle.cluster_engine.specs.Calls.{grant, Moves, Grants, Misses, Asks, Acts, StepsOn, Steps, fused, is_sure_reply}
@@ -49,7 +52,7 @@ use Rattle.cluster_engine.specs.Calls.{Adopts, Rejects, Keeps, Makes, Obeys}
 use Rattle.cluster_engine.proofs.Lifting.{same_some, fits_more}
 use Rattle.cluster_engine.proofs.Moving.{IsGranted}
 use Rattle.cluster_engine.proofs.Certain.{never_fails}
-use Rattle.cluster_engine.proofs.Walking.{fits_kept}
+use Rattle.cluster_engine.proofs.Recalling.{recalled_fits}
 
 -- ---- steps that the rules allow
 
@@ -105,7 +108,12 @@ steps command old reply new (Asks s) w follows =
           (record {
             limit = follows.agrees.limit;
             fits = fit.puts place s.behind comes.2;
-            memory = fits_kept w.memory _ old.memory (remembered_kept place w.memory) follows.agrees.memory;
+            memory = recalled_fits s.name old.memory s.before s.behind w.memory (record {
+              was = fit.place;
+              now = place;
+              was_up = sym (same_up fit.place s.before fit.fits);
+              now_up = sym (same_up place s.behind comes.2);
+            }) fit.found follows.agrees.memory;
           });
     })
 steps command old reply new (Acts act about acted) w follows =
@@ -181,14 +189,10 @@ todo_commits name run [] w = Never refl
 todo_commits name run (Single o ∷ rest) w = order_commits (record { name = name; run = run; rest = rest }) w o
 todo_commits name run (Tries block ∷ rest) w = Never refl
 
-switched_commits : (node : ℕ) (m : Memory) (w : World) → MayCommit (switched node m w)
-switched_commits node m w =
-    elim (is_some (at_node node w)) as (λ b. MayCommit (cond b
-    (record { reply = Accepted Done; commits = []; falls = None; memory = m })
-    (no_change w (Refused (refused.NoNode node))))) [
-      | true ↦ Never refl
-      | false ↦ Never refl
-    ]
+switched_commits : (node : ℕ) (m : List ℕ → Memory) (o : Option (List ℕ × Place)) (w : World) →
+    MayCommit (switched_at node m o w)
+switched_commits node m None w = Never refl
+switched_commits node m (Some e) w = Never refl
 
 turned_commits : (w : World) (m : Memory) (stated : Stated) → MayCommit (turned w m stated)
 turned_commits w m stated = by (first_beyond stated.commits w.places)
@@ -200,6 +204,10 @@ turned_commits w m stated = by (first_beyond stated.commits w.places)
 turn_commits : (w : World) (m : Memory) (due : Result Stated Refusal) → MayCommit (turn_by w m due)
 turn_commits w m (Err refusal) = Never refl
 turn_commits w m (Ok stated) = turned_commits w m stated
+
+listen_commits : (delivery : Delivery) (w : World) (due : Result Poll Refusal) → MayCommit (listen_by delivery w due)
+listen_commits delivery w (Err refusal) = Never refl
+listen_commits delivery w (Ok b) = turned_commits w (left_by delivery b w.memory) (stated_by delivery b)
 
 act_commits : (act : Act) (w : World) → MayCommit (outcome act w)
 act_commits (ToRead name (Wrong refusal)) w =
@@ -224,11 +232,12 @@ act_commits (ToForget name) w =
       | None ↦ Never refl
       | Some run ↦ Never refl
     ]
-act_commits (ToStart node) w = switched_commits node _ w
-act_commits (ToStop node) w = switched_commits node _ w
+act_commits (ToStart node) w = switched_commits node _ (at_node node w) w
+act_commits (ToStop node) w = switched_commits node _ (at_node node w) w
 act_commits (ToCut node other) w = Never refl
 act_commits (ToJoin node other) w = Never refl
 act_commits (ToSync node) w = turn_commits w w.memory (sync_turn node w)
+act_commits (ToListen node server delivery) w = listen_commits delivery w (polled node server w)
 
 -- a doubt is told where a step commits
 doubt_unsure : (before : ℕ) (cs : List Commit) (answer : Answer) → before < length cs →

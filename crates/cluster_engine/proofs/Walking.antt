@@ -5,8 +5,7 @@ use Rattle.std.proofs.Common.{drop}
 use Rattle.std.proofs.Common.{Option, Some, None, is_some, Result, Ok, Err, IfOk, refl, sym, ap, subst, arith}
 use Rattle.std.proofs.lemmas.List.{drop_more}
 use Rattle.std.specs.Str.{bytes_eq}
-use Rattle.std.specs.Cmp.Lexicographic.{nat_list_cmp_total}
-use Rattle.std.specs.FinMap.{get, insert, remove, empty, contains_key, get-insert, get-remove, get-empty}
+use Rattle.std.specs.FinMap.{get, insert, remove, empty, contains_key, get-empty}
 use Rattle.slonik_script.specs.declared.script.Command.{Command as Order}
 use Rattle.slonik_script.specs.declared.script.Command.TheVariants as order
 use Rattle.slonik_script.specs.declared.script.Script.{Script}
@@ -23,10 +22,10 @@ use Rattle.slon_model.specs.declared.reply.Reply.{Reply}
 use Rattle.slon_model.specs.declared.reply.Reply.TheVariants.{Accepted, Refused}
 use Rattle.slon_model.specs.Names.{Named, find_named, without}
 use Rattle.slon_model.specs.Tasks.{Act, ToRead, ToStep, ToForget}
-use Rattle.slon_model.specs.Place.{Place, fallen}
+use Rattle.slon_model.specs.Place.{Place, Standing, IsRunning, is_running, downed, fallen}
 use Rattle.slon_model.specs.Deciding.{AllStand, Breaks, DoubtsAt}
 use Rattle.slon_model.specs.Sessions.{World, Memory, Running, Commit, Stated, Outcome, no_change, stand, with_memory}
-use Rattle.slon_model.specs.Sessions.{in_doubt, changed, felled, felled_at, after_outcome}
+use Rattle.slon_model.specs.Sessions.{no_memory, in_doubt, changed, felled, felled_at, after_outcome}
 use Rattle.slon_model.specs.Turns.{switches_of}
 use Rattle.slon_model.specs.Scripts.{Stepping, going_on, without_script, running, ending, single, done_by}
 use Rattle.slon_model.specs.Scripts.{order_step, ordered, step_of, step_todo, read_as, kill_of}
@@ -34,13 +33,14 @@ use Rattle.slon_model.specs.World.{outcome, has_todo, is_left, is_accepted, brok
 use Rattle.slon_model.specs.World.{doubt_reply}
 use Rattle.slon_model.proofs.Names.{bytes_same, find-without}
 use Rattle.slon_base.specs.Keeper.{key_cmp}
-use Rattle.slon_laws.proofs.Keys.{key_test}
-use Rattle.slon_laws.proofs.Memories.{IsKept, remembered_kept}
+use Rattle.slon_laws.proofs.Memories.{down_kept}
 use Rattle.app_store.specs.Base.{Base}
 use Rattle.slonik_exec.specs.Databases.{FitsAll, AreReady, TriesAll, Runs, told_by, is_calm}
 use Rattle.slonik_exec.specs.Executing as executing
 use Rattle.slonik_exec.specs.Executing.{Comes, Executes}
 use Rattle.slonik_exec.proofs.Trying.{tries_itself}
+use Rattle.slon_turns.specs.Turning.{Queues, WaitsIn}
+use Rattle.slon_turns.proofs.Waiting.{found_in, found_put}
 use Rattle.cluster_engine.specs.Agreed.{Scripts, Remembered, Clustered, FitsRun, FitsFound, FitsScripts, FitsMemory}
 use Rattle.cluster_engine.specs.Agreed.{Agrees, Follows}
 use Rattle.cluster_engine.specs.Calls.{ActsOn, IsActed}
@@ -55,14 +55,20 @@ use Rattle.cluster_engine.specs.declared.scripts.Walked.{Walked}
 pub record Moves (m : Memory) (v x y : World) : Type 0 where
   pub limit : y.limit ≡ v.limit
   pub places : x.places ≡ y.places
-  pub memory : IsKept m y.memory
+  pub memory : y.memory ≡ m
 
-changed_moves : (name : List ℕ) (q : Place) (m : Memory) (v : World) →
+-- a database that goes down
+changed_moves : (name : List ℕ) (q : Place) (m : Memory) (v : World) → is_running q.standing ≡ false →
     Moves m v (changed name q v) (changed name q (with_memory m v))
-changed_moves name q m v = record { limit = refl; places = refl; memory = remembered_kept q m }
+changed_moves name q m v down =
+    record { limit = refl; places = refl; memory = down_kept name (find_named name v.places) q m down }
+
+downed_stops : (s : Standing) → is_running (downed s) ≡ false
+downed_stops IsRunning = refl
+downed_stops others = refl
 
 same_moves : (m : Memory) (v : World) → Moves m v v (with_memory m v)
-same_moves m v = record { limit = refl; places = refl; memory = record { scripts = refl; switches = refl } }
+same_moves m v = record { limit = refl; places = refl; memory = refl }
 
 pub felled_moves : (falls : Option (List ℕ)) (m : Memory) (v : World) →
     Moves m v (felled falls v) (felled falls (with_memory m v))
@@ -71,12 +77,12 @@ felled_moves (Some name) m v = by (find_named name v.places)
   where
     by : (found : Option Place) → Moves m v (felled_at name found v) (felled_at name found (with_memory m v))
     by None = same_moves m v
-    by (Some p) = changed_moves name (fallen p.told p) m v
+    by (Some p) = changed_moves name (fallen p.told p) m v (downed_stops p.standing)
 
 pub broken_moves : (name : List ℕ) (count : ℕ) (found : Option Place) (m : Memory) (v : World) →
     Moves m v (broken_at name count found v) (broken_at name count found (with_memory m v))
 broken_moves name count None m v = same_moves m v
-broken_moves name count (Some p) m v = changed_moves name (fallen count p) m v
+broken_moves name count (Some p) m v = changed_moves name (fallen count p) m v (downed_stops p.standing)
 
 pub wavering_moves : (cs : List Commit) (stands : Bool) (m : Memory) (v : World) →
     Moves m v (wavering cs stands v) (wavering cs stands (with_memory m v))
@@ -86,27 +92,13 @@ wavering_moves (c ∷ cs) stands m v = by (find_named c.name v.places)
     by : (found : Option Place) →
         Moves m v (wavering_at c stands found v) (wavering_at c stands found (with_memory m v))
     by None = same_moves m v
-    by (Some p) = changed_moves c.name (in_doubt c stands p) m v
+    by (Some p) = changed_moves c.name (in_doubt c stands p) m v refl
 
--- what agrees with a memory agrees with one that has the same scripts and switches
-pub fits_kept : (m n : Memory) (r : Remembered) → IsKept m n → FitsMemory m r → FitsMemory n r
-fits_kept m n r kept fits =
-    record {
-      scripts = subst (λ rs. FitsScripts rs r.scripts) (sym kept.scripts) fits.scripts;
-      switches = kept.switches ∙ fits.switches;
-    }
+-- what agrees with a memory agrees with the same one
+pub fits_kept : (m n : Memory) (r : Remembered) → n ≡ m → FitsMemory m r → FitsMemory n r
+fits_kept m n r kept fits = subst (λ x. FitsMemory x r) (sym kept) fits
 
 -- ---- scripts by their names
-
-found_in : (other name : List ℕ) (m : Scripts) → get (remove m name) other ≡ cond (bytes_eq other name) None
-    (get m other)
-found_in other name m =
-    get-remove nat_list_cmp_total m name other ∙ ap (λ b. cond b None (get m other)) (key_test other name)
-
-found_put : (other name : List ℕ) (s : Started) (m : Scripts) →
-    get (insert m name s) other ≡ cond (bytes_eq other name) (Some s) (get m other)
-found_put other name s m =
-    get-insert nat_list_cmp_total m name s other ∙ ap (λ b. cond b (Some s) (get m other)) (key_test other name)
 
 fits_removed : (name : List ℕ) (runs : Named Running) (scripts : Scripts) → FitsScripts runs scripts →
     FitsScripts (without name runs) (remove scripts name)
@@ -180,6 +172,12 @@ quietly_acted act old reply r quietly calm = record {
       };
 }
 
+-- what waits in a memory waits in one with the same queues
+pub waits_as : (m n : Memory) (queues : Queues) → m.queues ≡ n.queues →
+    ((name : List ℕ) → WaitsIn name m (get queues name)) → (name : List ℕ) → WaitsIn name n (get queues name)
+waits_as m n queues same waits name =
+    subst (λ q. WaitsIn name (record m { queues = q }) (get queues name)) same (waits name)
+
 -- the code has other scripts
 abbrev pub with_scripts : Scripts → Clustered → Clustered
 with_scripts scripts c = record c { memory = record c.memory { scripts = scripts } }
@@ -196,6 +194,8 @@ keeps_acted act old reply scripts keeps calm =
       memory = record {
         scripts = kept.memory.agree;
         switches = kept.memory.switches ∙ follows.agrees.memory.switches;
+        waits = waits_as w.memory (outcome act w).memory old.memory.queues (sym kept.memory.queues)
+            follows.agrees.memory.waits;
       };
     }) calm
 
@@ -224,7 +224,7 @@ keeps_used name reading scripts has w fits =
       told = refl;
       commits = refl;
       falls = refl;
-      memory = record { agree = fits; switches = refl };
+      memory = record { agree = fits; switches = refl; queues = refl };
     })
 
 -- a name that is free
@@ -237,7 +237,7 @@ keeps_wrong name refusal scripts lacks w fits =
       told = refl;
       commits = refl;
       falls = refl;
-      memory = record { agree = fits; switches = refl };
+      memory = record { agree = fits; switches = refl; queues = refl };
     })
 
 pub keeps_read : (name : List ℕ) (script : Script) (scripts : Scripts) → contains_key scripts name ≡ false →
@@ -257,6 +257,7 @@ keeps_read name script scripts lacks w fits =
             (sym (find-without other name w.memory.scripts
             ∙ ap (λ b. cond b None (find_named other w.memory.scripts)) apart)) (fits other));
         switches = refl;
+        queues = refl;
       };
     })
 
@@ -276,7 +277,7 @@ keeps_killed name s scripts has w fits =
           told = refl;
           commits = refl;
           falls = refl;
-          memory = record { agree = fits_removed name w.memory.scripts scripts fits; switches = refl };
+          memory = record { agree = fits_removed name w.memory.scripts scripts fits; switches = refl; queues = refl };
         })
 
 -- no script of the name
@@ -288,7 +289,7 @@ missed_as name w scripts o fits none is =
       told = refl;
       commits = refl;
       falls = refl;
-      memory = record { agree = fits_lacking name w.memory.scripts scripts fits none; switches = refl };
+      memory = record { agree = fits_lacking name w.memory.scripts scripts fits none; switches = refl; queues = refl };
     })
 
 pub keeps_missed : (name : List ℕ) (scripts : Scripts) → get scripts name ≡ None →
@@ -309,7 +310,7 @@ abbrev walked : Reply → Walked
 walked reply = record { reply = reply; goes_on = is_accepted reply }
 
 -- a doubt of one of these commits is no acceptance
-denied_doubt : (before : ℕ) (cs : List Commit) (answer : Answer) → before < length cs →
+pub denied_doubt : (before : ℕ) (cs : List Commit) (answer : Answer) → before < length cs →
     is_accepted (doubt_reply (drop before cs) (Accepted answer)) ≡ false
 denied_doubt before [] answer less = absurd (omega (arith, less))
 denied_doubt zero (c ∷ cs) answer less = refl
@@ -373,6 +374,11 @@ same_switches : (goes_on : Bool) (s : Stepping) (commits : List Commit) (m : Mem
 same_switches true s commits m = refl
 same_switches false s commits m = refl
 
+same_queues : (goes_on : Bool) (s : Stepping) (commits : List Commit) (m : Memory) →
+    m.queues ≡ (cond goes_on (going_on s commits m) (without_script s.name m)).queues
+same_queues true s commits m = refl
+same_queues false s commits m = refl
+
 -- a step of a script that runs, with the databases after it
 pub record Walk (name : List ℕ) (old : Clustered) (w : Walked) (new : Clustered) : Type 0 where
   pub started : Started
@@ -382,6 +388,7 @@ pub record Walk (name : List ℕ) (old : Clustered) (w : Walked) (new : Clustere
   pub given : new.given ≡ old.given
   pub scripts : new.memory.scripts ≡ scripts_behind w.goes_on name started old.memory.scripts
   pub switches : new.memory.switches ≡ old.memory.switches
+  pub queues : new.memory.queues ≡ old.memory.queues
 
 pub ready_of : (w : World) (c : Clustered) → Follows w c → AreReady w c.bases
 ready_of w c follows = record { fits = follows.agrees.fits; sound = follows.sound; spelled = follows.spelled }
@@ -404,6 +411,12 @@ walk_goes name old went new walk w follows =
           (here, follows.agrees.memory.scripts));
       switches = same_switches goes_on (stepping name run walk.started) commits w.memory
           ∙ follows.agrees.memory.switches ∙ sym walk.switches;
+      waits = subst (λ q. (other : List ℕ) → WaitsIn other (cond goes_on
+          (going_on (stepping name run walk.started) commits w.memory) (without_script name w.memory)) (get q other))
+          (sym walk.queues) (waits_as w.memory
+          (cond goes_on (going_on (stepping name run walk.started) commits w.memory)
+          (without_script name w.memory)) old.memory.queues
+          (same_queues goes_on (stepping name run walk.started) commits w.memory) follows.agrees.memory.waits);
     }
 
     from : (run : Running) (o : Outcome) → outcome (ToStep name) w ≡ o →
@@ -472,6 +485,10 @@ walk_acted name old went new walk runs = record {
 pub none_fit : (scripts : Scripts) → scripts ≡ empty → FitsScripts [] scripts
 none_fit scripts is name =
     subst (FitsFound None) (sym (ap (λ (m : Scripts). get m name) is ∙ get-empty key_cmp name)) tt
+
+pub none_wait : (queues : Queues) → queues ≡ empty → (name : List ℕ) → WaitsIn name no_memory (get queues name)
+none_wait queues is name =
+    subst (WaitsIn name no_memory) (sym (ap (λ (m : Queues). get m name) is ∙ get-empty key_cmp name)) (λ origin. refl)
 
 -- ---- what the calls did
 
@@ -605,6 +622,7 @@ stepped_acted name old went left news scripts s is =
       given = refl;
       scripts = is;
       switches = refl;
+      queues = refl;
     }) (subst (λ bs. Runs bs went.reply news) s.same s.runs)
 
 -- the script ends

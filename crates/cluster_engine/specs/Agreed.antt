@@ -10,16 +10,19 @@ use Rattle.slon_laws.specs.Spelled.{IsSpelled}
 use Rattle.slon_laws.specs.Worlds.{AllPlaces}
 use Rattle.app_store.specs.Base.{Base}
 use Rattle.slonik_exec.specs.Databases.{FitsAll}
+use Rattle.slon_turns.specs.Turning.{Queues, WaitsIn}
 use Rattle.cluster_engine.specs.declared.scripts.Started.{Started}
 
 -- the scripts that run, by their names
 abbrev pub Scripts : Type 0
 Scripts = FinMap key_cmp Started
 
--- What the code keeps of a session besides its databases: its scripts, and what is switched.
+-- What the code keeps of a session besides its databases: its scripts, what is switched, and the events that wait at
+-- its nodes.
 pub record Remembered : Type 0 where
   pub scripts : Scripts
   pub switches : Switches
+  pub queues : Queues
 
 -- What the code keeps of a session: how many databases it allows, how many stores it was given, its databases in the
 -- order of their making, and the rest.
@@ -44,10 +47,11 @@ FitsFound run s = ⊥
 abbrev pub FitsScripts : Named Running → Scripts → Type 0
 FitsScripts runs scripts = (name : List ℕ) → FitsFound (find_named name runs) (get scripts name)
 
--- what is in memory agrees; nothing is kept yet of queues and the clock
+-- what is in memory agrees; nothing is kept yet of the clock
 pub record FitsMemory (m : Memory) (r : Remembered) : Type 0 where
   pub scripts : FitsScripts m.scripts r.scripts
   pub switches : switches_of m ≡ r.switches
+  pub waits : (name : List ℕ) → WaitsIn name m (get r.queues name)
 
 -- The rules agree with the code.
 pub record Agrees (w : World) (c : Clustered) : Type 0 where

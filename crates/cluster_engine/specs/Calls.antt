@@ -1,6 +1,7 @@
 -- What the calls on the databases of a session do.
-use Rattle.std.specs.Prelude.{◌≡◌, ℕ, ◌+◌, if◌then◌else◌, is_some, nat_lt, Bool, true, false, List, [], ◌∷◌, ◌++◌}
-use Rattle.std.specs.Prelude.{length, Some, None, Result, Ok, Err, OnErr}
+use Rattle.std.specs.Prelude.{◌≡◌, ℕ, ◌+◌, ◌&&◌, if◌then◌else◌, is_some, nat_lt, Bool, true, false, List, [], ◌∷◌}
+use Rattle.std.specs.Prelude.{◌++◌, not, length, Some, None, Result, Ok, Err, OnErr}
+use Rattle.std.specs.FinMap.{remove}
 use Rattle.std.specs.List.{AllByRecursion}
 use Rattle.slon_base.specs.Counts.{Rose}
 use Rattle.slon_base.specs.Keeper.{Kept}
@@ -24,7 +25,7 @@ use Rattle.app_store.specs.Base.{Base}
 use Rattle.app_store.specs.Handed.{Hands}
 use Rattle.app_store.specs.Serves.{Serves, Founds, arms, is_memory, trouble, settled}
 use Rattle.slonik_exec.specs.Databases.{Runs}
-use Rattle.cluster_engine.specs.Agreed.{Clustered, Agrees, Follows}
+use Rattle.cluster_engine.specs.Agreed.{Remembered, Clustered, Agrees, Follows}
 
 -- ---- commands
 
@@ -62,9 +63,15 @@ happened command reply choice = record { command = command; reply = reply; choic
 
 -- ---- a command
 
+-- what waits at a database that came up is gone
+abbrev pub recalled : List ℕ → Base → Base → Remembered → Remembered
+recalled name was now r =
+    record r { queues = if now.memory.up && not was.memory.up then remove r.queues name else r.queues }
+
 -- the first database of the name is another
-abbrev pub with_base : List ℕ → Base → Clustered → Clustered
-with_base name d c = record c { bases = put_named name d c.bases }
+abbrev pub with_base : List ℕ → Base → Base → Clustered → Clustered
+with_base name was now c =
+    record c { bases = put_named name now c.bases; memory = recalled name was now c.memory }
 
 -- whether there may be a new database of the name
 abbrev pub grant : List ℕ → Clustered → Reply
@@ -85,7 +92,7 @@ pub record IsServed (command : Command) (old : Clustered) (reply : Reply) (new :
   pub hands : Hands task before result
   pub memory : is_memory (trouble result) ≡ false
   pub told : reply ≡ reply_of (words_of (OnOne name task)) result
-  pub same : new ≡ with_base name behind old
+  pub same : new ≡ with_base name before behind old
 
 -- what an act comes to from a world, and that a world agrees after it
 pub record ActsOn (act : Act) (w : World) (reply : Reply) (new : Clustered) : Type 0 where

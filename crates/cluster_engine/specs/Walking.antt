@@ -27,10 +27,11 @@ pub record IsQuietly (o : Outcome) (reply : Reply) (IsLeft : Memory → Type 0) 
   pub falls : o.falls ≡ None
   pub memory : IsLeft o.memory
 
--- scripts that agree, and nothing is switched
+-- scripts that agree, nothing is switched, and the same waits
 pub record LeavesScripts (old : Memory) (scripts : Scripts) (new : Memory) : Type 0 where
   pub agree : FitsScripts new.scripts scripts
   pub switches : switches_of new ≡ switches_of old
+  pub queues : new.queues ≡ old.queues
 
 abbrev pub KeepsTo : Memory → Outcome → Reply → Scripts → Type 0
 KeepsTo old o reply new = IsQuietly o reply (LeavesScripts old new)

@@ -8,6 +8,8 @@ ghost use Rattle.slon_model.specs.declared.reply.Reply.TheVariants.{Accepted as 
 ghost use Rattle.slon_model.specs.Names.{find_named};
 ghost use Rattle.slon_model.specs.Spoken.{IsSpoken};
 ghost use Rattle.slon_model.specs.Tasks.{subject_of, ToRead, ToStep, ToForget, ToStart, ToStop, ToCut, ToJoin, ToSync};
+ghost use Rattle.slon_model.specs.Tasks.{ToListen};
+ghost use Rattle.store_rows.specs.Rows.{IsId};
 ghost use Rattle.slon_model.specs.World.{start};
 ghost use Rattle.app_store.specs.Base.{base_of};
 ghost use Rattle.slonik_exec.specs.Heard.{AreDistinct};
@@ -18,16 +20,20 @@ ghost use Rattle.cluster_engine.specs.Calls.{Makes, MakingReplyCaused, MakesCert
 ghost use Rattle.cluster_engine.specs.Clustered.{cluster_of};
 
 use crate::scripts::{Started, Walked, end_script, key_of, run_next, start_script};
-use crate::slons::{add_cut, add_slon, remove_cut, remove_slon};
+use crate::slons::{add_cut, add_slon, are_cut, came_up, forget, remove_cut, remove_slon};
 use app_store::Database;
+use event_store::Queue;
 use node_keeper::{Fuse, Keeper};
 use slon_base::{ByteMap, Text};
-use slon_model::{Answer, Command, DbFault, Reading, Refusal, Reply};
-use slonik_exec::{Named, NoMemory, answered, has_node, index_of, refused, take_sync};
+use slon_model::{Answer, Command, DbFault, Delivery, Reading, Refusal, Reply};
+use slon_turns::{Listen, take_poll};
+use slonik_exec::{
+    Named, NoMemory, answered, has_node, index_of, index_of_node, refused, take_sync,
+};
 use std::alloc::Global;
 
-/// The databases of a session, in the order of their making, the scripts that run, which slons are on, and which
-/// nodes are cut off from one another.
+/// The databases of a session, in the order of their making, the scripts that run, which slons are on, which nodes are
+/// cut off from one another, and the events that wait at nodes.
 #[derive(Drop)]
 pub struct Cluster<K: Keeper> {
     alloc: Global,
@@ -40,6 +46,8 @@ pub struct Cluster<K: Keeper> {
     started: Vec<u32>,
     // The pairs of nodes that are cut off from one another.
     cuts: Vec<(u32, u32)>,
+    // The events that wait at the nodes of databases, by their names.
+    queues: ByteMap<Queue>,
 }
 
 /// Whether the store of a new database held a row.
@@ -65,6 +73,7 @@ impl<K: Keeper> Cluster<K> {
             scripts: ByteMap::new(alloc),
             started: Vec::new(alloc),
             cuts: Vec::new(alloc),
+            queues: ByteMap::new(alloc),
         }
     }
 
@@ -102,7 +111,7 @@ impl<K: Keeper> Cluster<K> {
         Ok(Reply::Refused(Refusal::Full { limit: self.limit }))
     }
 
-    /// Has the database that the command names obey it.
+    /// Has the database that the command names obey it. What waited at one that comes up is forgotten.
     fn ask(&mut self, command: &Command) -> Result<Reply, NoMemory>
         requires spoken { IsSpoken command.now }
         requires one { is_one (subject_of command.now) ≡ true }
@@ -116,7 +125,12 @@ impl<K: Keeper> Cluster<K> {
             let database = database.copy(self.alloc)?;
             return Ok(Reply::Refused(Refusal::NoDatabase { database }));
         };
-        match self.databases[i].database.obey(command) {
+        let named = &mut self.databases[i];
+        let was_up = named.database.is_up();
+        let served = named.database.obey(command);
+        let risen = came_up(was_up, named.database.is_up());
+        forget(&mut self.queues, database, risen);
+        match served {
             Ok(done) => answered(self.alloc, database, done),
             Err(fault) => refused(
                 self.alloc,
@@ -176,13 +190,15 @@ impl<K: Keeper> Cluster<K> {
         Ok(Reply::Accepted(Answer::Done))
     }
 
-    /// Turns the slon of a node off, if a database is the node.
+    /// Turns the slon of a node off, if a database is the node. What waited there is forgotten.
     fn turn_off(&mut self, node: u32) -> Reply
+        requires distinct { AreDistinct (cluster_of K.kept self.old).bases }
         ensures { IsActed (ToStop node) (cluster_of K.kept self.old) result (cluster_of K.kept self.new) }
     {
-        if !has_node(&self.databases, node) {
+        let Some(i) = index_of_node(&self.databases, node) else {
             return Reply::Refused(Refusal::NoNode { node });
-        }
+        };
+        forget(&mut self.queues, &self.databases[i].name, true);
         remove_slon(&mut self.started, node);
         Reply::Accepted(Answer::Done)
     }
@@ -213,8 +229,31 @@ impl<K: Keeper> Cluster<K> {
         take_sync(self.alloc, &mut self.databases, &self.started, node)
     }
 
-    /// Grants a new database, has a database that is there obey, steps and ends scripts, turns slons on and off and gives
-    /// them their turns, and cuts nodes off from one another.
+    /// The slon of a node has its turn to poll a server.
+    fn listen(&mut self, node: u32, server: u32, delivery: Delivery) -> Result<Reply, NoMemory>
+        requires distinct { AreDistinct (cluster_of K.kept self.old).bases }
+        requires id { IsId server }
+        ensures { IfOk result (λ reply. IsActed (ToListen node server delivery) (cluster_of K.kept self.old) reply
+            (cluster_of K.kept self.new)) }
+    {
+        let cut = are_cut(self.cuts.as_slice(), node, server);
+        let listen = Listen {
+            node,
+            server,
+            delivery,
+            cut,
+        };
+        take_poll(
+            self.alloc,
+            &mut self.databases,
+            &mut self.queues,
+            &self.started,
+            listen,
+        )
+    }
+
+    /// Grants a new database, has a database that is there obey, steps and ends scripts, turns slons on and off and
+    /// gives them their turns, and cuts nodes off from one another.
     fn obey(&mut self, command: &Command) -> Result<Reply, NoMemory>
         requires spoken { IsSpoken command.now }
         requires distinct { AreDistinct (cluster_of K.kept self.old).bases }
@@ -233,6 +272,11 @@ impl<K: Keeper> Cluster<K> {
             Command::Cut { node, other } => self.cut(*node, *other),
             Command::Join { node, other } => Ok(self.join(*node, *other)),
             Command::Sync { node } => self.sync(*node),
+            Command::Listen {
+                node,
+                server,
+                delivery,
+            } => self.listen(*node, *server, *delivery),
             _ => self.ask(command),
         }
     }

@@ -1,8 +1,11 @@
 // What a session switches: the nodes whose slon is on, and the pairs of nodes that are cut off from one another. There
-// are few of both, so each is looked for one by one.
-ghost use Rattle.std.specs.Prelude.{◌≡◌, OnOk};
+// are few of both, so each is looked for one by one. And the events that wait at nodes.
+ghost use Rattle.std.specs.Prelude.{◌≡◌, ◌&&◌, not, if◌then◌else◌, OnOk};
+ghost use Rattle.std.specs.FinMap.{remove};
 ghost use Rattle.slon_model.specs.Turns.{with_started, without_started, cuts_both, are_cut, with_cut, without_cut};
 
+use event_store::Queue;
+use slon_base::{ByteMap, Text};
 use std::alloc::AllocError;
 
 /// Adds a node, if it is not there.
@@ -51,4 +54,20 @@ pub(crate) fn remove_cut(cuts: &mut Vec<(u32, u32)>, node: u32, other: u32)
     ensures { cuts.new.items ≡ without_cut node other cuts.old.items }
 {
     cuts.retain(|cut| !is_between(cut, node, other));
+}
+
+/// Whether a database came up that was up, or not, before.
+pub(crate) fn came_up(was_up: bool, is_up: bool) -> bool
+    ensures { result ≡ (is_up && not was_up) }
+{
+    is_up && !was_up
+}
+
+/// Takes away what waits at the database of this name, if that is gone.
+pub(crate) fn forget(queues: &mut ByteMap<Queue>, name: &Text, gone: bool)
+    ensures { queues.new ≡ (if gone then remove queues.old name.now else queues.old) }
+{
+    if gone {
+        let _queue = queues.remove(name.as_slice());
+    }
 }

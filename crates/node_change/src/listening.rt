@@ -128,6 +128,7 @@ fn heard_among<K: Keeper>(
     ensures safe { Safe (K.kept keeper.old) (K.kept keeper.new) result }
     ensures same { OnOk result ((K.kept keeper.new).pending ≡ (K.kept keeper.old).pending) }
     ensures only { IfErr result IsOutside }
+    ensures ids { IfOk result (AllAre IsId) }
     ensures says { (m : Store) (c : Config) → sight (K.kept keeper.old) ≡ Some m → HoldsConfig c m →
         Gives (λ heard. heard ≡ heard_among own server c nodes.now) result }
 {
@@ -158,6 +159,7 @@ pub fn listens<K: Keeper>(
     ensures safe { Safe (K.kept keeper.old) (K.kept keeper.new) result }
     ensures same { OnOk result ((K.kept keeper.new).pending ≡ (K.kept keeper.old).pending) }
     ensures within { IfErr result IsWithinLimit }
+    ensures ids { IfOk result (AllAre IsId) }
     ensures says { (m : Store) (c : Config) → sight (K.kept keeper.old) ≡ Some m → HoldsConfig c m → IsOrderly c →
         Gives (λ origins. origins ≡ heard_in own server c) result }
     ensures form { (m : Store) → sight (K.kept keeper.old) ≡ Some m →

@@ -8,5 +8,5 @@ pub mod Midways
 pub mod Newcomers
 pub mod Outcomes
 pub mod Pairs
-mod Synced
+pub mod Synced
 mod Heard

@@ -22,5 +22,5 @@ pub use looking::{
     names_table, set_origin, writer,
 };
 pub use node_change::Side;
-pub use polling::{events_after, knows_live, news_among, origins_at, progress_in, tells};
+pub use polling::news_among;
 pub use syncing::is_synced;

@@ -1,35 +1,40 @@
-// A node that polls another one and hears what that tells, and events that wait in a queue.
-ghost use Rattle.std.specs.Prelude.{IfOk};
+// A node that polls another one: each state of a poll, a poll that is lost, and one that brings nothing new; and events
+// that wait in a queue.
+ghost use Rattle.std.specs.Prelude.{◌≡◌, is_some, true, IfOk};
 ghost use Rattle.slon_base.specs.Codec.{AllAre};
+ghost use Rattle.store_rows.specs.Rows.{IsId};
 ghost use Rattle.node_rows.specs.Spellings.{CanBody};
 ghost use Rattle.event_store.specs.Giving.{IsConfirmation};
 ghost use Rattle.event_store.specs.Keeping.{KeepsViews};
+ghost use Rattle.event_store.specs.Telling.{IsOfOther};
+ghost use Rattle.node_store.specs.Acting.{own_id};
 
 use crate::joining::join_second;
 use crate::nodes::{create, emit, found};
 use app_store::Database;
-use event_store::{Confirmation, Event, Queue};
+use event_store::{Event, Queue};
 use node_keeper::MemKeeper;
 use node_rows::Body;
-use node_store::{events_after, hear, knows_live, news_among, origins_at, progress_in, tells};
+use remote_listener::{Asked, Linked, Listener, Polled};
 use slon_base::{Many, Text};
 use std::alloc::Global;
 use std::test::Fail;
 use test_words::require;
 use txn_core::{Snapshot, XidList};
 
-/// How node 2 connects to node 1.
-fn path(alloc: Global) -> Result<Body, Fail>
+/// How a node connects to a server.
+fn path(alloc: Global, server: u32, client: u32) -> Result<Body, Fail>
+    requires { IsId server × IsId client }
     ensures { IfOk result (λ b. CanBody b × KeepsViews b) }
 {
     Ok(Body::StorePath {
-        server: 1,
-        client: 2,
-        conninfo: Text::from_str(alloc, "dbname=a")?,
+        server,
+        client,
+        conninfo: Text::from_str(alloc, "dbname=x")?,
     })
 }
 
-/// The first database is node 1 and emits a SYNC; the second one is node 2 and knows a path from node 1.
+/// The first database is node 1 and the second one node 2. Each has a path from the other one, and node 1 emits a SYNC.
 fn make_nodes(
     alloc: Global,
     first: &mut Database<MemKeeper>,
@@ -40,119 +45,190 @@ fn make_nodes(
         join_second(alloc, first, second)?.is_ok(),
         "the second node",
     )?;
-    require(emit(second, &path(alloc)?)? == Ok((1, false)), "the path")?;
-    require(emit(first, &Body::Sync)? == Ok((2, false)), "the SYNC")
+    let to_first = emit(second, &path(alloc, 1, 2)?)?;
+    require(to_first == Ok((1, false)), "a path from node 1")?;
+    let to_second = emit(first, &path(alloc, 2, 1)?)?;
+    require(to_second == Ok((2, false)), "a path from node 2")?;
+    require(emit(first, &Body::Sync)? == Ok((3, false)), "the SYNC")
 }
 
-/// Node 2 hears node 1 alone, there.
-fn expect_origins(second: &mut Database<MemKeeper>) -> Result<(), Fail> {
-    if !second.is_up() || second.node_id().is_none() {
-        return Err(Fail::new("no node that is up"));
-    }
-    match origins_at(second, 1) {
-        Ok(origins) => require(origins.as_slice() == [1].as_slice(), "the origins"),
-        Err(_) => Err(Fail::new("the origins")),
-    }
-}
-
-/// Node 1 knows node 2 and no third one.
-fn expect_known(first: &mut Database<MemKeeper>) -> Result<(), Fail> {
-    if !first.is_up() {
+/// What a node wants of a server.
+fn link(own: &mut Database<MemKeeper>, queue: &Queue, server: u32) -> Result<Listener<Linked>, Fail>
+    requires { IsId server }
+    ensures { IfOk result (λ l. IsId l.node × AllAre (λ w. IsId w.0) l.state.wants) }
+{
+    if !own.is_up() {
         return Err(Fail::new("a database that is down"));
     }
-    require(knows_live(first, 2) == Ok(true), "node 2")?;
-    if !first.is_up() {
-        return Err(Fail::new("a database that is down"));
-    }
-    require(knows_live(first, 3) == Ok(false), "node 3")
-}
-
-/// How far node 2 is in the stream of node 1.
-fn reach(second: &mut Database<MemKeeper>) -> Result<u64, Fail> {
-    if !second.is_up() || second.node_id().is_none() {
-        return Err(Fail::new("no node that is up"));
-    }
-    match progress_in(second, 1) {
-        Ok(number) => Ok(number),
-        Err(_) => Err(Fail::new("the progress")),
+    let Some(node) = own.node_id() else {
+        return Err(Fail::new("a database that is no node"));
+    };
+    match Listener::restart(node).link(own, queue, server) {
+        Ok(linked) => Ok(linked),
+        Err(_) => Err(Fail::new("what the node wants")),
     }
 }
 
-/// The events of node 1 behind its first one.
-fn events_of(first: &mut Database<MemKeeper>) -> Result<Many<Event>, Fail> {
-    if !first.is_up() || first.node_id().is_none() {
-        return Err(Fail::new("no node that is up"));
-    }
-    match events_after(first, 1, 1) {
-        Ok(events) => Ok(events),
-        Err(_) => Err(Fail::new("the events")),
-    }
-}
-
-/// What a node tells of how far nodes are.
-fn rows_of(database: &mut Database<MemKeeper>) -> Result<Many<Confirmation>, Fail>
-    ensures { IfOk result (AllAre IsConfirmation) }
+/// What the server hands over, to a node that it knows.
+fn ask(linked: Listener<Linked>, server: &mut Database<MemKeeper>) -> Result<Listener<Asked>, Fail>
+    requires poller { IsId linked.node }
+    requires ids { AllAre (λ w. IsId w.0) linked.state.wants }
+    ensures { IfOk result (λ l. AllAre IsConfirmation l.state.handed.rows) }
 {
-    if !database.is_up() || database.node_id().is_none() {
-        return Err(Fail::new("no node that is up"));
+    if !server.is_up() || server.node_id().is_none() {
+        return Err(Fail::new("no server that is up"));
     }
-    match tells(database) {
-        Ok(rows) => Ok(rows),
-        Err(_) => Err(Fail::new("what it tells")),
+    match linked.ask(server) {
+        Ok(Some(asked)) => Ok(asked),
+        Ok(None) => Err(Fail::new("a node that is not known")),
+        Err(_) => Err(Fail::new("what the server has")),
     }
 }
 
-/// A node hears the news among these, and how many they are.
-fn hear_news(database: &mut Database<MemKeeper>, rows: &[Confirmation]) -> Result<usize, Fail>
-    requires { AllAre IsConfirmation rows.now }
+/// How many events and confirmations a poll brings, and whether they are lost on the way.
+#[derive(Clone, Copy)]
+struct Brings {
+    events: usize,
+    confirms: usize,
+    are_lost: bool,
+}
+
+/// What was polled is delivered or lost.
+fn end(
+    own: &mut Database<MemKeeper>,
+    polled: Listener<Polled>,
+    queue: &mut Queue,
+    are_lost: bool,
+) -> Result<(), Fail>
+    requires up { own.old.state.up ≡ true }
+    requires node { is_some own.old.state.node.identity ≡ true }
+    requires others { AllAre (IsOfOther (own_id own.old.state.node.identity)) polled.state.confirms }
 {
-    if !database.is_up() || database.node_id().is_none() {
+    if are_lost {
+        let node = polled.node;
+        return require(polled.lost().node == node, "the node");
+    }
+    require(polled.deliver(own, queue) == Ok(false), "the delivery")
+}
+
+/// What was handed over brings this.
+fn bring(
+    own: &mut Database<MemKeeper>,
+    asked: Listener<Asked>,
+    queue: &mut Queue,
+    brings: Brings,
+) -> Result<(), Fail>
+    requires { AllAre IsConfirmation asked.state.handed.rows }
+{
+    if !own.is_up() || own.node_id().is_none() {
         return Err(Fail::new("no node that is up"));
     }
-    match news_among(database, rows) {
-        Ok(found) => {
-            require(hear(database, found.as_slice()) == Ok(false), "the news")?;
-            Ok(found.len())
+    match asked.sift(own) {
+        Ok(polled) => {
+            let counts = (brings.events, brings.confirms);
+            require(polled.counts() == counts, "how much is new")?;
+            end(own, polled, queue, brings.are_lost)
         }
-        Err(_) => Err(Fail::new("the news")),
+        Err(_) => Err(Fail::new("what is new")),
     }
 }
 
-/// What one tells is news for the other one, once.
-fn tell(
-    from: &mut Database<MemKeeper>,
-    to: &mut Database<MemKeeper>,
-    news: usize,
-) -> Result<(), Fail> {
-    let rows = rows_of(from)?;
-    require(hear_news(to, rows.as_slice())? == news, "how many are news")?;
-    require(hear_news(to, rows.as_slice())? == 0, "news that is none")
+/// A poll of the server of this id brings this.
+fn poll(
+    own: &mut Database<MemKeeper>,
+    id: u32,
+    server: &mut Database<MemKeeper>,
+    queue: &mut Queue,
+    brings: Brings,
+) -> Result<(), Fail>
+    requires { IsId id }
+{
+    let linked = link(own, queue, id)?;
+    require(!linked.hears_none(), "no origin")?;
+    let asked = ask(linked, server)?;
+    bring(own, asked, queue, brings)
 }
 
-/// Both hear one another.
-fn poll(
+/// Node 2 polls node 1: what is lost comes again, and waits once.
+fn poll_first(
+    alloc: Global,
+    first: &mut Database<MemKeeper>,
+    second: &mut Database<MemKeeper>,
+) -> Result<(), Fail> {
+    let mut queue = Queue::new(alloc);
+    for (events, are_lost, waiting) in [(2, true, 0), (2, false, 2), (0, false, 2)] {
+        let brings = Brings {
+            events,
+            confirms: 0,
+            are_lost,
+        };
+        poll(second, 1, first, &mut queue, brings)?;
+        require(queue.len(1) == waiting, "events that wait")?;
+    }
+    Ok(())
+}
+
+/// Node 1 polls node 2, which tells it also how far it is: once, as its event.
+fn poll_second(
+    alloc: Global,
+    first: &mut Database<MemKeeper>,
+    second: &mut Database<MemKeeper>,
+) -> Result<(), Fail> {
+    let mut queue = Queue::new(alloc);
+    for (count, are_lost) in [(1, true), (1, false), (0, false)] {
+        let brings = Brings {
+            events: count,
+            confirms: count,
+            are_lost,
+        };
+        poll(first, 2, second, &mut queue, brings)?;
+    }
+    Ok(())
+}
+
+/// Node 2 hears of no origin at node 3.
+fn expect_none(alloc: Global, second: &mut Database<MemKeeper>) -> Result<(), Fail> {
+    let linked = link(second, &Queue::new(alloc), 3)?;
+    require(linked.hears_none(), "an origin")
+}
+
+/// Node 1 does not know node 3, and hands nothing over to it.
+fn expect_unknown(alloc: Global, first: &mut Database<MemKeeper>) -> Result<(), Fail> {
+    if !first.is_up() || first.node_id().is_none() {
+        return Err(Fail::new("no server that is up"));
+    }
+    let wants = Many::new(alloc);
+    let linked = Listener {
+        node: 3,
+        state: Linked { wants },
+    };
+    match linked.ask(first) {
+        Ok(None) => Ok(()),
+        _ => Err(Fail::new("a node that is known")),
+    }
+}
+
+/// Both poll one another.
+fn poll_both(
     alloc: Global,
     first: &mut Database<MemKeeper>,
     second: &mut Database<MemKeeper>,
 ) -> Result<(), Fail> {
     make_nodes(alloc, first, second)?;
-    expect_origins(second)?;
-    expect_known(first)?;
-    require(reach(second)? == 1, "how far node 2 is")?;
-    let events = events_of(first)?;
-    require(events.len() == 1, "the events")?;
-    tell(first, second, 0)?;
-    tell(second, first, 1)
+    poll_first(alloc, first, second)?;
+    poll_second(alloc, first, second)?;
+    expect_none(alloc, second)?;
+    expect_unknown(alloc, first)
 }
 
 /// The same of a database that is made for it.
 fn poll_a_second(alloc: Global, first: &mut Database<MemKeeper>) -> Result<(), Fail> {
     let mut second = create(alloc, 0, false)?;
-    poll(alloc, first, &mut second)
+    poll_both(alloc, first, &mut second)
 }
 
 #[test]
-fn nodes_hear_one_another(rt: HostRuntime) -> Result<(), Fail> {
+fn nodes_poll_one_another(rt: HostRuntime) -> Result<(), Fail> {
     let mut first = create(rt.alloc(), 0, false)?;
     poll_a_second(rt.alloc(), &mut first)
 }

@@ -1,38 +1,43 @@
 -- What a command about a script comes to is told in words that have their forms, and the scripts that run say lines.
 use Rattle.std.proofs.Common.{◌≡◌, ℕ, true, false, cond, not, List, [], ◌∷◌, Option, Some, None, refl, sym}
-use Rattle.std.proofs.Common.{subst, eqb, ◌++◌}
-use Rattle.std.specs.Prelude.{◌&&◌, Bool, find, is_some, codes, Result, Ok, Err}
+use Rattle.std.proofs.Common.{subst}
+use Rattle.std.specs.Prelude.{Bool, find, is_some, codes, Result, Ok, Err}
 use Rattle.std.specs.List.{AllByRecursion}
 use Rattle.std.specs.Str.{bytes_eq}
 use Rattle.slonik_script.specs.declared.script.Command.{Command as Order}
 use Rattle.slonik_script.specs.declared.script.Command.TheVariants as order
 use Rattle.slonik_script.specs.declared.script.Statement.{Statement}
 use Rattle.slonik_script.specs.declared.script.Statement.TheVariants.{Single, Try as Tries}
+use Rattle.slon_model.specs.declared.command.Delivery.{Delivery}
+use Rattle.slon_model.specs.declared.command.Delivery.TheVariants.{Lost}
 use Rattle.slon_model.specs.declared.reading.Reading.{Reading}
 use Rattle.slon_model.specs.declared.reading.Reading.TheVariants.{Read, Wrong}
-use Rattle.slon_model.specs.declared.reply.Answer.TheVariants.{Done, Echoed}
+use Rattle.slon_model.specs.declared.reply.Answer.TheVariants.{Echoed}
 use Rattle.slon_model.specs.declared.reply.Refusal.{Refusal}
 use Rattle.slon_model.specs.declared.reply.Refusal.TheVariants as refused
 use Rattle.slon_model.specs.declared.reply.Reply.{Reply}
-use Rattle.slon_model.specs.declared.reply.Reply.TheVariants.{Accepted, Refused}
+use Rattle.slon_model.specs.declared.reply.Reply.TheVariants.{Refused}
 use Rattle.slon_model.specs.Names.{Named, find_named, without}
 use Rattle.slon_model.specs.Spoken.{IsName, IsOrder, IsStatement, AreStatements, AreNodeLines, IsReading, IsAct}
-use Rattle.slon_model.specs.Tasks.{Act, ToRead, ToStep, ToForget, ToStart, ToStop, ToCut, ToJoin, ToSync}
+use Rattle.slon_model.specs.Tasks.{Act, ToRead, ToStep, ToForget, ToStart, ToStop, ToCut, ToJoin, ToSync, ToListen}
+use Rattle.slon_model.specs.Config.{is_known}
 use Rattle.slon_model.specs.Deeds.{Node}
 use Rattle.slon_model.specs.Place.{Place, is_running, node_id}
 use Rattle.slon_model.specs.Sessions.{World, Memory, Running, Stated, Outcome, Seat, seat_of, first_beyond, no_change}
-use Rattle.slon_model.specs.Sessions.{bind, when, checked}
+use Rattle.slon_model.specs.Sessions.{bind, when}
 use Rattle.slon_model.specs.Scripts.{Stepping, ending, done_by, single, order_step, statement_step, step_todo, step_of}
 use Rattle.slon_model.specs.Scripts.{ordered, quiet, read_as, kill_of}
-use Rattle.slon_model.specs.Turns.{is_id, at_node, switched, with_cuts, seat_at, on_turn, turned}
-use Rattle.slon_model.specs.Turns.{turned_by, turn_by, is_synced, sync_turn}
+use Rattle.slon_model.specs.Turns.{is_id, at_node, switched, switched_at, is_cut, with_cuts, seat_at, on_turn}
+use Rattle.slon_model.specs.Turns.{turned, turned_by, turn_by, is_synced, sync_turn}
+use Rattle.slon_model.specs.Polls.{Poll, poll_of, hears_none, linked, server_for, brings_nothing, polled, hearing}
+use Rattle.slon_model.specs.Polls.{stated_by, left_by, listen_by}
 use Rattle.slon_model.specs.Membership.{synced}
 use Rattle.slon_model.specs.Rows.{member}
 use Rattle.slon_model.specs.World.{outcome}
 use Rattle.slon_model.proofs.Names.{all_found}
 use Rattle.reply_forms.proofs.Words.{Reads}
 use Rattle.reply_forms.proofs.Words.{RefusalReads}
-use Rattle.reply_forms.proofs.Statements.{Gives, AreNamed, AreCommits, StatedReads, all_filter, ordered_gives}
+use Rattle.reply_forms.proofs.Statements.{Gives, IsOne, AreNamed, AreCommits, StatedReads, all_filter, ordered_gives}
 use Rattle.reply_forms.proofs.Statements.{bind_gives, checked_gives, when_tells}
 
 -- what a script says: its NODE lines are lines, and so are the texts of what is left of it
@@ -132,14 +137,13 @@ kill_ends name (Some run) w named known = ended name w _ known tt
 
 -- ---- the slon of a node
 
-switched_ends : (node : ℕ) (m : Memory) (w : World) → m.scripts ≡ w.memory.scripts → Known w → Ends (switched node m w)
-switched_ends node m w same known =
-    elim (is_some (at_node node w))
-    as (λ b. Ends (cond b (record { reply = Accepted Done; commits = []; falls = None; memory = m })
-    (no_change w (Refused (refused.NoNode node))))) [
-      | true ↦ record { reply = tt; commits = tt; scripts = subst AreRunning (sym same) known.scripts }
-      | false ↦ unchanged w _ known tt
-    ]
+switched_ends : (node : ℕ) (m : List ℕ → Memory) (w : World) →
+    ((name : List ℕ) → (m name).scripts ≡ w.memory.scripts) → Known w → Ends (switched node m w)
+switched_ends node m w same known = by (at_node node w)
+  where
+    by : (o : Option (List ℕ × Place)) → Ends (switched_at node m o w)
+    by None = unchanged w _ known tt
+    by (Some e) = record { reply = tt; commits = tt; scripts = subst AreRunning (sym (same e.0)) known.scripts }
 
 -- ---- nodes that are cut off from one another
 
@@ -161,28 +165,31 @@ found_in P test (y ∷ ys) x all found =
       | false ↦ λ later. found_in P test ys x all.1 later
     ] found
 
-seat_gives : (none : Refusal) (e : List ℕ × Place) (n : Option Node) → RefusalReads none → IsName e.0 →
+seat_gives : (none : Refusal) (e : List ℕ × Place) (n : Option Node) → RefusalReads none → IsOne e →
     Gives IsSeat (seat_of none e n)
 seat_gives none e None reads named = reads
 seat_gives none e (Some n) reads named = named
 
-seated : (node : ℕ) (o : Option (List ℕ × Place)) → ((e : List ℕ × Place) → o ≡ Some e → IsName e.0) →
-    Gives IsSeat (seat_at node o)
-seated node None named = tt
-seated node (Some e) named =
+seated_one : (node : ℕ) (e : List ℕ × Place) → IsOne e → Gives IsSeat (seat_at node (Some e))
+seated_one node e named =
     elim (is_running e.1.standing)
     as (λ b. Gives IsSeat (cond b (seat_of (refused.NoNode node) e e.1.node) (Err (refused.Down e.0)))) [
-      | true ↦ seat_gives (refused.NoNode node) e e.1.node tt (named e refl)
-      | false ↦ named e refl
+      | true ↦ seat_gives (refused.NoNode node) e e.1.node tt named
+      | false ↦ named
     ]
 
-at_named : (node : ℕ) (w : World) → Known w → (e : List ℕ × Place) → at_node node w ≡ Some e → IsName e.0
-at_named node w known e found = found_in (λ e. IsName e.0) (λ e. is_id node (node_id e.1)) w.places e known.named found
+seated : (node : ℕ) (o : Option (List ℕ × Place)) → ((e : List ℕ × Place) → o ≡ Some e → IsOne e) →
+    Gives IsSeat (seat_at node o)
+seated node None named = tt
+seated node (Some e) named = seated_one node e (named e refl)
+
+at_named : (node : ℕ) (w : World) → Known w → (e : List ℕ × Place) → at_node node w ≡ Some e → IsOne e
+at_named node w known e found = found_in IsOne (λ e. is_id node (node_id e.1)) w.places e known.named found
 
 turn_reads : (node : ℕ) (w : World) → Known w → Gives IsSeat (on_turn node w)
 turn_reads node w known =
     bind_gives IsSeat IsSeat (seat_at node (at_node node w)) _
-    (seated node (at_node node w) (λ e found. at_named node w known e found))
+    (seated node (at_node node w) (at_named node w known))
     (λ s named. checked_gives IsSeat (when (not (member node w.memory.started)) (refused.Off node) ∷ []) s
     (when_tells _ (refused.Off node) tt, tt) named)
 
@@ -207,6 +214,57 @@ sync_reads node w known =
     (λ s named. checked_gives StatedReads (when (is_synced s) refused.Nothing ∷ []) (synced s)
     (when_tells _ refused.Nothing tt, tt) (tt, (named, tt)))
 
+-- ---- polls
+
+-- the name of the database of the node that polls is a name
+abbrev IsPoll : Poll → Type 0
+IsPoll b = IsSeat b.seat
+
+linked_gives : (server : ℕ) (m : Memory) (s : Seat) (o : Option (List ℕ × Place)) →
+    ((e : List ℕ × Place) → o ≡ Some e → IsOne e) → Gives IsOne (linked server m s o)
+linked_gives server m s None named = tt
+linked_gives server m s (Some e) named =
+    checked_gives IsOne
+    (when (hears_none server s) (refused.NotListed server)
+    ∷ when (is_cut s.node.id server m) (refused.Severed s.node.id server) ∷ []) e
+    (when_tells _ (refused.NotListed server) tt, (when_tells _ (refused.Severed s.node.id server) tt, tt))
+    (named e refl)
+
+server_gives : (server : ℕ) (w : World) (s : Seat) → Known w → Gives IsSeat (server_for server w s)
+server_gives server w s known =
+    bind_gives IsSeat IsSeat (bind (linked server w.memory s (at_node server w)) (λ e. seat_at server (Some e))) _
+    (bind_gives IsOne IsSeat (linked server w.memory s (at_node server w)) _
+    (linked_gives server w.memory s (at_node server w) (at_named server w known)) (seated_one server))
+    (λ p named. checked_gives IsSeat (when (not (is_known s.node.id p.known.config)) (refused.NotKnown s.node.id) ∷ [])
+    p (when_tells _ (refused.NotKnown s.node.id) tt, tt) named)
+
+polled_gives : (node server : ℕ) (w : World) → Known w → Gives IsPoll (polled node server w)
+polled_gives node server w known =
+    bind_gives IsSeat IsPoll (on_turn node w) _ (turn_reads node w known)
+    (λ s named. bind_gives IsSeat IsPoll (server_for server w s) _ (server_gives server w s known)
+    (λ p other. checked_gives IsPoll (when (brings_nothing (poll_of w.memory s p)) refused.Nothing ∷ [])
+    (poll_of w.memory s p) (when_tells _ refused.Nothing tt, tt) named))
+
+hearing_named : (s : Seat) (confirms : List (ℕ × ℕ × ℕ)) → IsSeat s → AreCommits (hearing s confirms)
+hearing_named s [] named = tt
+hearing_named s (c ∷ cs) named = (named, tt)
+
+poll_reads : (delivery : Delivery) (b : Poll) → IsPoll b → StatedReads (stated_by delivery b)
+poll_reads Lost b named = (tt, tt)
+poll_reads others b named = (tt, hearing_named b.seat b.confirms named)
+
+-- a poll leaves the scripts
+left_scripts : (delivery : Delivery) (b : Poll) (m : Memory) → (left_by delivery b m).scripts ≡ m.scripts
+left_scripts Lost b m = refl
+left_scripts others b m = refl
+
+listen_ends : (delivery : Delivery) (w : World) (due : Result Poll Refusal) → Known w → Gives IsPoll due →
+    Ends (listen_by delivery w due)
+listen_ends delivery w (Err refusal) known reads = unchanged w (Refused refusal) known reads
+listen_ends delivery w (Ok b) known named =
+    turned_ends w (left_by delivery b w.memory) (stated_by delivery b) (left_scripts delivery b w.memory) known
+    (poll_reads delivery b named)
+
 -- ---- each command
 
 pub outcome_ends : (act : Act) (w : World) → IsAct act → Known w → Ends (outcome act w)
@@ -220,9 +278,11 @@ outcome_ends (ToStep name) w act known =
     step_ends name (find_named name w.memory.scripts) w act.0 known
     (λ run found. all_found RunReads name run w.memory.scripts known.scripts found)
 outcome_ends (ToForget name) w act known = kill_ends name (find_named name w.memory.scripts) w act.0 known
-outcome_ends (ToStart node) w act known = switched_ends node _ w refl known
-outcome_ends (ToStop node) w act known = switched_ends node _ w refl known
+outcome_ends (ToStart node) w act known = switched_ends node _ w (λ name. refl) known
+outcome_ends (ToStop node) w act known = switched_ends node _ w (λ name. refl) known
 outcome_ends (ToCut node other) w act known = cuts_end _ w known
 outcome_ends (ToJoin node other) w act known = cuts_end _ w known
 outcome_ends (ToSync node) w act known =
     turn_ends w w.memory (sync_turn node w) refl known (sync_reads node w known)
+outcome_ends (ToListen node server delivery) w act known =
+    listen_ends delivery w (polled node server w) known (polled_gives node server w known)

@@ -20,7 +20,7 @@ use Rattle.slon_model.specs.Reaching.{database_in, database_up, database_by, dat
 use Rattle.slon_model.specs.Reaching.{nodes_of, down_among, any_down, known_somewhere, origin_checks, origin_of}
 use Rattle.slon_model.specs.Reaching.{receiver_with}
 use Rattle.slon_model.specs.Membership.{comment_of, already, first_node, stored_by, init_cluster, store_node}
-use Rattle.slon_model.specs.Membership.{is_dropped, store_path, drop_path, synced, sync_node}
+use Rattle.slon_model.specs.Membership.{is_dropped, store_path, drop_path, sync_node}
 use Rattle.slon_model.specs.Sets.{create_set, NewTable, set_add_table}
 use Rattle.slon_model.specs.Scripts.{first_word, ordered}
 use Rattle.slon_model.proofs.Names.{bytes_same}
@@ -115,7 +115,7 @@ pub record Runs (run : Running) (w : World) : Type 0 where
   pub named : AreNamed w.places
 
 -- a database with its name
-abbrev IsOne : List ℕ × Place → Type 0
+abbrev pub IsOne : List ℕ × Place → Type 0
 IsOne e = IsName e.0
 
 abbrev IsSeat : Seat → Type 0

@@ -1,7 +1,7 @@
 // Lines and what they say.
 use session_text::{LineFault, read_command};
 use slon_base::{Text, TextList};
-use slon_model::{ColumnList, Command, Crash};
+use slon_model::{ColumnList, Command, Crash, Delivery};
 use std::alloc::Global;
 use std::test::Fail;
 use test_words::{expect, keeping};
@@ -35,6 +35,7 @@ fn verb(command: &Command) -> &'static str {
         Command::Cut { .. } => "cut",
         Command::Join { .. } => "join",
         Command::Sync { .. } => "sync",
+        Command::Listen { .. } => "listen",
     }
 }
 
@@ -63,6 +64,15 @@ fn push_crash(line: &mut String, crash: &Crash) -> Result<(), Fail> {
     }
 }
 
+/// Adds what becomes of what a poll brings.
+fn push_delivery(line: &mut String, delivery: Delivery) -> Result<(), Fail> {
+    match delivery {
+        Delivery::Once => Ok(()),
+        Delivery::Lost => Ok(line.push_str(" lost")?),
+        Delivery::Again => Ok(line.push_str(" again")?),
+    }
+}
+
 /// Adds what a command says behind its names.
 fn push_rest(line: &mut String, command: &Command) -> Result<(), Fail> {
     match command {
@@ -79,6 +89,14 @@ fn push_rest(line: &mut String, command: &Command) -> Result<(), Fail> {
         }
         Command::Cut { node, other } | Command::Join { node, other } => {
             Ok(write!(line, " {node} {other}")?)
+        }
+        Command::Listen {
+            node,
+            server,
+            delivery,
+        } => {
+            write!(line, " {node} {server}")?;
+            push_delivery(line, *delivery)
         }
         _ => Ok(()),
     }
@@ -167,6 +185,9 @@ const COMMANDS: &[(&str, &str)] = &[
     ("cut 1 2", "cut 1 2"),
     ("join 2147483647 2147483647", "join 2147483647 2147483647"),
     ("sync 7", "sync 7"),
+    ("listen 1 2", "listen 1 2"),
+    ("listen 2147483647 1 lost", "listen 2147483647 1 lost"),
+    (" listen  2 2  again ", "listen 2 2 again"),
     (
         "database abcdefghijklmnopqrstuvwxyz01234",
         "database abcdefghijklmnopqrstuvwxyz01234",
@@ -218,6 +239,13 @@ const BAD_LINES: &[&str] = &[
     "join 2147483648 1",
     "sync",
     "sync 01",
+    "listen 1",
+    "listen 1 2 3",
+    "listen 0 1",
+    "listen 1 2147483648",
+    "listen 1 2 lost again",
+    "listen 1 2 Lost",
+    "listen lost 1 2",
     "slonik s <<",
     "begin a",
     "begin a t u",

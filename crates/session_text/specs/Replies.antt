@@ -18,7 +18,7 @@ use Rattle.slon_model.specs.declared.reply.Refusal.TheVariants.{NotListed, NotKn
 use Rattle.slon_model.specs.declared.reply.Refusal.TheVariants.{SameNode, Script, ScriptUsed, NoScript, NotBuilt}
 use Rattle.slon_model.specs.declared.reply.Reply.{Reply}
 use Rattle.slon_model.specs.declared.reply.Reply.TheVariants.{Accepted, Refused, InDoubt}
-use Rattle.slon_model.specs.Forms.{is_name, is_table_name, is_value, is_line_byte, is_line}
+use Rattle.slon_model.specs.Forms.{is_name, is_table_name, is_value, is_line}
 use Rattle.slon_model.specs.Printed.{reply_line}
 
 -- ---- numbers

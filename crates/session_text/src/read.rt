@@ -8,7 +8,7 @@ use crate::crash::{crash_of, up_of};
 use crate::line_reader::LINE_LIMIT;
 use crate::words::{Misread, name_of, number_of, table_name_of, words_of};
 use crate::writes::{delete_of, insert_of, update_of};
-use slon_model::Command;
+use slon_model::{Command, Delivery};
 use std::alloc::Global;
 use thiserror::Error;
 
@@ -219,6 +219,41 @@ fn is_verb(word: &[u8], verb: &str) -> bool
     word == verb.as_bytes()
 }
 
+/// How a poll is delivered: `lost` or `again`.
+fn delivery_of(word: &[u8]) -> Result<Delivery, Misread>
+    ensures { Gives (lines.delivery_of word.now) result }
+{
+    if is_verb(word, "lost") {
+        Ok(Delivery::Lost)
+    } else if is_verb(word, "again") {
+        Ok(Delivery::Again)
+    } else {
+        Err(Misread::BadForm)
+    }
+}
+
+/// A poll, from its two nodes.
+fn listen_with(node: &[u8], server: &[u8], delivery: Delivery) -> Result<Command, Misread>
+    ensures { Gives (lines.listen_with node.now server.now (Some delivery)) result }
+{
+    Ok(Command::Listen {
+        node: node_of(node)?,
+        server: node_of(server)?,
+        delivery,
+    })
+}
+
+/// `listen N N`, `listen N N lost` and `listen N N again`
+fn listen_of(words: &[&[u8]]) -> Result<Command, Misread>
+    ensures { Gives (lines.listen_of (map (λ word. word.now) words.now)) result }
+{
+    match words {
+        [node, server] => listen_with(node, server, Delivery::Once),
+        [node, server, word] => listen_with(node, server, delivery_of(word)?),
+        _ => Err(Misread::BadForm),
+    }
+}
+
 /// The command that the first word names, of the words behind it.
 fn command_of(alloc: Global, verb: &[u8], rest: &[&[u8]]) -> Result<Command, Misread>
     ensures { Gives (lines.command_of verb.now (map (λ word. word.now) rest.now)) result }
@@ -261,6 +296,8 @@ fn command_of(alloc: Global, verb: &[u8], rest: &[&[u8]]) -> Result<Command, Mis
         join_of(rest)
     } else if is_verb(verb, "sync") {
         sync_of(rest)
+    } else if is_verb(verb, "listen") {
+        listen_of(rest)
     } else {
         Err(Misread::BadForm)
     }

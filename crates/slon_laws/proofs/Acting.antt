@@ -1,28 +1,29 @@
 -- What each way in which a database is changed keeps is kept by every step of a script, whichever stores fail.
 use Rattle.std.proofs.Common.{◌≡◌, ℕ, zero, suc, Bool, true, false, cond, List, [], ◌∷◌, Option, Some, None, refl, sym}
-use Rattle.std.proofs.Common.{subst, eqb}
-use Rattle.std.specs.Prelude.{◌&&◌, take, drop, is_some, Result, Ok, Err}
+use Rattle.std.proofs.Common.{subst}
+use Rattle.std.specs.Prelude.{take, drop, is_some, Result, Ok, Err}
 use Rattle.slonik_script.specs.declared.script.Command.{Command as Order}
 use Rattle.slonik_script.specs.declared.script.Command.TheVariants as order
 use Rattle.slonik_script.specs.declared.script.Statement.{Statement}
 use Rattle.slonik_script.specs.declared.script.Statement.TheVariants.{Single, Try as Tries}
+use Rattle.slon_model.specs.declared.command.Delivery.{Delivery}
 use Rattle.slon_model.specs.declared.reading.Reading.{Reading}
 use Rattle.slon_model.specs.declared.reading.Reading.TheVariants.{Read, Wrong}
 use Rattle.slon_model.specs.declared.reply.Refusal.{Refusal}
 use Rattle.slon_model.specs.declared.reply.Refusal.TheVariants as refused
-use Rattle.slon_model.specs.declared.reply.Answer.TheVariants.{Done}
-use Rattle.slon_model.specs.declared.reply.Reply.TheVariants.{Accepted, Refused}
+use Rattle.slon_model.specs.declared.reply.Reply.TheVariants.{Refused}
 use Rattle.slon_model.specs.Names.{Named, find_named, put_named}
-use Rattle.slon_model.specs.Tasks.{Act, ToRead, ToStep, ToForget, ToStart, ToStop, ToCut, ToJoin, ToSync}
+use Rattle.slon_model.specs.Tasks.{Act, ToRead, ToStep, ToForget, ToStart, ToStop, ToCut, ToJoin, ToSync, ToListen}
 use Rattle.slon_model.specs.Place.{Place, fallen}
 use Rattle.slon_model.specs.Moves.{is_last_stamp}
 use Rattle.slon_model.specs.Deciding.{Fate, AllStand, Breaks, DoubtsAt}
-use Rattle.slon_model.specs.Sessions.{World, Memory, Running, Commit, Stated, Seat, committing, in_doubt, stood_at}
+use Rattle.slon_model.specs.Sessions.{World, Memory, Running, Commit, Stated, committing, in_doubt, stood_at}
 use Rattle.slon_model.specs.Sessions.{stood}
 use Rattle.slon_model.specs.Sessions.{felled, felled_at, beyond_at, first_beyond, no_change}
 use Rattle.slon_model.specs.Scripts.{Stepping, done_by, single, order_step, statement_step, step_todo, step_of, read_as}
 use Rattle.slon_model.specs.Scripts.{ordered, kill_of}
-use Rattle.slon_model.specs.Turns.{at_node, switched, turned, turned_by, turn_by, sync_turn}
+use Rattle.slon_model.specs.Turns.{at_node, switched_at, turned, turned_by, turn_by, sync_turn}
+use Rattle.slon_model.specs.Polls.{Poll, polled, left_by, stated_by, listen_by}
 use Rattle.slon_model.specs.World.{Happening, Acting, outcome, broken_at, wavering, wavering_at}
 use Rattle.slon_model.specs.World.{world_by}
 use Rattle.slon_laws.specs.Turning.{Commits, Falls, Doubts, Carries}
@@ -68,14 +69,10 @@ kill_within : (name : List ℕ) (o : Option Running) (w : World) → AreWithin (
 kill_within name None w = refl
 kill_within name (Some run) w = refl
 
-switched_within : (node : ℕ) (m : Memory) (w : World) → AreWithin (switched node m w).commits w.places
-switched_within node m w = by (is_some (at_node node w))
-  where
-    by : (b : Bool) →
-        AreWithin (cond b (record { reply = Accepted Done; commits = []; falls = None; memory = m })
-        (no_change w (Refused (refused.NoNode node)))).commits w.places
-    by true = refl
-    by false = refl
+switched_within : (node : ℕ) (m : List ℕ → Memory) (o : Option (List ℕ × Place)) (w : World) →
+    AreWithin (switched_at node m o w).commits w.places
+switched_within node m None w = refl
+switched_within node m (Some e) w = refl
 
 turned_within : (w : World) (m : Memory) (stated : Stated) → AreWithin (turned w m stated).commits w.places
 turned_within w m stated = by (first_beyond stated.commits w.places) refl
@@ -89,6 +86,11 @@ turn_within : (w : World) (m : Memory) (due : Result Stated Refusal) → AreWith
 turn_within w m (Err refusal) = refl
 turn_within w m (Ok stated) = turned_within w m stated
 
+listen_within : (delivery : Delivery) (w : World) (due : Result Poll Refusal) →
+    AreWithin (listen_by delivery w due).commits w.places
+listen_within delivery w (Err refusal) = refl
+listen_within delivery w (Ok b) = turned_within w (left_by delivery b w.memory) (stated_by delivery b)
+
 outcome_within : (act : Act) (w : World) → AreWithin (outcome act w).commits w.places
 outcome_within (ToRead name reading) w = by (is_some (find_named name w.memory.scripts))
   where
@@ -98,11 +100,12 @@ outcome_within (ToRead name reading) w = by (is_some (find_named name w.memory.s
     by false = read_within name reading w
 outcome_within (ToStep name) w = step_within name (find_named name w.memory.scripts) w
 outcome_within (ToForget name) w = kill_within name (find_named name w.memory.scripts) w
-outcome_within (ToStart node) w = switched_within node _ w
-outcome_within (ToStop node) w = switched_within node _ w
+outcome_within (ToStart node) w = switched_within node _ (at_node node w) w
+outcome_within (ToStop node) w = switched_within node _ (at_node node w) w
 outcome_within (ToCut node other) w = refl
 outcome_within (ToJoin node other) w = refl
 outcome_within (ToSync node) w = turn_within w w.memory (sync_turn node w)
+outcome_within (ToListen node server delivery) w = listen_within delivery w (polled node server w)
 
 -- ---- commits that stand
 

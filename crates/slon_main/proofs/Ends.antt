@@ -23,7 +23,7 @@ use Rattle.slon_main.specs.Ending.{EndsInPart, InReply, InLast, EndsRun, EndsAt,
 use Rattle.slon_main.specs.Ending.{hands_back, is_cut, is_run, is_whole, session_word, database_limit, bad_line}
 use Rattle.slon_main.specs.Ending.{read_line}
 use Rattle.slon_main.specs.Ending.{store_line, long_line}
-use Rattle.cluster_engine.proofs.Walking.{none_fit}
+use Rattle.cluster_engine.proofs.Walking.{none_fit, none_wait}
 use Rattle.slon_main.proofs.Causes.{rose_since}
 use Rattle.slon_main.proofs.Runs.{ran_nothing}
 
@@ -207,7 +207,11 @@ ends_short shelf told unread written status has is none =
     subst (λ s. EndsRun shelf s told written unread has) (sym is) (
       bare,
       ran_nothing shelf database_limit told.said.commands written bare none (record {
-        agrees = record { limit = refl; fits = tt; memory = record { scripts = none_fit empty refl; switches = refl } };
+        agrees = record {
+          limit = refl;
+          fits = tt;
+          memory = record { scripts = none_fit empty refl; switches = refl; waits = none_wait empty refl };
+        };
         given = refl;
       }),
     )
@@ -217,7 +221,7 @@ ends_short shelf told unread written status has is none =
       limit = database_limit;
       given = 0;
       bases = [];
-      memory = record { scripts = empty; switches = record { started = []; cuts = [] } };
+      memory = record { scripts = empty; switches = record { started = []; cuts = [] }; queues = empty };
     }
 
 -- where the session could not be entered

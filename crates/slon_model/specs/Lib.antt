@@ -10,6 +10,7 @@ pub mod Membership
 pub mod Moves
 pub mod Names
 pub mod Place
+pub mod Polls
 pub mod Printed
 pub mod Reaching
 pub mod Rows

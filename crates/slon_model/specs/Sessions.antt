@@ -1,14 +1,14 @@
 -- What the rules know of a whole session, which commits a step makes in it, and what they leave.
-use Rattle.std.specs.Prelude.{ℕ, ◌+◌, ◌==◌, ◌&&◌, if◌then◌else◌, Bool, true, false, List, [], ◌∷◌, ◌++◌, find, Option}
-use Rattle.std.specs.Prelude.{Some, None, option_map, Result, Ok, Err}
+use Rattle.std.specs.Prelude.{ℕ, ◌+◌, ◌==◌, ◌&&◌, if◌then◌else◌, not, Bool, true, false, List, [], ◌∷◌, ◌++◌, find}
+use Rattle.std.specs.Prelude.{Option, Some, None, option_map, Result, Ok, Err}
 use Rattle.std.specs.Option.{option_or}
 use Rattle.std.specs.List.{list_any}
 use Rattle.slonik_script.specs.declared.script.Statement.{Statement}
 use Rattle.slon_model.specs.declared.reply.Answer.{Answer}
 use Rattle.slon_model.specs.declared.reply.Refusal.{Refusal}
 use Rattle.slon_model.specs.declared.reply.Reply.{Reply}
-use Rattle.slon_model.specs.Names.{Named, find_named, put_named}
-use Rattle.slon_model.specs.Maps.{Map, Map2, without_entry}
+use Rattle.slon_model.specs.Names.{Named, find_named, put_named, without}
+use Rattle.slon_model.specs.Maps.{Map}
 use Rattle.slon_model.specs.Rows.{Rows}
 use Rattle.node_rows.specs.declared.rows.Fence.{Fence}
 use Rattle.node_rows.specs.declared.body.Body.{Body}
@@ -16,7 +16,7 @@ use Rattle.slon_model.specs.Events.{Event}
 use Rattle.slon_model.specs.Views.{View}
 use Rattle.slon_model.specs.Deeds.{Node, Deed, Emits, Knowledge, knowledge, with_deeds, progress}
 use Rattle.slon_model.specs.Logs.{named}
-use Rattle.slon_model.specs.Place.{Place, is_running, fallen, doubted, deed, node_id, open_xids, taken}
+use Rattle.slon_model.specs.Place.{Place, is_running, fallen, doubted, deed, open_xids, taken}
 use Rattle.slon_model.specs.Moves.{is_last_stamp}
 
 -- What a node read for its next event of an origin: of each set the view that stood then and how many rows there were,
@@ -42,15 +42,16 @@ pub record Running : Type 0 where
   pub last : Map ℕ
   pub since : Option ℕ
 
--- What a session keeps besides its databases, and forgets of a node that goes down.
+-- What a session keeps besides its databases. What a node had in memory is gone when its database comes up again.
 pub record Memory : Type 0 where
   pub clock : ℕ
   pub cuts : List (ℕ × ℕ)
   -- the nodes whose slon is on
   pub started : List ℕ
-  -- by node and origin: the events that were delivered to its queue, the newest first, and what it fetched and keeps
-  pub queues : Map2 (List Event)
-  pub fetches : Map2 Fetch
+  -- by the name of a database and by origin: the events that wait at its node, in the order of their numbers, and what
+  -- it fetched and keeps
+  pub queues : Named (Map (List Event))
+  pub fetches : Named (Map Fetch)
   pub scripts : Named Running
 
 -- What the rules know of a session: how many databases it allows, its databases in the order of their making, and the
@@ -68,18 +69,22 @@ start limit = record { limit = limit; places = []; memory = no_memory }
 
 -- ---- a database of it changes
 
--- the queue and the fetched events of a node are gone
-abbrev pub forgotten : Option ℕ → Memory → Memory
-forgotten None m = m
-forgotten (Some node) m =
-    record m { queues = without_entry node m.queues; fetches = without_entry node m.fetches }
+-- the queue and the fetched events of the node of a database are gone
+abbrev pub forgotten : List ℕ → Memory → Memory
+forgotten name m = record m { queues = without name m.queues; fetches = without name m.fetches }
 
--- a database that is down has nothing in memory
-abbrev pub remembered : Place → Memory → Memory
-remembered q m = if is_running q.standing then m else forgotten (node_id q) m
+-- a database that comes up has nothing in memory of what it had before it went down
+abbrev pub remembered : List ℕ → Option Place → Place → Memory → Memory
+remembered name None q m = m
+remembered name (Some p) q m = if is_running q.standing && not (is_running p.standing) then forgotten name m else m
 
 abbrev pub changed : List ℕ → Place → World → World
-changed name q w = record { limit = w.limit; places = put_named name q w.places; memory = remembered q w.memory }
+changed name q w =
+    record {
+      limit = w.limit;
+      places = put_named name q w.places;
+      memory = remembered name (find_named name w.places) q w.memory;
+    }
 
 abbrev pub with_memory : Memory → World → World
 with_memory m w = record w { memory = m }

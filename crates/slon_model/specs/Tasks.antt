@@ -2,11 +2,12 @@
 -- session.
 use Rattle.std.specs.Prelude.{ℕ, List, [], ◌∷◌, Option, Some, None, unwrap_or}
 use Rattle.slon_model.specs.declared.command.Crash.{Crash as CrashKind}
+use Rattle.slon_model.specs.declared.command.Delivery.{Delivery}
 use Rattle.slon_model.specs.declared.command.Command.{Command}
 use Rattle.slon_model.specs.declared.command.Command.TheVariants.{Database, Table, Begin, Insert, Update, Delete}
 use Rattle.slon_model.specs.declared.command.Command.TheVariants.{Commit, Abort, Rows, Status, Crash, Up}
 use Rattle.slon_model.specs.declared.command.Command.TheVariants.{Slonik, Step, Kill, Start, Stop, Cut, Join}
-use Rattle.slon_model.specs.declared.command.Command.TheVariants.{Sync}
+use Rattle.slon_model.specs.declared.command.Command.TheVariants.{Sync, Listen}
 use Rattle.slon_model.specs.declared.reading.Reading.{Reading}
 use Rattle.slon_model.specs.Rows.{Row, Change, Put, Set, Remove}
 
@@ -39,6 +40,7 @@ pub data Act : Type 0 where
   ToCut : (node : ℕ) (other : ℕ) → Act
   ToJoin : (node : ℕ) (other : ℕ) → Act
   ToSync : (node : ℕ) → Act
+  ToListen : (node : ℕ) (server : ℕ) (delivery : Delivery) → Act
 
 pub data Subject : Type 0 where
   OnNew : (name : List ℕ) → Subject
@@ -79,6 +81,7 @@ subject_of (Stop node) = OnAll (ToStop node)
 subject_of (Cut node other) = OnAll (ToCut node other)
 subject_of (Join node other) = OnAll (ToJoin node other)
 subject_of (Sync node) = OnAll (ToSync node)
+subject_of (Listen node server delivery) = OnAll (ToListen node server delivery)
 
 -- ---- the words that a command names
 

@@ -1,6 +1,6 @@
 -- The turns of the daemons: the slon of a node is turned on and off, nodes are cut off and joined again, and a node
 -- emits a SYNC.
-use Rattle.std.specs.Prelude.{ℕ, ◌==◌, ◌&&◌, ◌||◌, if◌then◌else◌, not, is_some, Bool, false, List, [], ◌∷◌, ◌++◌}
+use Rattle.std.specs.Prelude.{ℕ, ◌==◌, ◌&&◌, ◌||◌, if◌then◌else◌, not, Bool, false, List, [], ◌∷◌, ◌++◌}
 use Rattle.std.specs.Prelude.{filter, find, Option, Some, None, Result, Ok, Err}
 use Rattle.std.specs.List.{list_any}
 use Rattle.std.specs.Str.{bytes_eq}
@@ -36,10 +36,12 @@ abbrev pub switches_of : Memory → Switches
 switches_of m = record { started = m.started; cuts = m.cuts }
 
 -- refused by 44 alone: no database of the session is the node
-abbrev pub switched : ℕ → Memory → World → Outcome
-switched node m w =
-    if is_some (at_node node w) then record { reply = Accepted Done; commits = []; falls = None; memory = m }
-    else no_change w (Refused (refused.NoNode node))
+abbrev pub switched_at : ℕ → (List ℕ → Memory) → Option (List ℕ × Place) → World → Outcome
+switched_at node m None w = no_change w (Refused (refused.NoNode node))
+switched_at node m (Some e) w = record { reply = Accepted Done; commits = []; falls = None; memory = m e.0 }
+
+abbrev pub switched : ℕ → (List ℕ → Memory) → World → Outcome
+switched node m w = switched_at node m (at_node node w) w
 
 -- the nodes whose slon is on, with one more
 abbrev pub with_started : ℕ → List ℕ → List ℕ
@@ -50,12 +52,12 @@ without_started node started = filter (λ other. not (other == node)) started
 
 -- `start N`
 abbrev pub start_outcome : ℕ → World → Outcome
-start_outcome node w = switched node (record w.memory { started = with_started node w.memory.started }) w
+start_outcome node w = switched node (λ name. record w.memory { started = with_started node w.memory.started }) w
 
 -- `stop N`: its queue and what it fetched are gone
 abbrev pub stop_outcome : ℕ → World → Outcome
 stop_outcome node w =
-    switched node (forgotten (Some node) (record w.memory { started = without_started node w.memory.started })) w
+    switched node (λ name. forgotten name (record w.memory { started = without_started node w.memory.started })) w
 
 -- ---- cuts, whichever of the two is named first
 

@@ -1,5 +1,5 @@
 -- What the rules know after a history, the one reply that they give to a command, and the histories that they allow.
-use Rattle.std.specs.Prelude.{◌≡◌, ◌<◌, ℕ, if◌then◌else◌, nat_lt, is_some, Bool, true, false, List, [], ◌∷◌}
+use Rattle.std.specs.Prelude.{◌≡◌, ◌<◌, ◌||◌, ℕ, if◌then◌else◌, nat_lt, is_some, Bool, true, false, List, [], ◌∷◌}
 use Rattle.std.specs.Prelude.{◌++◌}
 use Rattle.std.specs.Prelude.{length, take, drop, Option, Some, None, Result, Ok, Err, unwrap_or}
 use Rattle.slon_base.specs.Counts.{Rose}
@@ -20,7 +20,7 @@ use Rattle.slon_model.specs.declared.reply.Reply.TheVariants.{Accepted, Refused,
 use Rattle.std.specs.Str.{bytes_eq}
 use Rattle.slon_model.specs.Names.{find_named}
 use Rattle.slon_model.specs.Tasks.{Task, ToFound, Act, ToRead, ToStep, ToForget, ToStart, ToStop, ToCut}
-use Rattle.slon_model.specs.Tasks.{ToJoin, ToSync, Subject, OnNew, OnOne, OnAll, subject_of, Words, words_of}
+use Rattle.slon_model.specs.Tasks.{ToJoin, ToSync, ToListen, Subject, OnNew, OnOne, OnAll, subject_of, Words, words_of}
 use Rattle.slon_model.specs.Place.{Place, is_running, bare_place, fallen}
 use Rattle.slon_model.specs.Deciding.{Choice, AsDue, Among, Fate, AllStand, Breaks, DoubtsAt, decide, result_of, sure}
 use Rattle.slon_model.specs.Deciding.{place_by, Takes}
@@ -28,6 +28,7 @@ pub use Rattle.slon_model.specs.Sessions.{World, start, changed, adopted}
 use Rattle.slon_model.specs.Sessions.{Memory, Running, Commit, in_doubt, stand, with_memory, Outcome, after_outcome}
 use Rattle.slon_model.specs.Scripts.{slonik_outcome, step_outcome, kill_outcome, without_script}
 use Rattle.slon_model.specs.Turns.{at_node, start_outcome, stop_outcome, cut_outcome, join_outcome, sync_outcome}
+use Rattle.slon_model.specs.Polls.{listen_outcome}
 use Rattle.slon_model.specs.Printed.{reply_line}
 
 -- ---- replies
@@ -89,6 +90,7 @@ outcome (ToStop node) = stop_outcome node
 outcome (ToCut node other) = cut_outcome node other
 outcome (ToJoin node other) = join_outcome node other
 outcome (ToSync node) = sync_outcome node
+outcome (ToListen node server delivery) = listen_outcome node server delivery
 
 abbrev pub due_on : Subject → World → Reply
 due_on (OnNew name) w = database_due name w
@@ -134,10 +136,12 @@ abbrev pub is_of : List ℕ → Option (List ℕ × Place) → Bool
 is_of name None = false
 is_of name (Some e) = bytes_eq name e.0
 
--- a step may call on the store of each database, where something is left to do; a turn on that of its node
+-- a step may call on the store of each database, where something is left to do; a turn on that of its node, and a poll
+-- on that of the server too
 abbrev pub may_break : Act → List ℕ → World → Bool
 may_break (ToStep script) name w = has_todo (find_named script w.memory.scripts)
 may_break (ToSync node) name w = is_of name (at_node node w)
+may_break (ToListen node server delivery) name w = is_of name (at_node node w) || is_of name (at_node server w)
 may_break others name w = false
 
 -- the script ends

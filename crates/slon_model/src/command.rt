@@ -16,6 +16,17 @@ pub enum Crash {
     AtCommit { keep: bool },
 }
 
+/// What becomes of what a poll brings.
+#[derive(Clone, Copy, Debug, Drop, PartialEq, Eq)]
+pub enum Delivery {
+    /// It is delivered.
+    Once,
+    /// It is lost on the way.
+    Lost,
+    /// It is delivered twice.
+    Again,
+}
+
 /// A line of a session that asks for something.
 #[derive(Drop)]
 pub enum Command {
@@ -121,6 +132,12 @@ pub enum Command {
     Sync {
         node: u32,
     },
+    /// Has a node poll a server.
+    Listen {
+        node: u32,
+        server: u32,
+        delivery: Delivery,
+    },
 }
 
 impl Command {
@@ -133,7 +150,8 @@ impl Command {
             | Command::Stop { .. }
             | Command::Cut { .. }
             | Command::Join { .. }
-            | Command::Sync { .. } => None,
+            | Command::Sync { .. }
+            | Command::Listen { .. } => None,
             Command::Database { name } => Some(name),
             Command::Slonik { script, .. } | Command::Step { script } | Command::Kill { script } =>
                 Some(script),

@@ -11,7 +11,7 @@ mod reply;
 mod standing;
 
 pub use columns::ColumnList;
-pub use command::{Command, Crash};
+pub use command::{Command, Crash, Delivery};
 pub use fault::DbFault;
 pub use forms::is_part;
 pub use numbering::Numbering;

@@ -8,6 +8,8 @@ mod known;
 #[cfg(test)]
 mod outside;
 #[cfg(test)]
+mod polls;
+#[cfg(test)]
 mod running;
 #[cfg(test)]
 mod scripts;
@@ -17,3 +19,5 @@ mod sessions;
 mod stores;
 #[cfg(test)]
 mod system;
+#[cfg(test)]
+mod wanted;

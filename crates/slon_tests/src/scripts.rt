@@ -1,13 +1,11 @@
 // Sessions whose scripts make a cluster.
 use crate::running::{Fails, NOTHING, run, run_over};
+use crate::wanted::{Crash, Step, expect_wanted, is_among, nothing_wanted};
 use node_keeper::MemSink;
 use slon_main::Status;
 use std::alloc::Global;
 use std::test::Fail;
 use test_words::{expect, keeping, require};
-
-/// A statement, or a line of the session, and its reply.
-type Step = (&'static str, &'static str);
 
 /// The databases, with their tables.
 const DATABASES: &[Step] = &[
@@ -131,68 +129,6 @@ const TAKEN: Step = (
 const DOWN: &[Step] = &[("commit a x", "ok actions 1"), ("crash b", "ok")];
 
 const ASLEEP: Step = ("create set (id = 2, origin = 1);", "no 16 down b");
-
-/// A session and the replies that are wanted.
-#[derive(Drop)]
-struct Wanted {
-    session: String,
-    replies: String,
-}
-
-/// An empty session.
-fn nothing_wanted(alloc: Global) -> Wanted {
-    Wanted {
-        session: String::new(alloc),
-        replies: String::new(alloc),
-    }
-}
-
-impl Wanted {
-    /// Adds a line with its reply.
-    fn push(&mut self, line: &str, reply: &str) -> Result<(), Fail> {
-        write!(self.session, "{line}\n")?;
-        write!(self.replies, "{reply}\n")?;
-        Ok(())
-    }
-
-    /// Adds lines with their replies.
-    fn push_all(&mut self, steps: &[Step]) -> Result<(), Fail> {
-        for (line, reply) in steps {
-            self.push(line, reply)?;
-        }
-        Ok(())
-    }
-
-    /// Adds a script over these nodes, which is run step by step.
-    fn push_script(&mut self, nodes: &str, steps: &[Step]) -> Result<(), Fail> {
-        write!(self.session, "slonik s <<\n{nodes}")?;
-        for (statement, _) in steps {
-            write!(self.session, "{statement}\n")?;
-        }
-        self.session.push_str(">>\n")?;
-        write!(self.replies, "ok statements {}\n", steps.len())?;
-        for (_, reply) in steps {
-            self.push("step s", reply)?;
-        }
-        Ok(())
-    }
-
-    /// Adds a script of each of these statements.
-    fn push_each(&mut self, nodes: &str, steps: &[Step]) -> Result<(), Fail> {
-        for step in steps {
-            self.push_script(nodes, &[*step])?;
-        }
-        Ok(())
-    }
-}
-
-/// The session is run to its end, with these replies.
-fn expect_wanted(alloc: Global, wanted: &Wanted) -> Result<(), Fail> {
-    let (is, out) = run(alloc, Some("s"), wanted.session.as_bytes(), NOTHING)?;
-    let seen = str::from_utf8(out.written())?;
-    expect(wanted.session.as_str(), seen, wanted.replies.as_str())?;
-    require(is == Status::Done, "a session of scripts")
-}
 
 /// Each statement as it is accepted, and each as it is refused. A script that ended is there no more.
 #[test]
@@ -367,14 +303,6 @@ fn scripts_are_bad_lines(rt: HostRuntime) -> Result<(), Fail> {
 
 // ---- a database that becomes a node, whose store or that of the other node crashes at each call
 
-/// A database crashes at this call of its store, and a commit that fails there stands or not.
-#[derive(Clone, Copy)]
-struct Crash {
-    database: &'static str,
-    calls: u32,
-    keep: bool,
-}
-
 /// The replies of the session of a join with a crash.
 fn joined(alloc: Global, crash: Crash) -> Result<MemSink, Fail> {
     let mut wanted = nothing_wanted(alloc);
@@ -442,29 +370,6 @@ fn outcomes(crash: Crash) -> [[&'static str; 5]; 3] {
         [fault, down, "ok", ALONE, BARE],
         doubt,
     ]
-}
-
-/// The last replies are these.
-fn ends_so(written: &str, wanted: &[&'static str]) -> bool {
-    let count = written.lines().count();
-    if count < wanted.len() {
-        return false;
-    }
-    let mut lines = written.lines().skip(count - wanted.len());
-    wanted.iter().all(|line| lines.next() == Some(line))
-}
-
-/// Whether the crash was told. The replies are those of one of the outcomes: it was not, it failed, or it is in doubt.
-fn is_among(written: &str, outcomes: [&[&'static str]; 3]) -> Result<bool, Fail> {
-    let [done, failed, doubted] = outcomes;
-    if ends_so(written, done) {
-        return Ok(false);
-    }
-    require(
-        ends_so(written, failed) || ends_so(written, doubted),
-        written,
-    )?;
-    Ok(true)
 }
 
 /// Whether the crash of a join was told.
@@ -571,8 +476,8 @@ enum Crashing {
     Sync,
 }
 
-/// This with a crash at each call of the store: the first calls are told, and those behind are not reached. How many are
-/// told.
+/// This with a crash at each call of the store: the first calls are told, and those behind are not reached. How many
+/// are told.
 fn told_at_each(alloc: Global, keep: bool, crashing: Crashing) -> Result<u32, Fail> {
     let mut told = 0;
     for calls in 0..30 {

@@ -1,5 +1,5 @@
 -- The bytes of rows and of bodies of events, as a node's store has them.
-use Rattle.std.proofs.Common.{◌≡◌, Bool, true, false, [], ◌∷◌, codes, refl}
+use Rattle.std.proofs.Common.{◌≡◌, true, false, [], ◌∷◌, codes, refl}
 use Rattle.std.specs.Fmt.{digits}
 use Rattle.slon_base.specs.Codec.{number_bytes, count_bytes, text_bytes, many_bytes}
 use Rattle.node_rows.specs.declared.rows.FenceState.TheVariants.{Opened}

@@ -1,6 +1,7 @@
 pub mod Bytes
 pub mod Capture
 pub mod Doubts
+pub mod Polls
 pub mod Refusals
 pub mod Running
 pub mod Streams

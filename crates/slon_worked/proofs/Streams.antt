@@ -7,10 +7,10 @@ use Rattle.slon_model.specs.declared.reply.Answer.TheVariants as answer
 use Rattle.slon_model.specs.declared.reply.Refusal.TheVariants as refused
 use Rattle.slon_model.specs.declared.reply.Reply.{Reply}
 use Rattle.slon_model.specs.declared.reply.Reply.TheVariants.{Accepted, Refused}
-use Rattle.slon_model.specs.Tasks.{OnNew, OnOne, OnAll, ToMake, ToOpen, ToAbort, ToCrash, ToRise, ToTell, ToStart, ToStop}
+use Rattle.slon_model.specs.Tasks.{OnNew, OnOne, OnAll, ToMake, ToOpen, ToAbort, ToCrash, ToRise, ToStart, ToStop}
 use Rattle.slon_model.specs.Tasks.{ToCut, ToJoin, ToSync}
 use Rattle.slon_model.specs.Sessions.{start}
-use Rattle.slon_worked.proofs.Running.{Worked, Asks, replies, Head, reads, step}
+use Rattle.slon_worked.proofs.Running.{Worked, Asks, replies, reads, step}
 use Rattle.slon_worked.proofs.Capture.{head}
 
 abbrev session : List Worked

@@ -203,14 +203,26 @@ named_held : {K : Type 0} {g : Ghosts K} (kept : K → Kept) (databases : List (
 named_held {K} {g} kept databases i name d at held =
     name_here kept databases i name d at ∙ sym (ap (λ (x : NamedDatabase K g). x.name) held)
 
-put_two : {K : Type 0} {g : Ghosts K} (kept : K → Kept) (j : Joiner) (at : Spots) (olds : List (NamedDatabase K g))
-    (reply : Reply) (news : List (NamedDatabase K g)) (joined : JoinedAt kept j at olds reply news) →
+-- Two databases at two places are others, under their names.
+pub record ChangedAt {K : Type 0} {g : Ghosts K} (at : Spots) (olds news : List (NamedDatabase K g)) : Type 0 where
+  pub from_old : NamedDatabase K g
+  pub from_new : NamedDatabase K g
+  pub to_old : NamedDatabase K g
+  pub to_new : NamedDatabase K g
+  pub from_held : from_old ≡ get_or olds at.from from_old
+  pub to_held : to_old ≡ get_or olds at.to to_old
+  pub from_name : from_new.name ≡ from_old.name
+  pub to_name : to_new.name ≡ to_old.name
+  pub is : news ≡ set (set olds at.from from_new) at.to to_new
+
+put_two : {K : Type 0} {g : Ghosts K} (kept : K → Kept) (at : Spots) (olds news : List (NamedDatabase K g))
+    (joined : ChangedAt {g = g} at olds news) →
     (position (λ d. bytes_eq joined.from_old.name d.name) olds ≡ Some at.from)
     × (position (λ d. bytes_eq joined.to_old.name d.name) olds ≡ Some at.to) →
-    bases_of kept news
+    bases_of {g = g} kept news
     ≡ put_named joined.to_old.name (base_of kept joined.to_new.database)
     (put_named joined.from_old.name (base_of kept joined.from_new.database) (bases_of kept olds))
-put_two {K} {g} kept j at olds reply news joined (first, second) =
+put_two {K} {g} kept at olds news joined (first, second) =
     let f = named_base {g = g} kept in
     let x = joined.from_new in
     let y = joined.to_new in
@@ -229,12 +241,18 @@ put_two {K} {g} kept j at olds reply news joined (first, second) =
     ∙ ap (put_named d.name (f y).1)
     (put_position f e.name olds at.from e x (record { at = first; held = joined.from_held }, joined.from_name))
 
-pub whole : {K : Type 0} {g : Ghosts K} (kept : K → Kept) (j : Joiner) (at : Spots) (olds : List (NamedDatabase K g))
-    (reply : Reply) (news : List (NamedDatabase K g)) (joined : JoinedAt kept j at olds reply news)
-    (met : MetAt olds at) →
+-- Names stand first at two places, which differ.
+pub record NamesAt {K : Type 0} {g : Ghosts K} (databases : List (NamedDatabase K g)) (at : Spots) : Type 0 where
+  pub names : PairNames
+  pub from : position (λ d. bytes_eq names.from d.name) databases ≡ Some at.from
+  pub to : position (λ d. bytes_eq names.to d.name) databases ≡ Some at.to
+  pub apart : at.from ≡ at.to → ⊥
+
+pub whole_at : {K : Type 0} {g : Ghosts K} (kept : K → Kept) (at : Spots) (olds news : List (NamedDatabase K g))
+    (joined : ChangedAt {g = g} at olds news) (met : NamesAt {g = g} olds at) →
     Whole kept olds news met.names (couple_of kept joined.from_old joined.to_old)
     (pair_of kept joined.from_new joined.to_new)
-whole {K} {g} kept j at olds reply news joined met =
+whole_at {K} {g} kept at olds news joined met =
     let f = named_base {g = g} kept in
     let e = joined.from_old in
     let d = joined.to_old in
@@ -247,13 +265,31 @@ whole {K} {g} kept j at olds reply news joined met =
       two = record {
         from = find_position f e.name olds at.from e (record { at = first; held = joined.from_held });
         to = find_position f d.name olds at.to d (record { at = second; held = joined.to_held });
-        apart = false_from_ne_true (bytes_eq e.name d.name) (λ same. met.joinable.apart
+        apart = false_from_ne_true (bytes_eq e.name d.name) (λ same. met.apart
             (apart_names olds e.name d.name at.from at.to first second (bytes_same e.name d.name same)));
       };
       from = a_is;
       to = b_is;
-      is = put_two kept j at olds reply news joined (first, second);
+      is = put_two kept at olds news joined (first, second);
     }
+
+pub whole : {K : Type 0} {g : Ghosts K} (kept : K → Kept) (j : Joiner) (at : Spots) (olds : List (NamedDatabase K g))
+    (reply : Reply) (news : List (NamedDatabase K g)) (joined : JoinedAt kept j at olds reply news)
+    (met : MetAt olds at) →
+    Whole kept olds news met.names (couple_of kept joined.from_old joined.to_old)
+    (pair_of kept joined.from_new joined.to_new)
+whole {K} {g} kept j at olds reply news joined met =
+    whole_at {g = g} kept at olds news (record {
+      from_old = joined.from_old;
+      from_new = joined.from_new;
+      to_old = joined.to_old;
+      to_new = joined.to_new;
+      from_held = joined.from_held;
+      to_held = joined.to_held;
+      from_name = joined.from_name;
+      to_name = joined.to_name;
+      is = joined.is;
+    }) (record { names = met.names; from = met.from; to = met.to; apart = met.joinable.apart })
 
 -- over every store
 pub runs_stored : {K : Type 0} {g : Ghosts K} (kept : K → Kept) (j : Joiner) (at : Spots)

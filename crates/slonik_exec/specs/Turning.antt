@@ -1,5 +1,6 @@
 -- A turn of the slon of a node.
 use Rattle.std.specs.Prelude.{◌≡◌, ◌<◌, ℕ, Bool, true, List, length, get_or, Some, Result, Ok, Err}
+use Rattle.std.specs.List.{position}
 use Rattle.std.specs.Option.{option_map}
 use Rattle.slon_base.specs.Keeper.{Kept}
 use Rattle.slon_base.specs.declared.fault.Halt.{Halt as HaltOf}
@@ -31,6 +32,11 @@ abbrev pub IsSeatHere : {K : Type 0} {g : Ghosts K} → List (NamedDatabase K g)
 IsSeatHere {K} {g} databases (At i) =
     (i < length databases) × ((d : NamedDatabase K g) → d ≡ get_or databases i d → IsNodeAt d.name databases i)
 IsSeatHere databases (Refused refusal) = Unit {0}
+
+-- it is the first one that is this node
+abbrev pub IsThisAt : {K : Type 0} {g : Ghosts K} → ℕ → List (NamedDatabase K g) → Reached → Type 0
+IsThisAt node databases (At i) = position (is_this node) databases ≡ Some i
+IsThisAt node databases (Refused refusal) = Unit {0}
 
 -- ---- by the rules
 

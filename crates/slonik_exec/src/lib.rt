@@ -22,8 +22,9 @@ pub use databases::{Named, index_of};
 pub use knowing::{
     Heard, Question, down_database, down_node, first_node, has_node, known_somewhere,
 };
+pub use membership::Spots;
 pub use reaching::{Reached, database_in, database_of_line, reach};
 pub use replies::{answered, copied, halted, refused, told};
 pub use short::NoMemory;
 pub use syncing::take_sync;
-pub use turns::turn_of;
+pub use turns::{index_of_node, turn_of};

@@ -114,13 +114,13 @@ fn join_at<K: Keeper>(
     }
 }
 
-/// The places of two databases.
+/// The places of two databases in a list.
 #[derive(Clone, Copy)]
-pub(crate) struct Spots {
-    /// Of that of the event node.
-    pub(crate) from: usize,
-    /// Of that which becomes a node.
-    pub(crate) to: usize,
+pub struct Spots {
+    /// Of that of the event node, or of the node that polls.
+    pub from: usize,
+    /// Of that which becomes a node, or of the server.
+    pub to: usize,
 }
 
 /// The same at two places.

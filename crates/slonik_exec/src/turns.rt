@@ -4,7 +4,7 @@ ghost use Rattle.std.specs.List.{position};
 ghost use Rattle.slonik_exec.specs.Databases.{bases_of};
 ghost use Rattle.slonik_exec.specs.Heard.{AreDistinct};
 ghost use Rattle.slonik_exec.specs.Reached.{IsQuietly};
-ghost use Rattle.slonik_exec.specs.Turning.{is_this, IsSeatHere, HasTurn};
+ghost use Rattle.slonik_exec.specs.Turning.{is_this, IsSeatHere, IsThisAt, HasTurn};
 
 use crate::databases::Named;
 use crate::reaching::Reached;
@@ -14,7 +14,7 @@ use slon_model::Refusal;
 use std::alloc::Global;
 
 /// The first database that is this node, or would be by a commit in doubt.
-fn index_of_node<K: Keeper>(databases: &[Named<K>], node: u32) -> Option<usize>
+pub fn index_of_node<K: Keeper>(databases: &[Named<K>], node: u32) -> Option<usize>
     ensures { result ≡ position (is_this node) databases.now }
 {
     databases
@@ -36,6 +36,7 @@ pub fn turn_of<K: Keeper>(
 ) -> Result<Reached, NoMemory>
     requires distinct { AreDistinct (bases_of K.kept databases.now) }
     ensures here { IfOk result (λ reached. IsSeatHere databases.now reached) }
+    ensures at { IfOk result (λ reached. IsThisAt node databases.now reached) }
     ensures quiet { IfOk result (λ reached. IsQuietly reached) }
     ensures turns { IfOk result (λ reached. HasTurn K.kept node started.now databases.now reached) }
 {

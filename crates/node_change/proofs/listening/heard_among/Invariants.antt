@@ -13,6 +13,7 @@ invariant-loop-node g l =
     record {
       looked : Looked (g.K.Keeper.kept l.fn.keeper) (g.K.Keeper.kept l.keeper);
       ids : AllAre (λ e. IsId e.0) (drop l.node-index l.nodes);
+      found : AllAre IsId l.heard;
       says : (m : Store) (c : Config) → sight (g.K.Keeper.kept l.fn.keeper) ≡ Some m → HoldsConfig c m →
           l.heard ++ heard_among l.own l.server c (drop l.node-index l.nodes)
           ≡ heard_among l.own l.server c l.nodes;

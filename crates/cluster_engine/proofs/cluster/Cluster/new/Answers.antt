@@ -1,7 +1,7 @@
 use Rattle.std.proofs.Common.{ℕ, List, refl, sym, ap, subst, ◌∙◌, []}
 use Rattle.slon_model.specs.Turns.{Switches}
 use Rattle.slonik_exec.specs.Databases.{FitsAll, bases_of}
-use Rattle.cluster_engine.proofs.Walking.{none_fit}
+use Rattle.cluster_engine.proofs.Walking.{none_fit, none_wait}
 use Rattle.cluster_engine.proofs.cluster.Cluster.new.Goals as goal
 
 abbrev switched_by : List ℕ → List (ℕ × ℕ) → Switches
@@ -15,5 +15,6 @@ returns-clause-agrees g c = record {
     scripts = none_fit c.new-2.result c.new-2.ensures;
     switches = ap (λ l. switched_by l []) (sym c.new-3.ensures.items)
         ∙ ap (switched_by c.new-3.result.items) (sym c.new-4.ensures.items);
+    waits = none_wait c.new-5.result c.new-5.ensures;
   };
 }

@@ -1,6 +1,7 @@
-use Rattle.std.proofs.Common.{Bool, ap}
+use Rattle.std.proofs.Common.{Bool, ap, subst, arith}
 use Rattle.slon_model.specs.declared.command.Command.{Command}
-use Rattle.slon_model.specs.Tasks.{subject_of, ToStep, ToForget, ToStart, ToStop, ToCut, ToJoin, ToSync}
+use Rattle.slon_model.specs.Spoken.{IsSpoken}
+use Rattle.slon_model.specs.Tasks.{subject_of, ToStep, ToForget, ToStart, ToStop, ToCut, ToJoin, ToSync, ToListen}
 use Rattle.cluster_engine.specs.Calls.{Acts, takes_none}
 use Rattle.cluster_engine.specs.Clustered.{cluster_of}
 use Rattle.cluster_engine.proofs.Moving.{granted_moves, acts_moves, one_left, none_left, spared}
@@ -48,6 +49,18 @@ returns-in-Sync-clause-moves g c =
     (cluster_of g.K.Keeper.kept c.args.self.now) (cluster_of g.K.Keeper.kept c.sync.new.self)
     (ap subject_of c.in-Sync.is) c.sync.ensures
 
+pub returns-in-Listen-clause-moves : goal.returns-in-Listen-clause-moves
+returns-in-Listen-clause-moves g c =
+    acts_moves c.listen.result c.args.command.now
+    (ToListen c.in-Listen.node c.in-Listen.server c.in-Listen.delivery)
+    (cluster_of g.K.Keeper.kept c.args.self.now) (cluster_of g.K.Keeper.kept c.listen.new.self)
+    (ap subject_of c.in-Listen.is) c.listen.ensures
+
+pub listen-requires-clause-id : goal.listen-requires-clause-id
+listen-requires-clause-id g c =
+    let server = (subst IsSpoken c.in-Listen.is c.requires.spoken).1.1 in
+    (server.0, omega (arith, server.1))
+
 pub ask-requires-clause-one : goal.ask-requires-clause-one
 ask-requires-clause-one g c = one_left c.args.command.now (record {
   database = c.in_default.not-Database;
@@ -59,6 +72,7 @@ ask-requires-clause-one g c = one_left c.args.command.now (record {
   cut = c.in_default.not-Cut;
   join = c.in_default.not-Join;
   sync = c.in_default.not-Sync;
+  listen = c.in_default.not-Listen;
 })
 
 abbrev takes : Command → Bool
@@ -82,6 +96,9 @@ returns-in-Cut-clause-spares g c = spared c.args.command.now _ (ap takes c.in-Cu
 pub returns-in-Sync-clause-spares : goal.returns-in-Sync-clause-spares
 returns-in-Sync-clause-spares g c = spared c.args.command.now _ (ap takes c.in-Sync.is)
 
+pub returns-in-Listen-clause-spares : goal.returns-in-Listen-clause-spares
+returns-in-Listen-clause-spares g c = spared c.args.command.now _ (ap takes c.in-Listen.is)
+
 pub returns-in_default-clause-spares : goal.returns-in_default-clause-spares
 returns-in_default-clause-spares g c = spared c.args.command.now _ (none_left c.args.command.now (record {
   database = c.in_default.not-Database;
@@ -93,4 +110,5 @@ returns-in_default-clause-spares g c = spared c.args.command.now _ (none_left c.
   cut = c.in_default.not-Cut;
   join = c.in_default.not-Join;
   sync = c.in_default.not-Sync;
+  listen = c.in_default.not-Listen;
 }))

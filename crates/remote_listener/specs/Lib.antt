@@ -1,0 +1,4 @@
+pub mod Asking
+pub mod Delivering
+pub mod Queues
+pub mod Reading

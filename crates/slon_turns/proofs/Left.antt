@@ -1,0 +1,98 @@
+-- What waits at the databases of a session behind a poll.
+use Rattle.std.proofs.Common.{◌≡◌, ◌∙◌, ℕ, Bool, true, false, cond, List, [], ◌∷◌, Option, Some, None, Result, Ok, Err}
+use Rattle.std.proofs.Common.{refl}
+use Rattle.std.proofs.Common.{sym, ap, subst}
+use Rattle.std.specs.FinMap.{get, insert, remove}
+use Rattle.std.specs.Str.{bytes_eq}
+use Rattle.slon_model.specs.declared.command.Delivery.{Delivery}
+use Rattle.slon_model.specs.declared.command.Delivery.TheVariants.{Once, Lost, Again}
+use Rattle.slon_model.specs.declared.reply.Refusal.{Refusal}
+use Rattle.slon_model.specs.declared.reply.Refusal.TheVariants as refused
+use Rattle.slon_model.specs.declared.reply.Reply.{Reply}
+use Rattle.slon_model.specs.declared.reply.Reply.TheVariants.{Accepted}
+use Rattle.slon_model.specs.Place.{Place}
+use Rattle.slon_model.specs.Sessions.{Memory, Seat, bind, checked, unless_refused, first_refusal, when}
+use Rattle.slon_model.specs.Polls.{Poll, brings_nothing, served, poll_of, poll_at, queue_at, left_by, delivered}
+use Rattle.slon_model.specs.Polls.{all_queued}
+use Rattle.slon_model.proofs.Names.{bytes_same}
+use Rattle.event_store.specs.declared.queue.Queue.{Queue}
+use Rattle.slon_turns.specs.Polling.{Waits, left_when, Spot, ListensBetween, AtOwn, AtServer}
+use Rattle.slon_turns.specs.Turning.{Queues, WaitsIn}
+use Rattle.slon_turns.proofs.Listens.{left_refused}
+use Rattle.slon_turns.proofs.Waiting.{waits_at, queue_beside, put_back}
+use Rattle.node_store.specs.Joining.{Pair}
+
+-- ---- whose poll it is
+
+bound : {A B : Type 0} (r : Result A Refusal) (f : A → Result B Refusal) (b : B) → bind r f ≡ Ok b →
+    (a : A) × (f a ≡ Ok b)
+bound (Ok a) f b is = (a, is)
+bound (Err refusal) f b is = absurd cc
+
+passed : {A : Type 0} (checks : List (Option Refusal)) (a b : A) → checked checks a ≡ Ok b → a ≡ b
+passed checks a b is = by (first_refusal checks) is
+  where
+    by : (o : Option Refusal) → unless_refused o a ≡ Ok b → a ≡ b
+    by None is = cc
+    by (Some refusal) is = absurd cc
+
+-- what a node polls is its own
+pub own_poll : (server : ℕ) (m : Memory) (s : Seat) (found : Option (List ℕ × Place)) (b : Poll) →
+    poll_at server m s found ≡ Ok b → b.seat ≡ s
+own_poll server m s found b is =
+    let at = bound (served server m s found) _ b is in
+    ap (λ (x : Poll). x.seat)
+    (sym (passed (when (brings_nothing (poll_of m s at.0)) refused.Nothing ∷ []) (poll_of m s at.0) b at.1))
+
+-- ---- at other databases
+
+delivered_beside : (other : List ℕ) (b : Poll) (m : Memory) → bytes_eq other b.seat.name ≡ false →
+    queue_at other (delivered b m) ≡ queue_at other m
+delivered_beside other b m apart =
+    queue_beside other b.seat.name (all_queued b.events (queue_at b.seat.name m)) m apart
+
+left_beside : (delivery : Delivery) (other : List ℕ) (b : Poll) (m : Memory) → bytes_eq other b.seat.name ≡ false →
+    queue_at other (left_by delivery b m) ≡ queue_at other m
+left_beside Once other b m apart = delivered_beside other b m apart
+left_beside Lost other b m apart = refl
+left_beside Again other b m apart =
+    delivered_beside other b (delivered b m) apart ∙ delivered_beside other b m apart
+
+-- A poll of the database of this name.
+pub record OwnPoll (name : List ℕ) (due : Result Poll Refusal) : Type 0 where
+  pub own : (b : Poll) → due ≡ Ok b → b.seat.name ≡ name
+
+same_beside : (delivery : Delivery) (other name : List ℕ) (due : Result Poll Refusal) (reply : Reply) (m : Memory) →
+    OwnPoll name due → bytes_eq other name ≡ false → queue_at other (left_when delivery due reply m) ≡ queue_at other m
+same_beside delivery other name (Ok b) (Accepted answer) m own apart =
+    left_beside delivery other b m (ap (bytes_eq other) (own.own b refl) ∙ apart)
+same_beside delivery other name (Ok b) others m own apart = refl
+same_beside delivery other name (Err refusal) reply m own apart = refl
+
+-- ---- at all
+
+-- the queue of one database is another one
+pub waits_left : (delivery : Delivery) (name : List ℕ) (due : Result Poll Refusal) (reply : Reply) (m : Memory)
+    (queues : Queues) (queue : Queue) → OwnPoll name due × Waits name (left_when delivery due reply m) queue →
+    (other : List ℕ) → WaitsIn other m (get queues other) →
+    WaitsIn other (left_when delivery due reply m) (get (insert (remove queues name) name queue) other)
+waits_left delivery name due reply m queues queue (own, here) other waits =
+    subst (WaitsIn other (left_when delivery due reply m)) (sym (put_back other name queue queues))
+    (by (bytes_eq other name) refl)
+  where
+    by : (b : Bool) → bytes_eq other name ≡ b →
+        WaitsIn other (left_when delivery due reply m) (cond b (Some queue) (get queues other))
+    by true is =
+        subst (λ n. Waits n (left_when delivery due reply m) queue) (sym (bytes_same other name is)) here
+    by false is =
+        waits_at other m (left_when delivery due reply m) (get queues other)
+        (same_beside delivery other name due reply m own is) waits
+
+-- what waits at the node by what the poll came to
+pub waits_between : {s : Spot} {server : List ℕ × Place} {due : Result Poll Refusal} {reply : Reply} {new : Pair}
+    {queue : Queue} → ListensBetween s server due reply new queue →
+    Waits s.name (left_when s.delivery due reply s.memory) queue
+waits_between (AtOwn listens still) = listens.waits
+waits_between {s} {server} {due} {queue = queue} (AtServer count told can fell fits waits) =
+    subst (λ r. Waits s.name (left_when s.delivery due r s.memory) queue) (sym told)
+    (subst (λ m. Waits s.name m queue) (sym (left_refused s.delivery due _ s.memory)) waits)

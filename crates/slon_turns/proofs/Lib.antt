@@ -1,0 +1,10 @@
+pub mod Answered
+pub mod Between
+pub mod Brought
+pub mod Due
+pub mod Left
+pub mod Lifted
+pub mod Listens
+pub mod Turned
+pub mod Twice
+pub mod Waiting

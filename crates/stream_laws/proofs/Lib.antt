@@ -1,0 +1,12 @@
+pub mod Commits
+pub mod Emits
+pub mod Growing
+pub mod Hears
+pub mod Joins
+pub mod Laws
+pub mod Lists
+pub mod Outcomes
+pub mod Seats
+pub mod Statements
+pub mod Steps
+pub mod Waiting

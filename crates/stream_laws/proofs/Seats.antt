@@ -1,0 +1,202 @@
+-- What a script or a turn reaches is a node of the session, and what it was not refused for is not so.
+use Rattle.std.proofs.Common.{◌≡◌, ℕ, Bool, true, false, cond, List, [], ◌∷◌, Option, Some, None, Result, Ok, Err, refl}
+use Rattle.std.proofs.Common.{sym, ap, subst, ◌∙◌, not}
+use Rattle.std.specs.Prelude.{◌||◌, filter_map, option_map, find}
+use Rattle.std.specs.Option.{option_or}
+use Rattle.std.specs.List.{list_any, cons_option}
+use Rattle.std.specs.Str.{bytes_eq}
+use Rattle.std.proofs.lemmas.Bool.{false≢true}
+use Rattle.slon_model.specs.declared.reply.Refusal.{Refusal}
+use Rattle.slon_model.specs.declared.reply.Refusal.TheVariants as refused
+use Rattle.slon_model.specs.Names.{Named, find_named}
+use Rattle.slon_model.specs.Rows.{member}
+use Rattle.slon_model.specs.Maps.{entry_at}
+use Rattle.slon_model.specs.Config.{Config}
+use Rattle.slon_model.specs.Deeds.{Node, knowledge}
+use Rattle.slon_model.specs.Place.{Place, is_running, node_id}
+use Rattle.slon_model.specs.Sessions.{World, Running, Seat, bind, when, first_refusal, unless_refused, checked, seat_of}
+use Rattle.slon_model.specs.Reaching.{database_up, database_by, database_of_line, reach}
+use Rattle.slon_model.specs.Membership.{already, first_id}
+use Rattle.slon_model.specs.Turns.{at_node, seat_at, on_turn}
+use Rattle.slon_model.proofs.Names.{bytes_itself, bytes_same, one_found}
+use Rattle.stream_laws.specs.Nodes.{nodes_in, node_in}
+use Rattle.stream_laws.specs.Facts.{AreNamedOnce}
+
+-- ---- results
+
+-- P of what there is, if it was not refused
+abbrev pub OnOk : {A : Type 0} → (A → Type 0) → Result A Refusal → Type 0
+OnOk P (Ok a) = P a
+OnOk P (Err refusal) = Unit {0}
+
+pub bind_ok : {A B : Type 0} (P : A → Type 0) (Q : B → Type 0) (r : Result A Refusal) (f : A → Result B Refusal) →
+    OnOk P r → ((a : A) → P a → OnOk Q (f a)) → OnOk Q (bind r f)
+bind_ok P Q (Ok a) f is on = on a is
+bind_ok P Q (Err refusal) f is on = tt
+
+-- where none of these looks at something that refuses
+pub checked_ok : {A : Type 0} (P : A → Type 0) (checks : List (Option Refusal)) (a : A) →
+    (first_refusal checks ≡ None → P a) → OnOk P (checked checks a)
+checked_ok {A} P checks a is = by (first_refusal checks) refl
+  where
+    by : (o : Option Refusal) → first_refusal checks ≡ o → OnOk P (unless_refused o a)
+    by None none = is none
+    by (Some refusal) some = tt
+
+pub kept_ok : {A : Type 0} (P : A → Type 0) (checks : List (Option Refusal)) (a : A) → P a → OnOk P (checked checks a)
+kept_ok P checks a is = checked_ok P checks a (λ none. is)
+
+pub none_first : (o : Option Refusal) (more : List (Option Refusal)) → first_refusal (o ∷ more) ≡ None →
+    (o ≡ None) × (first_refusal more ≡ None)
+none_first None more none = (refl, none)
+none_first (Some refusal) more none = absurd cc
+
+pub when_none : (b : Bool) (refusal : Refusal) → when b refusal ≡ None → b ≡ false
+when_none true refusal none = absurd cc
+when_none false refusal none = refl
+
+pub already_none : (o : Option ℕ) → already o ≡ None → o ≡ None
+already_none None none = refl
+already_none (Some node) none = absurd cc
+
+-- ---- seats
+
+-- The seat is that of a node of the session, with what that knows.
+pub record IsSeat (ps : Named Place) (s : Seat) : Type 0 where
+  pub found : find_named s.name ps ≡ Some s.place
+  pub node : s.place.node ≡ Some s.node
+  pub known : s.known ≡ knowledge s.node
+
+-- the node of a seat, by the name of its database
+pub seat_node : (ps : Named Place) (s : Seat) → IsSeat ps s → nodes_in ps s.name ≡ Some s.node
+seat_node ps s is = ap node_in is.found ∙ is.node
+
+-- the database is one of the session
+abbrev pub IsFound : Named Place → List ℕ × Place → Type 0
+IsFound ps e = find_named e.0 ps ≡ Some e.1
+
+seat_of_ok : (ps : Named Place) (none : Refusal) (e : List ℕ × Place) → IsFound ps e →
+    OnOk (IsSeat ps) (seat_of none e e.1.node)
+seat_of_ok ps none e found = by e.1.node refl
+  where
+    by : (o : Option Node) → e.1.node ≡ o → OnOk (IsSeat ps) (seat_of none e o)
+    by None is = tt
+    by (Some n) is = record { found = found; node = is; known = refl }
+
+up_ok : (w : World) (name : List ℕ) → OnOk (IsFound w.places) (database_up name (find_named name w.places))
+up_ok w name = by (find_named name w.places) refl
+  where
+    by : (o : Option Place) → find_named name w.places ≡ o → OnOk (IsFound w.places) (database_up name o)
+    by None is = tt
+    by (Some p) is =
+        elim (is_running p.standing)
+        as (λ b. OnOk (IsFound w.places) (cond b (Ok (name, p)) (Err (refused.Down name)))) [
+          | true ↦ is
+          | false ↦ tt
+        ]
+
+pub line_ok : (run : Running) (id : ℕ) (w : World) → OnOk (IsFound w.places) (database_of_line run id w)
+line_ok run id w = by (entry_at id run.lines)
+  where
+    by : (o : Option (List ℕ)) → OnOk (IsFound w.places) (database_by w id o)
+    by None = tt
+    by (Some conninfo) = up_ok w _
+
+pub reach_ok : (run : Running) (id : ℕ) (w : World) → OnOk (IsSeat w.places) (reach run id w)
+reach_ok run id w =
+    bind_ok (IsFound w.places) (IsSeat w.places) (database_of_line run id w) _ (line_ok run id w)
+    (λ e found. bind_ok (IsSeat w.places) (IsSeat w.places) _ _
+    (seat_of_ok w.places (refused.NotInitialised id) e found)
+    (λ s is. search (kept_ok (IsSeat w.places), is)))
+
+-- ---- seats of turns
+
+-- what is found by a test is found by its name, where no name stands twice
+found_once : {X : Type 0} (test : List ℕ × X → Bool) (es : Named X) (e : List ℕ × X) → AreNamedOnce es →
+    find test es ≡ Some e → find_named e.0 es ≡ Some e.1
+found_once test [] e once is = absurd cc
+found_once {X} test (f ∷ fs) e once is = by (found_once test fs e once.1) (test f) is
+  where
+    apart : (b : Bool) → bytes_eq e.0 f.0 ≡ b → find_named e.0 fs ≡ Some e.1 →
+        cond b (Some f.1) (find_named e.0 fs) ≡ Some e.1
+    apart true same there =
+        let none : find_named e.0 fs ≡ None = ap (λ k. find_named k fs) (bytes_same e.0 f.0 same) ∙ once.0 in
+        absurd cc
+    apart false other there = there
+
+    by : (find test fs ≡ Some e → find_named e.0 fs ≡ Some e.1) → (b : Bool) → cond b (Some f) (find test fs) ≡ Some e →
+        find_named e.0 (f ∷ fs) ≡ Some e.1
+    by later true here =
+        subst (λ (g : List ℕ × X). find_named g.0 (f ∷ fs) ≡ Some g.1) (one_found f e here)
+        (ap (λ b. cond b (Some f.1) (find_named f.0 fs)) (bytes_itself f.0))
+    by later false there = apart (bytes_eq e.0 f.0) refl (later there)
+
+pub at_node_found : (node : ℕ) (w : World) (e : List ℕ × Place) → AreNamedOnce w.places → at_node node w ≡ Some e →
+    IsFound w.places e
+at_node_found node w e once is = found_once _ w.places e once is
+
+pub seat_at_ok : (node : ℕ) (w : World) (o : Option (List ℕ × Place)) →
+    ((e : List ℕ × Place) → o ≡ Some e → IsFound w.places e) → OnOk (IsSeat w.places) (seat_at node o)
+seat_at_ok node w None found = tt
+seat_at_ok node w (Some e) found =
+    elim (is_running e.1.standing)
+    as (λ b. OnOk (IsSeat w.places)
+    (cond b (seat_of (refused.NoNode node) e e.1.node) (Err (refused.Down e.0)))) [
+      | true ↦ seat_of_ok w.places (refused.NoNode node) e (found e refl)
+      | false ↦ tt
+    ]
+
+pub turn_ok : (node : ℕ) (w : World) → AreNamedOnce w.places → OnOk (IsSeat w.places) (on_turn node w)
+turn_ok node w once =
+    bind_ok (IsSeat w.places) (IsSeat w.places) (seat_at node (at_node node w)) _
+    (seat_at_ok node w (at_node node w) (λ e is. at_node_found node w e once is))
+    (λ s is. kept_ok (IsSeat w.places) (when (not (member node w.memory.started)) (refused.Off node) ∷ []) s is)
+
+-- ---- what no node knows, and sessions without nodes
+
+neither : (a b : Bool) → (a || b) ≡ false → (a ≡ false) × (b ≡ false)
+neither true b none = absurd (false≢true (sym none))
+neither false b none = (refl, none)
+
+-- what is known nowhere no node of the session knows
+pub unknown : (test : Config → Bool) (ps : Named Place) →
+    list_any (λ k. test k.config) (filter_map (λ e. option_map knowledge e.1.node) ps) ≡ false →
+    (name : List ℕ) (n : Node) → nodes_in ps name ≡ Some n → test (knowledge n).config ≡ false
+unknown test [] none name n is = absurd cc
+unknown test (e ∷ es) none name n is =
+    by (λ rest there. unknown test es rest name n there) e.1.node refl none (bytes_eq name e.0) is
+  where
+    by : (list_any (λ k. test k.config) (filter_map (λ e. option_map knowledge e.1.node) es) ≡ false →
+        nodes_in es name ≡ Some n → test (knowledge n).config ≡ false) → (o : Option Node) → e.1.node ≡ o →
+        list_any (λ k. test k.config) (cons_option (option_map knowledge o)
+        (filter_map (λ e. option_map knowledge e.1.node) es)) ≡ false → (b : Bool) →
+        node_in (cond b (Some e.1) (find_named name es)) ≡ Some n → test (knowledge n).config ≡ false
+    by later None at none true here = absurd cc
+    by later None at none false there = later none there
+    by later (Some m) at none true here =
+        subst (λ x. test (knowledge x).config ≡ false) (one_found m n (sym at ∙ here)) (neither _ _ none).0
+    by later (Some m) at none false there = later (neither _ _ none).1 there
+
+no_node : (p : Place) → node_id p ≡ None → p.node ≡ None
+no_node p none = by p.node none
+  where
+    by : (o : Option Node) → option_or (option_map (λ n. n.id) o) p.promised ≡ None → o ≡ None
+    by None none = refl
+    by (Some n) none = absurd cc
+
+-- where no database is a node, or would be one
+pub no_nodes : (ps : Named Place) → first_id (filter_map (λ e. node_id e.1) ps) ≡ None → (name : List ℕ) →
+    nodes_in ps name ≡ None
+no_nodes [] none name = refl
+no_nodes (e ∷ es) none name =
+    by (λ rest. no_nodes es rest name) (node_id e.1) refl none (bytes_eq name e.0)
+  where
+    by : (first_id (filter_map (λ e. node_id e.1) es) ≡ None → nodes_in es name ≡ None) → (o : Option ℕ) →
+        node_id e.1 ≡ o → first_id (cons_option o (filter_map (λ e. node_id e.1) es)) ≡ None → (b : Bool) →
+        node_in (cond b (Some e.1) (find_named name es)) ≡ None
+    by later None at none true = no_node e.1 at
+    by later None at none false = later none
+    by later (Some id) at none b = absurd cc
+
+pub no_node_at : (ps : Named Place) (e : List ℕ × Place) → IsFound ps e → node_id e.1 ≡ None → e.1.node ≡ None
+no_node_at ps e found none = no_node e.1 none

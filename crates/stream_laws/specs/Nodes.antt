@@ -1,0 +1,46 @@
+-- Which node each database of a session is, and what may be said of the streams of all of them.
+use Rattle.std.specs.Prelude.{◌≡◌, ℕ, ◌≤◌, ◌⊎◌, List, [], ◌∷◌, length, Option, Some, None}
+use Rattle.slon_model.specs.Names.{Named, find_named}
+use Rattle.slon_model.specs.Events.{Event}
+use Rattle.slon_model.specs.Deeds.{Node, knowledge, stream, progress}
+use Rattle.slon_model.specs.Place.{Place}
+
+-- it is one of these
+abbrev pub IsAmong : {X : Type 0} → X → List X → Type 0
+IsAmong x [] = ⊥
+IsAmong x (y ∷ ys) = (x ≡ y) ⊎ IsAmong x ys
+
+-- the node of each database, by the name of the database
+abbrev pub Nodes : Type 0
+Nodes = List ℕ → Option Node
+
+abbrev pub node_in : Option Place → Option Node
+node_in None = None
+node_in (Some p) = p.node
+
+abbrev pub nodes_in : Named Place → Nodes
+nodes_in ps name = node_in (find_named name ps)
+
+-- The event is one of the stream of the node that has its origin as its id.
+pub record IsEvent (nodes : Nodes) (e : Event) : Type 0 where
+  pub name : List ℕ
+  pub node : Node
+  pub is : nodes name ≡ Some node
+  pub own : node.id ≡ e.origin
+  pub among : IsAmong e (stream node)
+
+-- The node of the first of these ids has emitted as many events as the second number says.
+pub record HasEmitted (nodes : Nodes) (reached : ℕ × ℕ) : Type 0 where
+  pub name : List ℕ
+  pub node : Node
+  pub is : nodes name ≡ Some node
+  pub own : node.id ≡ reached.0
+  pub within : reached.1 ≤ length (stream node)
+
+-- Of an origin, a node, and a number: that node is as far as that in the stream of the origin.
+pub record HasConfirmed (nodes : Nodes) (c : ℕ × ℕ × ℕ) : Type 0 where
+  pub name : List ℕ
+  pub node : Node
+  pub is : nodes name ≡ Some node
+  pub own : node.id ≡ c.1
+  pub within : c.2 ≤ progress c.0 (knowledge node)
