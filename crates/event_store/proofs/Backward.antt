@@ -244,7 +244,8 @@ kept_finds origin number n (e ∷ es) less =
 
     by : (own : Bool) → (e.origin == origin) ≡ own → (same : Bool) → (e.number == n) ≡ same → (more : Bool) →
         nat_lt number e.number ≡ more → event_at kept (origin, n) ≡ event_at es (origin, n) →
-        event_at (cond (own && more) (e ∷ kept) kept) (origin, n) ≡ cond (own && same) (Some e) (event_at es (origin, n))
+        event_at (cond (own && more) (e ∷ kept) kept) (origin, n) ≡ cond (own && same) (Some e)
+        (event_at es (origin, n))
     by true is true same true more rest =
         ap (λ b. cond b (Some e) (event_at kept (origin, n))) (ap (λ b. b && e.number == n) is ∙ same)
     by true is false other true more rest =

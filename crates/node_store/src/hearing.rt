@@ -12,8 +12,8 @@ use event_store::Confirmation;
 use node_keeper::Keeper;
 use slon_base::STORED_LIMIT;
 
-/// The node hears these confirmations of other nodes, in one transaction: each is kept that is above what stood. Answers
-/// whether the commit is in doubt.
+/// The node hears these confirmations of other nodes, in one transaction: each is kept that is above what stood.
+/// Answers whether the commit is in doubt.
 ///
 /// # Errors
 ///

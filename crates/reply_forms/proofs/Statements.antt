@@ -54,7 +54,8 @@ unless_gives : {A : Type 0} (P : A → Type 0) (o : Option Refusal) (a : A) → 
 unless_gives P None a reads one = one
 unless_gives P (Some refusal) a reads one = reads
 
-pub checked_gives : {A : Type 0} (P : A → Type 0) (checks : List (Option Refusal)) (a : A) → AllByRecursion Tells checks →
+pub checked_gives : {A : Type 0} (P : A → Type 0) (checks : List (Option Refusal)) (a : A) →
+    AllByRecursion Tells checks →
     P a → Gives P (checked checks a)
 checked_gives P checks a all one = unless_gives P (first_refusal checks) a (first_tells checks all) one
 

@@ -27,7 +27,8 @@ use Rattle.reply_forms.proofs.Scripts.{AreRunning, Known, Ends, without_running,
 
 changed_running : (name : List ℕ) (q : Place) (w : World) → AreRunning w.memory.scripts →
     AreRunning (changed name q w).memory.scripts
-changed_running name q w all = subst AreRunning (sym (remembered_kept name (find_named name w.places) q w.memory).scripts) all
+changed_running name q w all =
+    subst AreRunning (sym (remembered_kept name (find_named name w.places) q w.memory).scripts) all
 
 felled_running : (o : Option (List ℕ)) (w : World) → AreRunning w.memory.scripts →
     AreRunning (felled o w).memory.scripts

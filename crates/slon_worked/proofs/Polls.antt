@@ -218,8 +218,8 @@ refusals = refl
 
 -- ---- a poll whose commit is in doubt, or whose store or whose server's store failed
 
--- Node 1 hears node 2, twice the same, and then polls node 3, which comes to this fate. The database comes up again, and
--- it polls both.
+-- Node 1 hears node 2, twice the same, and then polls node 3, which comes to this fate. The database comes up again,
+-- and it polls both.
 abbrev failing : Fate → List ℕ → List Worked
 failing fate database =
     Asks (OnNew (codes "a"))

@@ -1,5 +1,5 @@
--- Two nodes emit SYNCs, by turns of their slons and by a statement: one is refused where nothing happened since the last
--- one, where the slon is off, and where the database is down; and nodes are cut off and joined.
+-- Two nodes emit SYNCs, by turns of their slons and by a statement: one is refused where nothing happened since the
+-- last one, where the slon is off, and where the database is down; and nodes are cut off and joined.
 use Rattle.std.proofs.Common.{◌≡◌, List, [], ◌∷◌, codes, refl, None}
 use Rattle.slonik_script.specs.declared.script.Command.TheVariants as order
 use Rattle.slon_model.specs.declared.command.Crash.TheVariants.{Now}

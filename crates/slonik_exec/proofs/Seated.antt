@@ -1,5 +1,6 @@
 -- The first database that is a node, by the code and by the rules.
-use Rattle.std.proofs.Common.{◌≡◌, ◌∙◌, ◌<◌, ◌+◌, ◌==◌, ◌||◌, ℕ, zero, suc, Bool, true, false, cond, not, List, [], ◌∷◌, length, set}
+use Rattle.std.proofs.Common.{◌≡◌, ◌∙◌, ◌<◌, ◌+◌, ◌==◌, ◌||◌, ℕ, zero, suc, Bool, true, false, cond, not, List, [], ◌∷◌}
+use Rattle.std.proofs.Common.{length, set}
 use Rattle.std.proofs.Common.{get_or, Option, Some, None, is_some, IfOk, Result, Ok, Err, refl, sym, ap, subst, arith}
 use Rattle.std.specs.Prelude.{find}
 use Rattle.std.specs.Option.{option_map}
@@ -258,7 +259,8 @@ down_turn {kept = kept} {node} {ds} {i} {d} started t down w all on =
     (λ s. checked (when (not (member node w.memory.started)) (refused.Off node) ∷ []) s)) running
 
 -- the node of a database that is up
-pub node_up : {K : Type 0} {g : Ghosts K} {kept : K → Kept} {node : ℕ} {d : NamedDatabase K g} (ps : Named Place) (f : IsFoundAt kept node ps d) → d.database.state.up ≡ true →
+pub node_up : {K : Type 0} {g : Ghosts K} {kept : K → Kept} {node : ℕ} {d : NamedDatabase K g}
+    (ps : Named Place) (f : IsFoundAt kept node ps d) → d.database.state.up ≡ true →
     is_some d.database.state.node.identity ≡ true → (n : Node) × (f.place.node ≡ Some n)
 node_up {kept = kept} {d = d} ps f up some = by f.place.node refl
   where
@@ -286,12 +288,14 @@ seat_at_turn {kept = kept} {node} {ds} {i} {d} t (up, some) =
               up = λ y there. subst (λ z. z.database.state.up ≡ true) (same_held ds i d y inside t.held there) up;
             };
             node = λ y there.
-                subst (λ z. is_some z.database.state.node.identity ≡ true) (same_held ds i d y inside t.held there) some;
+                subst (λ z. is_some z.database.state.node.identity ≡ true)
+                (same_held ds i d y inside t.held there) some;
           },
     )
 
 -- up to whether its slon is on
-up_turn : {K : Type 0} {g : Ghosts K} {kept : K → Kept} {node : ℕ} {d : NamedDatabase K g} (started : List ℕ) (on : Bool) (w : World) (f : IsFoundAt kept node w.places d)
+up_turn : {K : Type 0} {g : Ghosts K} {kept : K → Kept} {node : ℕ} {d : NamedDatabase K g}
+    (started : List ℕ) (on : Bool) (w : World) (f : IsFoundAt kept node w.places d)
     (n : Node) → (f.place.node ≡ Some n) × (d.database.state.up ≡ true) →
     (w.memory.started ≡ started) × (member node started ≡ on) →
     on_turn node w ≡ checked (when (not on) (refused.Off node) ∷ []) (seat d.name f.place n)
@@ -323,7 +327,8 @@ pub on_turn_at : {K : Type 0} {g : Ghosts K} {kept : K → Kept} {node : ℕ} {d
 on_turn_at {kept = kept} {node} {ds} {i} {d} started t (up, some) has w all on x held =
     let f = turning_at w.places t all in
     let own = node_up w.places f up some in
-    subst (λ y. SitsOn node w y.name) (same_held ds i d x (found_inside (is_this node) ds i d t.at) t.held held) (record {
+    subst (λ y. SitsOn node w y.name) (same_held ds i d x (found_inside (is_this node) ds i d t.at) t.held held)
+    (record {
       place = f.place;
       own = own.0;
       due = up_turn started true w f own.0 (own.1, up) (on, has);
@@ -347,7 +352,8 @@ turns_refused kept node started ds refusal does (quiet, turns) w ready on = reco
 
 -- what a database that has its turn comes to is what the turn comes to
 pub turns_worked : {K : Type 0} {g : Ghosts K} {node : ℕ} {started : List ℕ} {ds : List (NamedDatabase K g)} {i : ℕ}
-    {x y : NamedDatabase K g} (kept : K → Kept) (does : Seat → Result Stated Refusal) (reply : Reply) → Worked (named_base kept) x.name ds i x y → HasTurn kept node started ds (At i) →
+    {x y : NamedDatabase K g} (kept : K → Kept) (does : Seat → Result Stated Refusal)
+    (reply : Reply) → Worked (named_base kept) x.name ds i x y → HasTurn kept node started ds (At i) →
     Answers x.name (base_of kept x.database) reply (base_of kept y.database) ×
     AtNode x.name does (base_of kept x.database) reply (base_of kept y.database) →
     Turns node started (λ w. bind (on_turn node w) does) (bases_of kept ds) reply (bases_of kept (set ds i y))
@@ -366,7 +372,8 @@ turns_worked {node = node} {ds = ds} {i} {x} {y} kept does reply at turns (answe
     }
 
 pub turns_if : {E K : Type 0} {g : Ghosts K} {node : ℕ} {started : List ℕ} {ds : List (NamedDatabase K g)} {i : ℕ}
-    {x y : NamedDatabase K g} (kept : K → Kept) (does : Seat → Result Stated Refusal) (r : Result Reply E) → Worked (named_base kept) x.name ds i x y → HasTurn kept node started ds (At i) →
+    {x y : NamedDatabase K g} (kept : K → Kept) (does : Seat → Result Stated Refusal)
+    (r : Result Reply E) → Worked (named_base kept) x.name ds i x y → HasTurn kept node started ds (At i) →
     IfOk r (λ reply. Answers x.name (base_of kept x.database) reply (base_of kept y.database)) ×
     IfOk r (λ reply. AtNode x.name does (base_of kept x.database) reply (base_of kept y.database)) →
     IfOk r (λ reply. Turns node started (λ w. bind (on_turn node w) does) (bases_of kept ds) reply

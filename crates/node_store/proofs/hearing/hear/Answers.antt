@@ -63,7 +63,8 @@ returns-in-InDoubt-clause-hears g c p n ready is memory name =
       later = omega (arith, c.in-Ok.ensures.enters.later, doubt.counted.later);
       either = either_held w (fuse_kept g.K.Keeper.kept c.finish.new.keeper) c.in-Ok.ensures.enters.held doubt.ends;
     }) in
-    Wavered fits.0 refl (small_stamp p c.args.database.now.state.stamp (running at).1.stamp (omega (arith, room))) fits.1
+    Wavered fits.0 refl (small_stamp p c.args.database.now.state.stamp (running at).1.stamp (omega (arith, room)))
+    fits.1
 
 pub returns-in-Err-finish-clause-hears : goal.returns-in-Err-finish-clause-hears
 returns-in-Err-finish-clause-hears g c p n ready is memory name =

@@ -19,14 +19,16 @@ returns-in-At g c =
     let x = get_or items i c.index-databases-i.result in
     let y = c.sync_at.new.seat in
     let here = subst (IsSeatHere {g = g.K.Keeper} items) c.in-At.is c.in_ok-i.ensures.here in
-    let turns = subst (HasTurn g.K.Keeper.kept c.args.node c.args.started.now items) c.in-At.is c.in_ok-i.ensures.turns in
+    let turns = subst (HasTurn g.K.Keeper.kept c.args.node c.args.started.now items)
+    c.in-At.is c.in_ok-i.ensures.turns in
     let held = get_or_default items i c.index-databases-i.result x here.0 in
     let at = worked_at f x.name items i c.index-databases-i.result y (here.1 x held).here.at c.sync_at.ensures.name in
     record {
       runs = if_ok (λ reply. Answers x.name (f x).1 reply (f y).1)
           (λ reply. Runs (map f items) reply (map f (set items i y))) c.sync_at.result
           (λ reply answers. runs_worked reply at answers) c.sync_at.ensures.answers;
-      turns = turns_if g.K.Keeper.kept sync_at c.sync_at.result at turns (c.sync_at.ensures.answers, c.sync_at.ensures.comes);
+      turns = turns_if g.K.Keeper.kept sync_at c.sync_at.result at turns
+          (c.sync_at.ensures.answers, c.sync_at.ensures.comes);
     }
 
 pub returns-in-Refused : goal.returns-in-Refused
