@@ -6,14 +6,14 @@ ghost use Rattle.store_rows.specs.Rows.{IsId};
 ghost use Rattle.store_rows.specs.Steps.{Safe, IsOutside, IsWithinLimit, Gives};
 ghost use Rattle.node_rows.specs.Spellings.{node_bytes, CanNode};
 ghost use Rattle.slon_model.specs.Maps.{entry_at};
-ghost use Rattle.slon_model.specs.Config.{Config, has_path, hears, heard_in, is_known, is_live_row};
+ghost use Rattle.slon_model.specs.Config.{Config, has_path, hears, heard_in, is_known, is_live_row, known};
 ghost use Rattle.set_config.specs.Holds.{HoldsConfig};
 ghost use Rattle.event_store.specs.Formed.{IsRow, Lacks, Reads};
 ghost use Rattle.std.specs.FinMap.{get};
 ghost use Rattle.slon_base.specs.Codec.{number_bytes};
 ghost use Rattle.node_state.specs.Handed.{AreRowsOf};
 ghost use Rattle.node_state.specs.Held.{IsOrderly};
-ghost use Rattle.node_change.specs.Listening.{is_heard, heard_among};
+ghost use Rattle.node_change.specs.Listening.{is_heard, heard_among, is_row_known, known_among};
 
 use crate::layout::NODES;
 use crate::lookup::{find_node_row, has_fence, has_path};
@@ -51,6 +51,71 @@ fn is_live(row: &Option<NodeRow>) -> bool
         None => false,
         Some(row) => row.live,
     }
+}
+
+/// Whether the node of this row is live, and no fence against it is known.
+fn is_row_known<K: Keeper>(
+    alloc: Global,
+    keeper: &mut K,
+    node: u32,
+    row: &NodeRow,
+) -> Result<bool, Stop>
+    requires id { IsId node }
+    ensures safe { Safe (K.kept keeper.old) (K.kept keeper.new) result }
+    ensures same { OnOk result ((K.kept keeper.new).pending ≡ (K.kept keeper.old).pending) }
+    ensures only { IfErr result IsOutside }
+    ensures says { (m : Store) (c : Config) → sight (K.kept keeper.old) ≡ Some m → HoldsConfig c m →
+        Gives (λ known. known ≡ is_row_known c (node, row.now)) result }
+{
+    if !row.live {
+        return Ok(false);
+    }
+    let is_fenced = has_fence(alloc, keeper, node)?;
+    Ok(!is_fenced)
+}
+
+/// Those of the nodes with these rows that are live, and against which no fence is known.
+fn known_among<K: Keeper>(
+    alloc: Global,
+    keeper: &mut K,
+    nodes: &[(u32, NodeRow)],
+) -> Result<Many<u32>, Stop>
+    requires nodes { AllAre (λ e. IsId e.0) nodes.now }
+    ensures safe { Safe (K.kept keeper.old) (K.kept keeper.new) result }
+    ensures same { OnOk result ((K.kept keeper.new).pending ≡ (K.kept keeper.old).pending) }
+    ensures only { IfErr result IsOutside }
+    ensures ids { IfOk result (AllAre IsId) }
+    ensures says { (m : Store) (c : Config) → sight (K.kept keeper.old) ≡ Some m → HoldsConfig c m →
+        Gives (λ known. known ≡ known_among c nodes.now) result }
+{
+    let mut known = Many::new(alloc);
+    for (node, row) in nodes {
+        if !is_row_known(alloc, keeper, *node, row)? {
+            continue;
+        }
+        known.push(*node)?;
+    }
+    Ok(known)
+}
+
+/// The nodes that are live, and against which no fence is known, ascending. It goes over the rows of the nodes, and looks
+/// up the fence of each live one.
+///
+/// # Errors
+///
+/// `BadRow` of space 4 exactly where the row of a node is not in its form, what stopped the store, and `NoMemory`.
+pub fn known<K: Keeper>(alloc: Global, keeper: &mut K) -> Result<Many<u32>, Stop>
+    ensures safe { Safe (K.kept keeper.old) (K.kept keeper.new) result }
+    ensures same { OnOk result ((K.kept keeper.new).pending ≡ (K.kept keeper.old).pending) }
+    ensures within { IfErr result IsWithinLimit }
+    ensures ids { IfOk result (AllAre IsId) }
+    ensures says { (m : Store) (c : Config) → sight (K.kept keeper.old) ≡ Some m → HoldsConfig c m → IsOrderly c →
+        Gives (λ nodes. nodes ≡ known c) result }
+    ensures form { (m : Store) → sight (K.kept keeper.old) ≡ Some m →
+        Reads (Lacks 4 (AreRowsOf node_bytes CanNode 4 m)) result }
+{
+    let nodes = all_rows(alloc, keeper, NODES)?;
+    known_among(alloc, keeper, nodes.as_slice())
 }
 
 /// Whether the node `own` hears an origin at the origin itself: it has a path from it, and no fence against it.

@@ -1,23 +1,16 @@
 use Rattle.std.proofs.Common.{◌≡◌, ◌∙◌, ℕ, sym, ap, subst}
 use Rattle.std.proofs.lemmas.Result.{err_from_is_err_and}
 use Rattle.slon_base.specs.Codec.{AllAre}
-use Rattle.slon_base.specs.Keeper.{Store}
 use Rattle.store_rows.specs.Rows.{IsId}
 use Rattle.store_rows.specs.Steps.{Gives}
 use Rattle.store_rows.proofs.Spaces.{sight_safe}
 use Rattle.node_rows.specs.declared.rows.NodeRow.{NodeRow}
-use Rattle.node_rows.specs.Spellings.{node_bytes, CanNode}
-use Rattle.slon_model.specs.Config.{Config}
-use Rattle.set_config.specs.Holds.{HoldsConfig}
-use Rattle.node_state.specs.Held.{IsOrderly}
+use Rattle.node_rows.specs.Spellings.{CanNode}
 use Rattle.node_state.proofs.Formed.{gives_stop}
-use Rattle.node_state.proofs.Listing.{HoldsMap, held_rows, ids_only}
-use Rattle.node_change.proofs.Hearing.{heard_is}
+use Rattle.node_state.proofs.Listing.{held_rows, ids_only}
+use Rattle.node_change.proofs.Hearing.{nodes_held, heard_is}
 use Rattle.node_change.specs.Listening.{heard_among}
 use Rattle.node_change.proofs.listening.listens.Goals as goal
-
-nodes_held : {c : Config} {m : Store} → HoldsConfig c m → IsOrderly c → HoldsMap node_bytes CanNode c.nodes (m 4)
-nodes_held held orderly = record { ordered = orderly.nodes; holds = held.nodes }
 
 pub returns-in_err-nodes-clause-says : goal.returns-in_err-nodes-clause-says
 returns-in_err-nodes-clause-says g c m config seen held orderly =
