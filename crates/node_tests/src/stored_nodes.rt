@@ -4,7 +4,7 @@ ghost use Rattle.change_capture.specs.Spellings.{CanLogRow};
 
 use change_capture::LogRow;
 use log_switch::{append, between};
-use node_change::{find_node_row, found_node, has_path, join_node};
+use node_change::{find_node_row, found_node, has_path, join_node, known};
 use node_keeper::{Fuse, Keeper, MemKeeper};
 use node_state::find_node;
 use slon_base::Text;
@@ -63,6 +63,8 @@ fn expect_node<K: Keeper>(alloc: Global, keeper: &mut K, id: u32) -> Result<(), 
     let own = find_node(alloc, keeper)?;
     require(own.id() == Some(id), "the node")?;
     require(!has_path(alloc, keeper, 1, 2)?, "no path")?;
+    let nodes = known(alloc, keeper)?;
+    require(nodes.as_slice().first() == Some(&1), "a known node")?;
     match find_node_row(alloc, keeper, 1)? {
         Some(row) => expect("the first node", row.comment.as_str(), "first"),
         None => Err(Fail::new("no first node")),
