@@ -98,8 +98,8 @@ fn known_among<K: Keeper>(
     Ok(known)
 }
 
-/// The nodes that are live, and against which no fence is known, ascending. It goes over the rows of the nodes, and looks
-/// up the fence of each live one.
+/// The nodes that are live, and against which no fence is known, ascending. It goes over the rows of the nodes, and
+/// looks up the fence of each live one.
 ///
 /// # Errors
 ///
