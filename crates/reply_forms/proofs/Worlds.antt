@@ -15,7 +15,7 @@ use Rattle.slon_model.specs.Sessions.{felled, felled_at}
 use Rattle.slon_model.specs.World.{Happening, Step, Grants, Denies, Misses, Asks, Acts, Acting, Leads, outcome}
 use Rattle.slon_model.specs.World.{memory_after, spoilt, broken_at, wavering, wavering_at, doubt_reply, CanFail, MayEnd}
 use Rattle.slon_model.specs.World.{reply_by, world_by}
-use Rattle.slon_laws.specs.Turning.{Carries}
+use Rattle.slon_laws.specs.Turning.{Carries, IsWithin}
 use Rattle.slon_laws.specs.Worlds.{AllSpoken}
 use Rattle.slon_laws.proofs.Acting.{acting_carries}
 use Rattle.slon_laws.proofs.Memories.{remembered_kept}
@@ -81,7 +81,7 @@ behind_names : (name : List ℕ) (q : Place) (ps : Named Place) → IsName name 
 behind_names name q [] named all = (named, tt)
 behind_names name q (e ∷ es) named all = (all.0, behind_names name q es named all.1)
 
-carries_names : Carries AreNamed
+carries_names : Carries IsWithin AreNamed
 carries_names name p q ps found turned all = put_named_names name q ps all
 
 -- ---- what is known of a session

@@ -26,7 +26,7 @@ use Rattle.slon_model.specs.Turns.{at_node, switched_at, turned, turned_by, turn
 use Rattle.slon_model.specs.Polls.{Poll, polled, left_by, stated_by, listen_by}
 use Rattle.slon_model.specs.World.{Happening, Acting, outcome, broken_at, wavering, wavering_at}
 use Rattle.slon_model.specs.World.{world_by}
-use Rattle.slon_laws.specs.Turning.{Commits, Falls, Doubts, Carries}
+use Rattle.slon_laws.specs.Turning.{Commits, Falls, Doubts, Carries, HoldsAt, AllHold, IsWithin}
 
 -- ---- the commits of a script are within the limit
 
@@ -107,8 +107,6 @@ outcome_within (ToJoin node other) w = refl
 outcome_within (ToSync node) w = turn_within w w.memory (sync_turn node w)
 outcome_within (ToListen node server delivery) w = listen_within delivery w (polled node server w)
 
--- ---- commits that stand
-
 -- a commit within the limit, and the others
 within_parts : (c : Commit) (p : Place) (more : Option (List ℕ)) → beyond_at c (Some p) more ≡ None →
     (is_last_stamp p ≡ false) × (more ≡ None)
@@ -118,80 +116,89 @@ within_parts c p more is = by (is_last_stamp p) refl is
     by true last none = absurd cc
     by false first none = (first, none)
 
-stood_carries : {R : Named Place → Type 0} → Carries R → (cs : List Commit) (ps : Named Place) → AreWithin cs ps →
-    R ps → R (stood cs ps)
-stood_carries k [] ps within is = is
-stood_carries {R} k (c ∷ cs) ps within is =
-    by (λ qs more on. stood_carries k cs qs more on) (find_named c.name ps) refl within
+all_within : (cs : List Commit) (ps : Named Place) → AreWithin cs ps → AllHold IsWithin cs ps
+all_within [] ps within = tt
+all_within (c ∷ cs) ps within = by (all_within cs) (find_named c.name ps) within
   where
-    by : ((qs : Named Place) → AreWithin cs qs → R qs → R (stood cs qs)) → (o : Option Place) →
-        find_named c.name ps ≡ o → beyond_at c o (first_beyond cs (stood_at c o ps)) ≡ None →
-        R (stood cs (stood_at c o ps))
-    by on None found within = on ps within is
-    by on (Some p) found within =
-        let parts = within_parts c p _ within in
-        on (put_named c.name (committing c p) ps) parts.1
-        (k c.name p (committing c p) ps found (Commits c parts.0 refl) is)
+    by : ((qs : Named Place) → AreWithin cs qs → AllHold IsWithin cs qs) → (o : Option Place) →
+        beyond_at c o (first_beyond cs (stood_at c o ps)) ≡ None →
+        HoldsAt IsWithin c o × AllHold IsWithin cs (stood_at c o ps)
+    by on None within = (tt, on ps within)
+    by on (Some p) within =
+        let parts = within_parts c p _ within in (parts.0, on (put_named c.name (committing c p) ps) parts.1)
+
+-- ---- commits that stand
+
+stood_carries : {F : Commit → Place → Type 0} {R : Named Place → Type 0} → Carries F R → (cs : List Commit)
+    (ps : Named Place) → AllHold F cs ps → R ps → R (stood cs ps)
+stood_carries k [] ps all is = is
+stood_carries {F} {R} k (c ∷ cs) ps all is =
+    by (λ qs more on. stood_carries k cs qs more on) (find_named c.name ps) refl all
+  where
+    by : ((qs : Named Place) → AllHold F cs qs → R qs → R (stood cs qs)) → (o : Option Place) →
+        find_named c.name ps ≡ o → HoldsAt F c o × AllHold F cs (stood_at c o ps) → R (stood cs (stood_at c o ps))
+    by on None found all = on ps all.1 is
+    by on (Some p) found all =
+        on (put_named c.name (committing c p) ps) all.1
+        (k c.name p (committing c p) ps found (Commits c all.0 refl) is)
 
 -- ---- a database that goes down
 
-felled_carries : {R : Named Place → Type 0} → Carries R → (o : Option (List ℕ)) (w : World) → R w.places →
-    R (felled o w).places
+felled_carries : {F : Commit → Place → Type 0} {R : Named Place → Type 0} → Carries F R → (o : Option (List ℕ))
+    (w : World) → R w.places → R (felled o w).places
 felled_carries k None w is = is
-felled_carries {R} k (Some name) w is = by (find_named name w.places) refl
+felled_carries {R = R} k (Some name) w is = by (find_named name w.places) refl
   where
     by : (o : Option Place) → find_named name w.places ≡ o → R (felled_at name o w).places
     by None found = is
     by (Some p) found = k name p (fallen p.told p) w.places found (Falls p.told refl) is
 
-broken_carries : {R : Named Place → Type 0} → Carries R → (name : List ℕ) (count : ℕ) (o : Option Place) (w : World) →
-    find_named name w.places ≡ o → R w.places → R (broken_at name count o w).places
+broken_carries : {F : Commit → Place → Type 0} {R : Named Place → Type 0} → Carries F R → (name : List ℕ) (count : ℕ)
+    (o : Option Place) (w : World) → find_named name w.places ≡ o → R w.places → R (broken_at name count o w).places
 broken_carries k name count None w found is = is
 broken_carries k name count (Some p) w found is = k name p (fallen count p) w.places found (Falls count refl) is
 
 -- ---- a commit in doubt
 
-wavering_carries : {R : Named Place → Type 0} → Carries R → (n : ℕ) (cs : List Commit) (stands : Bool) (w : World)
-    (ps : Named Place) → AreWithin cs ps × R ps → w.places ≡ stood (take n cs) ps →
+wavering_carries : {F : Commit → Place → Type 0} {R : Named Place → Type 0} → Carries F R → (n : ℕ) (cs : List Commit)
+    (stands : Bool) (w : World) (ps : Named Place) → AllHold F cs ps × R ps → w.places ≡ stood (take n cs) ps →
     R (wavering (drop n cs) stands w).places
-wavering_carries {R} k zero [] stands w ps is same = subst R (sym same) is.1
-wavering_carries {R} k zero (c ∷ cs) stands w ps is same =
-    by (find_named c.name w.places) refl
-    (subst (λ qs. beyond_at c (find_named c.name qs) (first_beyond cs (stood_at c (find_named c.name qs) qs)) ≡ None)
-    (sym same) is.0)
+wavering_carries {R = R} k zero [] stands w ps is same = subst R (sym same) is.1
+wavering_carries {F} {R} k zero (c ∷ cs) stands w ps is same =
+    by (find_named c.name w.places) refl (subst (λ qs. HoldsAt F c (find_named c.name qs)) (sym same) is.0.0)
   where
-    by : (o : Option Place) → find_named c.name w.places ≡ o →
-        beyond_at c o (first_beyond cs (stood_at c o w.places)) ≡ None → R (wavering_at c stands o w).places
-    by None found within = subst R (sym same) is.1
-    by (Some p) found within =
-        k c.name p (in_doubt c stands p) w.places found (Doubts c stands (within_parts c p _ within).0 refl)
-        (subst R (sym same) is.1)
-wavering_carries {R} k (suc n) [] stands w ps is same = subst R (sym same) is.1
-wavering_carries {R} k (suc n) (c ∷ cs) stands w ps is same =
+    by : (o : Option Place) → find_named c.name w.places ≡ o → HoldsAt F c o → R (wavering_at c stands o w).places
+    by None found holds = subst R (sym same) is.1
+    by (Some p) found holds =
+        k c.name p (in_doubt c stands p) w.places found (Doubts c stands holds refl) (subst R (sym same) is.1)
+wavering_carries {R = R} k (suc n) [] stands w ps is same = subst R (sym same) is.1
+wavering_carries {F} {R} k (suc n) (c ∷ cs) stands w ps is same =
     by (λ qs on at. wavering_carries k n cs stands w qs on at) (find_named c.name ps) refl is.0 same
   where
-    by : ((qs : Named Place) → AreWithin cs qs × R qs → w.places ≡ stood (take n cs) qs →
-        R (wavering (drop n cs) stands w).places) → (o : Option Place) →
-        find_named c.name ps ≡ o → beyond_at c o (first_beyond cs (stood_at c o ps)) ≡ None →
-        w.places ≡ stood (take n cs) (stood_at c o ps) → R (wavering (drop n cs) stands w).places
-    by on None found within at = on ps (within, is.1) at
-    by on (Some p) found within at =
-        let parts = within_parts c p _ within in
+    by : ((qs : Named Place) → AllHold F cs qs × R qs → w.places ≡ stood (take n cs) qs →
+        R (wavering (drop n cs) stands w).places) → (o : Option Place) → find_named c.name ps ≡ o →
+        HoldsAt F c o × AllHold F cs (stood_at c o ps) → w.places ≡ stood (take n cs) (stood_at c o ps) →
+        R (wavering (drop n cs) stands w).places
+    by on None found all at = on ps (all.1, is.1) at
+    by on (Some p) found all at =
         on (put_named c.name (committing c p) ps)
-        (parts.1, k c.name p (committing c p) ps found (Commits c parts.0 refl) is.1) at
+        (all.1, k c.name p (committing c p) ps found (Commits c all.0 refl) is.1) at
 
 -- ---- a step of a script
 
-pub acting_carries : {R : Named Place → Type 0} → Carries R → (w v : World) (h : Happening) → Acting w h v →
-    R w.places → R v.places
-acting_carries {R} k w v h t is = subst (λ u. R u.places) (sym t.is) (by t.fate)
+-- by commits of which F holds
+pub acting_turns : {F : Commit → Place → Type 0} {R : Named Place → Type 0} → Carries F R → (w v : World)
+    (h : Happening) (t : Acting w h v) → AllHold F (outcome t.act w).commits w.places → R w.places → R v.places
+acting_turns {F} {R} k w v h t all is = subst (λ u. R u.places) (sym t.is) (by t.fate)
   where
-    within : AreWithin (outcome t.act w).commits w.places
-    within = outcome_within t.act w
-
     by : (fate : Fate) → R (world_by t.act fate w).places
     by AllStand =
-        felled_carries k (outcome t.act w).falls _ (stood_carries k (outcome t.act w).commits w.places within is)
+        felled_carries k (outcome t.act w).falls _ (stood_carries k (outcome t.act w).commits w.places all is)
     by (Breaks name count) = broken_carries k name count (find_named name w.places) _ refl is
     by (DoubtsAt before stands) =
-        wavering_carries k before (outcome t.act w).commits stands _ w.places (within, is) refl
+        wavering_carries k before (outcome t.act w).commits stands _ w.places (all, is) refl
+
+pub acting_carries : {R : Named Place → Type 0} → Carries IsWithin R → (w v : World) (h : Happening) →
+    Acting w h v → R w.places → R v.places
+acting_carries k w v h t is =
+    acting_turns k w v h t (all_within (outcome t.act w).commits w.places (outcome_within t.act w)) is

@@ -1,32 +1,27 @@
 -- What ended stays ended, so that later snapshots see it.
-use Rattle.std.proofs.Common.{◌≡◌, ℕ, ◌<◌, ◌≤◌, true, false, cond, List, [], ◌∷◌, Bool, Some}
+use Rattle.std.proofs.Common.{◌≡◌, ℕ, ◌<◌, ◌≤◌, true, false, cond, List, [], ◌∷◌, Some}
 use Rattle.std.proofs.Common.{refl, sym, ap, subst, ◌∙◌, arith, inl, inr}
 use Rattle.std.specs.Prelude.{◌==◌, ◌||◌, not, nat_lt}
-use Rattle.std.specs.Str.{bytes_eq}
 use Rattle.std.proofs.lemmas.Bool.{false≢true, false_from_ne_true, lt-ltb, ltb-true, eqb-true, eq-eqb, or_cases}
 use Rattle.slon_model.specs.declared.numbering.Numbering.{Numbering}
 use Rattle.slon_model.specs.declared.numbering.Numbering.TheVariants.{Xids, Actions}
-use Rattle.slon_model.specs.Names.{Named, find_named, put_named}
+use Rattle.slon_model.specs.Names.{find_named}
 use Rattle.slon_model.specs.Rows.{member}
 use Rattle.slon_model.specs.Snapshots.{Covers, first_or, Rising}
-use Rattle.slon_model.specs.Tasks.{Task}
 use Rattle.slon_model.specs.Place.{Place, open_xids, taken, founded, raised}
 use Rattle.slon_model.specs.Moves.{Move, Founds, Begins, Writes, Commits, Aborts, Falls, Rises, prepared}
 use Rattle.slon_model.specs.Moves.{moved, begun, done}
-use Rattle.slon_model.specs.Deciding.{Choice, place_by}
-use Rattle.slon_model.specs.World.{World, Step, Grants, Denies, Misses, Asks, Acts, Happening, Leads}
-use Rattle.slon_model.proofs.Names.{bytes_same, found_behind, put_found, put_other, all_found, one_found}
+use Rattle.slon_model.specs.World.{World, Happening, Leads}
+use Rattle.slon_model.proofs.Names.{all_found, one_found}
 use Rattle.slon_laws.specs.Sound.{Sound, ids_of}
 use Rattle.slon_laws.specs.Worlds.{AllPlaces}
 use Rattle.slon_laws.specs.Laws.{SnapshotsCover}
 use Rattle.slon_laws.specs.Keeps.{Keeps}
 use Rattle.slon_laws.proofs.Decides.{raised_same}
-use Rattle.slon_laws.specs.Turning.{Turned}
-use Rattle.slon_laws.proofs.Keeps.{kept, turned_keeps}
-use Rattle.slon_laws.proofs.Acting.{acting_carries}
+use Rattle.slon_laws.proofs.Later.{HoldsOf, holds_later}
 use Rattle.slon_laws.proofs.Opens.{member_behind, member_without, member_all}
 use Rattle.slon_laws.proofs.Sounds.{sound_prepared}
-use Rattle.slon_laws.proofs.Worlds.{sound_world, sound_world_step}
+use Rattle.slon_laws.proofs.Worlds.{sound_world}
 
 -- ids and numbers only rise, and what is no more open is never open again
 pub record Outlasts (p q : Place) : Type 0 where
@@ -101,92 +96,32 @@ done_outlasts move p s =
     outlasts_on p (prepared move p) (done move p) (prepared_outlasts move p)
     (moved_outlasts move (prepared move p) (sound_prepared move p s))
 
-keeps_outlasting : (first : Place) → Keeps (λ task. Unit {0}) (λ p. Sound p × Outlasts first p) (Outlasts first)
+pub keeps_outlasting : (first : Place) → Keeps (λ task. Unit {0}) (λ p. Sound p × Outlasts first p) (Outlasts first)
 keeps_outlasting first = record {
-  stays = λ p s. s.1;
-  prepares = λ task move p may s. outlasts_on first p (prepared move p) s.1 (prepared_outlasts move p);
-  moves = λ task move p one may s. outlasts_on first p (done move p) s.1 (done_outlasts move p s.0);
-  falls = λ count p lasts. outlasts_on first p _ lasts (none_open p _ (omega arith) (omega arith) refl);
-  wavers = λ stands p lasts. outlasts_on first p _ lasts (none_open p _ (omega arith) (omega arith) refl);
+  tasks = record {
+    stays = λ p s. s.1;
+    prepares = λ task move p may s. outlasts_on first p (prepared move p) s.1 (prepared_outlasts move p);
+    moves = λ task move p one may s. outlasts_on first p (done move p) s.1 (done_outlasts move p s.0);
+    falls = λ count p lasts. outlasts_on first p _ lasts (none_open p _ (omega arith) (omega arith) refl);
+    wavers = λ stands p lasts. outlasts_on first p _ lasts (none_open p _ (omega arith) (omega arith) refl);
+  };
   commits = λ c p within lasts. record { later = lasts.later; numbers = lasts.numbers; still = lasts.still };
   promises = λ node p lasts. record { later = lasts.later; numbers = lasts.numbers; still = lasts.still };
 }
 
-pub outlasts_step : (task : Task) (p : Place) (choice : Choice) → Sound p → Outlasts p (place_by task p choice)
-outlasts_step task p choice s = kept (keeps_outlasting p) task p choice (tt, (s, outlasts_itself p))
-
 -- ---- each history
 
--- what a database became
-abbrev pub IsLaterIn : List ℕ → Place → Named Place → Type 0
-IsLaterIn name p ps = (q : Place) × (find_named name ps ≡ Some q) × Outlasts p q
-
-abbrev pub IsLater : List ℕ → Place → World → Type 0
-IsLater name p w = IsLaterIn name p w.places
-
--- A database of this name becomes one that outlasts it.
-record Becoming (ps : Named Place) : Type 0 where
-  name : List ℕ
-  before : Place
-  behind : Place
-  at : find_named name ps ≡ Some before
-  outlasts : Outlasts before behind
-
-later_put : (name : List ℕ) (p : Place) (ps : Named Place) (b : Becoming ps) → IsLaterIn name p ps →
-    IsLaterIn name p (put_named b.name b.behind ps)
-later_put name p ps b (s, found, lasts) = by (bytes_eq name b.name) refl
-  where
-    by : (c : Bool) → bytes_eq name b.name ≡ c → IsLaterIn name p (put_named b.name b.behind ps)
-    by true same =
-        let here : name ≡ b.name = bytes_same name b.name same in
-        let one : s ≡ b.before = one_found s b.before (sym found ∙ ap (λ k. find_named k ps) here ∙ b.at) in (
-          b.behind,
-          ap (λ k. find_named k (put_named b.name b.behind ps)) here ∙ put_found b.name b.behind b.before ps b.at,
-          outlasts_on p s b.behind lasts (subst (λ o. Outlasts o b.behind) (sym one) b.outlasts),
-        )
-    by false differ = (s, put_other name b.name b.behind ps differ ∙ found, lasts)
-
-turned_outlasts : (p q : Place) → Turned p q → Outlasts p q
-turned_outlasts p q turned = turned_keeps (keeps_outlasting p) p q turned (outlasts_itself p)
-
-later_step : (name : List ℕ) (p : Place) (w v : World) (h : Happening) → Step w h v → AllPlaces Sound w →
-    IsLater name p w → IsLater name p v
-later_step name p w v h (Grants other result about granted takes told is) all (r, found, lasts) =
-    subst (IsLater name p) (sym is) (r, found_behind name other _ r w.places found, lasts)
-later_step name p w v h (Denies other about denied sure told is) all later = subst (IsLater name p) (sym is) later
-later_step name p w v h (Misses other task about none sure told is) all later = subst (IsLater name p) (sym is) later
-later_step name p w v h (Asks t) all later =
-    subst (IsLater name p) (sym t.is)
-    (later_put name p w.places (record {
-      name = t.name;
-      before = t.place;
-      behind = place_by t.task t.place h.choice;
-      at = t.found;
-      outlasts = outlasts_step t.task t.place h.choice (all_found Sound t.name t.place w.places all t.found);
-    }) later)
-later_step name p w v h (Acts t) all later =
-    acting_carries (λ other r q ps at turned. later_put name p ps (record {
-      name = other;
-      before = r;
-      behind = q;
-      at = at;
-      outlasts = turned_outlasts r q turned;
-    })) w v h t later
-
+-- what a database became outlasts it
 pub later_place : (later : List Happening) (w v : World) → AllPlaces Sound w → Leads w later v →
-    (name : List ℕ) (p : Place) → find_named name w.places ≡ Some p → AllPlaces Sound v × IsLater name p v
-later_place [] w v all is name p found =
-    (subst (AllPlaces Sound) (sym is) all, subst (IsLater name p) (sym is) (p, found, outlasts_itself p))
-later_place (h ∷ hs) w v all leads name p found =
-    let before = later_place hs w leads.0 all leads.1 name p found in (
-      sound_world_step leads.0 v h leads.2 before.0,
-      later_step name p leads.0 v h leads.2 before.0 before.1,
-    )
+    (name : List ℕ) (p : Place) → find_named name w.places ≡ Some p →
+    AllPlaces Sound v × HoldsOf (Outlasts p) name v.places
+later_place later w v all leads name p found =
+    holds_later (keeps_outlasting p) later w v all leads name (p, found, outlasts_itself p)
 
 -- ---- snapshots
 
 -- an id that a snapshot sees was drawn, and is not open
-past : (x next : ℕ) (xids : List ℕ) → Rising xids → ((y : ℕ) → member y xids ≡ true → y < next) →
+pub past : (x next : ℕ) (xids : List ℕ) → Rising xids → ((y : ℕ) → member y xids ≡ true → y < next) →
     cond (nat_lt x (first_or next xids)) true (cond (nat_lt x next) (not (member x xids)) false) ≡ true →
     (x < next) × (member x xids ≡ true → ⊥)
 past x next xids rising below is =
@@ -215,7 +150,7 @@ past x next xids rising below is =
         )
 
 -- a drawn id that is not open is seen
-ended : (x next : ℕ) (xids : List ℕ) → x < next → (member x xids ≡ true → ⊥) →
+pub ended : (x next : ℕ) (xids : List ℕ) → x < next → (member x xids ≡ true → ⊥) →
     cond (nat_lt x (first_or next xids)) true (cond (nat_lt x next) (not (member x xids)) false) ≡ true
 ended x next xids below closed =
     elim (nat_lt x (first_or next xids))

@@ -5,10 +5,12 @@ pub mod Decides
 pub mod Drawing
 pub mod Keeps
 pub mod Keys
+pub mod Later
 pub mod Laws
 pub mod Locks
 pub mod Memories
 pub mod Opens
+pub mod Played
 pub mod Sounds
 pub mod Spells
 pub mod Worlds

@@ -311,11 +311,13 @@ sound_done task Rises p allowed s = sound_risen (prepared Rises p) (sound_prepar
 
 pub keeps_sound : Keeps (λ task. Unit {0}) Sound Sound
 keeps_sound = record {
-  stays = λ p s. s;
-  prepares = λ task move p may s. sound_prepared move p s;
-  moves = λ task move p one may s. sound_done task move p may.allows s;
-  falls = λ count p s. sound_closed s;
-  wavers = λ stands p s. sound_closed s;
+  tasks = record {
+    stays = λ p s. s;
+    prepares = λ task move p may s. sound_prepared move p s;
+    moves = λ task move p one may s. sound_done task move p may.allows s;
+    falls = λ count p s. sound_closed s;
+    wavers = λ stands p s. sound_closed s;
+  };
   commits = λ c p first s. s;
   promises = λ node p s. s;
 }

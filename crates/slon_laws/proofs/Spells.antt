@@ -214,17 +214,19 @@ spelled_done task Rises p formed may sound s =
 -- a sound database stays spelled
 pub keeps_spelled : Keeps IsTask (λ p. Sound p × IsSpelled p) (λ p. Sound p × IsSpelled p)
 keeps_spelled = record {
-  stays = λ p s. s;
-  prepares = λ task move p may s. (sound_prepared move p s.0, spelled_prepared move p may.within s.1);
-  moves =
-      λ task move p formed may s. (
-        keeps_sound.moves task move p tt may s.0,
-        spelled_done task move p formed may s.0 s.1,
-      );
-  falls =
-      λ count p s. (keeps_sound.falls count p s.0, spelled_same p _ (refl, refl, omega arith, refl, refl, refl) s.1);
-  wavers =
-      λ stands p s. (keeps_sound.wavers stands p s.0, spelled_same p _ (refl, refl, omega arith, refl, refl, refl) s.1);
+  tasks = record {
+    stays = λ p s. s;
+    prepares = λ task move p may s. (sound_prepared move p s.0, spelled_prepared move p may.within s.1);
+    moves =
+        λ task move p formed may s. (
+          keeps_sound.tasks.moves task move p tt may s.0,
+          spelled_done task move p formed may s.0 s.1,
+        );
+    falls =
+        λ count p s. (keeps_sound.tasks.falls count p s.0, spelled_same p _ (refl, refl, omega arith, refl, refl, refl) s.1);
+    wavers =
+        λ stands p s. (keeps_sound.tasks.wavers stands p s.0, spelled_same p _ (refl, refl, omega arith, refl, refl, refl) s.1);
+  };
   commits = λ c p within s. (
     keeps_sound.commits c p within s.0,
     spelled_stamped p _ refl refl refl (omega arith)

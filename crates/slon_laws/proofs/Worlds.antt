@@ -38,7 +38,7 @@ pub all_step : {IsOne : Task → Type 0} {P Q : Place → Type 0} → Lasts IsOn
 all_step {IsOne} {P} {Q} l s one all = by s.step
   where
     still : AllPlaces Q s.old
-    still = all_map (λ e. P e.1) (λ e. Q e.1) (λ e. l.keeps.stays e.1) s.old.places all
+    still = all_map (λ e. P e.1) (λ e. Q e.1) (λ e. l.keeps.tasks.stays e.1) s.old.places all
 
     by : Step s.old s.happening s.new → AllPlaces Q s.new
     by (Grants name result about granted takes told is) =

@@ -7,12 +7,15 @@ use Rattle.slon_model.specs.Sessions.{Commit, committing}
 use Rattle.slon_laws.specs.Allowed.{MayMove}
 
 -- From P each allowed move of such a task, and what comes before it, leads to Q, and a fault and a doubt keep Q.
-pub record Keeps (IsOne : Task → Type 0) (P Q : Place → Type 0) : Type 0 where
+pub record KeepsTasks (IsOne : Task → Type 0) (P Q : Place → Type 0) : Type 0 where
   pub stays : (p : Place) → P p → Q p
   pub prepares : (task : Task) (move : Move) (p : Place) → MayMove task p move → P p → Q (prepared move p)
   pub moves : (task : Task) (move : Move) (p : Place) → IsOne task → MayMove task p move → P p → Q (done move p)
   pub falls : (count : ℕ) (p : Place) → Q p → Q (fallen count p)
   pub wavers : (stands : Bool) (p : Place) → Q p → Q (doubted stands p)
-  -- and so do a commit of a script, and a promise of one that is in doubt
+
+-- The same, and so does every commit of a script or a turn, and a promise of one that is in doubt.
+pub record Keeps (IsOne : Task → Type 0) (P Q : Place → Type 0) : Type 0 where
+  pub tasks : KeepsTasks IsOne P Q
   pub commits : (c : Commit) (p : Place) → is_last_stamp p ≡ false → Q p → Q (committing c p)
   pub promises : (node : Option ℕ) (p : Place) → Q p → Q (record p { promised = node })

@@ -311,7 +311,14 @@ fn run_next<F: Files, S: Shelf, O: Sink>(
     }
 }
 
-/// Runs the session that was entered last, from its first line to its end or to a stop.
+/// Runs the session that was entered last, from its first line to its end or to a stop, and writes the reply to each of
+/// its commands, with its newline in one piece. The cluster says how many databases there may be. Nothing is written
+/// that tells of a stop, and the session is not left.
+///
+/// # Errors
+///
+/// What stopped the run: a line that is no command, the session's end beyond its limit, a file, the output or the shelf
+/// that failed, or `NoMemory`.
 pub fn run_session<F: Files, S: Shelf, O: Sink>(
     alloc: Global,
     cluster: &mut Cluster<S::Store>,

@@ -1,6 +1,7 @@
 pub mod Config
 pub mod Deciding
 pub mod Deeds
+pub mod Eras
 pub mod Events
 pub mod Forms
 pub mod Lines

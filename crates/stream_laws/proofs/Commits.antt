@@ -214,7 +214,7 @@ free_id ps c regular k n is one =
     ∙ (regular.each k n is).knows)
 
 -- the new node is of another database than the one that stores it
-other_name : (ps : Named Place) (s : Seat) (c : Newcomer ps) → IsSeat ps s → bytes_eq c.name s.name ≡ false
+pub other_name : (ps : Named Place) (s : Seat) (c : Newcomer ps) → IsSeat ps s → bytes_eq c.name s.name ≡ false
 other_name ps s c is = false_from_ne_true _ (λ same.
     let one : Some c.place ≡ Some s.place =
     sym c.found ∙ ap (λ k. find_named k ps) (bytes_same c.name s.name same) ∙ is.found in

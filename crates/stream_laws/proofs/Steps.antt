@@ -22,7 +22,7 @@ use Rattle.slon_model.specs.Sessions.{World, Memory}
 use Rattle.slon_model.specs.World.{Happening, Step, Grants, Denies, Misses, Asks, Acts, Serving, Acting, Leads, start}
 use Rattle.slon_model.specs.World.{outcome, memory_after, database_due, world_by}
 use Rattle.slon_model.proofs.Names.{find-behind, bytes_turned}
-use Rattle.slon_laws.specs.Turning.{Carries}
+use Rattle.slon_laws.specs.Turning.{Carries, IsWithin}
 use Rattle.slon_laws.proofs.Acting.{acting_carries}
 use Rattle.stream_laws.specs.Nodes.{Nodes, nodes_in, node_in}
 use Rattle.stream_laws.specs.Facts.{Facts, AreRegular, AreNamedOnce, AllWait, IsRegular}
@@ -57,7 +57,7 @@ once_put name x (e ∷ es) once =
       | false ↦ (none_put e.0 name x es once.0, once_put name x es once.1)
     ]
 
-once_carries : Carries AreNamedOnce
+once_carries : Carries IsWithin AreNamedOnce
 once_carries name p q ps found turned once = once_put name q ps once
 
 -- none is found under a name of which the test says so
@@ -80,7 +80,7 @@ once_behind name x (e ∷ es) none once =
 -- ---- one database goes on
 
 -- its node is the same, or it has done one more deed that commits rows
-abbrev Logs : Place → Option Node → Type 0
+abbrev pub Logs : Place → Option Node → Type 0
 Logs p o = (o ≡ p.node) ⊎ ((xid : ℕ) × (o ≡ option_map (with_commit xid p) p.node))
 
 raised_node : (kind : Numbering) (p : Place) → (raised kind p).node ≡ p.node
@@ -95,19 +95,19 @@ raised_node Actions p = by (p.numbers.next == p.numbers.ceiling)
     by true = refl
     by false = refl
 
-first_rows_node : (p : Place) → (first_rows p).node ≡ p.node
+pub first_rows_node : (p : Place) → (first_rows p).node ≡ p.node
 first_rows_node p = elim (p.stamp == 0) as (λ b. (cond b (founded p) p).node ≡ p.node) [
   | true ↦ refl
   | false ↦ refl
 ]
 
-prepared_node : (move : Move) (p : Place) → (prepared move p).node ≡ p.node
+pub prepared_node : (move : Move) (p : Place) → (prepared move p).node ≡ p.node
 prepared_node (Begins name) p = raised_node Xids p
 prepared_node (Writes xid table change) p = raised_node Actions p
 prepared_node Rises p = first_rows_node p
 prepared_node others p = refl
 
-done_logs : (move : Move) (p : Place) → Logs p (done move p).node
+pub done_logs : (move : Move) (p : Place) → Logs p (done move p).node
 done_logs Founds p = inl (first_rows_node p)
 done_logs (Begins name) p = inl (raised_node Xids p)
 done_logs (Writes xid table change) p = inl (raised_node Actions p)

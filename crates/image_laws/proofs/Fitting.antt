@@ -1,0 +1,380 @@
+-- The commits of every statement and every turn are such that stretches hold behind them.
+use Rattle.std.proofs.Common.{◌≡◌, ℕ, Bool, true, false, cond, List, [], ◌∷◌, Option, Some, None, Result, Ok, Err, refl}
+use Rattle.std.proofs.Common.{sym, ap, subst, ◌∙◌, is_some, is_none, not}
+use Rattle.std.specs.Prelude.{◌==◌, option_map}
+use Rattle.std.specs.Str.{bytes_eq}
+use Rattle.std.specs.List.{list_any, AllByRecursion}
+use Rattle.std.proofs.lemmas.Bool.{true≢false, false_from_ne_true, eqb-true, eq-eqb, and_parts}
+use Rattle.slonik_script.specs.declared.script.Command.{Command as Order}
+use Rattle.slonik_script.specs.declared.script.Command.TheVariants as order
+use Rattle.slon_model.specs.declared.command.Delivery.{Delivery}
+use Rattle.slon_model.specs.declared.command.Delivery.TheVariants.{Lost}
+use Rattle.slon_model.specs.declared.reply.Refusal.{Refusal}
+use Rattle.slon_model.specs.declared.reply.Refusal.TheVariants as refused
+use Rattle.node_rows.specs.declared.rows.NodeRow.{NodeRow}
+use Rattle.node_rows.specs.declared.rows.SetRow.{SetRow}
+use Rattle.node_rows.specs.declared.body.Body.{Body}
+use Rattle.node_rows.specs.declared.body.Body.TheVariants.{Sync, StoreNode, StorePath, DropPath, StoreSet}
+use Rattle.slon_model.specs.Names.{find_named}
+use Rattle.slon_model.specs.Maps.{entry_at}
+use Rattle.slon_model.specs.Events.{Event}
+use Rattle.slon_model.specs.Config.{Config, change_by, is_origin, live_set, leads_row}
+use Rattle.slon_model.specs.Deeds.{Node, Deed, Emits, knowledge, with_deeds}
+use Rattle.slon_model.specs.Place.{Place, deed, taken, node_id}
+use Rattle.slon_model.specs.Sessions.{World, Running, Commit, Stated, Seat, Emission, bind, tells, when}
+use Rattle.slon_model.specs.Sessions.{seat_of, writer_of, next_event, committing, stood_at, first_refusal}
+use Rattle.slon_model.specs.Membership.{comment_of, already, first_node, init_cluster, store_node, store_path}
+use Rattle.slon_model.specs.Membership.{drop_path, becoming, first_of_cluster, joining, stored_by}
+use Rattle.slon_model.specs.Reaching.{database_of_line, reach, is_node_of, down_among, any_down, known_somewhere}
+use Rattle.slon_model.specs.Reaching.{origin_of, origin_checks, commit_of, emitting, receiver_with}
+use Rattle.slon_model.specs.Sets.{NewTable, adding, create_set, set_add_table}
+use Rattle.slon_model.specs.Scripts.{ordered}
+use Rattle.slon_model.specs.Turns.{on_turn, sync_turn}
+use Rattle.slon_model.specs.Polls.{Poll, polled, stated_by, hearing}
+use Rattle.slon_model.proofs.Names.{put_other, all_found}
+use Rattle.slon_laws.specs.Turning.{HoldsAt, AllHold}
+use Rattle.slon_laws.specs.Worlds.{AllPlaces}
+use Rattle.stream_laws.specs.Nodes.{node_in}
+use Rattle.stream_laws.specs.Facts.{IsRegular}
+use Rattle.stream_laws.proofs.Lists.{there_here, there_with}
+use Rattle.stream_laws.proofs.Seats.{OnOk, IsSeat, IsFound, bind_ok, checked_ok, kept_ok, none_first, when_none}
+use Rattle.stream_laws.proofs.Seats.{turn_ok}
+use Rattle.stream_laws.proofs.Seats.{already_none, line_ok, reach_ok, unknown, no_nodes, no_node_at, seat_node}
+use Rattle.stream_laws.proofs.Commits.{Newcomer, other_name}
+use Rattle.stream_laws.proofs.Waiting.{IsPoll, polled_ok}
+use Rattle.image_laws.specs.Fits.{IsWhole, IsKept, Fit, Keeps, CreatesSet, AddsTable, IsFirst, IsFit}
+use Rattle.image_laws.specs.Fits.{IsDoneNow, Does, Becomes}
+use Rattle.image_laws.specs.Facts.{Holds, NodeHolds}
+use Rattle.image_laws.proofs.Leaves.{Leaves}
+
+-- ---- a session
+
+-- what holds of it before a step
+pub record Ready (w : World) : Type 0 where
+  pub regular : IsRegular w
+  pub holds : AllPlaces Holds w
+
+abbrev pub AreFit : World → List Commit → Type 0
+AreFit w cs = AllHold IsFit cs w.places
+
+abbrev IsStated : World → Stated → Type 0
+IsStated w stated = AreFit w stated.commits
+
+node_holds : (w : World) → Ready w → (s : Seat) → IsSeat w.places s → NodeHolds s.place s.node
+node_holds w r s is = (all_found Holds s.name s.place w.places r.holds is.found).1 s.node is.node
+
+-- ---- a node emits an event
+
+abbrev event_of : Seat → Body → Event
+event_of s body = record { origin = s.node.id; number = next_event s; taken = taken s.place; body = body }
+
+abbrev deed_of : Seat → Emission → Deed
+deed_of s m = deed s.place m.rows [] (Emits (event_of s m.body))
+
+emits_fit : (w : World) (s : Seat) (m : Emission) → IsSeat w.places s → Fit s.place s.node (deed_of s m) →
+    IsStated w (emitting s (m ∷ []))
+emits_fit w s m is fit =
+    let now : IsDoneNow s.place (deed_of s m) = record {
+      first = refl;
+      taken = λ e doing. let one : event_of s m.body ≡ e = cc in ap (λ (k : Event). k.taken) (sym one);
+    } in
+    let does = Does s.node (deed_of s m) is.node refl refl now fit in
+    (subst (HoldsAt IsFit (commit_of s (m ∷ []))) (sym is.found) does, tt)
+
+-- the sets and tables stay as they are
+quiet_fit : (w : World) (s : Seat) (body : Body) → IsSeat w.places s →
+    IsKept (knowledge s.node).config (change_by s.node.id (next_event s) body (knowledge s.node).config) →
+    IsStated w (emitting s (tells body ∷ []))
+quiet_fit w s body is kept = emits_fit w s (tells body) is (Keeps refl kept)
+
+abbrev all_kept : (c : Config) → IsKept c c
+all_kept c = record { sets = refl; tables = refl; nodes = λ id known. known }
+
+-- ---- reaching a node
+
+all_none : (checks : List (Option Refusal)) → first_refusal checks ≡ None → AllByRecursion (λ o. o ≡ None) checks
+all_none [] none = tt
+all_none (o ∷ more) none = let parts = none_first o more none in (parts.0, all_none more parts.1)
+
+on_any : {A : Type 0} (r : Result A Refusal) → OnOk (λ a. Unit {0}) r
+on_any (Ok a) = tt
+on_any (Err refusal) = tt
+
+on_both : {A : Type 0} (P Q : A → Type 0) (r : Result A Refusal) → OnOk P r → OnOk Q r → OnOk (λ a. P a × Q a) r
+on_both P Q (Ok a) one two = (one, two)
+on_both P Q (Err refusal) one two = tt
+
+not_false : (b : Bool) → not b ≡ false → b ≡ true
+not_false true is = refl
+not_false false is = absurd (true≢false is)
+
+-- what is reached is the node of this id
+reach_id : (run : Running) (id : ℕ) (w : World) → OnOk (λ s. s.node.id ≡ id) (reach run id w)
+reach_id run id w =
+    bind_ok (λ e. Unit {0}) (λ (s : Seat). s.node.id ≡ id) (database_of_line run id w) _
+    (on_any (database_of_line run id w))
+    (λ e any. bind_ok (λ s. Unit {0}) (λ (s : Seat). s.node.id ≡ id)
+    (seat_of (refused.NotInitialised id) e e.1.node) _ (on_any (seat_of (refused.NotInitialised id) e e.1.node))
+    (λ s any. checked_ok (λ (s : Seat). s.node.id ≡ id)
+    (when (not (is_node_of run id s)) (refused.OtherNode id) ∷ []) s
+    (λ none. eqb-true s.node.id id (and_parts (s.node.id == id) (bytes_eq s.node.cluster run.cluster)
+    (not_false (is_node_of run id s)
+    (when_none (not (is_node_of run id s)) (refused.OtherNode id)
+    (all_none (when (not (is_node_of run id s)) (refused.OtherNode id) ∷ []) none).0))).0)))
+
+reached : (w : World) (id : ℕ) (run : Running) (f : Seat → Result Stated Refusal) →
+    ((s : Seat) → IsSeat w.places s × (s.node.id ≡ id) → OnOk (IsStated w) (f s)) →
+    OnOk (IsStated w) (bind (reach run id w) f)
+reached w id run f on =
+    bind_ok (λ s. IsSeat w.places s × (s.node.id ≡ id)) (IsStated w) (reach run id w) f
+    (on_both (IsSeat w.places) (λ s. s.node.id ≡ id) (reach run id w) (reach_ok run id w) (reach_id run id w)) on
+
+-- ---- a database becomes a node
+
+init_fit : (id : ℕ) (comment : Option (List ℕ)) (run : Running) (w : World) →
+    OnOk (IsStated w) (init_cluster id comment run w)
+init_fit id comment run w =
+    bind_ok (IsFound w.places) (IsStated w) (database_of_line run id w) _ (line_ok run id w)
+    (λ e found. checked_ok (IsStated w) (down_among w.places ∷ already (first_node w) ∷ []) _
+    (λ none. (
+      subst (HoldsAt IsFit (becoming e.0 (first_of_cluster id (comment_of comment) run))) (sym found)
+          (Becomes (first_of_cluster id (comment_of comment) run)
+          (sym (ap node_in found) ∙ no_nodes w.places
+          (already_none (first_node w) (all_none (down_among w.places ∷ already (first_node w) ∷ []) none).1.0) e.0)
+          refl refl (record {
+            deeds = refl;
+            whole = record {
+              knows =
+                  let row : NodeRow = record { live = true; comment = comment_of comment } in
+                  ap (λ b. is_some (cond b (Some row) None)) (eq-eqb id id refl);
+              sets = λ set row is. absurd cc;
+              tables = tt;
+            };
+            leads = λ set. refl;
+          })),
+      tt,
+    )))
+
+-- the id of the new node is of no set's origin
+new_leads_none : (id : ℕ) (c : Config) → ((set : ℕ) (row : SetRow) → entry_at set c.sets ≡ Some row →
+    is_some (entry_at row.origin c.nodes) ≡ true) → is_some (entry_at id c.nodes) ≡ false → (set : ℕ) →
+    is_origin id set c ≡ false
+new_leads_none id c known new set = by (entry_at set c.sets) refl
+  where
+    live : (row : SetRow) → entry_at set c.sets ≡ Some row → (b : Bool) →
+        leads_row id (cond b (Some row) None) ≡ false
+    live row is true =
+        false_from_ne_true (row.origin == id) (λ same. true≢false (sym (known set row is)
+        ∙ ap (λ k. is_some (entry_at k c.nodes)) (eqb-true row.origin id same) ∙ new))
+    live row is false = refl
+
+    by : (o : Option SetRow) → entry_at set c.sets ≡ o → leads_row id (live_set o) ≡ false
+    by None is = refl
+    by (Some row) is = live row is row.live
+
+stores_fit : (w : World) → Ready w → (s : Seat) (c : Newcomer w.places) (comment : List ℕ) (run : Running) →
+    IsSeat w.places s → IsStated w (stored_by s c.name c.id comment run)
+stores_fit w r s c comment run is =
+    (one.0, (subst (HoldsAt IsFit (becoming c.name joined)) (sym found) (Becomes joined c.none refl refl first), tt))
+  where
+    body : Body
+    body = StoreNode c.id comment
+
+    known : Config
+    known = (knowledge s.node).config
+
+    whole : IsWhole s.node.id known
+    whole = (node_holds w r s is).whole
+
+    commit : Commit
+    commit = commit_of s (tells body ∷ [])
+
+    joined : Node
+    joined = joining c.id (with_deeds commit.deeds s.node) run
+
+    one : IsStated w (emitting s (tells body ∷ []))
+    one = quiet_fit w s body is
+        (record { sets = refl; tables = refl; nodes = λ id known. there_with id c.id _ _ known })
+
+    found : find_named c.name (stood_at commit (find_named s.name w.places) w.places) ≡ Some c.place
+    found =
+        ap (λ o. find_named c.name (stood_at commit o w.places)) is.found
+        ∙ put_other c.name s.name (committing commit s.place) w.places (other_name w.places s c is) ∙ c.found
+
+    first : IsFirst joined
+    first = record {
+      deeds = refl;
+      whole = record {
+        knows = there_here c.id _ known.nodes;
+        sets = λ set row at. there_with row.origin c.id _ known.nodes (whole.sets set row at);
+        tables = whole.tables;
+      };
+      leads = new_leads_none c.id known whole.sets (c.unknown s.name s.node (seat_node w.places s is));
+    }
+
+-- what is looked at before a database joins
+abbrev store_checks : ℕ → World → List ℕ × Place → List (Option Refusal)
+store_checks id w e =
+    already (node_id e.1) ∷ any_down w
+    ∷ when (known_somewhere (λ c. is_some (entry_at id c.nodes)) w) (refused.IdUsed id) ∷ []
+
+abbrev newcomer : (w : World) (id : ℕ) (e : List ℕ × Place) → IsFound w.places e →
+    AllByRecursion (λ o. o ≡ None) (store_checks id w e) → Newcomer w.places
+newcomer w id e found none = record {
+  name = e.0;
+  place = e.1;
+  found = found;
+  none = no_node_at w.places e found (already_none (node_id e.1) none.0);
+  id = id;
+  unknown = unknown (λ c. is_some (entry_at id c.nodes)) w.places (when_none _ (refused.IdUsed id) none.1.1.0);
+}
+
+store_fit : (id event_node : ℕ) (comment : Option (List ℕ)) (run : Running) (w : World) → Ready w →
+    OnOk (IsStated w) (store_node id event_node comment run w)
+store_fit id event_node comment run w r =
+    reached w event_node run _
+    (λ s is. bind_ok (IsFound w.places) (IsStated w) (database_of_line run id w) _ (line_ok run id w)
+    (λ e found. checked_ok (IsStated w) (store_checks id w e) (stored_by s e.0 id (comment_of comment) run)
+    (λ none. stores_fit w r s (newcomer w id e found (all_none (store_checks id w e) none)) (comment_of comment) run
+    is.0)))
+
+-- ---- sets
+
+-- what is looked at before a set begins
+abbrev create_checks : ℕ → World → List (Option Refusal)
+create_checks id w =
+    any_down w ∷ when (known_somewhere (λ c. is_some (entry_at id c.sets)) w) (refused.IdUsed id) ∷ []
+
+create_fit : (id origin : ℕ) (comment : Option (List ℕ)) (run : Running) (w : World) →
+    OnOk (IsStated w) (create_set id origin comment run w)
+create_fit id origin comment run w =
+    reached w origin run _
+    (λ s is. checked_ok (IsStated w) (create_checks id w)
+    (emitting s (tells (StoreSet id origin (comment_of comment)) ∷ []))
+    (λ none. emits_fit w s (tells (StoreSet id origin (comment_of comment))) is.0 (CreatesSet (record {
+      set_id = id;
+      comment = comment_of comment;
+      event = event_of s (StoreSet id origin (comment_of comment));
+      doing = refl;
+      body = ap (λ by. StoreSet id by (comment_of comment)) (sym is.1);
+      rows = refl;
+      new =
+          unknown (λ c. is_some (entry_at id c.sets)) w.places (when_none _ (refused.IdUsed id)
+          (all_none (create_checks id w) none).1.0) s.name s.node (seat_node w.places s is.0);
+    }))))
+
+none_busy : (o : Option ℕ) → option_map refused.Busy o ≡ None → o ≡ None
+none_busy None none = refl
+none_busy (Some xid) none = absurd cc
+
+-- what is looked at before a table comes into a set
+abbrev table_checks : NewTable → World → Seat → List (Option Refusal)
+table_checks t w s =
+    option_map refused.HasReceivers (receiver_with (λ e. true) t.set_id s.known.config)
+    ∷ when (is_none (find_named t.name s.place.tables)) (refused.NoTable t.name)
+    ∷ any_down w
+    ∷ when (known_somewhere (λ c. is_some (entry_at t.id c.tables)) w) (refused.IdUsed t.id)
+    ∷ when (known_somewhere (λ c. list_any (λ e. bytes_eq t.name e.1.name) c.tables) w) (refused.TableUsed t.name)
+    ∷ option_map refused.Busy (writer_of (t.name ∷ []) s.place) ∷ []
+
+-- the node is the origin of the set
+abbrev Leading : NewTable → World → Seat → Type 0
+Leading t w s = IsSeat w.places s × (is_origin s.node.id t.set_id (knowledge s.node).config ≡ true)
+
+adds_fit : (t : NewTable) (w : World) (s : Seat) → Leading t w s →
+    AllByRecursion (λ o. o ≡ None) (table_checks t w s) → IsStated w (emitting s (adding s t ∷ []))
+adds_fit t w s is none =
+    let node = seat_node w.places s is.0 in
+    emits_fit w s (adding s t) is.0 (AddsTable (record {
+      set_id = t.set_id;
+      table_id = t.id;
+      name = t.name;
+      comment = t.comment;
+      event = event_of s (adding s t).body;
+      doing = refl;
+      body = refl;
+      rows = refl;
+      leads = is.1;
+      new =
+          unknown (λ c. is_some (entry_at t.id c.tables)) w.places (when_none _ (refused.IdUsed t.id) none.1.1.1.0)
+          s.name s.node node;
+      unused =
+          unknown (λ c. list_any (λ e. bytes_eq t.name e.1.name) c.tables) w.places
+          (when_none _ (refused.TableUsed t.name) none.1.1.1.1.0) s.name s.node node;
+      free = none_busy (writer_of (t.name ∷ []) s.place) none.1.1.1.1.1.0;
+    }))
+
+table_fit : (origin : ℕ) (t : NewTable) (run : Running) (w : World) → OnOk (IsStated w) (set_add_table origin t run w)
+table_fit origin t run w =
+    bind_ok (Leading t w) (IsStated w) (origin_of run origin t.set_id w) _
+    (bind_ok (IsSeat w.places) (Leading t w) (reach run origin w) _ (reach_ok run origin w)
+    (λ s is. checked_ok (Leading t w) (origin_checks s t.set_id) s
+    (λ none. (
+      is,
+      ap (λ k. is_origin s.node.id t.set_id k.config) (sym is.known)
+          ∙ not_false (is_origin s.node.id t.set_id s.known.config)
+          (when_none _ (refused.NotOrigin t.set_id) (all_none (origin_checks s t.set_id) none).1.0),
+    ))))
+    (λ s is. checked_ok (IsStated w) (table_checks t w s) (emitting s (adding s t ∷ []))
+    (λ none. adds_fit t w s is (all_none (table_checks t w s) none)))
+
+-- ---- all of them
+
+path_fit : (server client : ℕ) (conninfo : List ℕ) (run : Running) (w : World) →
+    OnOk (IsStated w) (store_path server client conninfo run w)
+path_fit server client conninfo run w =
+    reached w client run _
+    (λ s is. let fit = quiet_fit w s (StorePath server client conninfo) is.0
+    (record { sets = refl; tables = refl; nodes = λ id known. known }) in
+    search (kept_ok (IsStated w), fit))
+
+no_path_fit : (server client : ℕ) (run : Running) (w : World) → OnOk (IsStated w) (drop_path server client run w)
+no_path_fit server client run w =
+    reached w client run _
+    (λ s is. let fit = quiet_fit w s (DropPath server client) is.0
+    (record { sets = refl; tables = refl; nodes = λ id known. known }) in
+    search (kept_ok (IsStated w), fit))
+
+ordered_fit : (w : World) → Ready w → (o : Order) (run : Running) → OnOk (IsStated w) (ordered o run w)
+ordered_fit w r (order.InitCluster id comment) run = init_fit id comment run w
+ordered_fit w r (order.StoreNode id event_node comment) run = store_fit id event_node comment run w r
+ordered_fit w r (order.StorePath server client conninfo retry) run = path_fit server client conninfo run w
+ordered_fit w r (order.DropPath server client) run = no_path_fit server client run w
+ordered_fit w r (order.CreateSet id origin comment) run = create_fit id origin comment run w
+ordered_fit w r (order.SetAddTable set origin id name key comment) run =
+    table_fit origin (record { set_id = set; id = id; name = name; comment = comment_of comment }) run w
+ordered_fit w r (order.Sync id) run =
+    reached w id run _ (λ s is. quiet_fit w s Sync is.0 (all_kept (knowledge s.node).config))
+ordered_fit w r others run = tt
+
+sync_fit : (w : World) → Ready w → (node : ℕ) → OnOk (IsStated w) (sync_turn node w)
+sync_fit w r node =
+    bind_ok (IsSeat w.places) (IsStated w) (on_turn node w) _ (turn_ok node w r.regular.once)
+    (λ s is. let fit = quiet_fit w s Sync is (all_kept (knowledge s.node).config) in
+    search (kept_ok (IsStated w), fit))
+
+hears_fit : (w : World) (s : Seat) (confirms : List (ℕ × ℕ × ℕ)) → IsSeat w.places s → AreFit w (hearing s confirms)
+hears_fit w s [] is = tt
+hears_fit w s (c ∷ cs) is = (
+  subst (HoldsAt IsFit _) (sym is.found) (Does s.node _ is.node refl refl
+      (record { first = refl; taken = λ e doing. absurd cc }) (Keeps refl (all_kept (knowledge s.node).config))),
+  tt,
+)
+
+poll_fit : (w : World) (delivery : Delivery) (b : Poll) → IsPoll w b → AreFit w (stated_by delivery b).commits
+poll_fit w Lost b is = tt
+poll_fit w others b is = hears_fit w b.seat b.confirms is.seat
+
+on_map : {A : Type 0} (P Q : A → Type 0) (r : Result A Refusal) → ((a : A) → P a → Q a) → OnOk P r → OnOk Q r
+on_map P Q (Ok a) f is = f a is
+on_map P Q (Err refusal) f is = tt
+
+pub leaves : (w : World) → Ready w → Leaves w (AreFit w)
+leaves w r = record {
+  nothing = tt;
+  orders = ordered_fit w r;
+  syncs = sync_fit w r;
+  polls = λ node server delivery.
+      on_map (IsPoll w) (λ b. AreFit w (stated_by delivery b).commits) (polled node server w) (poll_fit w delivery)
+      (polled_ok node server w r.regular);
+}

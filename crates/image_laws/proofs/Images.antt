@@ -1,0 +1,256 @@
+-- An image is the committed rows, in every session that a legal history leads to.
+use Rattle.std.proofs.Common.{◌≡◌, ℕ, ◌<◌, Bool, true, false, List, [], ◌∷◌, ◌++◌, Some, refl, sym, ap, subst}
+use Rattle.std.proofs.Common.{◌∙◌, arith}
+use Rattle.std.specs.Prelude.{◌==◌, ◌&&◌, find, nat_le}
+use Rattle.std.specs.Str.{bytes_eq}
+use Rattle.std.specs.List.{AllByRecursion}
+use Rattle.std.proofs.lemmas.Bool.{false≢true, eqb-true, and_parts}
+use Rattle.slon_model.specs.Names.{Named}
+use Rattle.slon_model.specs.Rows.{Action, member, play_rows}
+use Rattle.slon_model.specs.Snapshots.{sees}
+use Rattle.slon_model.specs.Tasks.{ToFound}
+use Rattle.slon_model.specs.Config.{era_of}
+use Rattle.slon_model.specs.Deeds.{Node, knowledge}
+use Rattle.slon_model.specs.Place.{Place, bare_place, standing_rows, taken}
+use Rattle.slon_model.specs.Deciding.{place_by}
+use Rattle.slon_model.specs.Eras.{Stretch, reigns, stretches, is_stretch, stretch_of, is_before, image_of}
+use Rattle.slon_model.specs.World.{World, start, Happening, Step, Grants, Denies, Misses, Asks, Acts, Leads}
+use Rattle.slon_model.proofs.Names.{all_map, all_put, all_behind, all_found, one_found, found_behind, bytes_same}
+use Rattle.slon_laws.specs.Sound.{Sound}
+use Rattle.slon_laws.specs.Worlds.{AllPlaces}
+use Rattle.slon_laws.proofs.Acting.{acting_turns}
+use Rattle.slon_laws.proofs.Keeps.{kept_task}
+use Rattle.slon_laws.proofs.Later.{HoldsOf, put_holds, holds_later}
+use Rattle.slon_laws.proofs.Played.{play_agrees, play_skips}
+use Rattle.slon_laws.proofs.Sounds.{sound_bare}
+use Rattle.slon_laws.proofs.Worlds.{sound_world}
+use Rattle.stream_laws.proofs.Steps.{regular_world}
+use Rattle.image_laws.specs.Laws.{ImageIsCommittedRows, SnapshotsAreMoments}
+use Rattle.image_laws.specs.Facts.{FillsAt, HoldsStretch, HasStretch, NodeHolds, Holds}
+use Rattle.image_laws.proofs.Continuing.{Continues, keeps_continuing, turned_continues}
+use Rattle.image_laws.proofs.Fitting.{Ready, AreFit, leaves}
+use Rattle.image_laws.proofs.Found.{find_has}
+use Rattle.image_laws.proofs.Leaves.{outcome_has}
+use Rattle.image_laws.proofs.Moving.{keeps_holding, bare_holds, turned_holds}
+use Rattle.image_laws.proofs.Since.{Since, since_itself, keeps_since, seen_committed}
+use Rattle.image_laws.proofs.Ticking.{Ticking, keeps_ticking, bare_ticks, turned_ticks, has_moments}
+
+-- ---- every session
+
+holds_step : (w v : World) (h : Happening) → Step w h v → Ready w → AllPlaces Holds v
+holds_step w v h (Grants name result about granted takes told is) r =
+    subst (AllPlaces Holds) (sym is)
+    (all_behind Holds name _ w.places (kept_task keeps_holding ToFound bare_place h.choice (tt, bare_holds sound_bare))
+    r.holds)
+holds_step w v h (Denies name about denied sure told is) r = subst (AllPlaces Holds) (sym is) r.holds
+holds_step w v h (Misses name task about none sure told is) r = subst (AllPlaces Holds) (sym is) r.holds
+holds_step w v h (Asks t) r =
+    subst (AllPlaces Holds) (sym t.is)
+    (all_put Holds t.name _ w.places
+    (kept_task keeps_holding t.task t.place h.choice (tt, all_found Holds t.name t.place w.places r.holds t.found))
+    r.holds)
+holds_step w v h (Acts t) r =
+    acting_turns (λ name p q ps found turned all. all_put Holds name q ps (turned_holds p q turned
+    (all_found Holds name p ps all found)) all) w v h t (outcome_has w (AreFit w) (leaves w r) t.act) r.holds
+
+pub ready_world : (limit : ℕ) (history : List Happening) (w : World) → Leads (start limit) history w → Ready w
+ready_world limit [] w is =
+    record { regular = regular_world limit [] w is; holds = subst (AllPlaces Holds) (sym is) tt }
+ready_world limit (h ∷ hs) w leads = record {
+  regular = regular_world limit (h ∷ hs) w leads;
+  holds = holds_step leads.0 w h leads.2 (ready_world limit hs leads.0 leads.1);
+}
+
+-- ---- a stretch, later
+
+-- it holds of all databases, and the one of the name continues
+abbrev Both : Stretch → ℕ → List ℕ → Named Place → Type 0
+Both s first name ps = AllByRecursion (λ e. Holds e.1) ps × HoldsOf (Continues s first) name ps
+
+continues_step : (s : Stretch) (first : ℕ) (name : List ℕ) (w v : World) (h : Happening) → Step w h v → Ready w →
+    HoldsOf (Continues s first) name w.places → HoldsOf (Continues s first) name v.places
+continues_step s first name w v h (Grants other result about granted takes told is) r (q, found, c) =
+    subst (λ u. HoldsOf (Continues s first) name u.places) (sym is) (q, found_behind name other _ q w.places found, c)
+continues_step s first name w v h (Denies other about denied sure told is) r on =
+    subst (λ u. HoldsOf (Continues s first) name u.places) (sym is) on
+continues_step s first name w v h (Misses other task about none sure told is) r on =
+    subst (λ u. HoldsOf (Continues s first) name u.places) (sym is) on
+continues_step s first name w v h (Asks t) r on =
+    subst (λ u. HoldsOf (Continues s first) name u.places) (sym t.is)
+    (put_holds name w.places (record {
+      name = t.name;
+      before = t.place;
+      behind = place_by t.task t.place h.choice;
+      at = t.found;
+      on = λ c. kept_task (keeps_continuing s first) t.task t.place h.choice
+          (tt, (all_found Holds t.name t.place w.places r.holds t.found, c));
+    }) on)
+continues_step s first name w v h (Acts t) r on =
+    (acting_turns {R = Both s first name} (λ other p q ps found turned both. (
+      all_put Holds other q ps (turned_holds p q turned (all_found Holds other p ps both.0 found)) both.0,
+      put_holds name ps (record {
+        name = other;
+        before = p;
+        behind = q;
+        at = found;
+        on = λ c. turned_continues s first p q turned (all_found Holds other p ps both.0 found) c;
+      }) both.1,
+    )) w v h t (outcome_has w (AreFit w) (leaves w r) t.act) (r.holds, on)).1
+
+-- a history that goes on
+joined : (limit : ℕ) (history later : List Happening) (w v : World) → Leads (start limit) history w → Leads w later v →
+    Leads (start limit) (later ++ history) v
+joined limit history [] w v leads is = subst (Leads (start limit) history) (sym is) leads
+joined limit history (h ∷ later) w v leads goes_on =
+    (goes_on.0, joined limit history later w goes_on.0 leads goes_on.1, goes_on.2)
+
+-- A session that a history leads to, and what holds of a database of it.
+record Reached (limit : ℕ) (w : World) : Type 0 where
+  history : List Happening
+  leads : Leads (start limit) history w
+
+continues_later : (s : Stretch) (first : ℕ) (name : List ℕ) (limit : ℕ) (w : World) (r : Reached limit w)
+    (later : List Happening) (v : World) → Leads w later v × HoldsOf (Continues s first) name w.places →
+    HoldsOf (Continues s first) name v.places
+continues_later s first name limit w r [] v is =
+    subst (λ u. HoldsOf (Continues s first) name u.places) (sym is.0) is.1
+continues_later s first name limit w r (h ∷ later) v is =
+    continues_step s first name is.0.0 v h is.0.2
+    (ready_world limit (later ++ r.history) is.0.0 (joined limit r.history later w is.0.0 r.leads is.0.1))
+    (continues_later s first name limit w r later is.0.0 (is.0.1, is.1))
+
+-- ---- the image
+
+-- an action by whether the snapshot sees it, whether it is committed now and was then, and whether it is within the
+-- stretch
+image_by : (seen now then within late : Bool) → (seen ≡ true → now ≡ then) → (then ≡ true → seen ≡ true) →
+    late ≡ true → ((seen && now) && (within && late)) ≡ (then && within)
+image_by true now then within late same came is =
+    ap (λ b. b && (within && late)) (same refl) ∙ ap (λ b. then && (within && b)) is ∙ by then within
+  where
+    by : (a b : Bool) → (a && (b && true)) ≡ (a && b)
+    by true true = refl
+    by true false = refl
+    by false b = refl
+image_by false now true within late same came is = absurd (false≢true (came refl))
+image_by false now false within late same came is = refl
+
+image_since : (p q : Place) (s t : Stretch) → Sound p → Since p q → t ≡ record s { last = t.last } →
+    ((x : ℕ) → x < p.numbers.next → is_before x t.last ≡ true) →
+    image_of q.actions q.commits (taken p) (Some t)
+    ≡ play_rows (λ a. member a.xid p.commits && nat_le s.first a.number) s.table p.actions s.before
+image_since p q s t sound since same late =
+    ap (λ u. image_of q.actions q.commits (taken p) (Some u)) same
+    ∙ ap (λ actions. play_rows test s.table actions s.before) since.actions
+    ∙ play_skips test s.table since.more p.actions s.before
+    (all_map (λ a. sees (taken p) a.xid ≡ false) (λ a. test a ≡ false)
+    (λ a unseen. ap (λ b. (b && member a.xid q.commits)
+    && (nat_le s.first a.number && is_before a.number t.last)) unseen) since.more since.unseen)
+    ∙ play_agrees test (λ a. member a.xid p.commits && nat_le s.first a.number) s.table p.actions s.before
+    (all_map (λ a. a.number < p.numbers.next) (λ a. test a ≡ (member a.xid p.commits && nat_le s.first a.number))
+    (λ a below. image_by (sees (taken p) a.xid) (member a.xid q.commits) (member a.xid p.commits)
+    (nat_le s.first a.number) (is_before a.number t.last) (since.commits a.xid) (seen_committed p sound a.xid)
+    (late a.number below)) p.actions sound.numbered)
+  where
+    test : Action → Bool
+    test a =
+        (sees (taken p) a.xid && member a.xid q.commits)
+        && (nat_le s.first a.number && is_before a.number t.last)
+
+pub image_is_committed_rows : ImageIsCommittedRows
+image_is_committed_rows limit history later w v leads goes_on name p q found found_later n m is_n is_m set table held =
+    ap (image_of q.actions q.commits (taken p)) there
+    ∙ image_since p q s c.stretch sound since c.same c.late
+    ∙ sym lasts.1.rows ∙ ap (standing_rows p) same_table
+  where
+    ready : Ready w
+    ready = ready_world limit history w leads
+
+    sound : Sound p
+    sound = (all_found Holds name p w.places ready.holds found).0
+
+    holds : NodeHolds p n
+    holds = (all_found Holds name p w.places ready.holds found).1 n is_n
+
+    era : ℕ
+    era = era_of set (knowledge n).config
+
+    has : HasStretch (knowledge n).config (stretches n) set table
+    has = holds.there set table held
+
+    s : Stretch
+    s = has.stretch
+
+    is : HoldsStretch p n.id (knowledge n).config s × (is_stretch set era table s ≡ true)
+    is = find_has (HoldsStretch p n.id (knowledge n).config) (is_stretch set era table) s (stretches n) holds.each
+        has.found
+
+    lasts : (reigns n.id (knowledge n).config s ≡ true) × FillsAt p s
+    lasts = is.0.lasts has.lasts
+
+    parts : (s.set_id ≡ set) × ((s.era ≡ era) × (s.table ≡ table))
+    parts =
+        let first = and_parts (s.set_id == set) (s.era == era && bytes_eq table s.table) is.1 in
+        let second = and_parts (s.era == era) (bytes_eq table s.table) first.1 in
+        (eqb-true s.set_id set first.0, (eqb-true s.era era second.0, sym (bytes_same table s.table second.1)))
+
+    same_table : s.table ≡ table
+    same_table = parts.1.1
+
+    test : is_stretch s.set_id s.era s.table ≡ is_stretch set era table
+    test i = is_stretch (parts.0 i) (parts.1.0 i) (parts.1.1 i)
+
+    begins : Continues s p.numbers.next p
+    begins = record {
+      node = n;
+      is = is_n;
+      stretch = s;
+      found = ap (λ test. find test (stretches n)) test ∙ has.found;
+      same = refl;
+      late = λ x less. ap (is_before x) has.lasts;
+      numbers = omega arith;
+    }
+
+    c : Continues s p.numbers.next q
+    c =
+        let there = continues_later s p.numbers.next name limit w (record { history = history; leads = leads }) later v
+        (goes_on, (p, found, begins)) in
+        subst (Continues s p.numbers.next) (one_found there.0 q (sym there.1 ∙ found_later)) there.2
+
+    since : Since p q
+    since =
+        let there = (holds_later (keeps_since p sound) later w v (sound_world limit history w leads) goes_on name
+        (p, found, since_itself p)).1 in
+        subst (Since p) (one_found there.0 q (sym there.1 ∙ found_later)) there.2
+
+    there : stretch_of set era table m ≡ Some c.stretch
+    there =
+        ap (λ test. find test (stretches m)) (sym test)
+        ∙ ap (λ (x : Node). find (is_stretch s.set_id s.era s.table) (stretches x))
+        (one_found m c.node (sym is_m ∙ c.is)) ∙ c.found
+
+-- ---- moments
+
+ticks_step : (w v : World) (h : Happening) → Step w h v → Ready w → AllPlaces Ticking w → AllPlaces Ticking v
+ticks_step w v h (Grants name result about granted takes told is) r all =
+    subst (AllPlaces Ticking) (sym is)
+    (all_behind Ticking name _ w.places
+    (kept_task keeps_ticking ToFound bare_place h.choice (tt, bare_ticks sound_bare)) all)
+ticks_step w v h (Denies name about denied sure told is) r all = subst (AllPlaces Ticking) (sym is) all
+ticks_step w v h (Misses name task about none sure told is) r all = subst (AllPlaces Ticking) (sym is) all
+ticks_step w v h (Asks t) r all =
+    subst (AllPlaces Ticking) (sym t.is)
+    (all_put Ticking t.name _ w.places
+    (kept_task keeps_ticking t.task t.place h.choice (tt, all_found Ticking t.name t.place w.places all t.found)) all)
+ticks_step w v h (Acts t) r all =
+    acting_turns (λ name p q ps found turned ticks. all_put Ticking name q ps (turned_ticks p q turned
+    (all_found Ticking name p ps ticks found)) ticks) w v h t (outcome_has w (AreFit w) (leaves w r) t.act) all
+
+ticks_world : (limit : ℕ) (history : List Happening) (w : World) → Leads (start limit) history w → AllPlaces Ticking w
+ticks_world limit [] w is = subst (AllPlaces Ticking) (sym is) tt
+ticks_world limit (h ∷ hs) w leads =
+    ticks_step leads.0 w h leads.2 (ready_world limit hs leads.0 leads.1) (ticks_world limit hs leads.0 leads.1)
+
+pub snapshots_are_moments : SnapshotsAreMoments
+snapshots_are_moments limit history w leads name p found n is =
+    has_moments p n (all_found Ticking name p w.places (ticks_world limit history w leads) found) is

@@ -1,0 +1,14 @@
+pub mod Adding
+pub mod Clocks
+pub mod Continuing
+pub mod Deltas
+pub mod Filling
+pub mod Fitting
+pub mod Found
+pub mod Images
+pub mod Leaves
+pub mod Moving
+pub mod Orders
+pub mod Since
+pub mod Stretching
+pub mod Ticking

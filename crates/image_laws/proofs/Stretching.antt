@@ -1,0 +1,240 @@
+-- The stretches of a node after one more deed that gives no rows to tables.
+use Rattle.std.proofs.Common.{◌≡◌, ℕ, Bool, true, false, cond, List, [], ◌++◌, map, Option, Some, None, refl, sym, ap}
+use Rattle.std.proofs.Common.{subst, ◌∙◌, is_some}
+use Rattle.std.specs.Prelude.{◌==◌, ◌&&◌, find, filter_map, option_map, unwrap_or}
+use Rattle.std.specs.Str.{bytes_eq}
+use Rattle.std.specs.List.{AllByRecursion}
+use Rattle.std.proofs.lemmas.Bool.{false≢true, false_from_ne_true, eqb-true, eq-eqb, and_parts, and_from}
+use Rattle.node_rows.specs.declared.rows.SetRow.{SetRow}
+use Rattle.node_rows.specs.declared.rows.TableRow.{TableRow}
+use Rattle.slon_model.specs.Maps.{Map, entry_at, with_entry}
+use Rattle.slon_model.specs.Config.{Config, live_set, leads_row, is_origin, era_of, set_row, set_of, member_of}
+use Rattle.slon_model.specs.Deeds.{Deed}
+use Rattle.slon_model.specs.Place.{Place}
+use Rattle.slon_model.specs.Eras.{Stretch, reigns, stretch_in, ended, stretches_by, is_stretch}
+use Rattle.slon_model.proofs.Names.{all_map}
+use Rattle.stream_laws.proofs.Lists.{all_mapped, entry-with, there_with}
+use Rattle.image_laws.specs.Fits.{IsListed, IsWhole, IsKept}
+use Rattle.image_laws.specs.Facts.{HoldsStretch, IsHeldBy, HasStretch, StretchesHold}
+use Rattle.image_laws.proofs.Found.{IsNew, find_agrees, find_mapped, find_has}
+
+-- ---- each stretch
+
+abbrev pub behind : ℕ → Config → Deed → Stretch → Stretch
+behind own c d s = ended own c d.first s.last s
+
+-- it is of the same table, era and set
+pub same_stretch : (own : ℕ) (c : Config) (d : Deed) (test : Stretch → Bool) →
+    ((s : Stretch) (last : Option ℕ) → test (record s { last = last }) ≡ test s) → (s : Stretch) →
+    test (behind own c d s) ≡ test s
+same_stretch own c d test same s = by s.last
+  where
+    by : (o : Option ℕ) → test (ended own c d.first o s) ≡ test s
+    by (Some last) = refl
+    by None = elim (reigns own c s) as (λ b. test (cond b s (record s { last = Some d.first })) ≡ test s) [
+      | true ↦ refl
+      | false ↦ same s (Some d.first)
+    ]
+
+-- it lasts where its era stands
+lasts_still : (own : ℕ) (c : Config) (d : Deed) (s : Stretch) → s.last ≡ None → reigns own c s ≡ true →
+    behind own c d s ≡ s
+lasts_still own c d s none stands =
+    ap (λ o. ended own c d.first o s) none ∙ ap (λ b. cond b s (record s { last = Some d.first })) stands
+
+each_behind : (p : Place) (own : ℕ) (old new : Config) (d : Deed) →
+    ((table : List ℕ) → IsListed table old → IsListed table new) → (s : Stretch) → HoldsStretch p own old s →
+    HoldsStretch p own new (behind own new d s)
+each_behind p own old new d listed s h = by s.last refl
+  where
+    by : (o : Option ℕ) → s.last ≡ o → HoldsStretch p own new (ended own new d.first o s)
+    by (Some last) is = record {
+      listed = listed s.table h.listed;
+      begun = h.begun;
+      lasts = λ none. let never : Some last ≡ None = sym is ∙ none in absurd cc;
+    }
+    by None is =
+        elim (reigns own new s)
+        as (λ b. reigns own new s ≡ b → HoldsStretch p own new (cond b s (record s { last = Some d.first }))) [
+          | true ↦ λ stands. record {
+            listed = listed s.table h.listed;
+            begun = h.begun;
+            lasts = λ none. (stands, (h.lasts none).1);
+          }
+          | false ↦ λ over. record {
+            listed = listed s.table h.listed;
+            begun = h.begun;
+            lasts = λ none. absurd cc;
+          }
+        ] refl
+
+pub all_behind : (p : Place) (own : ℕ) (old new : Config) (d : Deed) →
+    ((table : List ℕ) → IsListed table old → IsListed table new) → (all : List Stretch) →
+    AllByRecursion (HoldsStretch p own old) all → AllByRecursion (HoldsStretch p own new) (map (behind own new d) all)
+all_behind p own old new d listed all holds =
+    all_mapped (HoldsStretch p own old) (HoldsStretch p own new) (behind own new d)
+    (each_behind p own old new d listed) all holds
+
+-- no rows, no stretch that begins
+pub none_begin : (own : ℕ) (c : Config) (d : Deed) (all : List Stretch) → d.rows ≡ [] →
+    stretches_by own c d all ≡ map (behind own c d) all
+none_begin own c d all none =
+    ap (λ rows. filter_map (λ given. stretch_in own d.first c given (set_of given.0 c)) rows
+    ++ map (behind own c d) all) none
+
+-- ---- a table of a set of the node
+
+-- What held before a deed.
+pub record Before : Type 0 where
+  pub place : Place
+  pub own : ℕ
+  pub known : Config
+  pub all : List Stretch
+  pub holds : StretchesHold place own known all
+
+-- the node is still the origin of the set, in the same era
+pub record Leads (own : ℕ) (old new : Config) (set : ℕ) : Type 0 where
+  pub origin : is_origin own set new ≡ true
+  pub era : era_of set new ≡ era_of set old
+
+-- its stretch lasts
+pub there_behind : (b : Before) (new : Config) (d : Deed) (set : ℕ) (table : List ℕ) →
+    IsHeldBy b.own b.known set table → Leads b.own b.known new set →
+    HasStretch new (map (behind b.own new d) b.all) set table
+there_behind b new d set table held leads = record {
+  stretch = s;
+  found =
+      ap (λ era. find (is_stretch set era table) (map (behind b.own new d) b.all)) leads.era
+      ∙ find_mapped (is_stretch set era table) (behind b.own new d)
+      (same_stretch b.own new d (is_stretch set era table) (λ s last. refl)) b.all
+      ∙ ap (option_map (behind b.own new d)) there.found
+      ∙ ap Some (lasts_still b.own new d s there.lasts stands);
+  lasts = there.lasts;
+}
+  where
+    era : ℕ
+    era = era_of set b.known
+
+    there : HasStretch b.known b.all set table
+    there = b.holds.there set table held
+
+    s : Stretch
+    s = there.stretch
+
+    has : HoldsStretch b.place b.own b.known s × (is_stretch set era table s ≡ true)
+    has = find_has (HoldsStretch b.place b.own b.known) (is_stretch set era table) s b.all b.holds.each there.found
+
+    stands : reigns b.own new s ≡ true
+    stands =
+        let parts = and_parts (s.set_id == set) (s.era == era && bytes_eq table s.table) has.1 in
+        let here : s.set_id ≡ set = eqb-true s.set_id set parts.0 in
+        let now : s.era ≡ era = eqb-true s.era era (and_parts (s.era == era) (bytes_eq table s.table) parts.1).0 in
+        and_from (is_origin b.own s.set_id new) (s.era == era_of s.set_id new)
+        (ap (λ k. is_origin b.own k new) here ∙ leads.origin)
+        (eq-eqb s.era (era_of s.set_id new) (now ∙ sym leads.era ∙ ap (λ k. era_of k new) (sym here)))
+
+-- ---- sets and tables that stay
+
+abbrev leads_by : ℕ → Option SetRow → Bool
+leads_by own o = leads_row own (live_set o)
+
+abbrev era_by : Option SetRow → ℕ
+era_by o = unwrap_or (option_map (λ row. row.era) (live_set o)) 0
+
+-- a set whose row is as before
+same_leads : (own : ℕ) (old new : Config) (set : ℕ) → entry_at set new.sets ≡ entry_at set old.sets →
+    is_origin own set new ≡ true → Leads own old new set × (is_origin own set old ≡ true)
+same_leads own old new set same is =
+    (record { origin = is; era = ap era_by same }, ap (leads_by own) (sym same) ∙ is)
+
+kept_whole : (own : ℕ) (old new : Config) → IsKept old new → IsWhole own old → IsWhole own new
+kept_whole own old new kept w = record {
+  knows = kept.nodes own w.knows;
+  sets = λ set row is. kept.nodes row.origin (w.sets set row (ap (entry_at set) (sym kept.sets) ∙ is));
+  tables =
+      subst (λ tables. AllByRecursion (λ e. is_some (entry_at e.1.set_id new.sets) ≡ true) tables) (sym kept.tables)
+      (subst (λ sets. AllByRecursion (λ e. is_some (entry_at e.1.set_id sets) ≡ true) old.tables) (sym kept.sets)
+      w.tables);
+}
+
+pub keeps_holds : (b : Before) (new : Config) (d : Deed) → d.rows ≡ [] → IsKept b.known new →
+    StretchesHold b.place b.own new (stretches_by b.own new d b.all)
+keeps_holds b new d none kept =
+    subst (StretchesHold b.place b.own new) (sym (none_begin b.own new d b.all none)) (record {
+      whole = kept_whole b.own b.known new kept b.holds.whole;
+      each =
+          all_behind b.place b.own b.known new d (λ table listed. subst (λ tables.
+          IsListed table (record new { tables = tables })) (sym kept.tables) listed) b.all b.holds.each;
+      there = λ set table held.
+          let leads = same_leads b.own b.known new set (ap (entry_at set) kept.sets) held.1 in
+          there_behind b new d set table (sym (same_set table) ∙ held.0, leads.1) leads.0;
+    })
+  where
+    same_set : (table : List ℕ) → set_of table new ≡ set_of table b.known
+    same_set table i = set_of table (record b.known { sets = kept.sets i; tables = kept.tables i })
+
+-- ---- a set that begins
+
+-- a set that was known has the same row
+another_set : (sets : Map SetRow) (id : ℕ) (row : SetRow) → IsNew id sets → (set : ℕ) →
+    is_some (entry_at set sets) ≡ true → entry_at set (with_entry id row sets) ≡ entry_at set sets
+another_set sets id row new set known =
+    entry-with set id row sets
+    ∙ ap (λ b. cond b (Some row) (entry_at set sets))
+    (false_from_ne_true (set == id) (λ same. false≢true (sym new
+    ∙ ap (λ k. is_some (entry_at k sets)) (sym (eqb-true set id same)) ∙ known)))
+
+-- the set of a table is known
+known_set : (own : ℕ) (c : Config) (set : ℕ) (table : List ℕ) → IsWhole own c → set_of table c ≡ Some set →
+    is_some (entry_at set c.sets) ≡ true
+known_set own c set table w is = by (member_of table c) refl is
+  where
+    by : (o : Option (ℕ × TableRow)) → member_of table c ≡ o → option_map (λ e. e.1.set_id) o ≡ Some set →
+        is_some (entry_at set c.sets) ≡ true
+    by None found none = absurd cc
+    by (Some e) found some =
+        let here : e.1.set_id ≡ set = cc in
+        ap (λ k. is_some (entry_at k c.sets)) (sym here)
+        ∙ (find_has (λ e. is_some (entry_at e.1.set_id c.sets) ≡ true) _ e c.tables w.tables found).0
+
+pub creates_holds : (b : Before) (id : ℕ) (row : SetRow) (d : Deed) → d.rows ≡ [] → IsNew id b.known.sets →
+    row.origin ≡ b.own →
+    StretchesHold b.place b.own (record b.known { sets = with_entry id row b.known.sets })
+    (stretches_by b.own (record b.known { sets = with_entry id row b.known.sets }) d b.all)
+creates_holds b id row d none fresh origin =
+    subst (StretchesHold b.place b.own new) (sym (none_begin b.own new d b.all none)) (record {
+      whole = record {
+        knows = b.holds.whole.knows;
+        sets = λ set r is. by set r (set == id) (sym (entry-with set id row b.known.sets) ∙ is);
+        tables =
+            all_map (λ e. is_some (entry_at e.1.set_id b.known.sets) ≡ true)
+            (λ e. is_some (entry_at e.1.set_id new.sets) ≡ true)
+            (λ e known. there_with e.1.set_id id row b.known.sets known) b.known.tables b.holds.whole.tables;
+      };
+      each = all_behind b.place b.own b.known new d (λ table listed. listed) b.all b.holds.each;
+      there = λ set table held.
+          let before = sym (same_set table) ∙ held.0 in
+          let known = known_set b.own b.known set table b.holds.whole before in
+          let leads = same_leads b.own b.known new set (another_set b.known.sets id row fresh set known) held.1 in
+          there_behind b new d set table (before, leads.1) leads.0;
+    })
+  where
+    new : Config
+    new = record b.known { sets = with_entry id row b.known.sets }
+
+    by : (set : ℕ) (r : SetRow) (c : Bool) → cond c (Some row) (entry_at set b.known.sets) ≡ Some r →
+        is_some (entry_at r.origin b.known.nodes) ≡ true
+    by set r true is =
+        let one : row ≡ r = cc in
+        ap (λ (k : SetRow). is_some (entry_at k.origin b.known.nodes)) (sym one)
+        ∙ ap (λ k. is_some (entry_at k b.known.nodes)) origin ∙ b.holds.whole.knows
+    by set r false is = b.holds.whole.sets set r is
+
+    same_set : (table : List ℕ) → set_of table new ≡ set_of table b.known
+    same_set table =
+        ap (option_map (λ e. e.1.set_id)) (find_agrees _ _ b.known.tables
+        (all_map (λ e. is_some (entry_at e.1.set_id b.known.sets) ≡ true)
+        (λ e. (e.1.live && bytes_eq table e.1.name && is_some (set_row e.1.set_id new))
+        ≡ (e.1.live && bytes_eq table e.1.name && is_some (set_row e.1.set_id b.known)))
+        (λ e known. ap (λ o. e.1.live && bytes_eq table e.1.name && is_some (live_set o))
+        (another_set b.known.sets id row fresh e.1.set_id known)) b.known.tables b.holds.whole.tables))

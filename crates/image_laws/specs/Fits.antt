@@ -1,0 +1,77 @@
+-- What a node does with the sets and tables that it knows, deed by deed.
+use Rattle.std.specs.Prelude.{◌≡◌, ℕ, is_some, true, false, List, [], ◌∷◌, Some, None}
+use Rattle.std.specs.Str.{bytes_eq}
+use Rattle.std.specs.List.{list_any, AllByRecursion}
+use Rattle.node_rows.specs.declared.rows.SetRow.{SetRow}
+use Rattle.node_rows.specs.declared.body.Body.TheVariants.{StoreSet, SetAddTable}
+use Rattle.slon_model.specs.Maps.{entry_at}
+use Rattle.slon_model.specs.Events.{Event}
+use Rattle.slon_model.specs.Config.{Config, is_origin}
+use Rattle.slon_model.specs.Deeds.{Node, Deed, Emits, learned, knowledge}
+use Rattle.slon_model.specs.Place.{Place, standing_rows, taken}
+use Rattle.slon_model.specs.Sessions.{Commit, writer_of}
+
+-- some table that is known has this name
+abbrev pub IsListed : List ℕ → Config → Type 0
+IsListed table c = list_any (λ e. bytes_eq table e.1.name) c.tables ≡ true
+
+-- A node knows itself, the origin of each set, and the set of each table.
+pub record IsWhole (own : ℕ) (c : Config) : Type 0 where
+  pub knows : is_some (entry_at own c.nodes) ≡ true
+  pub sets : (set : ℕ) (row : SetRow) → entry_at set c.sets ≡ Some row → is_some (entry_at row.origin c.nodes) ≡ true
+  pub tables : AllByRecursion (λ e. is_some (entry_at e.1.set_id c.sets) ≡ true) c.tables
+
+-- the sets and tables stay, and so does each node
+pub record IsKept (old new : Config) : Type 0 where
+  pub sets : new.sets ≡ old.sets
+  pub tables : new.tables ≡ old.tables
+  pub nodes : (id : ℕ) → is_some (entry_at id old.nodes) ≡ true → is_some (entry_at id new.nodes) ≡ true
+
+-- A set that the node did not know begins, and the node is its origin.
+pub record Creates (n : Node) (d : Deed) : Type 0 where
+  pub set_id : ℕ
+  pub comment : List ℕ
+  pub event : Event
+  pub doing : d.doing ≡ Emits event
+  pub body : event.body ≡ StoreSet set_id n.id comment
+  pub rows : d.rows ≡ []
+  pub new : is_some (entry_at set_id (knowledge n).config.sets) ≡ false
+
+-- A table comes into a set of which the node is the origin: it knew neither its id nor its name, and no open
+-- transaction has written it.
+pub record Adds (p : Place) (n : Node) (d : Deed) : Type 0 where
+  pub set_id : ℕ
+  pub table_id : ℕ
+  pub name : List ℕ
+  pub comment : List ℕ
+  pub event : Event
+  pub doing : d.doing ≡ Emits event
+  pub body : event.body ≡ SetAddTable set_id table_id name comment
+  pub rows : d.rows ≡ (name, standing_rows p name) ∷ []
+  pub leads : is_origin n.id set_id (knowledge n).config ≡ true
+  pub new : is_some (entry_at table_id (knowledge n).config.tables) ≡ false
+  pub unused : list_any (λ e. bytes_eq name e.1.name) (knowledge n).config.tables ≡ false
+  pub free : writer_of (name ∷ []) p ≡ None
+
+-- what a node of a database does
+pub data Fit (p : Place) (n : Node) (d : Deed) : Type 0 where
+  Keeps : d.rows ≡ [] → IsKept (knowledge n).config (learned n.id d.doing (knowledge n)).config → Fit p n d
+  CreatesSet : Creates n d → Fit p n d
+  AddsTable : Adds p n d → Fit p n d
+
+-- a new node has done nothing, knows its cluster, and is the origin of no set in it
+pub record IsFirst (n : Node) : Type 0 where
+  pub deeds : n.deeds ≡ []
+  pub whole : IsWhole n.id n.given.config
+  pub leads : (set : ℕ) → is_origin n.id set n.given.config ≡ false
+
+-- it is done as the database is now: behind the actions that were drawn, and with the snapshot of now
+pub record IsDoneNow (p : Place) (d : Deed) : Type 0 where
+  pub first : d.first ≡ p.numbers.next
+  pub taken : (e : Event) → d.doing ≡ Emits e → e.taken ≡ taken p
+
+-- A commit of a database: its node does one thing more, or it becomes a node.
+pub data IsFit (c : Commit) (p : Place) : Type 0 where
+  Does : (n : Node) (d : Deed) → p.node ≡ Some n → c.becomes ≡ None → c.deeds ≡ d ∷ [] → IsDoneNow p d → Fit p n d →
+      IsFit c p
+  Becomes : (n : Node) → p.node ≡ None → c.becomes ≡ Some n → c.deeds ≡ [] → IsFirst n → IsFit c p

@@ -1,0 +1,56 @@
+-- The laws of what snapshots see, in every session that a legal history leads to.
+use Rattle.std.specs.Prelude.{◌≡◌, ℕ, List, Some}
+use Rattle.slon_model.specs.Names.{find_named}
+use Rattle.slon_model.specs.Snapshots.{Snapshot, Covers}
+use Rattle.slon_model.specs.Config.{era_of}
+use Rattle.slon_model.specs.Deeds.{Node, knowledge}
+use Rattle.slon_model.specs.Place.{Place, standing_rows, taken}
+use Rattle.slon_model.specs.Eras.{Stretch, image_of, image_in, delta_on}
+use Rattle.slon_model.specs.World.{World, start, Happening, Leads}
+use Rattle.image_laws.specs.Facts.{IsHeldBy}
+use Rattle.image_laws.specs.Moments.{HasMoments}
+
+-- A legal history took this snapshot in the database of this name, and went on to this session.
+pub record WasTaken (limit : ℕ) (name : List ℕ) (w : World) (s : Snapshot) : Type 0 where
+  pub history : List Happening
+  pub later : List Happening
+  pub before : World
+  pub leads : Leads (start limit) history before
+  pub goes_on : Leads before later w
+  pub place : Place
+  pub found : find_named name before.places ≡ Some place
+  pub is : s ≡ taken place
+
+-- ---- a delta
+
+-- Of two snapshots of one database, of which one sees all that the other one sees: the committed actions of an era on a
+-- table that the first sees and the second does not, in the order of their numbers, make what the first sees of the
+-- table out of what the second sees of it.
+abbrev pub DeltaLeads : Type 0
+DeltaLeads =
+    (limit : ℕ) (name : List ℕ) (w : World) (p : Place) → find_named name w.places ≡ Some p →
+    (old new : Snapshot) → WasTaken limit name w old → WasTaken limit name w new → Covers new old →
+    (s : Stretch) →
+    delta_on p.actions p.commits old new s (image_of p.actions p.commits old (Some s))
+    ≡ image_of p.actions p.commits new (Some s)
+
+-- ---- an image
+
+-- What a snapshot that is taken at the origin of a set sees of a table of it, in the era in which it is taken, is what
+-- the table holds then, whatever happens later.
+abbrev pub ImageIsCommittedRows : Type 0
+ImageIsCommittedRows =
+    (limit : ℕ) (history later : List Happening) (w v : World) → Leads (start limit) history w → Leads w later v →
+    (name : List ℕ) (p q : Place) → find_named name w.places ≡ Some p → find_named name v.places ≡ Some q →
+    (n m : Node) → p.node ≡ Some n → q.node ≡ Some m →
+    (set : ℕ) (table : List ℕ) → IsHeldBy n.id (knowledge n).config set table →
+    image_in q m set (era_of set (knowledge n).config) table (taken p) ≡ standing_rows p table
+
+-- ---- moments
+
+-- There is an order in which the transactions of a node's database ended, such that each snapshot of its stream, and
+-- that of now, sees exactly those that ended before so many had.
+abbrev pub SnapshotsAreMoments : Type 0
+SnapshotsAreMoments =
+    (limit : ℕ) (history : List Happening) (w : World) → Leads (start limit) history w →
+    (name : List ℕ) (p : Place) → find_named name w.places ≡ Some p → (n : Node) → p.node ≡ Some n → HasMoments p n

@@ -1,0 +1,4 @@
+pub mod Facts
+pub mod Fits
+pub mod Laws
+pub mod Moments

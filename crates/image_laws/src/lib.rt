@@ -1,0 +1,26 @@
+//! What snapshots see of the tables of sets, in every session that a legal history leads to. There is no code: each law
+//! is what a function of an empty body ensures.
+#![tactic(auto)]
+
+ghost use Rattle.image_laws.specs.Laws.{ImageIsCommittedRows, DeltaLeads, SnapshotsAreMoments};
+
+/// What a snapshot sees of a table of a set, in the era in which it is taken at the origin of the set, is what the
+/// table holds at that moment; and it is so still after whatever happens later: transactions that were open then, or
+/// begin later, do not show in it.
+pub fn image_is_committed_rows()
+    ensures { ImageIsCommittedRows }
+{}
+
+/// The committed actions on a table that one snapshot sees and an earlier one does not, in the order of their numbers,
+/// lead from what the earlier one sees of the table to what the later one sees, whichever transactions were open at
+/// the one and at the other.
+pub fn delta_leads()
+    ensures { DeltaLeads }
+{}
+
+/// The transactions of a database end in an order. The snapshot of each event that its node emitted, and the one that
+/// is taken now, sees exactly those that had ended before so many had: so one number tells two of them apart, and which
+/// of them sees more.
+pub fn snapshots_are_moments()
+    ensures { SnapshotsAreMoments }
+{}

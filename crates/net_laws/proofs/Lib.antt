@@ -1,0 +1,16 @@
+pub mod Applies
+pub mod Beginnings
+pub mod Confirmations
+pub mod Crossing
+pub mod Emits
+pub mod Eras
+pub mod Fences
+pub mod Laws
+pub mod Moments
+pub mod Nodes
+pub mod Options
+pub mod Prefixes
+pub mod Rows
+pub mod Sounds
+pub mod Updates
+pub mod Views

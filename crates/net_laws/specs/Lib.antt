@@ -1,0 +1,10 @@
+pub mod Confirmations
+pub mod Crossing
+pub mod Eras
+pub mod Fences
+pub mod Laws
+pub mod Moments
+pub mod Net
+pub mod Sound
+pub mod Subscriptions
+pub mod Updates
