@@ -6,11 +6,11 @@ use Rattle.std.specs.Prelude.{◌==◌, ◌&&◌, ◌||◌, nat_lt, option_map, 
 use Rattle.std.specs.Option.{option_or}
 use Rattle.std.specs.List.{AllByRecursion, cons_option}
 use Rattle.std.proofs.lemmas.Bool.{false≢true, true≢false, false_from_ne_true, lt-ltb, le-ltb, eqb-true, and_parts}
-use Rattle.std.proofs.lemmas.Bool.{and_from, ltb-true}
+use Rattle.std.proofs.lemmas.Bool.{and_from, ltb-true, cases_lt}
 use Rattle.std.proofs.lemmas.List.{append_assoc}
 use Rattle.slon_model.specs.Names.{Named, find_named, without}
 use Rattle.slon_model.specs.Rows.{member}
-use Rattle.slon_model.specs.Snapshots.{Snapshot, sees}
+use Rattle.slon_model.specs.Snapshots.{Snapshot, sees, Covers}
 use Rattle.slon_model.specs.Events.{Event}
 use Rattle.slon_model.specs.Deeds.{Node, Doing, Emits, emitted_by, stream, with_deeds}
 use Rattle.slon_model.specs.Tasks.{Task}
@@ -29,6 +29,7 @@ use Rattle.slon_laws.proofs.Opens.{all_member, found_member}
 use Rattle.slon_laws.proofs.Sounds.{keeps_sound, sound_prepared, sound_closed}
 use Rattle.stream_laws.proofs.Steps.{Logs, prepared_node, done_logs}
 use Rattle.image_laws.specs.Fits.{IsFit, Does, Becomes}
+use Rattle.image_laws.specs.Laws.{CountsTell}
 use Rattle.image_laws.specs.Moments.{count_of, is_ended, IsTaken, IsOrder, HasMoments}
 use Rattle.image_laws.proofs.Clocks.{Clock, Ticked, no_more, ticked_on, clock_begins, clock_ends, name_out}
 use Rattle.image_laws.proofs.Clocks.{none_without}
@@ -342,3 +343,33 @@ has_moments p n t is = record {
   where
     many : length t.1.ended ≡ count_of (taken p)
     many = let count = t.1.clock.count in omega (arith, count)
+
+-- ---- covering
+
+ended_later : (o : Option ℕ) (less more : ℕ) → less ≤ more → is_ended o less ≡ true → is_ended o more ≡ true
+ended_later None less more at is = absurd (false≢true is)
+ended_later (Some moment) less more at is =
+    let below = ltb-true moment less is in lt-ltb moment more (omega (arith, below, at))
+
+pub counts_tell : CountsTell
+counts_tell order now is a b taken_a taken_b = (most, covers)
+  where
+    at : (k : Snapshot) → IsTaken order now k → (x moment : ℕ) → order x ≡ Some moment →
+        sees k x ≡ nat_lt moment (count_of k)
+    at k taken x moment has = taken.sees x ∙ ap (λ o. is_ended o (count_of k)) has
+
+    most : Covers a b → count_of b ≤ count_of a
+    most all = elim (cases_lt (count_of a) (count_of b)) [
+      | inl less ↦
+          -- what ended as the first one that a does not see
+          let past = taken_b.past in
+          let next = is.onto (count_of a) (omega (arith, less, past)) in
+          let seen = all next.0 (at b taken_b next.0 (count_of a) next.1 ∙ lt-ltb (count_of a) (count_of b) less) in
+          let below = ltb-true (count_of a) (count_of a) (sym (at a taken_a next.0 (count_of a) next.1) ∙ seen) in
+          absurd (omega (arith, below))
+      | inr more ↦ more
+    ]
+
+    covers : count_of b ≤ count_of a → Covers a b
+    covers less x seen =
+        taken_a.sees x ∙ ended_later (order x) (count_of b) (count_of a) less (sym (taken_b.sees x) ∙ seen)

@@ -1,5 +1,5 @@
 -- The laws of what snapshots see, in every session that a legal history leads to.
-use Rattle.std.specs.Prelude.{◌≡◌, ℕ, List, Some}
+use Rattle.std.specs.Prelude.{◌≡◌, ℕ, ◌≤◌, ◌↔◌, List, Option, Some}
 use Rattle.slon_model.specs.Names.{find_named}
 use Rattle.slon_model.specs.Snapshots.{Snapshot, Covers}
 use Rattle.slon_model.specs.Config.{era_of}
@@ -8,7 +8,7 @@ use Rattle.slon_model.specs.Place.{Place, standing_rows, taken}
 use Rattle.slon_model.specs.Eras.{Stretch, image_of, image_in, delta_on}
 use Rattle.slon_model.specs.World.{World, start, Happening, Leads}
 use Rattle.image_laws.specs.Facts.{IsHeldBy}
-use Rattle.image_laws.specs.Moments.{HasMoments}
+use Rattle.image_laws.specs.Moments.{count_of, IsTaken, IsOrder, HasMoments}
 
 -- A legal history took this snapshot in the database of this name, and went on to this session.
 pub record WasTaken (limit : ℕ) (name : List ℕ) (w : World) (s : Snapshot) : Type 0 where
@@ -54,3 +54,10 @@ abbrev pub SnapshotsAreMoments : Type 0
 SnapshotsAreMoments =
     (limit : ℕ) (history : List Happening) (w : World) → Leads (start limit) history w →
     (name : List ℕ) (p : Place) → find_named name w.places ≡ Some p → (n : Node) → p.node ≡ Some n → HasMoments p n
+
+-- Of two snapshots that were taken in one order, one sees all that the other sees exactly where it sees
+-- at least as many as ended.
+abbrev pub CountsTell : Type 0
+CountsTell =
+    (order : ℕ → Option ℕ) (now : ℕ) → IsOrder order now → (a b : Snapshot) → IsTaken order now a →
+    IsTaken order now b → Covers a b ↔ (count_of b ≤ count_of a)

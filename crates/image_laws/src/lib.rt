@@ -3,6 +3,7 @@
 #![tactic(auto)]
 
 ghost use Rattle.image_laws.specs.Laws.{ImageIsCommittedRows, DeltaLeads, SnapshotsAreMoments};
+ghost use Rattle.image_laws.specs.Laws.{CountsTell};
 
 /// What a snapshot sees of a table of a set, in the era in which it is taken at the origin of the set, is what the
 /// table holds at that moment; and it is so still after whatever happens later: transactions that were open then, or
@@ -19,8 +20,9 @@ pub fn delta_leads()
 {}
 
 /// The transactions of a database end in an order. The snapshot of each event that its node emitted, and the one that
-/// is taken now, sees exactly those that had ended before so many had: so one number tells two of them apart, and which
-/// of them sees more.
+/// is taken now, sees exactly those that ended before some moment of it. Of two snapshots that were taken in one order,
+/// the later one sees all that the other one sees.
 pub fn snapshots_are_moments()
-    ensures { SnapshotsAreMoments }
+    ensures moments { SnapshotsAreMoments }
+    ensures tells { CountsTell }
 {}

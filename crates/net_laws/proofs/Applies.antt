@@ -3,7 +3,7 @@ use Rattle.std.proofs.Common.{◌≡◌, ℕ, ◌+◌, ◌≤◌, max, Bool, tru
 use Rattle.std.proofs.Common.{refl, sym, ap, subst, ◌∙◌, arith, inl, inr}
 use Rattle.std.proofs.lemmas.Bool.{cases_lt, false≢true, cond-true}
 use Rattle.std.proofs.lemmas.Option.{same_Some}
-use Rattle.net_laws.specs.Subscriptions.{Subscription, Event, Sync, Enable, up_to, last_moment, tables, readied, row}
+use Rattle.net_laws.specs.Subscriptions.{Subscription, Event, Sync, Enable, up_to, last_moment, readied, row}
 use Rattle.net_laws.specs.Net.{Node, stretch, Logs, LogsAll, IsViewed, member, Net, with_node, owned, heard, configured}
 use Rattle.net_laws.specs.Net.{IsQuiet, Ends, passed, Turn, Passes, Syncs, Turns, Copies, Skips, Leaves, NextTurn}
 use Rattle.net_laws.specs.Sound.{Sound, Holds, Provides, IsForwarder, IsBased, IsSpared}
@@ -20,7 +20,7 @@ pub record Goes (old node : Node) : Type 0 where
   pub gave_up : node.gave_up ≡ old.gave_up
   pub cleaned : node.cleaned ≡ old.cleaned
   pub barred : node.barred ≡ old.barred
-  pub log : (table moment : ℕ) → Logs old.log table moment → Logs node.log table moment
+  pub log : (moment : ℕ) → Logs old.log moment → Logs node.log moment
 
 pub goes : (w : Net) (n : ℕ) (next : NextTurn w n) → Goes (w.nodes n) next.node
 goes w n next = by next.turn
@@ -32,17 +32,16 @@ goes w n next = by next.turn
     silent : (view : Option ℕ) (base : ℕ) → next.node ≡ record (passed old) { view = view; base = base } →
         Goes old next.node
     silent view base is = subst (Goes old) (sym is)
-        (record { progress = refl; gave_up = refl; cleaned = refl; barred = refl; log = λ table moment logs. logs })
+        (record { progress = refl; gave_up = refl; cleaned = refl; barred = refl; log = λ moment logs. logs })
 
     by : Turn w n next.event next.node → Goes old next.node
-    by (Passes is_quiet is) = silent old.view old.base is
+    by (Passes why is) = silent old.view old.base is
     by (Syncs m v u event view has is) = subst (Goes old) (sym is)
         (record { progress = refl; gave_up = refl; cleaned = refl; barred = refl; log = more u.forward })
       where
-        more : (b : Bool) (table moment : ℕ) → Logs old.log table moment →
-            Logs (cond b (stretch (tables w.start (heard w n)) v m ∷ old.log) old.log) table moment
-        more true table moment logs = inr logs
-        more false table moment logs = logs
+        more : (b : Bool) (moment : ℕ) → Logs old.log moment → Logs (cond b (stretch v m ∷ old.log) old.log) moment
+        more true moment logs = inr logs
+        more false moment logs = logs
     by (Turns p v f u event view has is) = silent old.view (cond u.forward old.base v) is
     by (Copies v u event has low high is) = silent (Some v) v is
     by (Skips event gone is) = silent old.view old.base is
@@ -106,13 +105,14 @@ active_turn w n next u s kept enabled = elim (cases_lt (w.nodes n).progress u.ma
     old (Copies v t event has low high is) seen = subst IsViewed (sym is) (v, refl)
     old (Leaves ends is) seen = not_both (row w.start n (next.event ∷ heard w n)) after.row
         (row_ends w n next.event ends) after.is
-    old (Passes is_quiet is) seen = subst IsViewed (sym is) seen
+    old (Passes why is) seen = subst IsViewed (sym is) seen
     old (Turns p v f t event view has is) seen = subst IsViewed (sym is) seen
     old (Skips event gone is) seen = subst IsViewed (sym is) seen
 
     fresh : Turn w n next.event next.node → u.made ≡ (w.nodes n).progress + 1 → next.event ≡ Enable n →
         IsViewed next.node
-    fresh (Passes is_quiet is) here enable = absurd (subst (IsQuiet n (w.nodes n).view) enable is_quiet refl)
+    fresh (Passes (inl is_quiet) is) here enable = absurd (subst (IsQuiet n (w.nodes n).view) enable is_quiet refl)
+    fresh (Passes (inr out) is) here enable = absurd (false≢true (sym kept ∙ out.gave_up))
     fresh (Syncs m v t event view has is) here enable = subst IsViewed (sym is) (max v m, refl)
     fresh (Turns p v f t event view has is) here enable = subst IsViewed (sym is) (v, view)
     fresh (Copies v t event has low high is) here enable = subst IsViewed (sym is) (v, refl)
@@ -134,7 +134,7 @@ serves_turn w n next a s past f viewed = by next.turn
     after = forwards_after w n next a past f
 
     by : Turn w n next.event next.node → Serves next.node
-    by (Passes is_quiet is) = subst Serves (sym is) (viewed, refl)
+    by (Passes why is) = subst Serves (sym is) (viewed, refl)
     by (Syncs m v u event view has is) = subst Serves (sym is) ((max v m, refl), refl)
     by (Turns p v g u event view has is) =
         let before = forwards_before w n a (omega (arith, past)) f in
@@ -178,8 +178,8 @@ provides_turn w n next a s p other old =
           record { view = serves.0.0; is = serves.0.1; base = omega (arith, base, low) };
       served = λ kept past m before is. elim (cases_lt (w.nodes n).progress a) [
         | inl now ↦ last (sym g.gave_up ∙ kept) (omega (arith, now, past, more, l)) m before is
-        | inr done ↦ λ table moment inside. g.log table moment
-            (old.served (sym g.gave_up ∙ kept) (omega (arith, done, l)) m before is table moment inside)
+        | inr done ↦ λ moment inside. g.log moment
+            (old.served (sym g.gave_up ∙ kept) (omega (arith, done, l)) m before is moment inside)
       ];
     }
   where
@@ -194,33 +194,31 @@ provides_turn w n next a s p other old =
 
     -- at a SYNC a provider logs all that its receivers may want
     logs : (m : ℕ) (t : Subscription) → next.event ≡ Sync m → configured w n n ≡ Some t → t.forward ≡ true →
-        IsBased (w.nodes n) p.own.cut → Turn w n next.event next.node →
-        LogsAll next.node.log (stretch (tables w.start (heard w n)) p.own.cut m)
-    logs m t event has forward based (Syncs j v u here view own is) = λ table moment inside.
+        IsBased (w.nodes n) p.own.cut → Turn w n next.event next.node → LogsAll next.node.log (stretch p.own.cut m)
+    logs m t event has forward based (Syncs j v u here view own is) = λ moment inside.
         let moments : m ≡ j = cc in
         let on : u.forward ≡ true =
         ap (λ (x : Subscription). x.forward) (same_Some u t (sym own ∙ has)) ∙ forward in
         let low = inside.from in
         let high = inside.to in
         let base = based.base in
-        subst (λ d. Logs d.log table moment) (sym is)
-        (subst (λ b. Logs (cond b (stretch (tables w.start (heard w n)) v j ∷ (w.nodes n).log) (w.nodes n).log) table
-        moment) (sym on)
+        subst (λ d. Logs d.log moment) (sym is)
+        (subst (λ b. Logs (cond b (stretch v j ∷ (w.nodes n).log) (w.nodes n).log) moment) (sym on)
         (elim (cases_lt moment v) [
-          | inl before ↦ inr ((s.holds n).logged v t view has forward table moment
-              (record { from = omega (arith, base, low); to = before; there = inside.there }))
-          | inr after ↦ inl (record { from = after; to = omega (arith, high, moments); there = inside.there })
+          | inl before ↦ inr ((s.holds n).logged v t view has forward moment
+              (record { from = omega (arith, base, low); to = before }))
+          | inr after ↦ inl (record { from = after; to = omega (arith, high, moments) })
         ]))
-    logs m t event has forward based (Passes is_quiet is) =
+    logs m t event has forward based (Passes (inl is_quiet) is) =
         not_both (w.nodes n).view based.view (subst (IsQuiet n (w.nodes n).view) event is_quiet) based.is
+    logs m t event has forward based (Passes (inr out) is) = not_both (w.nodes n).view based.view out.none based.is
     logs m t event has forward based (Turns q v f u here view own is) = absurd cc
     logs m t event has forward based (Copies v u here own low high is) = absurd cc
     logs m t event has forward based (Skips here gone is) = absurd cc
     logs m t event has forward based (Leaves ends is) = absurd (subst (Ends n) event ends)
 
     last : (w.nodes n).gave_up ≡ false → a ≡ (w.nodes n).progress + 1 → (m : ℕ) (before : List Event) →
-        up_to a w.stream ≡ Sync m ∷ before →
-        LogsAll next.node.log (stretch (tables w.start (up_to a w.stream)) p.own.cut m)
+        up_to a w.stream ≡ Sync m ∷ before → LogsAll next.node.log (stretch p.own.cut m)
     last kept now m before is =
         let here = ap (λ j. up_to j w.stream) now ∙ next.comes.next in
         let all : next.event ∷ heard w n ≡ Sync m ∷ before = sym here ∙ is in
@@ -232,8 +230,7 @@ provides_turn w n next a s p other old =
         (s.provided (w.nodes n).progress (s.behind n) p.receiver p.own has (λ o. other (sym p.provider ∙ o))) in
         let known = provides.forwards in
         let h = heard_length w n s in
-        subst (λ z. LogsAll next.node.log (stretch (tables w.start z) p.own.cut m)) (sym same)
-        (logs m known.0 event known.1.0 known.1.1.forward (provides.serves kept (omega (arith, h))) next.turn)
+        logs m known.0 event known.1.0 known.1.1.forward (provides.serves kept (omega (arith, h))) next.turn
 
 -- ---- what may be cleaned
 
@@ -252,7 +249,7 @@ spared_turn w n next moment (inr later) = by next.turn
     still none = inr (none, λ a u past within is. later.1 a u (omega (arith, progress, past)) within is)
 
     by : Turn w n next.event next.node → IsSpared w.start w.stream moment n next.node
-    by (Passes is_quiet is) = still (ap (λ (d : Node). d.view) is ∙ later.0)
+    by (Passes why is) = still (ap (λ (d : Node). d.view) is ∙ later.0)
     by (Syncs m v u event view has is) = not_both (w.nodes n).view v later.0 view
     by (Turns p v f u event view has is) = not_both (w.nodes n).view v later.0 view
     by (Copies v u event has low high is) =

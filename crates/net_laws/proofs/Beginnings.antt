@@ -27,7 +27,7 @@ unrelated_next b w n e begun leads next within =
 
 turn_unrelated : (w : Net) (n : ℕ) (e : Event) (node : Node) → e ≡ Unrelated → Turn w n e node →
     node ≡ passed (w.nodes n)
-turn_unrelated w n e node event (Passes is_quiet is) = is
+turn_unrelated w n e node event (Passes why is) = is
 turn_unrelated w n e node event (Syncs m v u other view has is) = absurd cc
 turn_unrelated w n e node event (Turns p v f u other view has is) = absurd cc
 turn_unrelated w n e node event (Copies v u other has low high is) = absurd cc

@@ -181,7 +181,7 @@ kept_turn w t next s less k = by next.turn
     old is = record { view = k.view; keeps = is ∙ k.keeps; base = k.base; below = k.below }
 
     by : Turn w n next.event next.node → IsViewed next.node → IsBelow w t next.node
-    by (Passes is_quiet is) seen = old (ap (λ (d : Node). d.view) is)
+    by (Passes why is) seen = old (ap (λ (d : Node). d.view) is)
     by (Syncs m v a event view has is) seen =
         let same = same_Some v k.view (sym view ∙ k.keeps) in
         let low = k.base in

@@ -6,17 +6,18 @@ use Rattle.std.specs.Option.{IfSome}
 use Rattle.std.proofs.lemmas.Bool.{ne_eqb, cases_lt, false≢true, cond-false}
 use Rattle.std.proofs.lemmas.Option.{same_Some, MatchOption-at_some}
 use Rattle.net_laws.specs.Subscriptions.{Subscription, Event, Sync, Subscribe, Enable, Unsubscribe, DropSet, MoveSet}
-use Rattle.net_laws.specs.Subscriptions.{AddTable, last_moment, moment_with, subscribed, enabled, row}
-use Rattle.net_laws.specs.Net.{Node, IsViewed, Net, owned, IsReady, MaySubscribe, MayEmit, emitted, ended_by, Ends}
+use Rattle.net_laws.specs.Subscriptions.{last_moment, moment_with, is_moved, is_over, subscribed, enabled, row}
+use Rattle.net_laws.specs.Net.{Node, IsViewed, Net, owned, IsReady, MaySubscribe, MayEmit, emitted, Ends}
 use Rattle.net_laws.specs.Sound.{Sound, Holds, Provides, IsForwarder, IsBased, AllProvided, IsLast, IsFrozen}
-use Rattle.net_laws.specs.Sound.{IsExpected, IsAlone, IsSpared}
+use Rattle.net_laws.specs.Sound.{IsExpected, IsSpared}
 use Rattle.net_laws.proofs.Options.{if_some}
-use Rattle.net_laws.proofs.Prefixes.{up_to_old, up_to_new, up_to_whole, grown, moment_more}
+use Rattle.net_laws.proofs.Prefixes.{up_to_old, up_to_new, up_to_whole, grown, moment_more, moved_up_to}
+use Rattle.net_laws.proofs.Prefixes.{moved_over}
 use Rattle.net_laws.proofs.Rows.{Ways, by_ways, IsNumbered, numbered}
 
 -- ---- a transaction ends
 
-sound_timed : (w : Net) (full : ℕ) → full ≤ w.now + 1 → (w.ended ≡ true → full ≡ w.full) → Sound w →
+sound_timed : (w : Net) (full : ℕ) → full ≤ w.now + 1 → (is_moved w.stream ≡ true → full ≡ w.full) → Sound w →
     Sound (record w { now = w.now + 1; full = full })
 sound_timed w full most same s = record {
   bound = omega (arith, s.bound);
@@ -37,19 +38,19 @@ sound_timed w full most same s = record {
   marked = s.marked;
   provided = s.provided;
   moved = λ a less before is.
-      let old = s.moved a less before is in
-      let one = same old.0 in
-      let below : w.full ≤ last_moment before = old.1 in
-      (old.0, omega (arith, one, below));
+      let old : w.full ≤ last_moment before = s.moved a less before is in
+      let one = same (moved_up_to a w.stream (ap is_moved is)) in
+      omega (arith, old, one);
   frozen = s.frozen;
   expected = s.expected;
-  alone = s.alone;
   swept = s.swept;
   spared = s.spared;
 }
 
-pub sound_committed : (w : Net) → w.ended ≡ false → Sound w → Sound (record w { now = w.now + 1; full = w.now + 1 })
-sound_committed w here s = sound_timed w (w.now + 1) (omega arith) (λ is. absurd (false≢true (sym here ∙ is))) s
+pub sound_committed : (w : Net) → is_over w.stream ≡ false → Sound w →
+    Sound (record w { now = w.now + 1; full = w.now + 1 })
+sound_committed w here s = sound_timed w (w.now + 1) (omega arith)
+    (λ is. absurd (false≢true (sym here ∙ moved_over w.stream is))) s
 
 pub sound_ticked : (w : Net) → Sound w → Sound (record w { now = w.now + 1 })
 sound_ticked w s = sound_timed w w.full (omega (arith, s.filled)) (λ is. refl) s
@@ -62,7 +63,7 @@ bound_with w (Sync m) may old = omega (arith, may, old)
 bound_with w others may old = old
 
 closed_with : (w : Net) (e : Event) → MayEmit w e → w.full ≤ w.now →
-    (w.ended ≡ true → w.full ≤ last_moment w.stream) → ended_by e w.ended ≡ true →
+    (is_moved w.stream ≡ true → w.full ≤ last_moment w.stream) → is_moved (e ∷ w.stream) ≡ true →
     w.full ≤ moment_with e (last_moment w.stream)
 closed_with w (Sync m) may filled old is = let before = old is in omega (arith, before)
 closed_with w MoveSet may filled old is = omega (arith, may.1, filled)
@@ -266,25 +267,20 @@ provided_with w e may s r u is = MatchOption-at_some _ IsProvided u is
 
 -- ---- the rest
 
-ended_more : (e : Event) (b : Bool) → b ≡ true → ended_by e b ≡ true
-ended_more MoveSet b is = refl
-ended_more others b is = is
-
-moved_with : (w : Net) (e : Event) → MayEmit w e → w.full ≤ w.now →
-    IsLast (ended_by e w.ended) w.full (e ∷ w.stream)
-moved_with w e may filled before is =
+last_with : (w : Net) (e : Event) → MayEmit w e → w.full ≤ w.now → IsLast w.full (e ∷ w.stream)
+last_with w e may filled before is =
     let one : e ≡ MoveSet = cc in
     let rest : w.stream ≡ before = cc in
     let can = subst (MayEmit w) one may in
-    (ap (λ d. ended_by d w.ended) one, subst (λ z. w.full ≤ last_moment z) rest (omega (arith, can.1, filled)))
+    subst (λ z. w.full ≤ last_moment z) rest (omega (arith, can.1, filled))
 
--- after the move no event changes a row
-same_ended : (w : Net) (e : Event) (n : ℕ) → MayEmit w e → w.ended ≡ true → next_row w e n ≡ owned w n
-same_ended w (Subscribe r p f) n may ended = absurd (false≢true (sym may.here ∙ ended))
-same_ended w (Enable r) n may ended = absurd (false≢true (sym may.0 ∙ ended))
-same_ended w (Unsubscribe r) n may ended = absurd (false≢true (sym may.0 ∙ ended))
-same_ended w DropSet n may ended = absurd (false≢true (sym may ∙ ended))
-same_ended w others n may ended = refl
+-- once the set has gone no event changes a row
+same_over : (w : Net) (e : Event) (n : ℕ) → MayEmit w e → is_over w.stream ≡ true → next_row w e n ≡ owned w n
+same_over w (Subscribe r p f) n may over = absurd (false≢true (sym may.here ∙ over))
+same_over w (Enable r) n may over = absurd (false≢true (sym may.0 ∙ over))
+same_over w (Unsubscribe r) n may over = absurd (false≢true (sym may.0 ∙ over))
+same_over w DropSet n may over = absurd (false≢true (sym may ∙ over))
+same_over w others n may over = refl
 
 frozen_with : (w : Net) (e : Event) → MayEmit w e → Sound w → IsFrozen w.start (e ∷ w.stream)
 frozen_with w e may s n a before is = elim (cases_lt (length w.stream) a) [
@@ -292,7 +288,7 @@ frozen_with w e may s n a before is = elim (cases_lt (length w.stream) a) [
   | inr old ↦
       let there = sym (up_to_old a e w.stream old) ∙ is in
       let now = subst (λ z. IsFrozen w.start z) (up_to_whole w.stream) (s.frozen (length w.stream) (omega arith)) in
-      same_ended w e n may (s.moved a old before there).0 ∙
+      same_over w e n may (moved_over w.stream (moved_up_to a w.stream (ap is_moved there))) ∙
       (now n a before there ∙ ap (row w.start n) (sym (up_to_old a e w.stream old)))
 ]
 
@@ -302,13 +298,6 @@ expected_with w e may r before is =
     let rest : w.stream ≡ before = cc in
     let can = subst (MayEmit w) one may in
     (can.1.0, (ap (row w.start r) (sym rest) ∙ can.1.1.row, can.1.1.pending))
-
-alone_with : (w : Net) (e : Event) → MayEmit w e → IsAlone w.start (e ∷ w.stream)
-alone_with w e may before is r =
-    let one : e ≡ AddTable = cc in
-    let rest : w.stream ≡ before = cc in
-    let can = subst (MayEmit w) one may in
-    ap (row w.start r) (sym rest) ∙ can.1 r
 
 spared_with : (w : Net) (e : Event) (moment r : ℕ) → moment ≤ last_moment w.stream →
     (w.nodes r).progress ≤ length w.stream → IsSpared w.start w.stream moment r (w.nodes r) →
@@ -340,12 +329,9 @@ sound_emitted w e may s = record {
   marked = λ n u is. MatchOption-at_some _ (IsMarked (w.nodes n)) u is (marked_with w e may s n);
   provided = λ a less. grown (AllProvided w.start w.origin w.nodes) e w.stream s.provided (provided_with w e may s) a
       (omega (arith, less));
-  moved = λ a less. grown (IsLast (ended_by e w.ended) w.full) e w.stream
-      (λ a less before is. let old = s.moved a less before is in (ended_more e w.ended old.0, old.1))
-      (moved_with w e may s.filled) a (omega (arith, less));
+  moved = λ a less. grown (IsLast w.full) e w.stream s.moved (last_with w e may s.filled) a (omega (arith, less));
   frozen = λ a less. grown (IsFrozen w.start) e w.stream s.frozen (frozen_with w e may s) a (omega (arith, less));
   expected = λ a less. grown (IsExpected w.start) e w.stream s.expected (expected_with w e may) a (omega (arith, less));
-  alone = λ a less. grown (IsAlone w.start) e w.stream s.alone (alone_with w e may) a (omega (arith, less));
   swept = λ p.
       let old = s.swept p in
       let more = moment_more e (last_moment w.stream) in

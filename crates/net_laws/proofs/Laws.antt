@@ -1,10 +1,10 @@
 -- The laws, from soundness.
-use Rattle.std.proofs.Common.{◌≡◌, ℕ, ◌+◌, ◌<◌, ◌≤◌, max, Bool, true, false, cond, ◌∷◌, length, Option, Some, None}
+use Rattle.std.proofs.Common.{◌≡◌, ℕ, ◌+◌, ◌≤◌, max, Bool, true, false, cond, ◌∷◌, length, Option, Some, None}
 use Rattle.std.proofs.Common.{refl, sym, ap, subst, ◌∙◌, arith, ◌⊎◌, inl, inr}
 use Rattle.std.specs.Prelude.{◌==◌}
 use Rattle.std.proofs.lemmas.Bool.{cases_lt, cases_eq, cases_Bool, ne_eqb, eq-eqb, cond-true, cond-false}
 use Rattle.std.proofs.lemmas.Option.{same_Some}
-use Rattle.net_laws.specs.Subscriptions.{Subscription, Enable, up_to, last_moment, tables, readied, row}
+use Rattle.net_laws.specs.Subscriptions.{Subscription, Enable, up_to, last_moment, readied, row}
 use Rattle.net_laws.specs.Net.{Node, Logs, given_up, barring, cleaned_below, IsViewed, Net, owned, with_node, heard}
 use Rattle.net_laws.specs.Net.{configured, IsNext, Turn, Passes, Syncs, Turns, Copies, Skips, Leaves, NextTurn, Step}
 use Rattle.net_laws.specs.Net.{Commits, Ticks, Emits, Applies, GivesUp, Bars, Cleans, Leads, Here, More}
@@ -49,7 +49,7 @@ rises_turn : (w : Net) (n : ℕ) (next : NextTurn w n) → Sound w → Rises (w.
 rises_turn w n next s = by next.turn
   where
     by : Turn w n next.event next.node → Rises (w.nodes n) next.node
-    by (Passes is_quiet is) = same_rises (w.nodes n) next.node (ap (λ (d : Node). d.view) is)
+    by (Passes why is) = same_rises (w.nodes n) next.node (ap (λ (d : Node). d.view) is)
     by (Syncs m a u event view has is) = λ v t old new.
         let one = same_Some v a (sym old ∙ view) in
         let two = same_Some (max a m) t (ap (λ (d : Node). d.view) (sym is) ∙ new) in
@@ -89,7 +89,7 @@ cleaned_is_seen w s p r v other known is = elim (s.spared p r other known) [
 ]
 
 pub logs_hold : (w : Net) → Sound w → LogsHold w
-logs_hold w s n m i table moment inside = (logged (cases_eq p w.origin), omega (arith, seen, low))
+logs_hold w s n m i moment inside = (logged (cases_eq p w.origin), omega (arith, seen, low))
   where
     p : ℕ
     p = i.row.provider
@@ -100,11 +100,11 @@ logs_hold w s n m i table moment inside = (logged (cases_eq p w.origin), omega (
     seen : (w.nodes p).cleaned ≤ i.view
     seen = cleaned_is_seen w s p n i.view i.may.other i.may.known i.keeps
 
-    logged : ((p ≡ w.origin) ⊎ (p ≡ w.origin → ⊥)) → (p ≡ w.origin) ⊎ Logs (w.nodes p).log table moment
+    logged : ((p ≡ w.origin) ⊎ (p ≡ w.origin → ⊥)) → (p ≡ w.origin) ⊎ Logs (w.nodes p).log moment
     logged (inl is) = inl is
     logged (inr other) = inr (from i.reached)
       where
-        from : HasReached w p ((w.nodes n).progress + 1) → Logs (w.nodes p).log table moment
+        from : HasReached w p ((w.nodes n).progress + 1) → Logs (w.nodes p).log moment
         from (inl is) = absurd (other is)
         from (inr far) =
             let next = i.next.next in
@@ -114,39 +114,33 @@ logs_hold w s n m i table moment inside = (logged (cases_eq p w.origin), omega (
             s.provided ((w.nodes n).progress + 1) within n i.row (ap (row w.start n) next ∙ i.has) other in
             let l = length_up_to ((w.nodes n).progress + 1) w.stream within in
             let cut = (s.holds n).cut i.view i.row i.keeps i.has in
-            provides.served i.may.keeps (omega (arith, far, l)) m (heard w n) next table moment (record {
-              from = omega (arith, cut, low);
-              to = inside.to;
-              there = subst (λ z. table < tables w.start z) (sym next) inside.there;
-            })
+            provides.served i.may.keeps (omega (arith, far, l)) m (heard w n) next moment
+            (record { from = omega (arith, cut, low); to = inside.to })
 
 pub backup_serves : (w : Net) → Sound w → BackupServes w
-backup_serves w s n p c table moment inside =
+backup_serves w s n p c moment inside =
     let base = c.base in
     let low = inside.from in
     let high = inside.to in
     let covers = (s.holds p).covers c.top c.seen in
     let between = moment_between c.number (w.nodes p).progress w.stream c.reached in
     let cleaned = cleaned_is_seen w s p n c.view c.other c.known c.keeps in
-    let logged = (s.holds p).logged c.top c.row c.seen c.has c.forward table moment (record {
-      from = omega (arith, base, low);
-      to = omega (arith, covers, between, high);
-      there = inside.there;
-    }) in
+    let logged = (s.holds p).logged c.top c.row c.seen c.has c.forward moment
+    (record { from = omega (arith, base, low); to = omega (arith, covers, between, high) }) in
     (inr logged, omega (arith, cleaned, low))
 
 pub forwarder_logs : (w : Net) → Sound w → ForwarderLogs w
 forwarder_logs w s n v u view has forward = (s.holds n).logged v u view has forward
 
 pub logged_once : (w : Net) → Sound w → LoggedOnce w
-logged_once w s n v table moment is logs =
-    let fresh = (s.holds n).fresh table moment logs in
+logged_once w s n v moment is logs =
+    let fresh = (s.holds n).fresh moment logs in
     let covers = (s.holds n).covers v is in
     omega (arith, fresh, covers)
 
 pub logs_are_committed : (w : Net) → Sound w → LogsAreCommitted w
-logs_are_committed w s n table moment logs =
-    let fresh = (s.holds n).fresh table moment logs in
+logs_are_committed w s n moment logs =
+    let fresh = (s.holds n).fresh moment logs in
     let below = moment_up_to (w.nodes n).progress w.stream in
     let bound = s.bound in
     omega (arith, fresh, below, bound)
@@ -259,7 +253,7 @@ move_loses_nothing w s = s.closed
 
 pub move_is_whole : (w : Net) → Sound w → MoveIsWhole w
 move_is_whole w s n v before p view =
-    let last = (s.moved p.number p.within before p.is).1 in
+    let last : w.full ≤ last_moment before = s.moved p.number p.within before p.is in
     let here : last_moment before ≤ last_moment (up_to p.number w.stream) =
     subst (λ z. last_moment before ≤ last_moment z) (sym p.is) (omega arith) in
     let between = moment_between p.number (w.nodes n).progress w.stream p.past in
@@ -420,7 +414,7 @@ kept_keeps_view w s n b next listed less viewed = by next.turn
         since_mark w.start n ((w.nodes n).progress + 1) (heard w b) listed.row listed.has (omega (arith, mark)))
 
     by : Turn w n next.event next.node → IsViewed next.node
-    by (Passes is_quiet is) = subst IsViewed (sym is) viewed
+    by (Passes why is) = subst IsViewed (sym is) viewed
     by (Syncs m v t event old own is) = subst IsViewed (sym is) (max v m, refl)
     by (Turns p v f t event old own is) = subst IsViewed (sym is) viewed
     by (Copies v t event own low high is) = subst IsViewed (sym is) (v, refl)

@@ -6,7 +6,6 @@ pub mod Emits
 pub mod Eras
 pub mod Fences
 pub mod Laws
-pub mod Moments
 pub mod Nodes
 pub mod Options
 pub mod Prefixes

@@ -52,7 +52,6 @@ sound_with w n new i s = record {
   moved = s.moved;
   frozen = s.frozen;
   expected = s.expected;
-  alone = s.alone;
   swept = set_each (λ k d. d.cleaned ≤ last_moment w.stream) n new w.nodes i.cleaned (λ k differ. s.swept k);
   spared = λ p r other.
       set_each (λ k d. member r d.barred ≡ false → IsSpared w.start w.stream d.cleaned r (set_at n new w.nodes r)) n

@@ -1,8 +1,10 @@
--- Prefixes of streams, and the moments that they tell.
-use Rattle.std.proofs.Common.{◌≡◌, ℕ, ◌+◌, ◌<◌, ◌≤◌, List, [], ◌∷◌, length, refl, sym, ap, subst, ◌∙◌, arith, inl, inr}
+-- Prefixes of streams: the moments that they tell, and whether the set has gone.
+use Rattle.std.proofs.Common.{◌≡◌, ℕ, ◌+◌, ◌<◌, ◌≤◌, Bool, true, List, [], ◌∷◌, length, refl, sym, ap, subst, ◌∙◌}
+use Rattle.std.proofs.Common.{arith, inl, inr}
 use Rattle.std.specs.Prelude.{nat_le}
 use Rattle.std.proofs.lemmas.Bool.{le-leb, lt-leb, cond-true, cond-false, cases_lt}
-use Rattle.net_laws.specs.Subscriptions.{Event, Sync, up_to, moment_with, last_moment}
+use Rattle.net_laws.specs.Subscriptions.{Event, Sync, DropSet, MoveSet, up_to, moment_with, last_moment, moved_with}
+use Rattle.net_laws.specs.Subscriptions.{is_moved, over_with, is_over}
 
 pub up_to_old : (k : ℕ) (e : Event) (z : List Event) → k ≤ length z → up_to k (e ∷ z) ≡ up_to k z
 up_to_old k e z less = cond-true (nat_le k (length z)) (up_to k z) (e ∷ z) (le-leb k (length z) less)
@@ -61,3 +63,26 @@ moment_up_to k (e ∷ z) = elim (cases_lt (length z) k) [
 pub moment_between : (k a : ℕ) (z : List Event) → k ≤ a → last_moment (up_to k z) ≤ last_moment (up_to a z)
 moment_between k a z less =
     subst (λ y. last_moment y ≤ last_moment (up_to a z)) (up_to_both k a z less) (moment_up_to k (up_to a z))
+
+-- ---- the end
+
+moved_more : (e : Event) (b : Bool) → b ≡ true → moved_with e b ≡ true
+moved_more MoveSet b is = refl
+moved_more others b is = is
+
+pub moved_up_to : (k : ℕ) (z : List Event) → is_moved (up_to k z) ≡ true → is_moved z ≡ true
+moved_up_to k [] is = is
+moved_up_to k (e ∷ z) is = elim (cases_lt (length z) k) [
+  | inl more ↦ ap is_moved (sym (up_to_new k e z more)) ∙ is
+  | inr old ↦ moved_more e (is_moved z) (moved_up_to k z (ap is_moved (sym (up_to_old k e z old)) ∙ is))
+]
+
+over_more : (e : Event) (a b : Bool) → (a ≡ true → b ≡ true) → moved_with e a ≡ true → over_with e b ≡ true
+over_more DropSet a b more is = refl
+over_more MoveSet a b more is = refl
+over_more others a b more is = more is
+
+-- a set that has moved has gone
+pub moved_over : (z : List Event) → is_moved z ≡ true → is_over z ≡ true
+moved_over [] is = is
+moved_over (e ∷ z) is = over_more e (is_moved z) (is_over z) (moved_over z) is

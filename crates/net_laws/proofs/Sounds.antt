@@ -5,7 +5,7 @@ use Rattle.std.specs.Prelude.{◌==◌, ◌||◌, nat_le}
 use Rattle.std.specs.List.{AllByRecursion}
 use Rattle.std.proofs.lemmas.Bool.{cases_lt, false≢true}
 use Rattle.std.proofs.lemmas.Option.{same_Some}
-use Rattle.net_laws.specs.Subscriptions.{Subscription, Event, Enable, MoveSet, AddTable, Sync, Unrelated, up_to}
+use Rattle.net_laws.specs.Subscriptions.{Subscription, Event, Enable, MoveSet, Sync, Unrelated, up_to}
 use Rattle.net_laws.specs.Subscriptions.{last_moment, Start, first_row, begun, row}
 use Rattle.net_laws.specs.Net.{Node, Logs, given_up, barring, cleaned_below, member, Net, with_node, owned, heard}
 use Rattle.net_laws.specs.Net.{HasConfirmed, AllConfirmed, Step, Commits, Ticks, Emits, Applies, GivesUp, Bars, Cleans}
@@ -68,9 +68,9 @@ sound_steady w n new i s = sound_with w n new (record {
               let base = i.base kept in
               let low = based.base in
               record { view = based.view; is = i.view kept ∙ based.is; base = omega (arith, base, low) };
-          served = λ kept past m before is table moment inside.
-              subst (λ log. Logs log table moment) (sym i.log)
-              (old.served (i.keeps kept) (omega (arith, past, i.progress)) m before is table moment inside);
+          served = λ kept past m before is moment inside.
+              subst (λ log. Logs log moment) (sym i.log)
+              (old.served (i.keeps kept) (omega (arith, past, i.progress)) m before is moment inside);
         }
 
     spared : (moment : ℕ) → IsSpared w.start w.stream moment n (w.nodes n) → IsSpared w.start w.stream moment n new
@@ -206,7 +206,7 @@ pub sound_begun : (w : Net) → IsBegun w → Sound w
 sound_begun w b = record {
   bound = omega (arith, others_moment w.stream b.stream);
   filled = let none = b.full in omega (arith, none);
-  closed = λ is. absurd (false≢true (sym b.ended ∙ is));
+  closed = λ is. let none = b.full in omega (arith, none);
   behind = b.behind;
   holds = λ n. record {
     covers = λ v is. omega (arith, others_moment (heard w n) (all (w.nodes n).progress));
@@ -215,11 +215,11 @@ sound_begun w b = record {
     came = λ v is. inl (view_zero n v is ∙ sym (b.base n));
     rowed = λ v is. view_row n v is;
     cut = λ v u is has. let new = from_first (w.nodes n).progress n u has in omega (arith, new.cut);
-    logged = λ v u is has forward table moment inside.
+    logged = λ v u is has forward moment inside.
         let zero_view = view_zero n v is in
         let high = inside.to in
         absurd (omega (arith, zero_view, high));
-    fresh = λ table moment logs. absurd (subst (λ l. Logs l table moment) (b.log n) logs);
+    fresh = λ moment logs. absurd (subst (λ l. Logs l moment) (b.log n) logs);
   };
   active = λ n u kept has ready made. let new = whole n u has in (0, b.some n new.pair new.is);
   marked = λ n u has less. let new = whole n u has in absurd (omega (arith, new.mark, less));
@@ -230,7 +230,6 @@ sound_begun w b = record {
       absurd cc;
   expected = λ a within r before is.
       let d = others_head (Enable r) before (up_to a w.stream) (all a) is in absurd cc;
-  alone = λ a within before is r. let d = others_head AddTable before (up_to a w.stream) (all a) is in absurd cc;
   swept = λ p. let none = b.cleaned p in omega (arith, none);
   spared = λ p r other known. inl (let none = b.cleaned p in omega (arith, none));
 }

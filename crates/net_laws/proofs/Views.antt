@@ -4,8 +4,8 @@ use Rattle.std.proofs.Common.{None, refl, sym, ap, subst, ◌∙◌, arith, ◌�
 use Rattle.std.specs.Prelude.{◌==◌}
 use Rattle.std.proofs.lemmas.Bool.{ne_eqb, eq-eqb, cases_lt, cases_eq, false≢true, cond-true, cond-false}
 use Rattle.std.proofs.lemmas.Option.{same_Some}
-use Rattle.net_laws.specs.Subscriptions.{Subscription, Event, Sync, Subscribe, Enable, Unsubscribe, DropSet, AddTable}
-use Rattle.net_laws.specs.Subscriptions.{last_moment, moment_with, tables, subscribed, readied, enabled, changed, row}
+use Rattle.net_laws.specs.Subscriptions.{Subscription, Event, Sync, Subscribe, Enable, Unsubscribe, DropSet}
+use Rattle.net_laws.specs.Subscriptions.{last_moment, moment_with, subscribed, readied, enabled, changed, row}
 use Rattle.net_laws.specs.Net.{Node, Stretch, stretch, Logs, LogsAll, Net, IsQuiet, Ends, passed, synced, turned_by}
 use Rattle.net_laws.specs.Net.{copied, left, Turn, Passes, Syncs, Turns, Copies, Skips, Leaves, NextTurn, IsNext, heard}
 use Rattle.net_laws.specs.Net.{configured}
@@ -63,18 +63,16 @@ holds_none w n z node s none log more = record {
   rowed = λ v is. not_both node.view v none is;
   cut = λ v u is has. not_both node.view v none is;
   logged = λ v u is has. not_both node.view v none is;
-  fresh = λ table moment logs.
-      let below = (s.holds n).fresh table moment (subst (λ l. Logs l table moment) log logs) in
+  fresh = λ moment logs.
+      let below = (s.holds n).fresh moment (subst (λ l. Logs l moment) log logs) in
       omega (arith, below, more);
 }
 
 -- the row stays and no moment is told
 holds_same : (w : Net) (n : ℕ) (e : Event) → Sound w →
-    ((u : Subscription) → row w.start n (e ∷ heard w n) ≡ Some u →
-    tables w.start (e ∷ heard w n) ≡ tables w.start (heard w n)) →
     row w.start n (e ∷ heard w n) ≡ configured w n n → last_moment (e ∷ heard w n) ≡ last_moment (heard w n) →
     Holds w.start w.now (e ∷ heard w n) n (passed (w.nodes n))
-holds_same w n e s counts rows moments =
+holds_same w n e s rows moments =
     let h = s.holds n in record {
       covers = λ v is. let old = h.covers v is in omega (arith, old, moments);
       within = h.within;
@@ -82,10 +80,8 @@ holds_same w n e s counts rows moments =
       came = λ v is. elim (h.came v is) [ inl base ↦ inl base | inr seen ↦ inr (omega (arith, seen, moments)) ];
       rowed = λ v is. let old = h.rowed v is in (old.0, (rows ∙ old.1.0, old.1.1));
       cut = λ v u is has. h.cut v u is (sym rows ∙ has);
-      logged = λ v u is has forward.
-          subst (λ count. LogsAll (w.nodes n).log (stretch count (w.nodes n).base v)) (sym (counts u has))
-          (h.logged v u is (sym rows ∙ has) forward);
-      fresh = λ table moment logs. let old = h.fresh table moment logs in omega (arith, old, moments);
+      logged = λ v u is has forward. h.logged v u is (sym rows ∙ has) forward;
+      fresh = λ moment logs. let old = h.fresh moment logs in omega (arith, old, moments);
     }
 
 -- n keeps this view, and has this row
@@ -94,7 +90,7 @@ pub record Keeps (w : Net) (n v : ℕ) (u : Subscription) : Type 0 where
   pub row : configured w n n ≡ Some u
 
 holds_synced : (w : Net) (n m v : ℕ) (u : Subscription) → Sound w → m ≤ w.now → Keeps w n v u →
-    Holds w.start w.now (Sync m ∷ heard w n) n (synced (tables w.start (heard w n)) m v u.forward (w.nodes n))
+    Holds w.start w.now (Sync m ∷ heard w n) n (synced m v u.forward (w.nodes n))
 holds_synced w n m v u s known keeps =
     let h = s.holds n in record {
       covers = λ t is. let same = same_Some (max v m) t is in
@@ -113,32 +109,30 @@ holds_synced w n m v u s known keeps =
       rowed = λ t is. h.rowed v keeps.view;
       cut = λ t x is has. let same = same_Some (max v m) t is in
           let old = h.cut v x keeps.view has in omega (arith, same, old);
-      logged = λ t x is has forward table moment inside.
+      logged = λ t x is has forward moment inside.
           let same = same_Some (max v m) t is in
           let on : u.forward ≡ true =
           ap (λ (y : Subscription). y.forward) (same_Some u x (sym keeps.row ∙ has)) ∙ forward in
           let low = inside.from in
           let high = inside.to in
-          subst (λ b. Logs (cond b (new ∷ (w.nodes n).log) (w.nodes n).log) table moment) (sym on)
+          subst (λ b. Logs (cond b (new ∷ (w.nodes n).log) (w.nodes n).log) moment) (sym on)
           (elim (cases_lt moment v) [
-            | inl before ↦ inr (h.logged v x keeps.view has forward table moment
-                (record { from = low; to = before; there = inside.there }))
-            | inr after ↦ inl (record { from = after; to = omega (arith, same, high, after); there = inside.there })
+            | inl before ↦ inr (h.logged v x keeps.view has forward moment (record { from = low; to = before }))
+            | inr after ↦ inl (record { from = after; to = omega (arith, same, high, after) })
           ]);
-      fresh = λ table moment logs. fresh_at u.forward table moment logs;
+      fresh = λ moment logs. fresh_at u.forward moment logs;
     }
   where
     new : Stretch
-    new = stretch (tables w.start (heard w n)) v m
+    new = stretch v m
 
-    fresh_at : (b : Bool) (table moment : ℕ) →
-        Logs (cond b (new ∷ (w.nodes n).log) (w.nodes n).log) table moment →
+    fresh_at : (b : Bool) (moment : ℕ) → Logs (cond b (new ∷ (w.nodes n).log) (w.nodes n).log) moment →
         moment < max m (last_moment (heard w n))
-    fresh_at true table moment (inl here) = omega (arith, here.to)
-    fresh_at true table moment (inr old) =
-        let below = (s.holds n).fresh table moment old in omega (arith, below)
-    fresh_at false table moment old =
-        let below = (s.holds n).fresh table moment old in omega (arith, below)
+    fresh_at true moment (inl here) = omega (arith, here.to)
+    fresh_at true moment (inr old) =
+        let below = (s.holds n).fresh moment old in omega (arith, below)
+    fresh_at false moment old =
+        let below = (s.holds n).fresh moment old in omega (arith, below)
 
 holds_turned : (w : Net) (n p v : ℕ) (f : Bool) (u : Subscription) → Sound w → Keeps w n v u →
     Holds w.start w.now (Subscribe n p f ∷ heard w n) n (turned_by v u.forward (w.nodes n))
@@ -161,10 +155,9 @@ holds_turned w n p v f u s keeps =
           let same = ap (λ (y : Subscription). y.cut) (same_Some after x (sym now_row ∙ has)) in
           omega (arith, old, same);
       logged = λ t x is has forward. let same = same_Some v t (sym keeps.view ∙ is) in
-          elim u.forward as (λ b. u.forward ≡ b →
-          LogsAll (w.nodes n).log (stretch (tables w.start (heard w n)) (cond b (w.nodes n).base v) t)) [
+          elim u.forward as (λ b. u.forward ≡ b → LogsAll (w.nodes n).log (stretch (cond b (w.nodes n).base v) t)) [
             | true ↦ λ on. h.logged t u is keeps.row on
-            | false ↦ λ off table moment inside.
+            | false ↦ λ off moment inside.
                 let low = inside.from in let high = inside.to in absurd (omega (arith, same, low, high))
           ] refl;
       fresh = h.fresh;
@@ -198,7 +191,7 @@ holds_copied w n v u s low high has = record {
       let cuts = ap (λ (y : Subscription). y.cut) rows in
       let below = cut_below w.start n (heard w n) u has in
       omega (arith, same, cuts, below, low);
-  logged = λ t x is now_has forward table moment inside.
+  logged = λ t x is now_has forward moment inside.
       let same = same_Some v t is in
       let from = inside.from in
       let to = inside.to in
@@ -226,15 +219,6 @@ moment_next w n e s next =
     (moment_up_to ((w.nodes n).progress + 1) w.stream) in
     omega (arith, bound, all)
 
--- who has a row has applied no event that adds a table
-same_tables : (w : Net) (n : ℕ) (e : Event) (u : Subscription) → Sound w → IsNext w n e →
-    row w.start n (e ∷ heard w n) ≡ Some u → tables w.start (e ∷ heard w n) ≡ tables w.start (heard w n)
-same_tables w n AddTable u s next has =
-    let more = next.more in
-    let none = s.alone ((w.nodes n).progress + 1) (omega (arith, more)) (heard w n) next.next n in
-    not_both (configured w n n) u none has
-same_tables w n others u s next has = refl
-
 pub holds_turn : (w : Net) (n : ℕ) (next : NextTurn w n) → Sound w →
     Holds w.start w.now (next.event ∷ heard w n) n next.node
 holds_turn w n next s = by next.turn
@@ -254,14 +238,16 @@ holds_turn w n next s = by next.turn
         (subst (Holds w.start w.now (d ∷ heard w n) n) (sym is) holds)
 
     by : Turn w n e next.node → Holds w.start w.now (e ∷ heard w n) n next.node
-    by (Passes is_quiet is) = subst (Holds w.start w.now (e ∷ heard w n) n) (sym is)
+    by (Passes (inl is_quiet) is) = subst (Holds w.start w.now (e ∷ heard w n) n) (sym is)
         (elim (row_quiet w n e is_quiet) [
           | inl none ↦ idle (passed (w.nodes n)) none refl
-          | inr same ↦ holds_same w n e s (λ u has. same_tables w n e u s next.comes has) same.0 same.1
+          | inr same ↦ holds_same w n e s same.0 same.1
         ])
+    by (Passes (inr out) is) =
+        subst (Holds w.start w.now (e ∷ heard w n) n) (sym is) (idle (passed (w.nodes n)) out.none refl)
     by (Syncs m v u event view has is) =
         let all = subst (λ d. last_moment (d ∷ heard w n) ≤ w.now) event (moment_next w n e s next.comes) in
-        known (Sync m) (synced (tables w.start (heard w n)) m v u.forward (w.nodes n)) event is
+        known (Sync m) (synced m v u.forward (w.nodes n)) event is
         (holds_synced w n m v u s (omega (arith, all)) (record { view = view; row = has }))
     by (Turns p v f u event view has is) = known (Subscribe n p f) (turned_by v u.forward (w.nodes n)) event is
         (holds_turned w n p v f u s (record { view = view; row = has }))

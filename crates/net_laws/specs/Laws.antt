@@ -1,7 +1,7 @@
--- The laws of every state of one set in one era that its beginning leads to.
+-- The laws of every state of one table in one era that its beginning leads to.
 use Rattle.std.specs.Prelude.{◌≡◌, ℕ, ◌+◌, ◌<◌, ◌≤◌, ◌⊎◌, ◌==◌, if◌then◌else◌, max, Bool, true, false, List, ◌∷◌}
 use Rattle.std.specs.Prelude.{length, Option, Some, None}
-use Rattle.net_laws.specs.Subscriptions.{Subscription, Event, Sync, Enable, MoveSet, up_to, last_moment, tables, row}
+use Rattle.net_laws.specs.Subscriptions.{Subscription, Event, Sync, Enable, MoveSet, up_to, last_moment, is_moved, row}
 use Rattle.net_laws.specs.Net.{Node, Stretch, stretch, Logs, LogsAll, IsIn, member, IsViewed, Net, owned, heard}
 use Rattle.net_laws.specs.Net.{configured, IsNext, NextTurn, Step, Leads, IsBegun}
 
@@ -36,13 +36,12 @@ ViewsRise w =
 abbrev pub HasReached : Net → ℕ → ℕ → Type 0
 HasReached w p q = (p ≡ w.origin) ⊎ (q ≤ (w.nodes p).progress)
 
--- The log of p has, and still holds, the actions of the transaction of a moment on a table. The origin logs each.
-abbrev pub InLog : Net → ℕ → ℕ → ℕ → Type 0
-InLog w p table moment =
-    ((p ≡ w.origin) ⊎ Logs (w.nodes p).log table moment) × ((w.nodes p).cleaned ≤ moment)
+-- The log of p has, and still holds, the actions of the transaction of a moment on the table. The origin logs each.
+abbrev pub InLog : Net → ℕ → ℕ → Type 0
+InLog w p moment = ((p ≡ w.origin) ⊎ Logs (w.nodes p).log moment) × ((w.nodes p).cleaned ≤ moment)
 
 abbrev pub AllInLog : Net → ℕ → Stretch → Type 0
-AllInLog w p s = (table moment : ℕ) → IsIn table moment s → InLog w p table moment
+AllInLog w p s = (moment : ℕ) → IsIn moment s → InLog w p moment
 
 -- n, which keeps a view, may read the logs of p: p has not given the set up, and has n neither as dropped nor as fenced
 pub record MayRead (w : Net) (n p : ℕ) : Type 0 where
@@ -62,9 +61,7 @@ pub record IsSyncing (w : Net) (n moment : ℕ) : Type 0 where
 
 -- Where n applies a SYNC, the log of its provider holds all that the SYNC sees and the view of n does not.
 abbrev pub LogsHold : Net → Type 0
-LogsHold w =
-    (n moment : ℕ) (i : IsSyncing w n moment) →
-    AllInLog w i.row.provider (stretch (tables w.start (heard w n)) i.view moment)
+LogsHold w = (n moment : ℕ) (i : IsSyncing w n moment) → AllInLog w i.row.provider (stretch i.view moment)
 
 -- p is a forwarder with a view, and may serve n, whose view is at or above the base of p
 pub record CanBack (w : Net) (n p : ℕ) : Type 0 where
@@ -85,23 +82,21 @@ pub record CanBack (w : Net) (n p : ℕ) : Type 0 where
 -- A forwarder's log holds, for any view at or above its base, all that the SYNCs that it has applied see.
 abbrev pub BackupServes : Net → Type 0
 BackupServes w =
-    (n p : ℕ) (c : CanBack w n p) →
-    AllInLog w p (stretch (tables w.start (heard w p)) c.view (last_moment (up_to c.number w.stream)))
+    (n p : ℕ) (c : CanBack w n p) → AllInLog w p (stretch c.view (last_moment (up_to c.number w.stream)))
 
 -- A forwarder has logged all between its base and its view.
 abbrev pub ForwarderLogs : Net → Type 0
 ForwarderLogs w =
     (n v : ℕ) (u : Subscription) → (w.nodes n).view ≡ Some v → configured w n n ≡ Some u → u.forward ≡ true →
-    LogsAll (w.nodes n).log (stretch (tables w.start (heard w n)) (w.nodes n).base v)
+    LogsAll (w.nodes n).log (stretch (w.nodes n).base v)
 
 -- What a SYNC brings was not logged before.
 abbrev pub LoggedOnce : Net → Type 0
-LoggedOnce w =
-    (n v table moment : ℕ) → (w.nodes n).view ≡ Some v → Logs (w.nodes n).log table moment → moment < v
+LoggedOnce w = (n v moment : ℕ) → (w.nodes n).view ≡ Some v → Logs (w.nodes n).log moment → moment < v
 
 -- Logs hold what has ended.
 abbrev pub LogsAreCommitted : Net → Type 0
-LogsAreCommitted w = (n table moment : ℕ) → Logs (w.nodes n).log table moment → moment < w.now
+LogsAreCommitted w = (n moment : ℕ) → Logs (w.nodes n).log moment → moment < w.now
 
 -- What was cleaned out of the logs of p is seen by the view of each node that p has not as dropped or fenced.
 abbrev pub CleanedIsSeen : Net → Type 0
@@ -158,7 +153,7 @@ ActiveHasView w =
 
 -- Once the set has moved away, the last SYNC sees every transaction of the era: nothing is lost.
 abbrev pub MoveLosesNothing : Net → Type 0
-MoveLosesNothing w = w.ended ≡ true → w.full ≤ last_moment w.stream
+MoveLosesNothing w = is_moved w.stream ≡ true → w.full ≤ last_moment w.stream
 
 -- n has passed a MOVE_SET, which came after these events
 pub record HasPassedMove (w : Net) (n : ℕ) (before : List Event) : Type 0 where

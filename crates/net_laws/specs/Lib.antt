@@ -3,7 +3,6 @@ pub mod Crossing
 pub mod Eras
 pub mod Fences
 pub mod Laws
-pub mod Moments
 pub mod Net
 pub mod Sound
 pub mod Subscriptions

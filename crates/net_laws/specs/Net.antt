@@ -1,21 +1,20 @@
--- One set in one era: what its origin emits, and what each node has made of it.
+-- One table of a set, in one era of the set: what its origin emits, and what each node has made of it.
 use Rattle.std.specs.Prelude.{◌≡◌, ℕ, ◌+◌, ◌<◌, ◌≤◌, max, ◌==◌, ◌||◌, ◌⊎◌, if◌then◌else◌, Bool, true, false, List, []}
 use Rattle.std.specs.Prelude.{◌∷◌, length, Option, Some, None}
 use Rattle.std.specs.List.{AllByRecursion}
 use Rattle.net_laws.specs.Updates.{set_at}
 use Rattle.net_laws.specs.Subscriptions.{Subscription, Event, Sync, Subscribe, Enable, Unsubscribe, DropSet, MoveSet}
-use Rattle.net_laws.specs.Subscriptions.{AddTable, Unrelated, up_to, last_moment, Start, tables, row}
+use Rattle.net_laws.specs.Subscriptions.{Unrelated, up_to, last_moment, is_over, Start, row}
 
 -- ---- nodes
 
--- What a forwarder logs of one SYNC: the moments of its view before and after it, and how many tables the set had.
+-- What a forwarder logs of one SYNC: the moments of its view before and after it.
 pub record Stretch : Type 0 where
   pub from : ℕ
   pub to : ℕ
-  pub tables : ℕ
 
-abbrev pub stretch : ℕ → ℕ → ℕ → Stretch
-stretch count from to = record { from = from; to = to; tables = count }
+abbrev pub stretch : ℕ → ℕ → Stretch
+stretch from to = record { from = from; to = to }
 
 pub record Node : Type 0 where
   -- how many events of the origin it has applied or joined past
@@ -33,28 +32,26 @@ pub record Node : Type 0 where
   -- the nodes that it has as dropped or fenced
   pub barred : List ℕ
 
--- The actions of the transaction of this moment on this table were logged. Tables are counted in the order of their
--- coming.
-pub record IsIn (table moment : ℕ) (s : Stretch) : Type 0 where
+-- a transaction of this moment is one of the stretch
+pub record IsIn (moment : ℕ) (s : Stretch) : Type 0 where
   pub from : s.from ≤ moment
   pub to : moment < s.to
-  pub there : table < s.tables
 
-abbrev pub Logs : List Stretch → ℕ → ℕ → Type 0
-Logs [] table moment = ⊥
-Logs (s ∷ rest) table moment = IsIn table moment s ⊎ Logs rest table moment
+-- the actions of such a transaction on the table were logged
+abbrev pub Logs : List Stretch → ℕ → Type 0
+Logs [] moment = ⊥
+Logs (s ∷ rest) moment = IsIn moment s ⊎ Logs rest moment
 
 -- all of a stretch was logged, in one or in many
 abbrev pub LogsAll : List Stretch → Stretch → Type 0
-LogsAll log s = (table moment : ℕ) → IsIn table moment s → Logs log table moment
+LogsAll log s = (moment : ℕ) → IsIn moment s → Logs log moment
 
 abbrev pub passed : Node → Node
 passed o = record o { progress = o.progress + 1 }
 
--- by SYNC of moment m, with view v, where the set has so many tables; f says that it forwards
-abbrev pub synced : ℕ → ℕ → ℕ → Bool → Node → Node
-synced count m v f o =
-    record (passed o) { view = Some (max v m); log = if f then stretch count v m ∷ o.log else o.log }
+-- by SYNC of moment m, with view v; f says that it forwards
+abbrev pub synced : ℕ → ℕ → Bool → Node → Node
+synced m v f o = record (passed o) { view = Some (max v m); log = if f then stretch v m ∷ o.log else o.log }
 
 -- by SUBSCRIBE_SET for itself, with view v; f says that it forwarded before
 abbrev pub turned_by : ℕ → Bool → Node → Node
@@ -94,8 +91,6 @@ pub record Net : Type 0 where
   pub now : ℕ
   -- the moments of all transactions that committed actions of the era are below this one
   pub full : ℕ
-  -- the set has moved away
-  pub ended : Bool
   -- the newest event first
   pub stream : List Event
   pub nodes : ℕ → Node
@@ -128,7 +123,7 @@ pub record IsReady (w : Net) (n : ℕ) (u : Subscription) : Type 0 where
   pub confirmed : u.mark ≤ (w.nodes n).progress
 
 pub record MaySubscribe (w : Net) (r p : ℕ) (f : Bool) : Type 0 where
-  pub here : w.ended ≡ false
+  pub here : is_over w.stream ≡ false
   pub synced : last_moment w.stream ≡ w.now
   pub apart : p ≡ r → ⊥
   pub provider : (p ≡ w.origin) ⊎ ((u : Subscription) × IsReady w p u)
@@ -144,19 +139,14 @@ pub record IsPending (w : Net) (r : ℕ) (u : Subscription) : Type 0 where
 abbrev pub MayEmit : Net → Event → Type 0
 MayEmit w (Sync m) = m ≡ w.now
 MayEmit w (Subscribe r p f) = MaySubscribe w r p f
-MayEmit w (Enable r) = (w.ended ≡ false) × ((u : Subscription) × IsPending w r u)
-MayEmit w (Unsubscribe r) = (w.ended ≡ false) × ProvidesNone w r
-MayEmit w DropSet = w.ended ≡ false
-MayEmit w MoveSet = (w.ended ≡ false) × (last_moment w.stream ≡ w.now)
-MayEmit w AddTable = (w.ended ≡ false) × ((r : ℕ) → owned w r ≡ None)
+MayEmit w (Enable r) = (is_over w.stream ≡ false) × ((u : Subscription) × IsPending w r u)
+MayEmit w (Unsubscribe r) = (is_over w.stream ≡ false) × ProvidesNone w r
+MayEmit w DropSet = is_over w.stream ≡ false
+MayEmit w MoveSet = (is_over w.stream ≡ false) × (last_moment w.stream ≡ w.now)
 MayEmit w Unrelated = Unit {0}
 
-abbrev pub ended_by : Event → Bool → Bool
-ended_by MoveSet before = true
-ended_by others before = before
-
 abbrev pub emitted : Event → Net → Net
-emitted e w = record w { stream = e ∷ w.stream; ended = ended_by e w.ended }
+emitted e w = record w { stream = e ∷ w.stream }
 
 -- ---- what a node applies
 
@@ -180,6 +170,11 @@ Ends n (Unsubscribe r) = r ≡ n
 Ends n DropSet = Unit {0}
 Ends n others = ⊥
 
+-- the node gave the set up, and has no view: no event changes anything at it but its progress
+pub record IsOut (node : Node) : Type 0 where
+  pub gave_up : node.gave_up ≡ true
+  pub none : node.view ≡ None
+
 -- no row at the origin waits for the next event of n as its ENABLE_SUBSCRIPTION
 abbrev pub IsStale : Net → ℕ → Type 0
 IsStale w n =
@@ -187,9 +182,9 @@ IsStale w n =
 
 -- What n becomes as it applies event e.
 pub data Turn (w : Net) (n : ℕ) (e : Event) (node : Node) : Type 0 where
-  Passes : IsQuiet n (w.nodes n).view e → node ≡ passed (w.nodes n) → Turn w n e node
+  Passes : IsQuiet n (w.nodes n).view e ⊎ IsOut (w.nodes n) → node ≡ passed (w.nodes n) → Turn w n e node
   Syncs : (m v : ℕ) (u : Subscription) → e ≡ Sync m → (w.nodes n).view ≡ Some v → configured w n n ≡ Some u →
-      node ≡ synced (tables w.start (heard w n)) m v u.forward (w.nodes n) → Turn w n e node
+      node ≡ synced m v u.forward (w.nodes n) → Turn w n e node
   Turns : (p v : ℕ) (f : Bool) (u : Subscription) → e ≡ Subscribe n p f → (w.nodes n).view ≡ Some v →
       configured w n n ≡ Some u → node ≡ turned_by v u.forward (w.nodes n) → Turn w n e node
   Copies : (v : ℕ) (u : Subscription) → e ≡ Enable n → configured w n n ≡ Some u → last_moment (heard w n) ≤ v →
@@ -219,7 +214,7 @@ AllConfirmed w p k =
     (r : ℕ) → (r ≡ w.origin → ⊥) → member r (w.nodes p).barred ≡ false → HasConfirmed w k r
 
 pub data Step (w v : Net) : Type 0 where
-  Commits : w.ended ≡ false → v ≡ record w { now = w.now + 1; full = w.now + 1 } → Step w v
+  Commits : is_over w.stream ≡ false → v ≡ record w { now = w.now + 1; full = w.now + 1 } → Step w v
   -- a transaction ends that has no committed action of the era
   Ticks : v ≡ record w { now = w.now + 1 } → Step w v
   Emits : (e : Event) → MayEmit w e → v ≡ emitted e w → Step w v
@@ -239,7 +234,6 @@ pub data Leads (w : Net) : Net → Type 0 where
 pub record IsBegun (w : Net) : Type 0 where
   pub now : w.now ≡ 0
   pub full : w.full ≡ 0
-  pub ended : w.ended ≡ false
   pub stream : AllByRecursion (λ e. e ≡ Unrelated) w.stream
   pub behind : (n : ℕ) → (w.nodes n).progress ≤ length w.stream
   pub none : (n : ℕ) → w.start.rows n ≡ None → (w.nodes n).view ≡ None

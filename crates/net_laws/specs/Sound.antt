@@ -1,7 +1,7 @@
--- What holds of every state of one set in one era that is reached by steps.
-use Rattle.std.specs.Prelude.{◌≡◌, ℕ, ◌<◌, ◌≤◌, ◌⊎◌, Bool, true, false, List, ◌∷◌, length, Some, None}
-use Rattle.net_laws.specs.Subscriptions.{Subscription, Event, Sync, Enable, MoveSet, AddTable, up_to, last_moment}
-use Rattle.net_laws.specs.Subscriptions.{Start, tables, row}
+-- What holds of every state of one table in one era that is reached by steps.
+use Rattle.std.specs.Prelude.{◌≡◌, ℕ, ◌<◌, ◌≤◌, ◌⊎◌, true, false, List, ◌∷◌, length, Some, None}
+use Rattle.net_laws.specs.Subscriptions.{Subscription, Event, Sync, Enable, MoveSet, up_to, last_moment, is_moved}
+use Rattle.net_laws.specs.Subscriptions.{Start, row}
 use Rattle.net_laws.specs.Net.{Node, Logs, LogsAll, stretch, member, IsViewed, Net, owned, heard}
 
 -- of node n, which has applied these events
@@ -17,8 +17,8 @@ pub record Holds (start : Start) (now : ℕ) (events : List Event) (n : ℕ) (no
   pub cut : (v : ℕ) (u : Subscription) → node.view ≡ Some v → row start n events ≡ Some u → u.cut ≤ v
   -- a forwarder has logged all from its base to its view, and no node what is above the last SYNC
   pub logged : (v : ℕ) (u : Subscription) → node.view ≡ Some v → row start n events ≡ Some u → u.forward ≡ true →
-      LogsAll node.log (stretch (tables start events) node.base v)
-  pub fresh : (table moment : ℕ) → Logs node.log table moment → moment < last_moment events
+      LogsAll node.log (stretch node.base v)
+  pub fresh : (moment : ℕ) → Logs node.log moment → moment < last_moment events
 
 -- row t forwards, and the node has applied the event from which on it does
 pub record IsForwarder (t : Subscription) (node : Node) : Type 0 where
@@ -39,7 +39,7 @@ pub record Provides (start : Start) (events : List Event) (provider cut : ℕ) (
   pub serves : node.gave_up ≡ false → node.progress ≤ length events → IsBased node cut
   -- once it has applied them
   pub served : node.gave_up ≡ false → length events ≤ node.progress → (m : ℕ) (before : List Event) →
-      events ≡ Sync m ∷ before → LogsAll node.log (stretch (tables start events) cut m)
+      events ≡ Sync m ∷ before → LogsAll node.log (stretch cut m)
 
 abbrev pub AllProvided : Start → ℕ → (ℕ → Node) → List Event → Type 0
 AllProvided start origin nodes events =
@@ -53,19 +53,14 @@ IsExpected start events =
     (u : Subscription) × ((row start r before ≡ Some u) × (u.ready ≡ false))
 
 -- once the set has moved there are no more transactions of the era
-abbrev pub IsLast : Bool → ℕ → List Event → Type 0
-IsLast ended full events =
-    (before : List Event) → events ≡ MoveSet ∷ before → (ended ≡ true) × (full ≤ last_moment before)
+abbrev pub IsLast : ℕ → List Event → Type 0
+IsLast full events = (before : List Event) → events ≡ MoveSet ∷ before → full ≤ last_moment before
 
 -- and its rows stay
 abbrev pub IsFrozen : Start → List Event → Type 0
 IsFrozen start events =
     (n a : ℕ) (before : List Event) → up_to a events ≡ MoveSet ∷ before →
     row start n events ≡ row start n (up_to a events)
-
--- tables are added where there is no receiver
-abbrev pub IsAlone : Start → List Event → Type 0
-IsAlone start events = (before : List Event) → events ≡ AddTable ∷ before → (r : ℕ) → row start r before ≡ None
 
 -- Node r needs nothing below the moment: it has heard a SYNC of it, or has no view and will not get an older one.
 abbrev pub IsSpared : Start → List Event → ℕ → ℕ → Node → Type 0
@@ -79,7 +74,7 @@ pub record Sound (w : Net) : Type 0 where
   -- no SYNC is ahead of now, and after the move the last one sees all transactions of the era
   pub bound : last_moment w.stream ≤ w.now
   pub filled : w.full ≤ w.now
-  pub closed : w.ended ≡ true → w.full ≤ last_moment w.stream
+  pub closed : is_moved w.stream ≡ true → w.full ≤ last_moment w.stream
   pub behind : (n : ℕ) → (w.nodes n).progress ≤ length w.stream
   pub holds : (n : ℕ) → Holds w.start w.now (heard w n) n (w.nodes n)
   -- who has passed the event that enabled its row at the origin keeps a view
@@ -89,10 +84,9 @@ pub record Sound (w : Net) : Type 0 where
   pub marked : (n : ℕ) (u : Subscription) → owned w n ≡ Some u → u.made < u.mark → u.made ≤ (w.nodes n).progress
   -- of each prefix of the stream
   pub provided : (a : ℕ) → a ≤ length w.stream → AllProvided w.start w.origin w.nodes (up_to a w.stream)
-  pub moved : (a : ℕ) → a ≤ length w.stream → IsLast w.ended w.full (up_to a w.stream)
+  pub moved : (a : ℕ) → a ≤ length w.stream → IsLast w.full (up_to a w.stream)
   pub frozen : (a : ℕ) → a ≤ length w.stream → IsFrozen w.start (up_to a w.stream)
   pub expected : (a : ℕ) → a ≤ length w.stream → IsExpected w.start (up_to a w.stream)
-  pub alone : (a : ℕ) → a ≤ length w.stream → IsAlone w.start (up_to a w.stream)
   -- what logs have lost is below the last SYNC, and each node is spared that has its part in them
   pub swept : (p : ℕ) → (w.nodes p).cleaned ≤ last_moment w.stream
   pub spared : (p r : ℕ) → (r ≡ w.origin → ⊥) → member r (w.nodes p).barred ≡ false →

@@ -26,8 +26,7 @@ pub data Event : Type 0 where
   Unsubscribe : (receiver : ℕ) → Event
   DropSet : Event
   MoveSet : Event
-  AddTable : Event
-  -- one that changes nothing of the set
+  -- one that changes nothing of the set, or adds a table to it
   Unrelated : Event
 
 -- the first events of a stream, so many of them
@@ -44,19 +43,28 @@ abbrev pub last_moment : List Event → ℕ
 last_moment [] = 0
 last_moment (e ∷ z) = moment_with e (last_moment z)
 
--- How an era begins: the rows with provider and forward, and the number of tables.
+-- the set has moved away
+abbrev pub moved_with : Event → Bool → Bool
+moved_with MoveSet before = true
+moved_with others before = before
+
+abbrev pub is_moved : List Event → Bool
+is_moved [] = false
+is_moved (e ∷ z) = moved_with e (is_moved z)
+
+-- the set has gone, by a move or by a drop
+abbrev pub over_with : Event → Bool → Bool
+over_with DropSet before = true
+over_with MoveSet before = true
+over_with others before = before
+
+abbrev pub is_over : List Event → Bool
+is_over [] = false
+is_over (e ∷ z) = over_with e (is_over z)
+
+-- How an era begins: the rows with provider and forward.
 pub record Start : Type 0 where
   pub rows : ℕ → Option (ℕ × Bool)
-  pub tables : ℕ
-
--- how many tables the set has
-abbrev pub tables_with : Event → ℕ → ℕ
-tables_with AddTable before = before + 1
-tables_with others before = before
-
-abbrev pub tables : Start → List Event → ℕ
-tables start [] = start.tables
-tables start (e ∷ z) = tables_with e (tables start z)
 
 -- a row with which the era begins
 abbrev pub first_row : ℕ × Bool → Subscription

@@ -1,8 +1,8 @@
-//! The laws of a replicated set over many nodes, for one era of the set at a time: as long as one node is its origin.
-//! The origin emits one stream of events. Each node has applied the first events of it, and knows of subscriptions what
-//! these say. A subscriber may keep a view: the snapshot of the origin's data that it has. A forwarder also keeps a log
-//! of what it applied, from its base on, for those that subscribe to it. There is no code: each law is what a function
-//! of an empty body ensures.
+//! The laws of a replicated table over many nodes, for one era of its set at a time: as long as one node is the origin
+//! of the set. The origin emits one stream of events. Each node has applied the first events of it, and knows of
+//! subscriptions what these say. A subscriber may keep a view: the snapshot of the origin's data that it has. A
+//! forwarder also keeps a log of what it applied, from its base on, for those that subscribe to it. There is no code:
+//! each law is what a function of an empty body ensures.
 #![tactic(auto)]
 
 ghost use Rattle.net_laws.specs.Laws.{Always, ViewCovers, CopyCovers, ViewHasRow, ViewsRise};
@@ -15,7 +15,6 @@ ghost use Rattle.net_laws.specs.Crossing.{CrossesByMove, CrossesByFailover};
 ghost use Rattle.net_laws.specs.Eras.{OfAllEras, ErasInOrder, StandsInLast, OpensRise, ReadsOwnEra};
 ghost use Rattle.net_laws.specs.Fences.{FencesHold};
 ghost use Rattle.net_laws.specs.Confirmations.{ToldIsBehind};
-ghost use Rattle.net_laws.specs.Moments.{MomentTells};
 
 /// The view of a subscriber sees all that each SYNC sees that the node has applied, and nothing that has not ended at
 /// the origin. So does the view that a new subscriber copies from a forwarder that has come at least as far. Who keeps
@@ -109,10 +108,4 @@ pub fn fences_hold()
 /// What a node was told of another one's progress is behind that, and progress is behind the stream.
 pub fn told_is_behind()
     ensures { ToldIsBehind }
-{}
-
-/// A snapshot sees a committed transaction exactly where fewer transactions had committed before that one than had
-/// where the snapshot was taken.
-pub fn moments_tell()
-    ensures { MomentTells }
 {}
