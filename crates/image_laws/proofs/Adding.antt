@@ -26,7 +26,8 @@ use Rattle.stream_laws.proofs.Lists.{all_with}
 use Rattle.image_laws.specs.Fits.{IsListed, Adds, Fit, Keeps, CreatesSet, AddsTable}
 use Rattle.image_laws.specs.Facts.{FillsAt, HoldsStretch, IsHeldBy, HasStretch, StretchesHold, NodeHolds}
 use Rattle.image_laws.proofs.Found.{IsNew, find_mapped, find_past, find_alone, find_none, any_none, any_with, any_here}
-use Rattle.image_laws.proofs.Stretching.{Before, behind, all_behind, there_behind, keeps_holds}
+use Rattle.image_laws.proofs.Stretching.{Before, Stay, listed_member, behind, all_behind, there_behind, keeps_holds}
+use Rattle.image_laws.proofs.Stretching.{kept_stay, created_stay}
 use Rattle.image_laws.proofs.Stretching.{creates_holds, none_begin, same_stretch}
 
 -- ---- what a new stretch begins with
@@ -97,7 +98,7 @@ leads_live own None leads = absurd (false≢true leads)
 leads_live own (Some row) leads = refl
 
 -- A table that a node puts into one of its sets, by a deed.
-record Adding : Type 0 where
+pub record Adding : Type 0 where
   was : Before
   sound : Sound was.place
   deed : Deed
@@ -115,7 +116,7 @@ abbrev now_known : Adding → Config
 now_known a = record a.was.known { tables = with_entry a.id a.row a.was.known.tables }
 
 -- the stretch that begins
-abbrev new_stretch : Adding → Stretch
+abbrev pub new_stretch : Adding → Stretch
 new_stretch a = record {
   set_id = a.row.set_id;
   era = era_of a.row.set_id a.was.known;
@@ -170,19 +171,26 @@ begins a =
     if_leads : Bool → List Stretch
     if_leads b = filter_map (λ (o : Option Stretch). o) (cond b (Some (new_stretch a)) None ∷ [])
 
-still_listed : (a : Adding) (table : List ℕ) → IsListed table a.was.known → IsListed table (now_known a)
-still_listed a table listed =
-    any_with (λ e. bytes_eq table e.1.name) a.id a.row a.was.known.tables a.fresh listed
+-- the tables that were known stay in their sets
+still_there : (a : Adding) → Stay a.was.known (now_known a)
+still_there a = record {
+  listed = λ table listed. any_with (λ e. bytes_eq table e.1.name) a.id a.row a.was.known.tables a.fresh listed;
+  member = λ table set is. found_past a table (false_from_ne_true (bytes_eq table a.row.name) (λ same.
+      true≢false (sym (listed_member table a.was.known set is)
+      ∙ ap (λ name. list_any (λ e. bytes_eq name e.1.name) a.was.known.tables) (bytes_same table a.row.name same)
+      ∙ a.unused))) ∙ is;
+}
 
 new_holds : (a : Adding) → HoldsStretch a.was.place a.was.own (now_known a) (new_stretch a)
 new_holds a = record {
   listed =
       any_here (λ e. bytes_eq a.row.name e.1.name) a.id a.row a.was.known.tables a.fresh (bytes_itself a.row.name);
   begun = let first = a.first in omega (arith, first);
-  lasts = λ none. (
-    and_from (is_origin a.was.own a.row.set_id a.was.known) (era == era) a.leads (eq-eqb era era refl),
-    fills_first a.was.place (new_stretch a) a.sound a.first refl a.free,
-  );
+  lasts = λ none. record {
+    stands = and_from (is_origin a.was.own a.row.set_id a.was.known) (era == era) a.leads (eq-eqb era era refl);
+    member = found_here a;
+    fills = fills_first a.was.place (new_stretch a) a.sound a.first refl a.free;
+  };
 }
   where
     era : ℕ
@@ -243,14 +251,14 @@ adds_holds a =
       };
       each = (
         new_holds a,
-        all_behind a.was.place a.was.own a.was.known (now_known a) a.deed (still_listed a) a.was.all a.was.holds.each,
+        all_behind a.was.place a.was.own a.was.known (now_known a) a.deed (still_there a) a.was.all a.was.holds.each,
       );
       there = there_now a;
     })
 
 -- ---- any deed of a node
 
-abbrev before_deed : (p : Place) (n : Node) → NodeHolds p n → Before
+abbrev pub before_deed : (p : Place) (n : Node) → NodeHolds p n → Before
 before_deed p n h =
     record { place = p; own = n.id; known = (knowledge n).config; all = stretches n; holds = h }
 
@@ -304,7 +312,7 @@ pub record OneDeed (p : Place) : Type 0 where
   pub first : deed.first ≡ p.numbers.next
   pub fit : Fit p node deed
 
-abbrev adding_of : (p : Place) (d : OneDeed p) → Sound p → NodeHolds p d.node → Adds p d.node d.deed → Adding
+abbrev pub adding_of : (p : Place) (d : OneDeed p) → Sound p → NodeHolds p d.node → Adds p d.node d.deed → Adding
 adding_of p d sound h a = record {
   was = before_deed p d.node h;
   sound = sound;
@@ -355,3 +363,28 @@ finds_behind p d set era table sound h listed = by d.fit
     by (AddsTable a) =
         subst (FindsBy d.node d.deed (is_stretch set era table)) (sym (told p d a.event _ a.doing a.body))
         (finds_added (adding_of p d sound h a) set era table listed)
+
+-- ---- tables behind a deed
+
+-- tables that were known stay in their sets
+pub stays_behind : (p : Place) (d : OneDeed p) → Sound p → NodeHolds p d.node →
+    Stay (knowledge d.node).config (known_behind p d)
+stays_behind p d sound h = by d.fit
+  where
+    by : Fit p d.node d.deed → Stay (knowledge d.node).config (known_behind p d)
+    by (Keeps none kept) = kept_stay (knowledge d.node).config (known_behind p d) kept
+    by (CreatesSet a) =
+        subst (Stay (knowledge d.node).config) (sym (told p d a.event _ a.doing a.body))
+        (created_stay d.node.id (knowledge d.node).config a.set_id _ h.whole a.new)
+    by (AddsTable a) =
+        subst (Stay (knowledge d.node).config) (sym (told p d a.event _ a.doing a.body))
+        (still_there (adding_of p d sound h a))
+
+-- the stretch that begins with a table
+abbrev pub new_behind : (p : Place) (d : OneDeed p) → Sound p → NodeHolds p d.node → Adds p d.node d.deed → Stretch
+new_behind p d sound h a = new_stretch (adding_of p d sound h a)
+
+pub begins_behind : (p : Place) (d : OneDeed p) (sound : Sound p) (h : NodeHolds p d.node) (a : Adds p d.node d.deed) →
+    begun d.node.id (known_behind p d) d.deed ≡ new_behind p d sound h a ∷ []
+begins_behind p d sound h a =
+    ap (λ c. begun d.node.id c d.deed) (told p d a.event _ a.doing a.body) ∙ begins (adding_of p d sound h a)

@@ -1,5 +1,6 @@
 -- A stretch of a node is found again, whatever happens later, and only its end may have come.
 use Rattle.std.proofs.Common.{◌≡◌, ℕ, ◌≤◌, ◌<◌, Bool, true, false, cond, [], ◌∷◌, Option, Some, None, refl, sym, ap}
+use Rattle.std.proofs.Common.{List}
 use Rattle.std.proofs.Common.{subst, ◌∙◌, arith, inl, inr}
 use Rattle.std.specs.Prelude.{find, option_map}
 use Rattle.std.specs.Option.{option_or}
@@ -18,11 +19,12 @@ use Rattle.slon_laws.specs.Keeps.{KeepsTasks}
 use Rattle.slon_laws.specs.Turning.{Turned, Commits, Falls, Doubts}
 use Rattle.slon_laws.proofs.Covering.{Outlasts, outlasts_itself, keeps_outlasting}
 use Rattle.stream_laws.proofs.Steps.{Logs, prepared_node, done_logs}
-use Rattle.image_laws.specs.Fits.{IsListed, Keeps, IsFit, Does, Becomes}
+use Rattle.image_laws.specs.Fits.{IsListed, Fit, Keeps, CreatesSet, AddsTable, AllDone, IsFit, Does, Becomes}
 use Rattle.image_laws.specs.Facts.{HoldsStretch, Holds}
 use Rattle.image_laws.proofs.Adding.{OneDeed, known_behind, finds_behind}
 use Rattle.image_laws.proofs.Found.{find_has}
-use Rattle.image_laws.proofs.Stretching.{behind}
+use Rattle.image_laws.proofs.Moving.{doing_holds}
+use Rattle.image_laws.proofs.Stretching.{behind, behind_same}
 use Rattle.image_laws.proofs.Since.{prepared_same}
 
 -- The node of the database has the stretch, and no action below this number is behind its end.
@@ -49,20 +51,6 @@ stays s first q r same later c = record {
 }
 
 -- ---- a deed
-
--- only its end changes
-behind_same : (own : ℕ) (c : Config) (d : Deed) (s : Stretch) →
-    behind own c d s ≡ record s { last = (behind own c d s).last }
-behind_same own c d s = by s.last refl
-  where
-    by : (o : Option ℕ) → s.last ≡ o → ended own c d.first o s ≡ record s { last = (ended own c d.first o s).last }
-    by (Some last) is = refl
-    by None is =
-        elim (reigns own c s) as (λ b. cond b s (record s { last = Some d.first })
-        ≡ record s { last = (cond b s (record s { last = Some d.first })).last }) [
-          | true ↦ refl
-          | false ↦ refl
-        ]
 
 -- and where it comes, it comes behind what was drawn
 behind_late : (own : ℕ) (c : Config) (d : Deed) (s : Stretch) (first : ℕ) →
@@ -147,15 +135,47 @@ keeps_continuing s first = record {
 
 -- ---- a commit of a script or a turn
 
+-- what it does is fit for a database with another node, too
+fit_beside : (p : Place) (o : Option Node) (n : Node) (d : Deed) → Fit p n d → Fit (record p { node = o }) n d
+fit_beside p o n d (Keeps none kept) = Keeps none kept
+fit_beside p o n d (CreatesSet a) = CreatesSet a
+fit_beside p o n d (AddsTable a) = AddsTable (record {
+  set_id = a.set_id;
+  table_id = a.table_id;
+  name = a.name;
+  comment = a.comment;
+  event = a.event;
+  doing = a.doing;
+  body = a.body;
+  rows = a.rows;
+  leads = a.leads;
+  new = a.new;
+  unused = a.unused;
+  free = a.free;
+})
+
+-- the database with the node behind these deeds
+abbrev doing_so : Place → Node → List Deed → Place
+doing_so q n ds = record q { node = Some (with_deeds ds n) }
+
+deeds_continue : (s : Stretch) (first : ℕ) (q : Place) (n : Node) (ds : List Deed) → q.node ≡ Some n →
+    AllDone q n ds → Holds q × Continues s first q → Continues s first (doing_so q n ds)
+deeds_continue s first q n [] is done on = stays s first q (doing_so q n []) (sym is) (omega arith) on.1
+deeds_continue s first q n (d ∷ ds) is done on =
+    deed_continues s first (doing_so q n ds) (doing_so q n (d ∷ ds)) (record {
+      node = with_deeds ds n;
+      deed = d;
+      first = done.1.first;
+      fit = fit_beside q (Some (with_deeds ds n)) (with_deeds ds n) d done.2;
+    }) (refl, refl, omega arith) (doing_holds q n ds is done.0 on.0) (deeds_continue s first q n ds is done.0 on)
+
 commit_continues : (s : Stretch) (first : ℕ) (commit : Commit) (q : Place) → IsFit commit q → Holds q →
     Continues s first q → Continues s first (committing commit q)
-commit_continues s first commit q (Does n d is none deeds now fit) h c =
-    deed_continues s first q (committing commit q) (record { node = n; deed = d; first = now.first; fit = fit }) (
-      is,
-      ap (λ o. option_map (with_deeds commit.deeds) (option_or o q.node)) none
-          ∙ ap (option_map (with_deeds commit.deeds)) is ∙ ap (λ ds. Some (with_deeds ds n)) deeds,
-      omega arith,
-    ) h c
+commit_continues s first commit q (Does n is none done) h c =
+    stays s first (doing_so q n commit.deeds) (committing commit q)
+    (ap (λ o. option_map (with_deeds commit.deeds) (option_or o q.node)) none
+    ∙ ap (option_map (with_deeds commit.deeds)) is) (omega arith)
+    (deeds_continue s first q n commit.deeds is done (h, c))
 commit_continues s first commit q (Becomes n none is deeds new) h c =
     let never : None ≡ Some c.node = sym none ∙ c.is in absurd cc
 

@@ -19,7 +19,7 @@ use Rattle.slon_model.specs.Names.{find_named}
 use Rattle.slon_model.specs.Maps.{entry_at}
 use Rattle.slon_model.specs.Events.{Event}
 use Rattle.slon_model.specs.Config.{Config, change_by, is_origin, live_set, leads_row}
-use Rattle.slon_model.specs.Deeds.{Node, Deed, Emits, knowledge, with_deeds}
+use Rattle.slon_model.specs.Deeds.{Hears, Node, Deed, Emits, knowledge, with_deeds}
 use Rattle.slon_model.specs.Place.{Place, deed, taken, node_id}
 use Rattle.slon_model.specs.Sessions.{World, Running, Commit, Stated, Seat, Emission, bind, tells, when}
 use Rattle.slon_model.specs.Sessions.{seat_of, writer_of, next_event, committing, stood_at, first_refusal}
@@ -77,8 +77,9 @@ emits_fit w s m is fit =
     let now : IsDoneNow s.place (deed_of s m) = record {
       first = refl;
       taken = λ e doing. let one : event_of s m.body ≡ e = cc in ap (λ (k : Event). k.taken) (sym one);
+      quiet = refl;
     } in
-    let does = Does s.node (deed_of s m) is.node refl refl now fit in
+    let does = Does s.node is.node refl (tt, now, fit) in
     (subst (HoldsAt IsFit (commit_of s (m ∷ []))) (sym is.found) does, tt)
 
 -- the sets and tables stay as they are
@@ -355,11 +356,13 @@ sync_fit w r node =
 
 hears_fit : (w : World) (s : Seat) (confirms : List (ℕ × ℕ × ℕ)) → IsSeat w.places s → AreFit w (hearing s confirms)
 hears_fit w s [] is = tt
-hears_fit w s (c ∷ cs) is = (
-  subst (HoldsAt IsFit _) (sym is.found) (Does s.node _ is.node refl refl
-      (record { first = refl; taken = λ e doing. absurd cc }) (Keeps refl (all_kept (knowledge s.node).config))),
-  tt,
-)
+hears_fit w s (c ∷ cs) is =
+    let d = deed s.place [] [] (Hears (c ∷ cs)) in
+    let now : IsDoneNow s.place d = record { first = refl; taken = λ e doing. absurd cc; quiet = refl } in (
+      subst (HoldsAt IsFit _) (sym is.found)
+          (Does s.node is.node refl (tt, now, Keeps refl (all_kept (knowledge s.node).config))),
+      tt,
+    )
 
 poll_fit : (w : World) (delivery : Delivery) (b : Poll) → IsPoll w b → AreFit w (stated_by delivery b).commits
 poll_fit w Lost b is = tt

@@ -37,6 +37,17 @@ find_has P test x (y ∷ ys) all found = by (λ later. find_has P test x ys all.
     by on true passes here = let is : y ≡ x = cc in subst (λ z. P z × (test z ≡ true)) is (all.0, passes)
     by on false other later = on later
 
+-- one that is found passes another test, if each does that passes the first
+pub find_any : {X : Type 0} (test other : X → Bool) → ((x : X) → test x ≡ true → other x ≡ true) → (x : X)
+    (xs : List X) → find test xs ≡ Some x → list_any other xs ≡ true
+find_any test other on x [] found = absurd cc
+find_any test other on x (y ∷ ys) found = by (λ later. find_any test other on x ys later) (test y) refl found
+  where
+    by : (find test ys ≡ Some x → list_any other ys ≡ true) → (b : Bool) → test y ≡ b →
+        cond b (Some y) (find test ys) ≡ Some x → (other y || list_any other ys) ≡ true
+    by more true passes here = ap (λ b. b || list_any other ys) (on y passes)
+    by more false fails later = or_right (other y) (list_any other ys) (more later)
+
 pub find_none : {X : Type 0} (test : X → Bool) (xs : List X) → find test xs ≡ None →
     AllByRecursion (λ x. test x ≡ false) xs
 find_none test [] none = tt

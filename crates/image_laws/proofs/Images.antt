@@ -1,5 +1,11 @@
 -- An image is the committed rows, in every session that a legal history leads to.
-use Rattle.std.proofs.Common.{◌≡◌, ℕ, ◌<◌, Bool, true, false, List, [], ◌∷◌, ◌++◌, Some, refl, sym, ap, subst}
+use Rattle.image_laws.proofs.Deltas.{delta_leads}
+use Rattle.image_laws.proofs.Reading.{read_leads}
+use Rattle.image_laws.specs.Deltas.{applied, IsRead}
+use Rattle.stream_laws.proofs.Lists.{all_among, all_each}
+use Rattle.slon_model.specs.Logs.{logged}
+use Rattle.image_laws.proofs.Logs.{keeps_all, bare_all, turned_all}
+use Rattle.std.proofs.Common.{◌≡◌, ℕ, ◌<◌, Bool, true, false, List, [], ◌∷◌, ◌++◌, Some, refl, sym, ap, subst, None}
 use Rattle.std.proofs.Common.{◌∙◌, arith}
 use Rattle.std.specs.Prelude.{◌==◌, ◌&&◌, find, nat_le}
 use Rattle.std.specs.Str.{bytes_eq}
@@ -13,9 +19,10 @@ use Rattle.slon_model.specs.Config.{era_of}
 use Rattle.slon_model.specs.Deeds.{Node, knowledge}
 use Rattle.slon_model.specs.Place.{Place, bare_place, standing_rows, taken}
 use Rattle.slon_model.specs.Deciding.{place_by}
-use Rattle.slon_model.specs.Eras.{Stretch, reigns, stretches, is_stretch, stretch_of, is_before, image_of}
+use Rattle.slon_model.specs.Eras.{Stretch, stretches, is_stretch, stretch_of, is_before, image_of}
 use Rattle.slon_model.specs.World.{World, start, Happening, Step, Grants, Denies, Misses, Asks, Acts, Leads}
 use Rattle.slon_model.proofs.Names.{all_map, all_put, all_behind, all_found, one_found, found_behind, bytes_same}
+use Rattle.slon_model.proofs.Names.{bytes_itself}
 use Rattle.slon_laws.specs.Sound.{Sound}
 use Rattle.slon_laws.specs.Worlds.{AllPlaces}
 use Rattle.slon_laws.proofs.Acting.{acting_turns}
@@ -25,8 +32,8 @@ use Rattle.slon_laws.proofs.Played.{play_agrees, play_skips}
 use Rattle.slon_laws.proofs.Sounds.{sound_bare}
 use Rattle.slon_laws.proofs.Worlds.{sound_world}
 use Rattle.stream_laws.proofs.Steps.{regular_world}
-use Rattle.image_laws.specs.Laws.{ImageIsCommittedRows, SnapshotsAreMoments}
-use Rattle.image_laws.specs.Facts.{FillsAt, HoldsStretch, HasStretch, NodeHolds, Holds}
+use Rattle.image_laws.specs.Laws.{ImageIsCommittedRows, SnapshotsAreMoments, LogsHaveTheActions, LogHas, ReadingLeads}
+use Rattle.image_laws.specs.Facts.{Lasts, HoldsStretch, HasStretch, NodeHolds, Holds, HasLogged, HoldsAll}
 use Rattle.image_laws.proofs.Continuing.{Continues, keeps_continuing, turned_continues}
 use Rattle.image_laws.proofs.Fitting.{Ready, AreFit, leaves}
 use Rattle.image_laws.proofs.Found.{find_has}
@@ -161,7 +168,7 @@ pub image_is_committed_rows : ImageIsCommittedRows
 image_is_committed_rows limit history later w v leads goes_on name p q found found_later n m is_n is_m set table held =
     ap (image_of q.actions q.commits (taken p)) there
     ∙ image_since p q s c.stretch sound since c.same c.late
-    ∙ sym lasts.1.rows ∙ ap (standing_rows p) same_table
+    ∙ sym lasts.fills.rows ∙ ap (standing_rows p) same_table
   where
     ready : Ready w
     ready = ready_world limit history w leads
@@ -185,7 +192,7 @@ image_is_committed_rows limit history later w v leads goes_on name p q found fou
     is = find_has (HoldsStretch p n.id (knowledge n).config) (is_stretch set era table) s (stretches n) holds.each
         has.found
 
-    lasts : (reigns n.id (knowledge n).config s ≡ true) × FillsAt p s
+    lasts : Lasts p n.id (knowledge n).config s
     lasts = is.0.lasts has.lasts
 
     parts : (s.set_id ≡ set) × ((s.era ≡ era) × (s.table ≡ table))
@@ -254,3 +261,84 @@ ticks_world limit (h ∷ hs) w leads =
 pub snapshots_are_moments : SnapshotsAreMoments
 snapshots_are_moments limit history w leads name p found n is =
     has_moments p n (all_found Ticking name p w.places (ticks_world limit history w leads) found) is
+
+-- ---- logs
+
+all_step : (w v : World) (h : Happening) → Step w h v → Ready w → AllPlaces HoldsAll w → AllPlaces HoldsAll v
+all_step w v h (Grants name result about granted takes told is) r all =
+    subst (AllPlaces HoldsAll) (sym is)
+    (all_behind HoldsAll name _ w.places
+    (kept_task keeps_all ToFound bare_place h.choice (tt, bare_all sound_bare)) all)
+all_step w v h (Denies name about denied sure told is) r all = subst (AllPlaces HoldsAll) (sym is) all
+all_step w v h (Misses name task about none sure told is) r all = subst (AllPlaces HoldsAll) (sym is) all
+all_step w v h (Asks t) r all =
+    subst (AllPlaces HoldsAll) (sym t.is)
+    (all_put HoldsAll t.name _ w.places
+    (kept_task keeps_all t.task t.place h.choice (tt, all_found HoldsAll t.name t.place w.places all t.found)) all)
+all_step w v h (Acts t) r all =
+    acting_turns (λ name p q ps found turned holds. all_put HoldsAll name q ps (turned_all p q turned
+    (all_found HoldsAll name p ps holds found)) holds) w v h t (outcome_has w (AreFit w) (leaves w r) t.act) all
+
+all_world : (limit : ℕ) (history : List Happening) (w : World) → Leads (start limit) history w → AllPlaces HoldsAll w
+all_world limit [] w is = subst (AllPlaces HoldsAll) (sym is) tt
+all_world limit (h ∷ hs) w leads =
+    all_step leads.0 w h leads.2 (ready_world limit hs leads.0 leads.1) (all_world limit hs leads.0 leads.1)
+
+pub logs_have_the_actions : LogsHaveTheActions
+logs_have_the_actions limit history w leads name p found n is set table held = (
+  s,
+  has.found,
+  record {
+    lasts = has.lasts;
+    all = λ a among on came within.
+        all_among _ a p.actions log.all among (same_bytes s.table a.table (sym on)) came
+        (and_parts (nat_le s.first a.number) (is_before a.number s.last) within).0;
+    only = λ l among on. all_among _ l (logged n) log.only among (same_bytes s.table l.action.table (sym on));
+  },
+)
+  where
+    holds : HoldsAll p
+    holds = all_found HoldsAll name p w.places (all_world limit history w leads) found
+
+    has : HasStretch (knowledge n).config (stretches n) set table
+    has = (holds.0.1 n is).there set table held
+
+    s : Stretch
+    s = has.stretch
+
+    log : HasLogged p n.id (logged n) s
+    log =
+        (find_has (λ t. t.last ≡ None → HasLogged p n.id (logged n) t) _ s (stretches n) (holds.1 n is).each
+        has.found).0 has.lasts
+
+    same_bytes : (x y : List ℕ) → x ≡ y → bytes_eq x y ≡ true
+    same_bytes x y same = subst (λ z. bytes_eq x z ≡ true) same (bytes_itself x)
+
+pub reading_leads : ReadingLeads
+reading_leads limit name w p found n is old new was now covers set table held actions read =
+    ap (λ o. applied actions (image_of p.actions p.commits old o)) log.1
+    ∙ read_leads p n s old new actions (sound.rising, log.2) (subst (λ t. IsRead n t old new actions) (sym same) read)
+    (image_of p.actions p.commits old (Some s))
+    ∙ delta_leads limit name w p found old new was now covers s
+    ∙ sym (ap (image_of p.actions p.commits new) log.1)
+  where
+    leads : Leads (start limit) (was.later ++ was.history) w
+    leads = joined limit was.history was.later was.before w was.leads was.goes_on
+
+    sound : Sound p
+    sound = all_found Sound name p w.places (sound_world limit (was.later ++ was.history) w leads) found
+
+    log : (s : Stretch) × (stretch_of set (era_of set (knowledge n).config) table n ≡ Some s) × LogHas p n s
+    log = logs_have_the_actions limit (was.later ++ was.history) w leads name p found n is set table held
+
+    s : Stretch
+    s = log.0
+
+    same : s.table ≡ table
+    same =
+        let passes = (find_has (λ t. Unit {0}) (is_stretch set (era_of set (knowledge n).config) table) s (stretches n)
+        (all_each (λ t. Unit {0}) (λ t. tt) (stretches n)) log.1).1 in
+        let first =
+        and_parts (s.set_id == set) (s.era == era_of set (knowledge n).config && bytes_eq table s.table) passes in
+        sym (bytes_same table s.table (and_parts (s.era == era_of set (knowledge n).config) (bytes_eq table s.table)
+        first.1).1)

@@ -7,8 +7,11 @@ pub mod Fitting
 pub mod Found
 pub mod Images
 pub mod Leaves
+pub mod Logging
+pub mod Logs
 pub mod Moving
 pub mod Orders
+pub mod Reading
 pub mod Since
 pub mod Stretching
 pub mod Ticking

@@ -7,7 +7,7 @@ use Rattle.std.specs.List.{AllByRecursion}
 use Rattle.std.proofs.lemmas.Bool.{false≢true, true≢false, false_from_ne_true}
 use Rattle.slon_model.specs.Rows.{Change, member}
 use Rattle.slon_model.specs.Config.{Config}
-use Rattle.slon_model.specs.Deeds.{Node, knowledge, learned_all, with_deeds}
+use Rattle.slon_model.specs.Deeds.{Node, knowledge, learned_all, with_deeds, Deed}
 use Rattle.slon_model.specs.Tasks.{Task}
 use Rattle.slon_model.specs.Place.{Place, open_xids, own_count, bare_place, fallen}
 use Rattle.slon_model.specs.Moves.{Move, Founds, Begins, Writes, Commits, Aborts, Falls, Rises, prepared}
@@ -24,7 +24,7 @@ use Rattle.slon_laws.proofs.Opens.{found_member, member_behind, member_without}
 use Rattle.slon_laws.proofs.Sounds.{keeps_sound, sound_prepared, sound_closed}
 use Rattle.stream_laws.proofs.Lists.{all_each}
 use Rattle.stream_laws.proofs.Steps.{prepared_node, first_rows_node}
-use Rattle.image_laws.specs.Fits.{Keeps, IsFit, Does, Becomes, IsFirst}
+use Rattle.image_laws.specs.Fits.{Keeps, AllDone, IsFit, Does, Becomes, IsFirst}
 use Rattle.image_laws.specs.Facts.{FillsAt, HoldsStretch, StretchesHold, NodeHolds, Holds}
 use Rattle.image_laws.proofs.Adding.{deed_holds}
 use Rattle.image_laws.proofs.Filling.{fills_left, fills_written, fills_committed}
@@ -45,7 +45,11 @@ goes_on p q g own c all h = record {
       all_map (HoldsStretch p own c) (HoldsStretch q own c) (λ s is. record {
         listed = is.listed;
         begun = let first = is.begun in let later = g.numbers in omega (arith, first, later);
-        lasts = λ none. ((is.lasts none).0, g.fills s is.begun (is.lasts none).1);
+        lasts = λ none. record {
+          stands = (is.lasts none).stands;
+          member = (is.lasts none).member;
+          fills = g.fills s is.begun (is.lasts none).fills;
+        };
       }) all h.each;
   there = h.there;
 }
@@ -201,22 +205,44 @@ first_holds p n f =
       there = λ set table held. absurd (true≢false (sym held.1 ∙ f.leads set));
     })
 
+-- one deed after the other
+pub deeds_hold : (p : Place) (n : Node) (ds : List Deed) → Sound p → AllDone p n ds → NodeHolds p n →
+    NodeHolds p (with_deeds ds n)
+deeds_hold p n [] sound done h = h
+deeds_hold p n (d ∷ ds) sound done h =
+    deed_holds p (record { node = with_deeds ds n; deed = d; first = done.1.first; fit = done.2 }) sound
+    (deeds_hold p n ds sound done.0 h)
+
+-- the database with the node behind these deeds
+pub doing_holds : (p : Place) (n : Node) (ds : List Deed) → p.node ≡ Some n → AllDone p n ds → Holds p →
+    Holds (record p { node = Some (with_deeds ds n) })
+doing_holds p n ds is done h = (
+  h.0,
+  λ m at.
+      subst (NodeHolds q) (one_found (with_deeds ds n) m at)
+      (goes_on p q (record { numbers = omega arith; fills = λ s first f. f }) n.id _ _
+      (deeds_hold p n ds h.0 done (h.1 n is))),
+)
+  where
+    q : Place
+    q = record p { node = Some (with_deeds ds n) }
+
 pub commit_holds : (c : Commit) (p : Place) → IsFit c p → Holds p → Holds (committing c p)
-commit_holds c p (Does n d is none deeds now fit) h = (h.0, λ m at. by m (sym node ∙ at))
+commit_holds c p (Does n is none done) h = (h.0, λ m at. by m (sym node ∙ at))
   where
     q : Place
     q = committing c p
 
-    node : q.node ≡ Some (with_deeds (d ∷ []) n)
+    node : q.node ≡ Some (with_deeds c.deeds n)
     node =
         ap (λ o. option_map (with_deeds c.deeds) (option_or o p.node)) none
-        ∙ ap (option_map (with_deeds c.deeds)) is ∙ ap (λ ds. Some (with_deeds ds n)) deeds
+        ∙ ap (option_map (with_deeds c.deeds)) is
 
-    by : (m : Node) → Some (with_deeds (d ∷ []) n) ≡ Some m → NodeHolds q m
+    by : (m : Node) → Some (with_deeds c.deeds n) ≡ Some m → NodeHolds q m
     by m one =
         subst (NodeHolds q) (one_found _ m one)
         (goes_on p q (record { numbers = omega arith; fills = λ s first f. f }) n.id _ _
-        (deed_holds p (record { node = n; deed = d; first = now.first; fit = fit }) h.0 (h.1 n is)))
+        (deeds_hold p n c.deeds h.0 done (h.1 n is)))
 commit_holds c p (Becomes n none is deeds first) h = (h.0, λ m at. by m (sym node ∙ at))
   where
     q : Place

@@ -16,7 +16,7 @@ use Rattle.slon_model.proofs.Names.{all_map}
 use Rattle.stream_laws.proofs.Lists.{all_mapped, entry-with, there_with}
 use Rattle.image_laws.specs.Fits.{IsListed, IsWhole, IsKept}
 use Rattle.image_laws.specs.Facts.{HoldsStretch, IsHeldBy, HasStretch, StretchesHold}
-use Rattle.image_laws.proofs.Found.{IsNew, find_agrees, find_mapped, find_has}
+use Rattle.image_laws.proofs.Found.{find_any, IsNew, find_agrees, find_mapped, find_has}
 
 -- ---- each stretch
 
@@ -36,20 +36,65 @@ same_stretch own c d test same s = by s.last
       | false ↦ same s (Some d.first)
     ]
 
+-- only its end changes
+pub behind_same : (own : ℕ) (c : Config) (d : Deed) (s : Stretch) →
+    behind own c d s ≡ record s { last = (behind own c d s).last }
+behind_same own c d s = by s.last refl
+  where
+    by : (o : Option ℕ) → s.last ≡ o → ended own c d.first o s ≡ record s { last = (ended own c d.first o s).last }
+    by (Some last) is = refl
+    by None is =
+        elim (reigns own c s) as (λ b. cond b s (record s { last = Some d.first })
+        ≡ record s { last = (cond b s (record s { last = Some d.first })).last }) [
+          | true ↦ refl
+          | false ↦ refl
+        ]
+
+-- what lasts behind a deed lasted before it
+pub lasted : (own : ℕ) (c : Config) (d : Deed) (s : Stretch) → (behind own c d s).last ≡ None → s.last ≡ None
+lasted own c d s = by s.last refl
+  where
+    by : (o : Option ℕ) → s.last ≡ o → (ended own c d.first o s).last ≡ None → o ≡ None
+    by None is none = refl
+    by (Some last) is none = let never : Some last ≡ None = sym is ∙ none in absurd cc
+
 -- it lasts where its era stands
 lasts_still : (own : ℕ) (c : Config) (d : Deed) (s : Stretch) → s.last ≡ None → reigns own c s ≡ true →
     behind own c d s ≡ s
 lasts_still own c d s none stands =
     ap (λ o. ended own c d.first o s) none ∙ ap (λ b. cond b s (record s { last = Some d.first })) stands
 
-each_behind : (p : Place) (own : ℕ) (old new : Config) (d : Deed) →
-    ((table : List ℕ) → IsListed table old → IsListed table new) → (s : Stretch) → HoldsStretch p own old s →
+-- a table of a set is known
+pub listed_member : (table : List ℕ) (c : Config) (set : ℕ) → set_of table c ≡ Some set → IsListed table c
+listed_member table c set is = by (member_of table c) refl is
+  where
+    named : (e : ℕ × TableRow) → (e.1.live && bytes_eq table e.1.name && is_some (set_row e.1.set_id c)) ≡ true →
+        bytes_eq table e.1.name ≡ true
+    named e passes = middle e.1.live (bytes_eq table e.1.name) (is_some (set_row e.1.set_id c)) passes
+      where
+        middle : (a b d : Bool) → (a && b && d) ≡ true → b ≡ true
+        middle true true d is = refl
+        middle true false d is = absurd (false≢true is)
+        middle false b d is = absurd (false≢true is)
+
+    by : (o : Option (ℕ × TableRow)) → member_of table c ≡ o → option_map (λ e. e.1.set_id) o ≡ Some set →
+        IsListed table c
+    by None found none = absurd cc
+    by (Some e) found some = find_any _ (λ e. bytes_eq table e.1.name) named e c.tables found
+
+-- Tables that are known are known still, and in their sets.
+pub record Stay (old new : Config) : Type 0 where
+  pub listed : (table : List ℕ) → IsListed table old → IsListed table new
+  pub member : (table : List ℕ) (set : ℕ) → set_of table old ≡ Some set → set_of table new ≡ Some set
+
+each_behind : (p : Place) (own : ℕ) (old new : Config) (d : Deed) → Stay old new → (s : Stretch) →
+    HoldsStretch p own old s →
     HoldsStretch p own new (behind own new d s)
-each_behind p own old new d listed s h = by s.last refl
+each_behind p own old new d stay s h = by s.last refl
   where
     by : (o : Option ℕ) → s.last ≡ o → HoldsStretch p own new (ended own new d.first o s)
     by (Some last) is = record {
-      listed = listed s.table h.listed;
+      listed = stay.listed s.table h.listed;
       begun = h.begun;
       lasts = λ none. let never : Some last ≡ None = sym is ∙ none in absurd cc;
     }
@@ -57,23 +102,26 @@ each_behind p own old new d listed s h = by s.last refl
         elim (reigns own new s)
         as (λ b. reigns own new s ≡ b → HoldsStretch p own new (cond b s (record s { last = Some d.first }))) [
           | true ↦ λ stands. record {
-            listed = listed s.table h.listed;
+            listed = stay.listed s.table h.listed;
             begun = h.begun;
-            lasts = λ none. (stands, (h.lasts none).1);
+            lasts = λ none. record {
+              stands = stands;
+              member = stay.member s.table s.set_id (h.lasts none).member;
+              fills = (h.lasts none).fills;
+            };
           }
           | false ↦ λ over. record {
-            listed = listed s.table h.listed;
+            listed = stay.listed s.table h.listed;
             begun = h.begun;
             lasts = λ none. absurd cc;
           }
         ] refl
 
-pub all_behind : (p : Place) (own : ℕ) (old new : Config) (d : Deed) →
-    ((table : List ℕ) → IsListed table old → IsListed table new) → (all : List Stretch) →
+pub all_behind : (p : Place) (own : ℕ) (old new : Config) (d : Deed) → Stay old new → (all : List Stretch) →
     AllByRecursion (HoldsStretch p own old) all → AllByRecursion (HoldsStretch p own new) (map (behind own new d) all)
-all_behind p own old new d listed all holds =
+all_behind p own old new d stay all holds =
     all_mapped (HoldsStretch p own old) (HoldsStretch p own new) (behind own new d)
-    (each_behind p own old new d listed) all holds
+    (each_behind p own old new d stay) all holds
 
 -- no rows, no stretch that begins
 pub none_begin : (own : ℕ) (c : Config) (d : Deed) (all : List Stretch) → d.rows ≡ [] →
@@ -157,21 +205,25 @@ kept_whole own old new kept w = record {
       w.tables);
 }
 
+same_set : (old new : Config) → IsKept old new → (table : List ℕ) → set_of table new ≡ set_of table old
+same_set old new kept table i = set_of table (record old { sets = kept.sets i; tables = kept.tables i })
+
+pub kept_stay : (old new : Config) → IsKept old new → Stay old new
+kept_stay old new kept = record {
+  listed = λ table listed. subst (λ tables. IsListed table (record new { tables = tables })) (sym kept.tables) listed;
+  member = λ table set is. same_set old new kept table ∙ is;
+}
+
 pub keeps_holds : (b : Before) (new : Config) (d : Deed) → d.rows ≡ [] → IsKept b.known new →
     StretchesHold b.place b.own new (stretches_by b.own new d b.all)
 keeps_holds b new d none kept =
     subst (StretchesHold b.place b.own new) (sym (none_begin b.own new d b.all none)) (record {
       whole = kept_whole b.own b.known new kept b.holds.whole;
-      each =
-          all_behind b.place b.own b.known new d (λ table listed. subst (λ tables.
-          IsListed table (record new { tables = tables })) (sym kept.tables) listed) b.all b.holds.each;
+      each = all_behind b.place b.own b.known new d (kept_stay b.known new kept) b.all b.holds.each;
       there = λ set table held.
           let leads = same_leads b.own b.known new set (ap (entry_at set) kept.sets) held.1 in
-          there_behind b new d set table (sym (same_set table) ∙ held.0, leads.1) leads.0;
+          there_behind b new d set table (sym (same_set b.known new kept table) ∙ held.0, leads.1) leads.0;
     })
-  where
-    same_set : (table : List ℕ) → set_of table new ≡ set_of table b.known
-    same_set table i = set_of table (record b.known { sets = kept.sets i; tables = kept.tables i })
 
 -- ---- a set that begins
 
@@ -197,6 +249,25 @@ known_set own c set table w is = by (member_of table c) refl is
         ap (λ k. is_some (entry_at k c.sets)) (sym here)
         ∙ (find_has (λ e. is_some (entry_at e.1.set_id c.sets) ≡ true) _ e c.tables w.tables found).0
 
+-- each table is found in its set still
+created_set : (own : ℕ) (c : Config) (id : ℕ) (row : SetRow) → IsWhole own c → IsNew id c.sets → (table : List ℕ) →
+    set_of table (record c { sets = with_entry id row c.sets }) ≡ set_of table c
+created_set own c id row w fresh table =
+    ap (option_map (λ e. e.1.set_id)) (find_agrees _ _ c.tables
+    (all_map (λ e. is_some (entry_at e.1.set_id c.sets) ≡ true)
+    (λ e. (e.1.live && bytes_eq table e.1.name
+    && is_some (set_row e.1.set_id (record c { sets = with_entry id row c.sets })))
+    ≡ (e.1.live && bytes_eq table e.1.name && is_some (set_row e.1.set_id c)))
+    (λ e known. ap (λ o. e.1.live && bytes_eq table e.1.name && is_some (live_set o))
+    (another_set c.sets id row fresh e.1.set_id known)) c.tables w.tables))
+
+pub created_stay : (own : ℕ) (c : Config) (id : ℕ) (row : SetRow) → IsWhole own c → IsNew id c.sets →
+    Stay c (record c { sets = with_entry id row c.sets })
+created_stay own c id row w fresh = record {
+  listed = λ table listed. listed;
+  member = λ table set is. created_set own c id row w fresh table ∙ is;
+}
+
 pub creates_holds : (b : Before) (id : ℕ) (row : SetRow) (d : Deed) → d.rows ≡ [] → IsNew id b.known.sets →
     row.origin ≡ b.own →
     StretchesHold b.place b.own (record b.known { sets = with_entry id row b.known.sets })
@@ -211,9 +282,9 @@ creates_holds b id row d none fresh origin =
             (λ e. is_some (entry_at e.1.set_id new.sets) ≡ true)
             (λ e known. there_with e.1.set_id id row b.known.sets known) b.known.tables b.holds.whole.tables;
       };
-      each = all_behind b.place b.own b.known new d (λ table listed. listed) b.all b.holds.each;
+      each = all_behind b.place b.own b.known new d stay b.all b.holds.each;
       there = λ set table held.
-          let before = sym (same_set table) ∙ held.0 in
+          let before = sym (one_set table) ∙ held.0 in
           let known = known_set b.own b.known set table b.holds.whole before in
           let leads = same_leads b.own b.known new set (another_set b.known.sets id row fresh set known) held.1 in
           there_behind b new d set table (before, leads.1) leads.0;
@@ -230,11 +301,8 @@ creates_holds b id row d none fresh origin =
         ∙ ap (λ k. is_some (entry_at k b.known.nodes)) origin ∙ b.holds.whole.knows
     by set r false is = b.holds.whole.sets set r is
 
-    same_set : (table : List ℕ) → set_of table new ≡ set_of table b.known
-    same_set table =
-        ap (option_map (λ e. e.1.set_id)) (find_agrees _ _ b.known.tables
-        (all_map (λ e. is_some (entry_at e.1.set_id b.known.sets) ≡ true)
-        (λ e. (e.1.live && bytes_eq table e.1.name && is_some (set_row e.1.set_id new))
-        ≡ (e.1.live && bytes_eq table e.1.name && is_some (set_row e.1.set_id b.known)))
-        (λ e known. ap (λ o. e.1.live && bytes_eq table e.1.name && is_some (live_set o))
-        (another_set b.known.sets id row fresh e.1.set_id known)) b.known.tables b.holds.whole.tables))
+    stay : Stay b.known new
+    stay = created_stay b.own b.known id row b.holds.whole fresh
+
+    one_set : (table : List ℕ) → set_of table new ≡ set_of table b.known
+    one_set = created_set b.own b.known id row b.holds.whole fresh

@@ -12,7 +12,7 @@ use Rattle.slon_model.specs.Names.{Named, find_named, without}
 use Rattle.slon_model.specs.Rows.{member}
 use Rattle.slon_model.specs.Snapshots.{Snapshot, sees, Covers}
 use Rattle.slon_model.specs.Events.{Event}
-use Rattle.slon_model.specs.Deeds.{Node, Doing, Emits, emitted_by, stream, with_deeds}
+use Rattle.slon_model.specs.Deeds.{Node, Doing, Emits, emitted_by, stream, with_deeds, Deed}
 use Rattle.slon_model.specs.Tasks.{Task}
 use Rattle.slon_model.specs.Place.{Place, open_xids, taken, bare_place}
 use Rattle.slon_model.specs.Moves.{Move, Founds, Begins, Commits, Aborts, Falls, Rises, prepared, done}
@@ -28,7 +28,7 @@ use Rattle.slon_laws.proofs.Decides.{IsSame}
 use Rattle.slon_laws.proofs.Opens.{all_member, found_member}
 use Rattle.slon_laws.proofs.Sounds.{keeps_sound, sound_prepared, sound_closed}
 use Rattle.stream_laws.proofs.Steps.{Logs, prepared_node, done_logs}
-use Rattle.image_laws.specs.Fits.{IsFit, Does, Becomes}
+use Rattle.image_laws.specs.Fits.{AllDone, IsFit, Does, Becomes}
 use Rattle.image_laws.specs.Laws.{CountsTell}
 use Rattle.image_laws.specs.Moments.{count_of, is_ended, IsTaken, IsOrder, HasMoments}
 use Rattle.image_laws.proofs.Clocks.{Clock, Ticked, no_more, ticked_on, clock_begins, clock_ends, name_out}
@@ -248,8 +248,16 @@ emitted_all : (P : Event → Type 0) (doing : Doing) (es : List Event) → ((e :
 emitted_all P (Emits e) es here all = (here e refl, all)
 emitted_all P others es here all = all
 
+deeds_tick : (p : Place) (n : Node) (ds : List Deed) (ended : List ℕ) → TakenIn ended (taken p) → AllDone p n ds →
+    AllByRecursion (λ e. TakenIn ended e.taken) (stream n) →
+    AllByRecursion (λ e. TakenIn ended e.taken) (stream (with_deeds ds n))
+deeds_tick p n [] ended now done all = all
+deeds_tick p n (d ∷ ds) ended now done all =
+    emitted_all (λ e. TakenIn ended e.taken) d.doing (stream (with_deeds ds n))
+    (λ e doing. subst (TakenIn ended) (sym (done.1.taken e doing)) now) (deeds_tick p n ds ended now done.0 all)
+
 commit_ticks : (c : Commit) (p : Place) → IsFit c p → Ticking p → Ticking (committing c p)
-commit_ticks c p (Does n d is none deeds now fit) t = (
+commit_ticks c p (Does n is none done) t = (
   t.0,
   record {
     ended = t.1.ended;
@@ -258,18 +266,16 @@ commit_ticks c p (Does n d is none deeds now fit) t = (
   },
 )
   where
-    node : (committing c p).node ≡ Some (with_deeds (d ∷ []) n)
+    node : (committing c p).node ≡ Some (with_deeds c.deeds n)
     node =
         ap (λ o. option_map (with_deeds c.deeds) (option_or o p.node)) none
-        ∙ ap (option_map (with_deeds c.deeds)) is ∙ ap (λ ds. Some (with_deeds ds n)) deeds
+        ∙ ap (option_map (with_deeds c.deeds)) is
 
-    by : (m : Node) → Some (with_deeds (d ∷ []) n) ≡ Some m →
+    by : (m : Node) → Some (with_deeds c.deeds n) ≡ Some m →
         AllByRecursion (λ e. TakenIn t.1.ended e.taken) (stream m)
     by m one =
         subst (λ (k : Node). AllByRecursion (λ e. TakenIn t.1.ended e.taken) (stream k)) (one_found _ m one)
-        (emitted_all (λ e. TakenIn t.1.ended e.taken) d.doing (stream n)
-        (λ e doing. subst (TakenIn t.1.ended) (sym (now.taken e doing)) (taken_now p t.1.ended t.0 t.1.clock))
-        (t.1.events n is))
+        (deeds_tick p n c.deeds t.1.ended (taken_now p t.1.ended t.0 t.1.clock) done (t.1.events n is))
 commit_ticks c p (Becomes n none is deeds first) t = (
   t.0,
   record {

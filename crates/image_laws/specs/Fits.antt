@@ -7,7 +7,7 @@ use Rattle.node_rows.specs.declared.body.Body.TheVariants.{StoreSet, SetAddTable
 use Rattle.slon_model.specs.Maps.{entry_at}
 use Rattle.slon_model.specs.Events.{Event}
 use Rattle.slon_model.specs.Config.{Config, is_origin}
-use Rattle.slon_model.specs.Deeds.{Node, Deed, Emits, learned, knowledge}
+use Rattle.slon_model.specs.Deeds.{Node, Deed, Emits, learned, knowledge, with_deeds}
 use Rattle.slon_model.specs.Place.{Place, standing_rows, taken}
 use Rattle.slon_model.specs.Sessions.{Commit, writer_of}
 
@@ -65,13 +65,18 @@ pub record IsFirst (n : Node) : Type 0 where
   pub whole : IsWhole n.id n.given.config
   pub leads : (set : ℕ) → is_origin n.id set n.given.config ≡ false
 
--- it is done as the database is now: behind the actions that were drawn, and with the snapshot of now
+-- It is done as the database is now: behind the actions that were drawn, with the snapshot of now, and it logs nothing.
 pub record IsDoneNow (p : Place) (d : Deed) : Type 0 where
   pub first : d.first ≡ p.numbers.next
   pub taken : (e : Event) → d.doing ≡ Emits e → e.taken ≡ taken p
+  pub quiet : d.logs ≡ []
 
--- A commit of a database: its node does one thing more, or it becomes a node.
+-- the deeds of one commit, the newest first, each behind the ones before it
+abbrev pub AllDone : Place → Node → List Deed → Type 0
+AllDone p n [] = Unit {0}
+AllDone p n (d ∷ ds) = AllDone p n ds × IsDoneNow p d × Fit p (with_deeds ds n) d
+
+-- A commit of a database: its node does these things, or it becomes a node.
 pub data IsFit (c : Commit) (p : Place) : Type 0 where
-  Does : (n : Node) (d : Deed) → p.node ≡ Some n → c.becomes ≡ None → c.deeds ≡ d ∷ [] → IsDoneNow p d → Fit p n d →
-      IsFit c p
+  Does : (n : Node) → p.node ≡ Some n → c.becomes ≡ None → AllDone p n c.deeds → IsFit c p
   Becomes : (n : Node) → p.node ≡ None → c.becomes ≡ Some n → c.deeds ≡ [] → IsFirst n → IsFit c p

@@ -1,13 +1,17 @@
 -- The laws of what snapshots see, in every session that a legal history leads to.
-use Rattle.std.specs.Prelude.{◌≡◌, ℕ, ◌≤◌, ◌↔◌, List, Option, Some}
+use Rattle.std.specs.Prelude.{◌≡◌, ℕ, ◌≤◌, ◌↔◌, true, List, Option, Some, None}
 use Rattle.slon_model.specs.Names.{find_named}
+use Rattle.slon_model.specs.Rows.{Action, member}
 use Rattle.slon_model.specs.Snapshots.{Snapshot, Covers}
 use Rattle.slon_model.specs.Config.{era_of}
-use Rattle.slon_model.specs.Deeds.{Node, knowledge}
+use Rattle.slon_model.specs.Deeds.{Node, Logged, knowledge}
+use Rattle.slon_model.specs.Logs.{logged}
 use Rattle.slon_model.specs.Place.{Place, standing_rows, taken}
-use Rattle.slon_model.specs.Eras.{Stretch, image_of, image_in, delta_on}
+use Rattle.slon_model.specs.Eras.{Stretch, stretch_of, is_within, image_of, image_in, delta_on}
 use Rattle.slon_model.specs.World.{World, start, Happening, Leads}
-use Rattle.image_laws.specs.Facts.{IsHeldBy}
+use Rattle.image_laws.specs.Deltas.{applied, IsRead}
+use Rattle.image_laws.specs.Facts.{IsHeldBy, IsOf, IsLogged}
+use Rattle.stream_laws.specs.Nodes.{IsAmong}
 use Rattle.image_laws.specs.Moments.{count_of, IsTaken, IsOrder, HasMoments}
 
 -- A legal history took this snapshot in the database of this name, and went on to this session.
@@ -61,3 +65,31 @@ abbrev pub CountsTell : Type 0
 CountsTell =
     (order : ℕ → Option ℕ) (now : ℕ) → IsOrder order now → (a b : Snapshot) → IsTaken order now a →
     IsTaken order now b → Covers a b ↔ (count_of b ≤ count_of a)
+
+-- ---- logs
+
+-- The stretch lasts, and of its table the log of the node has the committed actions since it began, and no others.
+pub record LogHas (p : Place) (n : Node) (s : Stretch) : Type 0 where
+  pub lasts : s.last ≡ None
+  pub all : (a : Action) → IsAmong a p.actions → a.table ≡ s.table → member a.xid p.commits ≡ true →
+      is_within s a ≡ true → IsLogged (logged n) a
+  pub only : (l : Logged) → IsAmong l (logged n) → l.action.table ≡ s.table → IsOf p n.id s l
+
+-- Each table of a set of which a node is the origin has a stretch, and the log of the node has exactly its actions.
+abbrev pub LogsHaveTheActions : Type 0
+LogsHaveTheActions =
+    (limit : ℕ) (history : List Happening) (w : World) → Leads (start limit) history w →
+    (name : List ℕ) (p : Place) → find_named name w.places ≡ Some p → (n : Node) → p.node ≡ Some n →
+    (set : ℕ) (table : List ℕ) → IsHeldBy n.id (knowledge n).config set table →
+    (s : Stretch) × (stretch_of set (era_of set (knowledge n).config) table n ≡ Some s) × LogHas p n s
+
+-- What is read of the log of the origin between two snapshots, of which the later one sees all that the earlier one
+-- sees, applied in the order of numbers, leads from what the earlier one sees of a table to what the later one sees.
+abbrev pub ReadingLeads : Type 0
+ReadingLeads =
+    (limit : ℕ) (name : List ℕ) (w : World) (p : Place) → find_named name w.places ≡ Some p → (n : Node) →
+    p.node ≡ Some n → (old new : Snapshot) → WasTaken limit name w old → WasTaken limit name w new → Covers new old →
+    (set : ℕ) (table : List ℕ) → IsHeldBy n.id (knowledge n).config set table → (actions : List Action) →
+    IsRead n table old new actions →
+    applied actions (image_in p n set (era_of set (knowledge n).config) table old)
+    ≡ image_in p n set (era_of set (knowledge n).config) table new

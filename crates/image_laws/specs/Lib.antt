@@ -1,3 +1,4 @@
+pub mod Deltas
 pub mod Facts
 pub mod Fits
 pub mod Laws

@@ -3,7 +3,7 @@
 #![tactic(auto)]
 
 ghost use Rattle.image_laws.specs.Laws.{ImageIsCommittedRows, DeltaLeads, SnapshotsAreMoments};
-ghost use Rattle.image_laws.specs.Laws.{CountsTell};
+ghost use Rattle.image_laws.specs.Laws.{CountsTell, LogsHaveTheActions, ReadingLeads};
 
 /// What a snapshot sees of a table of a set, in the era in which it is taken at the origin of the set, is what the
 /// table holds at that moment; and it is so still after whatever happens later: transactions that were open then, or
@@ -25,4 +25,16 @@ pub fn delta_leads()
 pub fn snapshots_are_moments()
     ensures moments { SnapshotsAreMoments }
     ensures tells { CountsTell }
+{}
+
+/// The log of the origin of a set has, of each table of the set, exactly the committed actions since the table came
+/// into the set.
+pub fn logs_have_the_actions()
+    ensures { LogsHaveTheActions }
+{}
+
+/// Who holds what a snapshot of the origin sees of a table, and applies what the log of the origin has of the table
+/// between it and a later snapshot, in the order of numbers, holds what the later one sees.
+pub fn readings_lead()
+    ensures { ReadingLeads }
 {}
