@@ -12,6 +12,7 @@ use Rattle.store_rows.specs.Space.{IsSpace, written}
 use Rattle.store_rows.proofs.Spaces.{Turns, altered}
 use Rattle.slon_model.specs.Maps.{entry_at, with_entry, pair_at}
 use Rattle.slon_model.specs.Events.{Event}
+use Rattle.slon_model.specs.Views.{View}
 use Rattle.set_config.specs.Holds.{AreIds, pair_key}
 use Rattle.set_config.proofs.Entries.{pair_unique, not_eq, entry-with}
 use Rattle.set_config.proofs.Holding.{puts, write_in}
@@ -139,5 +140,15 @@ with_news {s = s} origin number m one can shows = record {
   streams = whole shows.streams.views shows.streams.events shows.streams.confirmations shows.streams.cleaned
       (altered (puts origin number s.news one can) shows.streams.news);
   others = λ space other. elsewhere 13 (Some (number_bytes number)) (number_bytes origin) m refl space other
+      ∙ shows.others space other;
+}
+
+pub with_view : {base : Store} {s : Streams} (set : ℕ) (v : View) (m : Store) → IsId set → CanView v →
+    ShowsStreams base s m → ShowsStreams base (record s { views = with_entry set v s.views })
+    (write_in 9 (Some (view_bytes v)) (number_bytes set) m)
+with_view {s = s} set v m one can shows = record {
+  streams = whole (altered (puts set v s.views one can) shows.streams.views) shows.streams.events
+      shows.streams.confirmations shows.streams.cleaned shows.streams.news;
+  others = λ space other. elsewhere 9 (Some (view_bytes v)) (number_bytes set) m refl space other
       ∙ shows.others space other;
 }

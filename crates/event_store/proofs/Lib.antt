@@ -13,6 +13,7 @@ pub mod NewNodes
 pub mod Rising
 pub mod Snapshots
 pub mod Turning
+pub mod Viewed
 mod LastSync
 pub mod Ordered
 pub mod Regular

@@ -7,6 +7,7 @@ pub mod Giving
 pub mod Hearing
 pub mod Holds
 pub mod Keeping
+pub mod Kept
 pub mod Lines
 pub mod Ordered
 pub mod Queueing

@@ -13,6 +13,7 @@ mod snapshot;
 mod streams;
 mod syncs;
 mod telling;
+mod view;
 mod writing;
 
 pub use event::Event;
@@ -25,3 +26,4 @@ pub use reading::{after, after_is_all};
 pub use streams::{emit, find_event, progress, store};
 pub use syncs::last_sync;
 pub use telling::{Confirmation, confirm_all, confirmations, news};
+pub use view::{View, find_view, keep_view};

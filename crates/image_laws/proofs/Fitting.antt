@@ -1,4 +1,6 @@
 -- The commits of every statement and every turn are such that stretches hold behind them.
+use Rattle.slon_model.specs.World.{outcome}
+use Rattle.slon_model.specs.Tasks.{Act}
 use Rattle.std.proofs.Common.{◌≡◌, ℕ, Bool, true, false, cond, List, [], ◌∷◌, Option, Some, None, Result, Ok, Err, refl}
 use Rattle.std.proofs.Common.{sym, ap, subst, ◌∙◌, is_some, is_none, not}
 use Rattle.std.specs.Prelude.{◌==◌, option_map}
@@ -45,7 +47,7 @@ use Rattle.stream_laws.proofs.Waiting.{IsPoll, polled_ok}
 use Rattle.image_laws.specs.Fits.{IsWhole, IsKept, Fit, Keeps, CreatesSet, AddsTable, IsFirst, IsFit}
 use Rattle.image_laws.specs.Fits.{IsDoneNow, Does, Becomes}
 use Rattle.image_laws.specs.Facts.{Holds, NodeHolds}
-use Rattle.image_laws.proofs.Leaves.{Leaves}
+use Rattle.stream_laws.proofs.Leaves.{Leaves, outcome_has}
 
 -- ---- a session
 
@@ -372,12 +374,17 @@ on_map : {A : Type 0} (P Q : A → Type 0) (r : Result A Refusal) → ((a : A) �
 on_map P Q (Ok a) f is = f a is
 on_map P Q (Err refusal) f is = tt
 
-pub leaves : (w : World) → Ready w → Leaves w (AreFit w)
+leaves : (w : World) → Ready w → Leaves w (λ commits queues. AreFit w commits)
 leaves w r = record {
   nothing = tt;
+  stops = λ name. tt;
   orders = ordered_fit w r;
   syncs = sync_fit w r;
   polls = λ node server delivery.
       on_map (IsPoll w) (λ b. AreFit w (stated_by delivery b).commits) (polled node server w) (poll_fit w delivery)
       (polled_ok node server w r.regular);
 }
+
+-- the commits of what a command does
+pub outcome_fit : (w : World) → Ready w → (act : Act) → AreFit w (outcome act w).commits
+outcome_fit w r act = outcome_has w (λ commits queues. AreFit w commits) (leaves w r) act

@@ -1,4 +1,7 @@
 -- An image is the committed rows, in every session that a legal history leads to.
+use Rattle.image_laws.specs.Fits.{IsFit}
+use Rattle.slon_laws.specs.Turning.{Turned}
+use Rattle.slon_laws.specs.Keeps.{KeepsTasks}
 use Rattle.image_laws.proofs.Deltas.{delta_leads}
 use Rattle.image_laws.proofs.Reading.{read_leads}
 use Rattle.image_laws.specs.Deltas.{applied, IsRead}
@@ -35,38 +38,55 @@ use Rattle.stream_laws.proofs.Steps.{regular_world}
 use Rattle.image_laws.specs.Laws.{ImageIsCommittedRows, SnapshotsAreMoments, LogsHaveTheActions, LogHas, ReadingLeads}
 use Rattle.image_laws.specs.Facts.{Lasts, HoldsStretch, HasStretch, NodeHolds, Holds, HasLogged, HoldsAll}
 use Rattle.image_laws.proofs.Continuing.{Continues, keeps_continuing, turned_continues}
-use Rattle.image_laws.proofs.Fitting.{Ready, AreFit, leaves}
+use Rattle.image_laws.proofs.Fitting.{Ready, outcome_fit}
 use Rattle.image_laws.proofs.Found.{find_has}
-use Rattle.image_laws.proofs.Leaves.{outcome_has}
 use Rattle.image_laws.proofs.Moving.{keeps_holding, bare_holds, turned_holds}
 use Rattle.image_laws.proofs.Since.{Since, since_itself, keeps_since, seen_committed}
 use Rattle.image_laws.proofs.Ticking.{Ticking, keeps_ticking, bare_ticks, turned_ticks, has_moments}
 
 -- ---- every session
 
-holds_step : (w v : World) (h : Happening) → Step w h v → Ready w → AllPlaces Holds v
-holds_step w v h (Grants name result about granted takes told is) r =
-    subst (AllPlaces Holds) (sym is)
-    (all_behind Holds name _ w.places (kept_task keeps_holding ToFound bare_place h.choice (tt, bare_holds sound_bare))
-    r.holds)
-holds_step w v h (Denies name about denied sure told is) r = subst (AllPlaces Holds) (sym is) r.holds
-holds_step w v h (Misses name task about none sure told is) r = subst (AllPlaces Holds) (sym is) r.holds
-holds_step w v h (Asks t) r =
-    subst (AllPlaces Holds) (sym t.is)
-    (all_put Holds t.name _ w.places
-    (kept_task keeps_holding t.task t.place h.choice (tt, all_found Holds t.name t.place w.places r.holds t.found))
-    r.holds)
-holds_step w v h (Acts t) r =
-    acting_turns (λ name p q ps found turned all. all_put Holds name q ps (turned_holds p q turned
-    (all_found Holds name p ps all found)) all) w v h t (outcome_has w (AreFit w) (leaves w r) t.act) r.holds
+-- What holds of a database that is made, and is kept by each task, and by each way in which a step on several databases
+-- changes one of them.
+record LivesOn (R : Place → Type 0) : Type 0 where
+  tasks : KeepsTasks (λ task. Unit {0}) R R
+  bare : R bare_place
+  turns : (p q : Place) → Turned IsFit p q → R p → R q
+
+each_step : {R : Place → Type 0} → LivesOn R → (w v : World) (h : Happening) → Step w h v → Ready w → AllPlaces R w →
+    AllPlaces R v
+each_step {R} l w v h (Grants name result about granted takes told is) r all =
+    subst (AllPlaces R) (sym is)
+    (all_behind R name _ w.places (kept_task l.tasks ToFound bare_place h.choice (tt, l.bare)) all)
+each_step {R} l w v h (Denies name about denied sure told is) r all = subst (AllPlaces R) (sym is) all
+each_step {R} l w v h (Misses name task about none sure told is) r all = subst (AllPlaces R) (sym is) all
+each_step {R} l w v h (Asks t) r all =
+    subst (AllPlaces R) (sym t.is)
+    (all_put R t.name _ w.places
+    (kept_task l.tasks t.task t.place h.choice (tt, all_found R t.name t.place w.places all t.found)) all)
+each_step {R} l w v h (Acts t) r all =
+    acting_turns (λ name p q ps found turned was. all_put R name q ps (l.turns p q turned
+    (all_found R name p ps was found)) was) w v h t (outcome_fit w r t.act) all
+
+holds_on : LivesOn Holds
+holds_on = record { tasks = keeps_holding; bare = bare_holds sound_bare; turns = turned_holds }
 
 pub ready_world : (limit : ℕ) (history : List Happening) (w : World) → Leads (start limit) history w → Ready w
 ready_world limit [] w is =
     record { regular = regular_world limit [] w is; holds = subst (AllPlaces Holds) (sym is) tt }
 ready_world limit (h ∷ hs) w leads = record {
   regular = regular_world limit (h ∷ hs) w leads;
-  holds = holds_step leads.0 w h leads.2 (ready_world limit hs leads.0 leads.1);
+  holds =
+      let before = ready_world limit hs leads.0 leads.1 in
+      each_step holds_on leads.0 w h leads.2 before before.holds;
 }
+
+-- it holds of every database of every session
+each_world : {R : Place → Type 0} → LivesOn R → (limit : ℕ) (history : List Happening) (w : World) →
+    Leads (start limit) history w → AllPlaces R w
+each_world {R} l limit [] w is = subst (AllPlaces R) (sym is) tt
+each_world {R} l limit (h ∷ hs) w leads =
+    each_step l leads.0 w h leads.2 (ready_world limit hs leads.0 leads.1) (each_world l limit hs leads.0 leads.1)
 
 -- ---- a stretch, later
 
@@ -102,7 +122,7 @@ continues_step s first name w v h (Acts t) r on =
         at = found;
         on = λ c. turned_continues s first p q turned (all_found Holds other p ps both.0 found) c;
       }) both.1,
-    )) w v h t (outcome_has w (AreFit w) (leaves w r) t.act) (r.holds, on)).1
+    )) w v h t (outcome_fit w r t.act) (r.holds, on)).1
 
 -- a history that goes on
 joined : (limit : ℕ) (history later : List Happening) (w v : World) → Leads (start limit) history w → Leads w later v →
@@ -238,51 +258,17 @@ image_is_committed_rows limit history later w v leads goes_on name p q found fou
 
 -- ---- moments
 
-ticks_step : (w v : World) (h : Happening) → Step w h v → Ready w → AllPlaces Ticking w → AllPlaces Ticking v
-ticks_step w v h (Grants name result about granted takes told is) r all =
-    subst (AllPlaces Ticking) (sym is)
-    (all_behind Ticking name _ w.places
-    (kept_task keeps_ticking ToFound bare_place h.choice (tt, bare_ticks sound_bare)) all)
-ticks_step w v h (Denies name about denied sure told is) r all = subst (AllPlaces Ticking) (sym is) all
-ticks_step w v h (Misses name task about none sure told is) r all = subst (AllPlaces Ticking) (sym is) all
-ticks_step w v h (Asks t) r all =
-    subst (AllPlaces Ticking) (sym t.is)
-    (all_put Ticking t.name _ w.places
-    (kept_task keeps_ticking t.task t.place h.choice (tt, all_found Ticking t.name t.place w.places all t.found)) all)
-ticks_step w v h (Acts t) r all =
-    acting_turns (λ name p q ps found turned ticks. all_put Ticking name q ps (turned_ticks p q turned
-    (all_found Ticking name p ps ticks found)) ticks) w v h t (outcome_has w (AreFit w) (leaves w r) t.act) all
-
-ticks_world : (limit : ℕ) (history : List Happening) (w : World) → Leads (start limit) history w → AllPlaces Ticking w
-ticks_world limit [] w is = subst (AllPlaces Ticking) (sym is) tt
-ticks_world limit (h ∷ hs) w leads =
-    ticks_step leads.0 w h leads.2 (ready_world limit hs leads.0 leads.1) (ticks_world limit hs leads.0 leads.1)
+ticks_on : LivesOn Ticking
+ticks_on = record { tasks = keeps_ticking; bare = bare_ticks sound_bare; turns = turned_ticks }
 
 pub snapshots_are_moments : SnapshotsAreMoments
 snapshots_are_moments limit history w leads name p found n is =
-    has_moments p n (all_found Ticking name p w.places (ticks_world limit history w leads) found) is
+    has_moments p n (all_found Ticking name p w.places (each_world ticks_on limit history w leads) found) is
 
 -- ---- logs
 
-all_step : (w v : World) (h : Happening) → Step w h v → Ready w → AllPlaces HoldsAll w → AllPlaces HoldsAll v
-all_step w v h (Grants name result about granted takes told is) r all =
-    subst (AllPlaces HoldsAll) (sym is)
-    (all_behind HoldsAll name _ w.places
-    (kept_task keeps_all ToFound bare_place h.choice (tt, bare_all sound_bare)) all)
-all_step w v h (Denies name about denied sure told is) r all = subst (AllPlaces HoldsAll) (sym is) all
-all_step w v h (Misses name task about none sure told is) r all = subst (AllPlaces HoldsAll) (sym is) all
-all_step w v h (Asks t) r all =
-    subst (AllPlaces HoldsAll) (sym t.is)
-    (all_put HoldsAll t.name _ w.places
-    (kept_task keeps_all t.task t.place h.choice (tt, all_found HoldsAll t.name t.place w.places all t.found)) all)
-all_step w v h (Acts t) r all =
-    acting_turns (λ name p q ps found turned holds. all_put HoldsAll name q ps (turned_all p q turned
-    (all_found HoldsAll name p ps holds found)) holds) w v h t (outcome_has w (AreFit w) (leaves w r) t.act) all
-
-all_world : (limit : ℕ) (history : List Happening) (w : World) → Leads (start limit) history w → AllPlaces HoldsAll w
-all_world limit [] w is = subst (AllPlaces HoldsAll) (sym is) tt
-all_world limit (h ∷ hs) w leads =
-    all_step leads.0 w h leads.2 (ready_world limit hs leads.0 leads.1) (all_world limit hs leads.0 leads.1)
+logs_on : LivesOn HoldsAll
+logs_on = record { tasks = keeps_all; bare = bare_all sound_bare; turns = turned_all }
 
 pub logs_have_the_actions : LogsHaveTheActions
 logs_have_the_actions limit history w leads name p found n is set table held = (
@@ -298,7 +284,7 @@ logs_have_the_actions limit history w leads name p found n is set table held = (
 )
   where
     holds : HoldsAll p
-    holds = all_found HoldsAll name p w.places (all_world limit history w leads) found
+    holds = all_found HoldsAll name p w.places (each_world logs_on limit history w leads) found
 
     has : HasStretch (knowledge n).config (stretches n) set table
     has = (holds.0.1 n is).there set table held

@@ -6,7 +6,6 @@ pub mod Filling
 pub mod Fitting
 pub mod Found
 pub mod Images
-pub mod Leaves
 pub mod Logging
 pub mod Logs
 pub mod Moving

@@ -1,7 +1,7 @@
 -- The rows of one origin in a store that holds a log.
 use Rattle.std.proofs.Common.{◌≡◌, ◌⊎◌, ℕ, ◌<◌, ◌≤◌, ◌^◌, Bool, true, false, cond, T, List, [], ◌∷◌, ◌++◌, length, drop}
 use Rattle.std.proofs.Common.{Option, Some, None, refl, sym, ap, subst, ◌∙◌, inl, inr, arith}
-use Rattle.std.specs.Prelude.{◌==◌, nat_eq}
+use Rattle.std.specs.Prelude.{◌-◌, ◌==◌, ◌&&◌, not, nat_eq}
 use Rattle.std.specs.List.{AllByRecursion, starts_with}
 use Rattle.std.specs.Option.{option_map}
 use Rattle.std.specs.Cmp.{tied_itself}
@@ -26,8 +26,9 @@ use Rattle.store_rows.proofs.Numbers.{numbers_ordered}
 use Rattle.change_capture.specs.declared.log_row.LogRow.{LogRow}
 use Rattle.change_capture.specs.Spellings.{log_row_bytes, CanLogRow}
 use Rattle.slon_model.specs.Maps.{entry_at, ids}
-use Rattle.slon_model.specs.Snapshots.{Rising}
-use Rattle.log_switch.specs.Between.{passed, if_passes, ArePassed, CanBeLogged, AreOf}
+use Rattle.slon_model.specs.Rows.{member}
+use Rattle.slon_model.specs.Snapshots.{Snapshot, Rising, sees}
+use Rattle.log_switch.specs.Between.{is_between, bound, passed, if_passes, ArePassed, CanBeLogged, AreOf, SeesBelow}
 use Rattle.log_switch.proofs.Numbered.{cancel, find_number}
 use Rattle.log_switch.specs.Holds.{Logged, IsNumbered, log_key, logged_at, HoldsLog}
 
@@ -118,14 +119,38 @@ rows_rise p (r ∷ rs) small sorted = (
 has_front : (p y : List ℕ) → starts_with nat_eq (p ++ y) p ≡ true
 has_front p y = (bytes_eq-Decides p _).1 (sym (take_at p y (length p) refl))
 
-find_in : (p y : List ℕ) (space : Space) → 0 < length y →
-    find key_cmp (p ++ y) (ranged p (after p (entries space))) ≡ get space (p ++ y)
-find_in p y space some =
-    find-ranged p [] (p ++ y) (after p (entries space)) (after_sorted p (entries space) (entries_sorted space))
-    (subst (λ k. T (below_all key_cmp k (after p (entries space)))) (sym (append-nil p))
-    (after_below p (entries space) (entries_sorted space))) (has_front p y)
-    ∙ find-after (p ++ y) p (entries space) (behind p y some)
+find_in : (p r y : List ℕ) (space : Space) → key_cmp (p ++ r) (p ++ y) ≡ Less →
+    find key_cmp (p ++ y) (ranged p (after (p ++ r) (entries space))) ≡ get space (p ++ y)
+find_in p r y space less =
+    find-ranged p r (p ++ y) (after (p ++ r) (entries space))
+    (after_sorted (p ++ r) (entries space) (entries_sorted space))
+    (after_below (p ++ r) (entries space) (entries_sorted space)) (has_front p y)
+    ∙ find-after (p ++ y) (p ++ r) (entries space) less
     ∙ sym (get-entries space (p ++ y))
+
+-- the keys of the rows from a number on come after that of the bound
+is_behind : (p : List ℕ) (first n : ℕ) → first ≤ n → n < 2 ^ 63 →
+    key_cmp (p ++ bound first) (p ++ number_bytes n) ≡ Less
+is_behind p first n from small = cancel p (bound first) (number_bytes n) ∙ by (first == 0) refl
+  where
+    by : (b : Bool) → (first == 0) ≡ b → key_cmp (cond b [] (number_bytes (first - 1))) (number_bytes n) ≡ Less
+    by true is = behind [] (number_bytes n) (omega (arith, length-number_bytes n))
+    by false is =
+        let some : 0 < first = grind (arith, nat_tests) in
+        numbers_ordered (first - 1) n (omega (arith, some, from)) (omega (arith, small))
+
+-- and no key of a row below that number does
+below_each : (k : List ℕ) (es : Entries) → T (below_all key_cmp k es) → AllAre (λ e. key_cmp k e.0 ≡ Less) es
+below_each k [] below = tt
+below_each k (e ∷ es) below = (less_of _ (front_of _ _ below), below_each k es (back_of _ _ below))
+
+rows_from : (p : List ℕ) (last n : ℕ) (rows : List (ℕ × LogRow)) → n ≤ last → last < 2 ^ 63 →
+    AllAre (λ r. r.0 < 2 ^ 63) rows →
+    AllAre (λ e. key_cmp (p ++ number_bytes last) e.0 ≡ Less) (spelled_rows p number_bytes log_row_bytes rows) →
+    AllByRecursion (λ y. n < y) (ids rows)
+rows_from p last n [] le one small below = tt
+rows_from p last n (r ∷ rs) le one small below =
+    (omega (arith, le, less_number p last r.0 one small.0 below.0), rows_from p last n rs le one small.1 below.1)
 
 -- ---- the rows of an origin
 
@@ -184,21 +209,22 @@ there_all : (m : Store) (es : Entries) → AreFound es (entries (m 15)) → AllA
 there_all m [] found = tt
 there_all m (e ∷ es) found = (get-entries (m 15) e.0 ∙ found.0, there_all m es found.1)
 
-range_of : ℕ → Store → Entries
-range_of origin m = ranged (number_bytes origin) (after (number_bytes origin) (entries (m 15)))
+range_of : ℕ → ℕ → Store → Entries
+range_of origin first m =
+    ranged (number_bytes origin) (after (number_bytes origin ++ bound first) (entries (m 15)))
 
 -- all pairs in the range are rows of the origin
-read_log : (origin : ℕ) (items : List Logged) (m : Store) → IsId origin → HoldsLog items m →
-    AreRead origin items (range_of origin m)
+read_log : (origin first : ℕ) (items : List Logged) (m : Store) → IsId origin → HoldsLog items m →
+    AreRead origin items (range_of origin first m)
 unfolding range_of
-read_log origin items m id held =
+read_log origin first items m id held =
+    let front = number_bytes origin in
     let all = entries (m 15) in
     let found = all_found all (entries_sorted (m 15)) in
-    let behind = after (number_bytes origin) all in
+    let behind = after (front ++ bound first) all in
     let P : List ℕ × List ℕ → Type 0 = λ e. find key_cmp e.0 all ≡ Some e.1 in
-    read_all origin items m (range_of origin m) id held (have_ranged (number_bytes origin) behind)
-    (there_all m (range_of origin m)
-    (all_ranged P (number_bytes origin) behind (all_after P (number_bytes origin) all found)))
+    read_all origin items m (range_of origin first m) id held (have_ranged front behind)
+    (there_all m (range_of origin first m) (all_ranged P front behind (all_after P (front ++ bound first) all found)))
 
 small_of : (rows : List (ℕ × LogRow)) → AllAre CanBeLogged rows → AllAre (λ r. r.0 < 2 ^ 63) rows
 small_of [] can = tt
@@ -219,21 +245,19 @@ entry_stands origin items n (r ∷ rs) stand x is =
         ap (λ k. logged_at items (origin, k)) number ∙ stand.0 ∙ is
     step false other is later = later is
 
-entries_are : (origin : ℕ) (items : List Logged) (m : Store) → IsId origin → HoldsLog items m →
-    (read : AreRead origin items (range_of origin m)) → (n : ℕ) → n < 2 ^ 63 →
+entries_are : (origin first : ℕ) (items : List Logged) (m : Store) → IsId origin → HoldsLog items m →
+    (read : AreRead origin items (range_of origin first m)) → (n : ℕ) → first ≤ n → n < 2 ^ 63 →
     entry_at n read.rows ≡ logged_at items (origin, n)
 unfolding range_of
-entries_are origin items m id held read n small =
+entries_are origin first items m id held read n from small =
     by (entry_at n read.rows) refl (logged_at items (origin, n)) refl
   where
-    key : List ℕ
-    key = number_bytes origin ++ number_bytes n
-
     look : option_map log_row_bytes (entry_at n read.rows) ≡ option_map log_row_bytes (logged_at items (origin, n))
     look =
         sym (find_number log_row_bytes (number_bytes origin) n read.rows small (small_of read.rows read.can))
         ∙ ap (find key_cmp (number_bytes origin ++ number_bytes n)) (sym read.spelled)
-        ∙ find_in (number_bytes origin) (number_bytes n) (m 15) (omega (arith, length-number_bytes n))
+        ∙ find_in (number_bytes origin) (bound first) (number_bytes n) (m 15)
+        (is_behind (number_bytes origin) first n from small)
         ∙ held.lookups (origin, n) (id, small)
 
     by : (a : Option LogRow) → entry_at n read.rows ≡ a → (b : Option LogRow) → logged_at items (origin, n) ≡ b →
@@ -302,21 +326,61 @@ entry_passed p n (r ∷ rs) rising = step (p r.1) refl (n == r.0) refl (entry_pa
 
 -- ---- what is selected of a log
 
--- the rows of an origin in a store that holds a log, and those of them that pass
-pub record IsSelected (p : LogRow → Bool) (origin : ℕ) (items : List Logged) (m : Store) : Type 0 where
+-- what stands below the number in the log does not pass
+abbrev pub NonePass : (LogRow → Bool) → ℕ → ℕ → List Logged → Type 0
+NonePass p origin first items =
+    (n : ℕ) → n < first → (row : LogRow) → logged_at items (origin, n) ≡ Some row → p row ≡ false
+
+none_passes : (p : LogRow → Bool) (origin first : ℕ) (items : List Logged) → NonePass p origin first items → (n : ℕ) →
+    n < first → if_passes p (logged_at items (origin, n)) ≡ None
+none_passes p origin first items none n less = by (logged_at items (origin, n)) refl
+  where
+    by : (o : Option LogRow) → logged_at items (origin, n) ≡ o → if_passes p o ≡ None
+    by None is = refl
+    by (Some row) is = ap (λ b. cond b (Some row) None) (none n less row is)
+
+-- no row below the number is read
+none_read : (origin first : ℕ) (items : List Logged) (m : Store) → first < 2 ^ 63 →
+    (read : AreRead origin items (range_of origin first m)) → (n : ℕ) → n < first → entry_at n read.rows ≡ None
+unfolding range_of
+none_read origin first items m fits read n less = none_above n read.rows (by (first == 0) refl below)
+  where
+    front : List ℕ
+    front = number_bytes origin
+
+    below : AllAre (λ e. key_cmp (number_bytes origin ++ bound first) e.0 ≡ Less)
+        (spelled_rows (number_bytes origin) number_bytes log_row_bytes read.rows)
+    below =
+        subst (AllAre (λ e. key_cmp (number_bytes origin ++ bound first) e.0 ≡ Less)) read.spelled
+        (all_ranged (λ e. key_cmp (number_bytes origin ++ bound first) e.0 ≡ Less) (number_bytes origin) _
+        (below_each (number_bytes origin ++ bound first) _
+        (after_below (number_bytes origin ++ bound first) (entries (m 15)) (entries_sorted (m 15)))))
+
+    by : (b : Bool) → (first == 0) ≡ b →
+        AllAre (λ e. key_cmp (number_bytes origin ++ cond b [] (number_bytes (first - 1))) e.0 ≡ Less)
+        (spelled_rows (number_bytes origin) number_bytes log_row_bytes read.rows) →
+        AllByRecursion (λ y. n < y) (ids read.rows)
+    by true is all = absurd (grind (arith, nat_tests))
+    by false is all =
+        rows_from (number_bytes origin) (first - 1) n read.rows (omega (arith, less)) (omega (arith, fits))
+        (small_of read.rows read.can) all
+
+-- the rows of an origin from a number on in a store that holds a log, and those of them that pass
+pub record IsSelected (p : LogRow → Bool) (origin first : ℕ) (items : List Logged) (m : Store) : Type 0 where
   pub all : List (ℕ × LogRow)
-  pub are_of : AreOf origin m all
+  pub are_of : AreOf origin first m all
   pub are_passed : ArePassed p origin items (passed p all)
 
-pub selected : (p : LogRow → Bool) (origin : ℕ) (items : List Logged) (m : Store) → IsId origin → HoldsLog items m →
-    IsSelected p origin items m
+pub selected : (p : LogRow → Bool) (origin first : ℕ) (items : List Logged) (m : Store) → IsId origin → first < 2 ^ 63 →
+    HoldsLog items m → NonePass p origin first items → IsSelected p origin first items m
 unfolding range_of
-selected p origin items m id held =
-    let read = read_log origin items m id held in
+selected p origin first items m id fits held none =
+    let read = read_log origin first items m id held in
     let front = number_bytes origin in
+    let key = front ++ bound first in
     let small = small_of read.rows read.can in
     let sorted =
-    sorted_ranged front (after front (entries (m 15))) (after_sorted front (entries (m 15)) (entries_sorted (m 15))) in
+    sorted_ranged front (after key (entries (m 15))) (after_sorted key (entries (m 15)) (entries_sorted (m 15))) in
     let rising =
     rows_rise front read.rows small (subst (λ es. T (is_sorted key_cmp es)) read.spelled sorted) in
     record {
@@ -325,15 +389,44 @@ selected p origin items m id held =
       are_passed = record {
         rising = rise_passed p read.rows rising;
         small = small_passed p read.rows small;
-        rows_are = λ n fits. entry_passed p n read.rows rising
-            ∙ ap (if_passes p) (entries_are origin items m id held read n fits);
+        rows_are = λ n little. entry_passed p n read.rows rising ∙ by read n little (cases_lt n first);
       };
     }
+  where
+    by : (read : AreRead origin items (range_of origin first m)) → (n : ℕ) → n < 2 ^ 63 → (n < first) ⊎ (first ≤ n) →
+        if_passes p (entry_at n read.rows) ≡ if_passes p (logged_at items (origin, n))
+    by read n little (inl less) =
+        ap (if_passes p) (none_read origin first items m fits read n less)
+        ∙ sym (none_passes p origin first items none n less)
+    by read n little (inr from) = ap (if_passes p) (entries_are origin first items m id held read n from little)
 
--- the pairs behind the spelled origin
-pub of_key : {m : Store} {rows : List (ℕ × LogRow)} (origin : ℕ) (key : List ℕ) → key ≡ number_bytes origin →
-    AreOf origin m rows →
-    ranged key (after key (entries (m 15))) ≡ spelled_rows key number_bytes log_row_bytes rows
-of_key {m} {rows} origin key is are =
-    subst (λ k. ranged k (after k (entries (m 15))) ≡ spelled_rows k number_bytes log_row_bytes rows) (sym is)
-    are.spelled
+-- a row that the old snapshot sees is not between the two
+pub none_between : (tables : List ℕ) (old new : Snapshot) (origin first : ℕ) (items : List Logged) →
+    SeesBelow first old origin items → NonePass (is_between tables old new) origin first items
+none_between tables old new origin first items seen n less row is =
+    ap (λ b. member row.table tables && sees new row.xid && not b) (seen n less row is)
+    ∙ by (member row.table tables) (sees new row.xid)
+  where
+    by : (a b : Bool) → (a && b && not true) ≡ false
+    by true true = refl
+    by true false = refl
+    by false b = refl
+
+-- the pairs behind the spelled key
+pub of_key : {m : Store} {rows : List (ℕ × LogRow)} (origin first : ℕ) (prefix key : List ℕ) →
+    prefix ≡ number_bytes origin → key ≡ number_bytes origin ++ bound first → AreOf origin first m rows →
+    ranged prefix (after key (entries (m 15))) ≡ spelled_rows prefix number_bytes log_row_bytes rows
+of_key {m} {rows} origin first prefix key is at are =
+    subst (λ k. ranged k (after key (entries (m 15))) ≡ spelled_rows k number_bytes log_row_bytes rows) (sym is)
+    (subst (λ k. ranged (number_bytes origin) (after k (entries (m 15)))
+    ≡ spelled_rows (number_bytes origin) number_bytes log_row_bytes rows) (sym at) are.spelled)
+
+-- what passes can be logged too
+pub can_passed : (p : LogRow → Bool) (rows : List (ℕ × LogRow)) → AllAre (λ r. (r.0 < 2 ^ 63) × CanLogRow r.1) rows →
+    AllAre (λ r. CanLogRow r.1) (passed p rows)
+can_passed p [] can = tt
+can_passed p (r ∷ rs) can =
+    elim (p r.1) as (λ b. AllAre (λ (x : ℕ × LogRow). CanLogRow x.1) (cond b (r ∷ passed p rs) (passed p rs))) [
+      | true ↦ (can.0.1, can_passed p rs can.1)
+      | false ↦ can_passed p rs can.1
+    ]

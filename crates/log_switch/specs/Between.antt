@@ -1,5 +1,6 @@
 -- Which rows of a log one snapshot sees and another does not.
-use Rattle.std.specs.Prelude.{◌≡◌, ℕ, ◌<◌, ◌^◌, ◌&&◌, not, if◌then◌else◌, Bool, List, filter, Option, Some, None}
+use Rattle.std.specs.Prelude.{◌≡◌, ℕ, ◌<◌, ◌-◌, ◌^◌, ◌==◌, ◌&&◌, not, if◌then◌else◌, Bool, true, List, [], ◌++◌}
+use Rattle.std.specs.Prelude.{filter, Option, Some, None}
 use Rattle.std.specs.FinMap.{entries}
 use Rattle.slon_base.specs.Codec.{number_bytes, AllAre}
 use Rattle.slon_base.specs.Keeper.{Store, after}
@@ -34,8 +35,18 @@ pub record ArePassed (p : LogRow → Bool) (origin : ℕ) (items : List Logged) 
 abbrev pub CanBeLogged : ℕ × LogRow → Type 0
 CanBeLogged r = (r.0 < 2 ^ 63) × CanLogRow r.1
 
--- the pairs of a store's log that are those of the origin are these rows
-pub record AreOf (origin : ℕ) (m : Store) (rows : List (ℕ × LogRow)) : Type 0 where
+-- behind the spelled origin: what the keys of the rows from this number on come after
+abbrev pub bound : ℕ → List ℕ
+bound first = if first == 0 then [] else number_bytes (first - 1)
+
+-- the pairs of a store's log that are those of the origin, from this number on, are these rows
+pub record AreOf (origin first : ℕ) (m : Store) (rows : List (ℕ × LogRow)) : Type 0 where
   pub can : AllAre CanBeLogged rows
-  pub spelled : ranged (number_bytes origin) (after (number_bytes origin) (entries (m 15)))
+  pub spelled : ranged (number_bytes origin) (after (number_bytes origin ++ bound first) (entries (m 15)))
       ≡ spelled_rows (number_bytes origin) number_bytes log_row_bytes rows
+
+-- the snapshot sees the transactions of all rows of the origin below this number
+abbrev pub SeesBelow : ℕ → Snapshot → ℕ → List Logged → Type 0
+SeesBelow first seen origin items =
+    (number : ℕ) → number < first → (row : LogRow) → logged_at items (origin, number) ≡ Some row →
+    sees seen row.xid ≡ true

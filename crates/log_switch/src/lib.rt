@@ -7,5 +7,5 @@ mod selecting;
 mod switch;
 
 pub use appending::append;
-pub use selecting::between;
+pub use selecting::{between, between_from};
 pub use switch::status;

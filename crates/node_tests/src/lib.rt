@@ -2,6 +2,8 @@
 #![tactic(auto)]
 
 #[cfg(test)]
+mod acting;
+#[cfg(test)]
 mod applied;
 #[cfg(test)]
 mod codec;
@@ -23,3 +25,5 @@ mod snapshots;
 mod stored_nodes;
 #[cfg(test)]
 mod stored_rows;
+#[cfg(test)]
+mod viewed;

@@ -3,6 +3,7 @@ pub mod Emits
 pub mod Growing
 pub mod Hears
 pub mod Joins
+pub mod Leaves
 pub mod Laws
 pub mod Lists
 pub mod Outcomes

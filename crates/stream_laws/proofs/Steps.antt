@@ -215,7 +215,7 @@ acting_regular w v h t regular =
     (subst (λ u. GoOn (nodes_in w.places) (nodes_in u.places)) (sym t.is) (goes t.fate))
     (subst (λ u. AllWait (nodes_in w.places) u.memory.queues) (sym t.is) (waits t.fate))
   where
-    is : IsOutcome w (outcome t.act w)
+    is : IsOutcome w (outcome t.act w).commits (outcome t.act w).memory.queues
     is = act_outcome t.act w regular
 
     kept : AllWait (nodes_in w.places) (memory_after t.act w.memory).queues
@@ -224,12 +224,12 @@ acting_regular w v h t regular =
     goes : (fate : Fate) → GoOn (nodes_in w.places) (nodes_in (world_by t.act fate w).places)
     goes AllStand =
         felled_on (nodes_in w.places) (outcome t.act w).falls _
-        (all_stand (nodes_in w.places) (outcome t.act w).commits w.places is.commits)
+        (all_stand (nodes_in w.places) (outcome t.act w).commits w.places is.goes_on)
     goes (Breaks name count) =
         broken_on (nodes_in w.places) name count (find_named name w.places) _ refl
         (go_nowhere (nodes_in w.places) regular.nodes)
     goes (DoubtsAt before stands) =
-        wavers_on (nodes_in w.places) before (outcome t.act w).commits stands _ w.places is.commits refl
+        wavers_on (nodes_in w.places) before (outcome t.act w).commits stands _ w.places is.goes_on refl
 
     waits : (fate : Fate) → AllWait (nodes_in w.places) (world_by t.act fate w).memory.queues
     waits AllStand = felled_waits (nodes_in w.places) (outcome t.act w).falls _ is.waits

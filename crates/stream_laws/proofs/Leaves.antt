@@ -1,4 +1,4 @@
--- What holds of the commits of every statement and every turn holds of those of every command.
+-- What holds of every statement and every turn, of its commits and of what waits behind it, holds of every command.
 use Rattle.std.proofs.Common.{ℕ, Bool, true, false, cond, List, [], ◌∷◌, Option, Some, None, Result, Ok, Err, is_some}
 use Rattle.slonik_script.specs.declared.script.Command.{Command as Order}
 use Rattle.slonik_script.specs.declared.script.Command.TheVariants as order
@@ -11,10 +11,13 @@ use Rattle.slon_model.specs.declared.reply.Answer.TheVariants.{Echoed}
 use Rattle.slon_model.specs.declared.reply.Refusal.{Refusal}
 use Rattle.slon_model.specs.declared.reply.Refusal.TheVariants as refused
 use Rattle.slon_model.specs.declared.reply.Reply.TheVariants.{Refused}
-use Rattle.slon_model.specs.Names.{find_named}
+use Rattle.slon_model.specs.Names.{Named, find_named}
+use Rattle.slon_model.specs.Maps.{Map}
+use Rattle.slon_model.specs.Events.{Event}
 use Rattle.slon_model.specs.Tasks.{Act, ToRead, ToStep, ToForget, ToStart, ToStop, ToSync, ToListen}
 use Rattle.slon_model.specs.Place.{Place}
 use Rattle.slon_model.specs.Sessions.{World, Memory, Running, Commit, Stated, Outcome, first_beyond, no_change}
+use Rattle.slon_model.specs.Sessions.{forgotten}
 use Rattle.slon_model.specs.Scripts.{Stepping, done_by, single, order_step, statement_step, step_todo, step_of, read_as}
 use Rattle.slon_model.specs.Scripts.{ordered, kill_of, quiet}
 use Rattle.slon_model.specs.Turns.{at_node, switched_at, turned, turned_by, turn_by, sync_turn}
@@ -22,72 +25,82 @@ use Rattle.slon_model.specs.Polls.{Poll, polled, left_by, stated_by, listen_by}
 use Rattle.slon_model.specs.World.{outcome}
 use Rattle.stream_laws.proofs.Seats.{OnOk}
 
--- P holds of no commits, and of those of each statement and turn that is not refused.
-pub record Leaves (w : World) (P : List Commit → Type 0) : Type 0 where
-  pub nothing : P []
-  pub orders : (o : Order) (run : Running) → OnOk (λ stated. P stated.commits) (ordered o run w)
-  pub syncs : (node : ℕ) → OnOk (λ stated. P stated.commits) (sync_turn node w)
+-- the events that wait at nodes
+abbrev Queues : Type 0
+Queues = Named (Map (List Event))
+
+-- P holds where nothing is done, and where a slon is turned off; and of each statement and turn that is not refused.
+pub record Leaves (w : World) (P : List Commit → Queues → Type 0) : Type 0 where
+  pub nothing : P [] w.memory.queues
+  pub stops : (name : List ℕ) → P [] (forgotten name w.memory).queues
+  pub orders : (o : Order) (run : Running) → OnOk (λ stated. P stated.commits w.memory.queues) (ordered o run w)
+  pub syncs : (node : ℕ) → OnOk (λ stated. P stated.commits w.memory.queues) (sync_turn node w)
   pub polls : (node server : ℕ) (delivery : Delivery) →
-      OnOk (λ b. P (stated_by delivery b).commits) (polled node server w)
+      OnOk (λ b. P (stated_by delivery b).commits (left_by delivery b w.memory).queues) (polled node server w)
 
-abbrev Has : (List Commit → Type 0) → Outcome → Type 0
-Has P o = P o.commits
+abbrev Has : (List Commit → Queues → Type 0) → Outcome → Type 0
+Has P o = P o.commits o.memory.queues
 
-done_has : (w : World) (P : List Commit → Type 0) → P [] → (s : Stepping) (stated : Stated) (o : Option (List ℕ)) →
-    P stated.commits → Has P (done_by s w stated o)
+done_has : (w : World) (P : List Commit → Queues → Type 0) → P [] w.memory.queues →
+    (s : Stepping) (stated : Stated) (o : Option (List ℕ)) →
+    P stated.commits w.memory.queues → Has P (done_by s w stated o)
 done_has w P nothing s stated None is = is
 done_has w P nothing s stated (Some name) is = nothing
 
-single_has : (w : World) (P : List Commit → Type 0) → P [] → (s : Stepping) (r : Result Stated Refusal) →
-    OnOk (λ stated. P stated.commits) r → Has P (single s w r)
+single_has : (w : World) (P : List Commit → Queues → Type 0) → P [] w.memory.queues →
+    (s : Stepping) (r : Result Stated Refusal) →
+    OnOk (λ stated. P stated.commits w.memory.queues) r → Has P (single s w r)
 single_has w P nothing s (Err refusal) is = nothing
 single_has w P nothing s (Ok stated) is = done_has w P nothing s stated (first_beyond stated.commits w.places) is
 
-order_has : (w : World) (P : List Commit → Type 0) → Leaves w P → (s : Stepping) (o : Order) → Has P (order_step s w o)
+order_has : (w : World) (P : List Commit → Queues → Type 0) → Leaves w P → (s : Stepping) (o : Order) →
+    Has P (order_step s w o)
 order_has w P l s (order.Echo text) = single_has w P l.nothing s (Ok (quiet (Echoed text))) l.nothing
 order_has w P l s (order.Exit status) = l.nothing
 order_has w P l s others = single_has w P l.nothing s (ordered others s.run w) (l.orders others s.run)
 
-statement_has : (w : World) (P : List Commit → Type 0) → Leaves w P → (s : Stepping) (t : Statement) →
+statement_has : (w : World) (P : List Commit → Queues → Type 0) → Leaves w P → (s : Stepping) (t : Statement) →
     Has P (statement_step s w t)
 statement_has w P l s (Single o) = order_has w P l s o
 statement_has w P l s (Tries block) = l.nothing
 
-todo_has : (w : World) (P : List Commit → Type 0) → Leaves w P → (name : List ℕ) (run : Running)
+todo_has : (w : World) (P : List Commit → Queues → Type 0) → Leaves w P → (name : List ℕ) (run : Running)
     (todo : List Statement) → Has P (step_todo name run todo w)
 todo_has w P l name run [] = l.nothing
 todo_has w P l name run (t ∷ rest) = statement_has w P l (record { name = name; run = run; rest = rest }) t
 
-step_of_has : (w : World) (P : List Commit → Type 0) → Leaves w P → (name : List ℕ) (o : Option Running) →
+step_of_has : (w : World) (P : List Commit → Queues → Type 0) → Leaves w P → (name : List ℕ) (o : Option Running) →
     Has P (step_of name o w)
 step_of_has w P l name None = l.nothing
 step_of_has w P l name (Some run) = todo_has w P l name run run.todo
 
-turned_has : (w : World) (P : List Commit → Type 0) → P [] → (m : Memory) (stated : Stated) → P stated.commits →
-    Has P (turned w m stated)
+turned_has : (w : World) (P : List Commit → Queues → Type 0) → P [] w.memory.queues → (m : Memory) (stated : Stated) →
+    P stated.commits m.queues → Has P (turned w m stated)
 turned_has w P nothing m stated is = by (first_beyond stated.commits w.places)
   where
     by : (o : Option (List ℕ)) → Has P (turned_by w m stated o)
     by None = is
     by (Some name) = nothing
 
-turn_has : (w : World) (P : List Commit → Type 0) → P [] → (r : Result Stated Refusal) →
-    OnOk (λ stated. P stated.commits) r → Has P (turn_by w w.memory r)
+turn_has : (w : World) (P : List Commit → Queues → Type 0) → P [] w.memory.queues → (r : Result Stated Refusal) →
+    OnOk (λ stated. P stated.commits w.memory.queues) r → Has P (turn_by w w.memory r)
 turn_has w P nothing (Err refusal) is = nothing
 turn_has w P nothing (Ok stated) is = turned_has w P nothing w.memory stated is
 
-listen_has : (w : World) (P : List Commit → Type 0) → P [] → (delivery : Delivery) (r : Result Poll Refusal) →
-    OnOk (λ b. P (stated_by delivery b).commits) r → Has P (listen_by delivery w r)
+listen_has : (w : World) (P : List Commit → Queues → Type 0) → P [] w.memory.queues →
+    (delivery : Delivery) (r : Result Poll Refusal) →
+    OnOk (λ b. P (stated_by delivery b).commits (left_by delivery b w.memory).queues) r → Has P (listen_by delivery w r)
 listen_has w P nothing delivery (Err refusal) is = nothing
 listen_has w P nothing delivery (Ok b) is =
     turned_has w P nothing (left_by delivery b w.memory) (stated_by delivery b) is
 
-switched_has : (w : World) (P : List Commit → Type 0) → P [] → (node : ℕ) (m : List ℕ → Memory)
-    (o : Option (List ℕ × Place)) → P (switched_at node m o w).commits
-switched_has w P nothing node m None = nothing
-switched_has w P nothing node m (Some e) = nothing
+switched_has : (w : World) (P : List Commit → Queues → Type 0) → P [] w.memory.queues → (node : ℕ)
+    (m : List ℕ → Memory) → ((name : List ℕ) → P [] (m name).queues) → (o : Option (List ℕ × Place)) →
+    Has P (switched_at node m o w)
+switched_has w P nothing node m after None = nothing
+switched_has w P nothing node m after (Some e) = after e.0
 
-pub outcome_has : (w : World) (P : List Commit → Type 0) → Leaves w P → (act : Act) → P (outcome act w).commits
+pub outcome_has : (w : World) (P : List Commit → Queues → Type 0) → Leaves w P → (act : Act) → Has P (outcome act w)
 outcome_has w P l (ToRead name reading) = by (is_some (find_named name w.memory.scripts))
   where
     read : (r : Reading) → Has P (read_as name r w)
@@ -103,8 +116,8 @@ outcome_has w P l (ToForget name) = by (find_named name w.memory.scripts)
     by : (o : Option Running) → Has P (kill_of name o w)
     by None = l.nothing
     by (Some run) = l.nothing
-outcome_has w P l (ToStart node) = switched_has w P l.nothing node _ (at_node node w)
-outcome_has w P l (ToStop node) = switched_has w P l.nothing node _ (at_node node w)
+outcome_has w P l (ToStart node) = switched_has w P l.nothing node _ (λ name. l.nothing) (at_node node w)
+outcome_has w P l (ToStop node) = switched_has w P l.nothing node _ l.stops (at_node node w)
 outcome_has w P l (ToSync node) = turn_has w P l.nothing (sync_turn node w) (l.syncs node)
 outcome_has w P l (ToListen node server delivery) =
     listen_has w P l.nothing delivery (polled node server w) (l.polls node server delivery)

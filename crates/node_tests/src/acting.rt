@@ -1,0 +1,159 @@
+// Rows of a log, applied to the rows of the tables of a store.
+ghost use Rattle.std.specs.Prelude.{◌≡◌, ◌<◌, ◌^◌, is_some, false, IfOk, OnOk};
+ghost use Rattle.change_capture.specs.Spellings.{CanLogRow};
+
+use change_apply::apply_rows;
+use change_capture::LogRow;
+use log_switch::{append, between_from};
+use node_keeper::{Fuse, Keeper, MemKeeper};
+use slon_base::{Text, TextList};
+use std::alloc::Global;
+use std::test::Fail;
+use store_rows::{Stop, read_alone, scan_rows};
+use test_words::{expect, require};
+use txn_core::Snapshot;
+
+/// The space of the rows of tables.
+const ROWS: u8 = 3;
+
+/// The space of the first log.
+const LOG: u8 = 15;
+
+/// Rows of the log of transaction 7 on table 2, which is `public.t`, each with its number, and what the table holds
+/// after it.
+const LOGGED: &[(u32, &[u8], &str)] = &[
+    (
+        1,
+        b"\0\0\0\0\0\0\0\x07\0\0\0\0\0\0\0\x02\0\0\0\x06public\0\0\0\x01tI\0\0\0\0\0\0\0\0\
+          \0\0\0\x04\0\0\0\x011\0\0\0\x01p\0\0\0\x012\0\0\0\x015",
+        "p=5 ",
+    ),
+    (
+        2,
+        b"\0\0\0\0\0\0\0\x07\0\0\0\0\0\0\0\x02\0\0\0\x06public\0\0\0\x01tI\0\0\0\0\0\0\0\0\
+          \0\0\0\x04\0\0\0\x011\0\0\0\x01q\0\0\0\x012\0\0\0\x016",
+        "p=5 q=6 ",
+    ),
+    (
+        3,
+        b"\0\0\0\0\0\0\0\x07\0\0\0\0\0\0\0\x02\0\0\0\x06public\0\0\0\x01tU\0\0\0\0\0\0\0\x01\
+          \0\0\0\x04\0\0\0\x012\0\0\0\x017\0\0\0\x011\0\0\0\x01p",
+        "p=7 q=6 ",
+    ),
+    (
+        4,
+        b"\0\0\0\0\0\0\0\x07\0\0\0\0\0\0\0\x02\0\0\0\x06public\0\0\0\x01tU\0\0\0\0\0\0\0\x01\
+          \0\0\0\x04\0\0\0\x012\0\0\0\x018\0\0\0\x011\0\0\0\x01r",
+        "p=7 q=6 ",
+    ),
+    (
+        5,
+        b"\0\0\0\0\0\0\0\x07\0\0\0\0\0\0\0\x02\0\0\0\x06public\0\0\0\x01tD\0\0\0\0\0\0\0\0\
+          \0\0\0\x02\0\0\0\x011\0\0\0\x01q",
+        "p=7 ",
+    ),
+];
+
+/// A row of the log that is that of no action: its command deletes, and it names no key.
+const OF_NO_ACTION: &[u8] =
+    b"\0\0\0\0\0\0\0\x07\0\0\0\0\0\0\0\x02\0\0\0\x06public\0\0\0\x01tD\0\0\0\0\0\0\0\0\0\0\0\0";
+
+/// The row of the log that these bytes are.
+fn row_of(alloc: Global, bytes: &[u8]) -> Result<LogRow, Stop>
+    ensures { IfOk result CanLogRow }
+{
+    read_alone(alloc, LOG, bytes)
+}
+
+/// The store logs a row of node 1.
+fn log_row<K: Keeper>(alloc: Global, keeper: &mut K, number: u64, bytes: &[u8]) -> Result<(), Fail>
+    requires idle { is_some (K.kept keeper.old).pending ≡ false }
+    requires small { number < 2 ^ 63 }
+    ensures { OnOk result (is_some (K.kept keeper.new).pending ≡ false) }
+{
+    let rows = [(number, row_of(alloc, bytes)?)];
+    keeper.begin()?;
+    append(alloc, keeper, 1, &rows)?;
+    keeper.commit()?;
+    Ok(())
+}
+
+/// The key and the value of each row of the tables of the store.
+fn tell_rows<K: Keeper>(alloc: Global, keeper: &mut K) -> Result<String, Fail>
+    ensures { OnOk result ((K.kept keeper.new).pending ≡ (K.kept keeper.old).pending) }
+{
+    let mut line = String::new(alloc);
+    for (key, row) in scan_rows::<K, (Text, Text), TextList>(
+        alloc,
+        keeper,
+        ROWS,
+        &[],
+        &[],
+    )?.as_slice()
+    {
+        for value in row.as_slice() {
+            write!(line, "{}={} ", key.1.as_str(), value.as_str())?;
+        }
+    }
+    Ok(line)
+}
+
+/// Applies what the store logged from this number on.
+fn apply_from<K: Keeper>(alloc: Global, keeper: &mut K, first: u64) -> Result<(), Fail>
+    requires idle { is_some (K.kept keeper.old).pending ≡ false }
+    requires small { first < 2 ^ 63 }
+    ensures { OnOk result (is_some (K.kept keeper.new).pending ≡ false) }
+{
+    let old = Snapshot::parse(alloc, b"7:7:")?;
+    let new = Snapshot::parse(alloc, b"8:8:")?;
+    keeper.begin()?;
+    let rows = between_from(alloc, keeper, 1, first, &[2], &old, &new)?;
+    apply_rows(alloc, keeper, rows.as_slice())?;
+    keeper.commit()?;
+    Ok(())
+}
+
+/// The store logs a row, applies it, and holds the wanted rows.
+fn expect_applied<K: Keeper>(
+    alloc: Global,
+    keeper: &mut K,
+    logged: &(u32, &[u8], &str),
+) -> Result<(), Fail>
+    requires { is_some (K.kept keeper.old).pending ≡ false }
+    ensures { OnOk result (is_some (K.kept keeper.new).pending ≡ false) }
+{
+    let (number, bytes, wanted) = logged;
+    let number = u64::from(*number);
+    log_row(alloc, keeper, number, bytes)?;
+    apply_from(alloc, keeper, number)?;
+    expect("the rows", tell_rows(alloc, keeper)?.as_str(), wanted)
+}
+
+#[test]
+fn logged_rows_change_tables(rt: HostRuntime) -> Result<(), Fail> {
+    let alloc = rt.alloc();
+    let mut keeper = Fuse::new(MemKeeper::new(alloc, Vec::new(alloc), false)?);
+    expect_applied(alloc, &mut keeper, &LOGGED[0])?;
+    expect_applied(alloc, &mut keeper, &LOGGED[1])?;
+    expect_applied(alloc, &mut keeper, &LOGGED[2])?;
+    expect_applied(alloc, &mut keeper, &LOGGED[3])?;
+    expect_applied(alloc, &mut keeper, &LOGGED[4])?;
+    apply_from(alloc, &mut keeper, 1)?;
+    expect("all again", tell_rows(alloc, &mut keeper)?.as_str(), "p=7 ")
+}
+
+#[test]
+fn a_row_of_no_action_stops_it(rt: HostRuntime) -> Result<(), Fail> {
+    let alloc = rt.alloc();
+    let mut keeper = Fuse::new(MemKeeper::new(alloc, Vec::new(alloc), false)?);
+    let rows = [(1, row_of(alloc, OF_NO_ACTION)?)];
+    keeper.begin()?;
+    let stop = match apply_rows(alloc, &mut keeper, &rows) {
+        Ok(()) => None,
+        Err(stop) => Some(stop),
+    };
+    require(
+        matches!(stop, Some(Stop::BadRow { space: LOG })),
+        "the row is refused",
+    )
+}
