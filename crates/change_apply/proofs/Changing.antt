@@ -16,7 +16,7 @@ use Rattle.slon_model.specs.Rows.{Row, Rows, Change, Put, Set, Remove, column_va
 use Rattle.slon_model.specs.Rows.{change_key}
 use Rattle.slon_laws.specs.Keys.{change_at}
 use Rattle.slon_laws.proofs.Keys.{get-step}
-use Rattle.change_apply.specs.Applied.{row_key, HoldsRows, CanApply, with_row, changed_in, IsChanged}
+use Rattle.change_apply.specs.Applied.{row_key, IsKey, HoldsRows, CanApply, with_row, changed_in, IsChanged}
 
 -- ---- words
 
@@ -58,9 +58,9 @@ texts_after (Remove key) old can texts = tt
 -- ---- rows
 
 -- a key is spelled by one table and one key
-key_unique : (a b : List ℕ × List ℕ) → IsText a.0 → IsText b.0 → row_key a ≡ row_key b → a ≡ b
+key_unique : (a b : List ℕ × List ℕ) → IsKey a → IsKey b → row_key a ≡ row_key b → a ≡ b
 key_unique a b one two is =
-    let parts = text_front a.0 b.0 (text_bytes a.1) (text_bytes b.1) one.short two.short is in
+    let parts = text_front a.0 b.0 (text_bytes a.1) (text_bytes b.1) one.0.short two.0.short is in
     let back = text_bytes-same a.1 b.1 parts.1 in
     λ k. (parts.0 k, back k)
 
@@ -68,7 +68,7 @@ itself : (a : List ℕ) → bytes_eq a a ≡ true
 itself a = (bytes_eq-Decides a a).1 refl
 
 -- the row that a change is on becomes what it makes of it, and no other one changes
-alters : (table : List ℕ) (change : Change) (tables : List ℕ → Rows) → Alters {I = List ℕ × List ℕ} (λ i. IsText i.0)
+alters : (table : List ℕ) (change : Change) (tables : List ℕ → Rows) → Alters {I = List ℕ × List ℕ} IsKey
     (table, change_key change) (change_at change (get (tables table) (change_key change)))
     (λ i. get (tables i.0) i.1) (λ i. get (changed_in table change tables i.0) i.1)
 alters table change tables = record {
@@ -96,16 +96,22 @@ with_row_is : (key : List ℕ) (now : Option Row) (m : Store) →
 with_row_is key None m = refl
 with_row_is key (Some row) m = refl
 
+pub key_text : (change : Change) → CanApply change → IsText (change_key change)
+key_text (Put key row) can = can.0
+key_text (Set key columns) can = can.0
+key_text (Remove key) can = can
+
 -- the row that the change makes is put in the place of the one that is there
 pub holds_put : (table : List ℕ) (change : Change) (tables : List ℕ → Rows) (m : Store) → IsText table →
     CanApply change → HoldsRows tables m → HoldsRows (changed_in table change tables)
     (with_row (row_key (table, change_key change)) (change_at change (get (tables table) (change_key change))) m)
 holds_put table change tables m text can held =
     let old = get (tables table) (change_key change) in
-    let texts = texts_after change old can (held.spelled (table, change_key change) text) in
+    let one : IsKey (table, change_key change) = (text, key_text change can) in
+    let texts = texts_after change old can (held.spelled (table, change_key change) one) in
     subst (λ s. HoldsRows (changed_in table change tables) (λ space. s))
     (sym (with_row_is (row_key (table, change_key change)) (change_at change old) m))
-    (altered (record { unique = key_unique; one = text; can = texts; alters = alters table change tables }) held)
+    (altered (record { unique = key_unique; one = one; can = texts; alters = alters table change tables }) held)
 
 -- where no row has the key, there is none to be changed
 pub holds_none : (table key : List ℕ) (columns : List (ℕ × List ℕ)) (tables : List ℕ → Rows) (m : Store) →
@@ -215,3 +221,8 @@ pub set_texts : {key : List ℕ} {columns : List (ℕ × List ℕ)} {change : Ch
 set_texts {key} {columns} {change} {old} {row} {new} is can found texts made =
     let words : IsText key × AllAre (λ c. IsText c.1) columns = subst CanApply is can in
     subst AreTexts (sym made) (updated_texts columns row words.1 (subst (AllOf AreTexts) found texts))
+
+-- the key of a row whose columns get new values
+pub set_key : {table key : List ℕ} {columns : List (ℕ × List ℕ)} {change : Change} → change ≡ Set key columns →
+    IsText table → CanApply change → IsKey (table, key)
+set_key is text can = (text, (subst CanApply is can).0)

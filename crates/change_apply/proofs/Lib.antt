@@ -1,2 +1,4 @@
 pub mod Changing
 pub mod Logged
+pub mod Replacing
+pub mod Tables

@@ -21,9 +21,12 @@ use Rattle.change_capture.specs.Reading.{IsLogOf}
 abbrev pub row_key : List ℕ × List ℕ → List ℕ
 row_key i = text_bytes i.0 ++ text_bytes i.1
 
--- The space of the rows has the rows of each table, whose values are texts.
+abbrev pub IsKey : List ℕ × List ℕ → Type 0
+IsKey i = IsText i.0 × IsText i.1
+
+-- The space of the rows has the rows of each table, whose keys and values are texts.
 abbrev pub HoldsRows : (List ℕ → Rows) → Store → Type 0
-HoldsRows tables m = IsSpace row_key (λ i. IsText i.0) list_bytes AreTexts (λ i. get (tables i.0) i.1) (m 3)
+HoldsRows tables m = IsSpace row_key IsKey list_bytes AreTexts (λ i. get (tables i.0) i.1) (m 3)
 
 -- all other spaces are the same
 abbrev pub OthersStay : Store → Store → Type 0

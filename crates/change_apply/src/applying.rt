@@ -10,13 +10,47 @@ ghost use Rattle.change_capture.specs.Actions.{change_of};
 ghost use Rattle.change_capture.specs.Reading.{IsLogOf};
 ghost use Rattle.change_capture.specs.Spellings.{CanLogRow};
 ghost use Rattle.change_apply.specs.Applied.{CanApply, IsChanged, HoldsRows, IsActed, AreActed};
-ghost use Rattle.change_apply.specs.Applied.{acted, acted_all, AreLogOf, IsOfEither};
+ghost use Rattle.change_apply.specs.Applied.{changed_in, acted, acted_all, AreLogOf, IsOfEither};
 
 use crate::layout::{LOG, ROWS};
 use change_capture::{Action, Change, LogRow, action_of, updated_values};
 use slon_base::{Keeper, Text, TextList};
 use std::alloc::Global;
 use store_rows::{Stop, del_row, get_row, put_row, row_stop};
+
+/// Does what a change does to the rows of a table.
+pub(crate) fn apply_change<K: Keeper>(
+    alloc: Global,
+    keeper: &mut K,
+    table: Text,
+    change: Change,
+) -> Result<(), Stop>
+    requires opened { is_some (K.kept keeper.old).pending ≡ true }
+    requires table { IsText table }
+    requires words { CanApply (change_of change) }
+    ensures safe { Safe (K.kept keeper.old) (K.kept keeper.new) result }
+    ensures within { IfErr result IsWithinLimit }
+    ensures space { IfErr result (IsOfSpace 3) }
+    ensures changed { (m : Store) → (K.kept keeper.old).pending ≡ Some (Some m) →
+        IfOk result (λ u. IsPending (IsChanged table (change_of change) m) (K.kept keeper.new)) }
+    ensures applies { (tables : List ℕ → Rows) → IsPending (HoldsRows tables) (K.kept keeper.old) →
+        Becomes (HoldsRows (changed_in table (change_of change) tables)) (K.kept keeper.new) result }
+{
+    match change {
+        Change::Put { key, values } => put_row(alloc, keeper, ROWS, &(table, key), &values),
+        Change::Set { key, columns } => {
+            let key = (table, key);
+            match get_row::<K, (Text, Text), TextList>(alloc, keeper, ROWS, &key)? {
+                None => Ok(()),
+                Some(row) => {
+                    let row = updated_values(alloc, row.as_slice(), columns.as_slice())?;
+                    put_row(alloc, keeper, ROWS, &key, &row)
+                }
+            }
+        }
+        Change::Remove { key } => del_row(alloc, keeper, ROWS, &(table, key)),
+    }
+}
 
 /// Does, in the transaction that is pending, what a write does to the rows of its table. A row that is put takes the
 /// place of the one with its key; where no row has the key, there is none to change or to take away.
@@ -39,20 +73,7 @@ pub fn apply_action<K: Keeper>(alloc: Global, keeper: &mut K, action: Action) ->
         Becomes (HoldsRows (acted action tables)) (K.kept keeper.new) result }
 {
     let Action { table, change, .. } = action;
-    match change {
-        Change::Put { key, values } => put_row(alloc, keeper, ROWS, &(table, key), &values),
-        Change::Set { key, columns } => {
-            let key = (table, key);
-            match get_row::<K, (Text, Text), TextList>(alloc, keeper, ROWS, &key)? {
-                None => Ok(()),
-                Some(row) => {
-                    let row = updated_values(alloc, row.as_slice(), columns.as_slice())?;
-                    put_row(alloc, keeper, ROWS, &key, &row)
-                }
-            }
-        }
-        Change::Remove { key } => del_row(alloc, keeper, ROWS, &(table, key)),
-    }
+    apply_change(alloc, keeper, table, change)
 }
 
 /// Does what the row of a log with this number does to the row of its table.

@@ -1,3 +1,4 @@
 pub mod Logging
 pub mod Numbered
+pub mod Ranges
 pub mod Ranging

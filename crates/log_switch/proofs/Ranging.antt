@@ -30,46 +30,8 @@ use Rattle.slon_model.specs.Rows.{member}
 use Rattle.slon_model.specs.Snapshots.{Snapshot, Rising, sees}
 use Rattle.log_switch.specs.Between.{is_between, bound, passed, if_passes, ArePassed, CanBeLogged, AreOf, SeesBelow}
 use Rattle.log_switch.proofs.Numbered.{cancel, find_number}
+use Rattle.log_switch.proofs.Ranges.{all_ranged, below_each, find_in, all_there}
 use Rattle.log_switch.specs.Holds.{Logged, IsNumbered, log_key, logged_at, HoldsLog}
-
--- ---- the pairs of a space are found at their keys
-
-abbrev AreFound : Entries → Entries → Type 0
-AreFound es all = AllAre (λ e. find key_cmp e.0 all ≡ Some e.1) es
-
-past_key : (e : List ℕ × List ℕ) (es fs : Entries) → T (below_all key_cmp e.0 fs) → AreFound fs es →
-    AreFound fs (e ∷ es)
-past_key e es [] below found = tt
-past_key e es (f ∷ fs) below found =
-    let less = less_of (key_cmp e.0 f.0) (front_of _ _ below) in
-    let greater : key_cmp f.0 e.0 ≡ Greater =
-    nat_list_cmp_total.antisymm f.0 e.0 ∙ ap ordering_reverse less in (
-      ap (λ o. cond (is_eq o) (Some e.1) (find key_cmp f.0 es)) greater ∙ found.0,
-      past_key e es fs (back_of _ _ below) found.1,
-    )
-
-all_found : (es : Entries) → T (is_sorted key_cmp es) → AreFound es es
-all_found [] sorted = tt
-all_found (e ∷ es) sorted = (
-  ap (λ b. cond b (Some e.1) (find key_cmp e.0 es)) (tied e.0),
-  past_key e es es (front_of _ _ sorted) (all_found es (back_of _ _ sorted)),
-)
-
-all_after : (P : List ℕ × List ℕ → Type 0) (at : List ℕ) (es : Entries) → AllAre P es → AllAre P (after at es)
-all_after P at [] all = tt
-all_after P at (e ∷ es) all = elim (is_lt (key_cmp at e.0)) as (λ b. AllAre P (cond b (e ∷ es) (after at es))) [
-  | true ↦ all
-  | false ↦ all_after P at es all.1
-]
-
-all_ranged : (P : List ℕ × List ℕ → Type 0) (prefix : List ℕ) (es : Entries) → AllAre P es →
-    AllAre P (ranged prefix es)
-all_ranged P prefix [] all = tt
-all_ranged P prefix (e ∷ es) all =
-    elim (starts_with nat_eq e.0 prefix) as (λ b. AllAre P (cond b (e ∷ ranged prefix es) [])) [
-      | true ↦ (all.0, all_ranged P prefix es all.1)
-      | false ↦ tt
-    ]
 
 -- ---- keys with one front
 
@@ -115,19 +77,6 @@ rows_rise p (r ∷ rs) small sorted = (
   rows_rise p rs small.1 (back_of _ _ sorted),
 )
 
--- a look for a key with the front in the range is one in the space
-has_front : (p y : List ℕ) → starts_with nat_eq (p ++ y) p ≡ true
-has_front p y = (bytes_eq-Decides p _).1 (sym (take_at p y (length p) refl))
-
-find_in : (p r y : List ℕ) (space : Space) → key_cmp (p ++ r) (p ++ y) ≡ Less →
-    find key_cmp (p ++ y) (ranged p (after (p ++ r) (entries space))) ≡ get space (p ++ y)
-find_in p r y space less =
-    find-ranged p r (p ++ y) (after (p ++ r) (entries space))
-    (after_sorted (p ++ r) (entries space) (entries_sorted space))
-    (after_below (p ++ r) (entries space) (entries_sorted space)) (has_front p y)
-    ∙ find-after (p ++ y) (p ++ r) (entries space) less
-    ∙ sym (get-entries space (p ++ y))
-
 -- the keys of the rows from a number on come after that of the bound
 is_behind : (p : List ℕ) (first n : ℕ) → first ≤ n → n < 2 ^ 63 →
     key_cmp (p ++ bound first) (p ++ number_bytes n) ≡ Less
@@ -140,10 +89,6 @@ is_behind p first n from small = cancel p (bound first) (number_bytes n) ∙ by 
         numbers_ordered (first - 1) n (omega (arith, some, from)) (omega (arith, small))
 
 -- and no key of a row below that number does
-below_each : (k : List ℕ) (es : Entries) → T (below_all key_cmp k es) → AllAre (λ e. key_cmp k e.0 ≡ Less) es
-below_each k [] below = tt
-below_each k (e ∷ es) below = (less_of _ (front_of _ _ below), below_each k es (back_of _ _ below))
-
 rows_from : (p : List ℕ) (last n : ℕ) (rows : List (ℕ × LogRow)) → n ≤ last → last < 2 ^ 63 →
     AllAre (λ r. r.0 < 2 ^ 63) rows →
     AllAre (λ e. key_cmp (p ++ number_bytes last) e.0 ≡ Less) (spelled_rows p number_bytes log_row_bytes rows) →
@@ -205,10 +150,6 @@ read_all origin items m (e ∷ es) id held have there =
       spelled = λ k. one.spelled k ∷ rest.spelled k;
     }
 
-there_all : (m : Store) (es : Entries) → AreFound es (entries (m 15)) → AllAre (λ e. get (m 15) e.0 ≡ Some e.1) es
-there_all m [] found = tt
-there_all m (e ∷ es) found = (get-entries (m 15) e.0 ∙ found.0, there_all m es found.1)
-
 range_of : ℕ → ℕ → Store → Entries
 range_of origin first m =
     ranged (number_bytes origin) (after (number_bytes origin ++ bound first) (entries (m 15)))
@@ -219,12 +160,9 @@ read_log : (origin first : ℕ) (items : List Logged) (m : Store) → IsId origi
 unfolding range_of
 read_log origin first items m id held =
     let front = number_bytes origin in
-    let all = entries (m 15) in
-    let found = all_found all (entries_sorted (m 15)) in
-    let behind = after (front ++ bound first) all in
-    let P : List ℕ × List ℕ → Type 0 = λ e. find key_cmp e.0 all ≡ Some e.1 in
-    read_all origin items m (range_of origin first m) id held (have_ranged front behind)
-    (there_all m (range_of origin first m) (all_ranged P front behind (all_after P (front ++ bound first) all found)))
+    let key = front ++ bound first in
+    read_all origin items m (range_of origin first m) id held (have_ranged front (after key (entries (m 15))))
+    (all_there front key (m 15))
 
 small_of : (rows : List (ℕ × LogRow)) → AllAre CanBeLogged rows → AllAre (λ r. r.0 < 2 ^ 63) rows
 small_of [] can = tt

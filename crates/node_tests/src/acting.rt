@@ -1,8 +1,8 @@
-// Rows of a log, applied to the rows of the tables of a store.
+// Rows of a log, applied to the rows of the tables of a store, and tables that are copied.
 ghost use Rattle.std.specs.Prelude.{◌≡◌, ◌<◌, ◌^◌, is_some, false, IfOk, OnOk};
 ghost use Rattle.change_capture.specs.Spellings.{CanLogRow};
 
-use change_apply::apply_rows;
+use change_apply::{apply_rows, replace_table, table_rows};
 use change_capture::LogRow;
 use log_switch::{append, between_from};
 use node_keeper::{Fuse, Keeper, MemKeeper};
@@ -140,6 +140,43 @@ fn logged_rows_change_tables(rt: HostRuntime) -> Result<(), Fail> {
     expect_applied(alloc, &mut keeper, &LOGGED[4])?;
     apply_from(alloc, &mut keeper, 1)?;
     expect("all again", tell_rows(alloc, &mut keeper)?.as_str(), "p=7 ")
+}
+
+/// The table is copied from one store to the other, in the place of what the other one has of it.
+fn copy_table<F: Keeper, T: Keeper>(alloc: Global, from: &mut F, to: &mut T) -> Result<(), Fail>
+    requires { is_some (T.kept to.old).pending ≡ false }
+    ensures same { OnOk result ((F.kept from.new).pending ≡ (F.kept from.old).pending) }
+    ensures idle { OnOk result (is_some (T.kept to.new).pending ≡ false) }
+{
+    let table = Text::from_str(alloc, "public.t")?;
+    let rows = table_rows(alloc, from, &table)?;
+    to.begin()?;
+    replace_table(alloc, to, &table, rows)?;
+    to.commit()?;
+    Ok(())
+}
+
+#[test]
+fn tables_are_copied(rt: HostRuntime) -> Result<(), Fail> {
+    let alloc = rt.alloc();
+    let mut first = Fuse::new(MemKeeper::new(alloc, Vec::new(alloc), false)?);
+    let mut second = Fuse::new(MemKeeper::new(alloc, Vec::new(alloc), false)?);
+    expect_applied(alloc, &mut first, &LOGGED[0])?;
+    expect_applied(alloc, &mut first, &LOGGED[1])?;
+    copy_table(alloc, &mut first, &mut second)?;
+    expect(
+        "a copy",
+        tell_rows(alloc, &mut second)?.as_str(),
+        "p=5 q=6 ",
+    )?;
+    expect_applied(alloc, &mut first, &LOGGED[2])?;
+    expect_applied(alloc, &mut first, &LOGGED[4])?;
+    copy_table(alloc, &mut first, &mut second)?;
+    expect(
+        "a further copy",
+        tell_rows(alloc, &mut second)?.as_str(),
+        "p=7 ",
+    )
 }
 
 #[test]

@@ -1,0 +1,50 @@
+-- The rows of one table as a list, and a table whose rows are replaced.
+use Rattle.std.specs.Prelude.{◌≡◌, ℕ, if◌then◌else◌, List, [], ◌∷◌, map, Option, Some, None}
+use Rattle.std.specs.Str.{bytes_eq}
+use Rattle.std.specs.FinMap.{get, entries}
+use Rattle.slon_base.specs.Codec.{text_bytes, list_bytes, IsText, AreTexts, AllAre}
+use Rattle.slon_base.specs.Keeper.{Store, after}
+use Rattle.store_rows.specs.Scan.{ranged, spelled_rows}
+use Rattle.slon_model.specs.Rows.{Row, Rows, Change, Put, Remove}
+use Rattle.change_apply.specs.Applied.{changed_in}
+
+-- the row with this key
+abbrev pub row_in : List (List ℕ × Row) → List ℕ → Option Row
+row_in [] key = None
+row_in (r ∷ rows) key = if bytes_eq key r.0 then Some r.1 else row_in rows key
+
+-- no two rows have one key
+abbrev pub AreApart : List (List ℕ × Row) → Type 0
+AreApart [] = Unit {0}
+AreApart (r ∷ rows) = (row_in rows r.0 ≡ None) × AreApart rows
+
+-- each row of the table, once
+pub record AreRowsOf (table : Rows) (rows : List (List ℕ × Row)) : Type 0 where
+  pub apart : AreApart rows
+  pub lookups : (key : List ℕ) → IsText key → row_in rows key ≡ get table key
+
+abbrev pub CanCopy : List (List ℕ × Row) → Type 0
+CanCopy = AllAre (λ r. IsText r.0 × AreTexts r.1)
+
+-- the pairs of the table in a store are these rows
+pub record AreFound (table : List ℕ) (m : Store) (rows : List (List ℕ × Row)) : Type 0 where
+  pub can : CanCopy rows
+  pub spelled : ranged (text_bytes table) (after (text_bytes table) (entries (m 3)))
+      ≡ spelled_rows (text_bytes table) text_bytes list_bytes rows
+
+-- the tables with these rows in one of them
+abbrev pub with_table : List ℕ → Rows → (List ℕ → Rows) → List ℕ → Rows
+with_table table rows tables other = if bytes_eq other table then rows else tables other
+
+-- ---- one row after the other
+
+-- after changes in a table, the first of them first
+abbrev pub played : List ℕ → List Change → (List ℕ → Rows) → List ℕ → Rows
+played table [] tables = tables
+played table (c ∷ changes) tables = played table changes (changed_in table c tables)
+
+abbrev pub removals : List (List ℕ × Row) → List Change
+removals rows = map (λ r. Remove r.0) rows
+
+abbrev pub puts : List (List ℕ × Row) → List Change
+puts rows = map (λ r. Put r.0 r.1) rows
