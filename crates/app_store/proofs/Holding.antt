@@ -23,7 +23,7 @@ use Rattle.slon_model.specs.Rows.{Rows}
 use Rattle.slon_model.specs.declared.numbering.Numbering.{Numbering}
 use Rattle.slon_model.specs.declared.numbering.Numbering.TheVariants.{Xids, Actions}
 use Rattle.slon_model.specs.Place.{Place, counter, with_counter, lifted, stamped, standing_rows, own_actions}
-use Rattle.slon_model.specs.Deeds.{Node, knowledge, progress}
+use Rattle.slon_model.specs.Deeds.{Node, knowledge}
 use Rattle.slon_model.specs.Logs.{own_logs, logged}
 use Rattle.slon_model.specs.Moves.{tabled, with_commit}
 use Rattle.change_capture.specs.declared.log_row.LogRow.{LogRow}
@@ -203,8 +203,6 @@ holds_same p q m same holds = record {
   rows_held = same_space holds.rows_held (λ i one. ap (λ s. get (s.standing i.0) i.1) same);
   node_held = subst (λ n. HoldsNode n m) (sym (ap (λ s. s.node) same)) holds.node_held;
   bare = λ none. ap (λ s. s.node) same ∙ holds.bare (sym (ap (λ s. s.stamp) same) ∙ none);
-  paced = λ n is. subst (λ s. progress n.id (knowledge n) ≤ s) (sym (ap (λ s. s.stamp) same))
-      (holds.paced n (sym (ap (λ s. s.node) same) ∙ is));
 }
 
 -- a place has its first rows
@@ -223,7 +221,6 @@ holds_table p m name columns some holds = record {
       (number_bytes columns) m) space refl other ∙ put_other tables (text_bytes name)
       (number_bytes columns) m space refl other) holds.node_held;
   bare = never_bare (p.stamp + 1) (omega arith);
-  paced = λ n is. let less = holds.paced n is in omega (arith, less);
 }
 
 -- a ceiling that rises, with the stamp of its transaction
@@ -241,7 +238,6 @@ holds_xids p m some holds = record {
   rows_held = holds.rows_held;
   node_held = node_stays p.node m _ (ceiling_others xid_ceiling_key _ _ m) holds.node_held;
   bare = never_bare (p.stamp + 1) (omega arith);
-  paced = λ n is. let less = holds.paced n is in omega (arith, less);
 }
 
 pub holds_numbers : (p : Place) (m : Store) → 0 < p.stamp → Holds p m →
@@ -254,7 +250,6 @@ holds_numbers p m some holds = record {
   rows_held = holds.rows_held;
   node_held = node_stays p.node m _ (ceiling_others action_ceiling_key _ _ m) holds.node_held;
   bare = never_bare (p.stamp + 1) (omega arith);
-  paced = λ n is. let less = holds.paced n is in omega (arith, less);
 }
 
 -- the key of a ceiling
@@ -282,7 +277,6 @@ holds_first p q m none same holds = record {
   node_held = subst (λ n. HoldsNode n (first_rows (number_bytes 1) (number_bytes 65) m)) (sym (ap (λ s. s.node) same))
       (node_stays p.node m _ first_others holds.node_held);
   bare = λ bare. never_bare q.stamp (omega (arith, ap (λ s. s.stamp) same)) bare;
-  paced = λ n is. let bad : None ≡ Some n = sym (holds.bare none) ∙ sym (ap (λ s. s.node) same) ∙ is in absurd cc;
 }
   where
     first_others : AreSame m (first_rows (number_bytes 1) (number_bytes 65) m)
@@ -394,16 +388,6 @@ node_committed {p} {q} {x} {b} {m} (Some n) c is held =
         ∙ logs_over n.id b.logs m _ space (write_all-other (entries b.writes) m 15 refl)
         (write_all-other (entries b.writes) m space (own_other space rows refl other))
 
--- it emits nothing
-commit_paced : {stamp : ℕ} (own : Option Node) (at : ℕ × Place) →
-    ((n : Node) → own ≡ Some n → progress n.id (knowledge n) ≤ stamp) → (n : Node) →
-    option_map (with_commit at.0 at.1) own ≡ Some n → progress n.id (knowledge n) ≤ stamp + 1
-commit_paced None at paced n is = absurd cc
-commit_paced {stamp} (Some old) at paced n is =
-    let same : with_commit at.0 at.1 old ≡ n = cc in
-    let less = paced old refl in
-    subst (λ (k : Node). progress k.id (knowledge k) ≤ stamp + 1) same (omega (arith, less))
-
 -- the rows of a transaction are put over those that stood
 pub holds_rows : {p q : Place} {x : ℕ} {b : Batch} {m : Store} → Commits p q x b m → Holds p m →
     Holds q (new_rows b (number_bytes (p.stamp + 1)) m)
@@ -419,8 +403,6 @@ holds_rows {p} {q} {x} {b} {m} c holds = record {
   node_held = subst (λ n. HoldsNode n (new_rows b (number_bytes (p.stamp + 1)) m)) (sym (ap (λ s. s.node) c.stored))
       (node_committed p.node c refl holds.node_held);
   bare = λ none. never_bare q.stamp (omega (arith, ap (λ s. s.stamp) c.stored)) none;
-  paced = λ n is. subst (λ s. progress n.id (knowledge n) ≤ s) (sym (ap (λ s. s.stamp) c.stored))
-      (commit_paced p.node (x, p) holds.paced n (sym (ap (λ s. s.node) c.stored) ∙ is));
 }
   where
     entry : (key : ℕ) → meta_at (p.stamp + 1) p.xids.ceiling p.numbers.ceiling (option_map (with_commit x p) p.node) key

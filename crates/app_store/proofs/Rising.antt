@@ -63,7 +63,6 @@ holds_bare = record {
   rows_held = empty_space (λ i. get-empty key_cmp i.1);
   node_held = λ space other. refl;
   bare = λ none. refl;
-  paced = λ n is. absurd cc;
 }
 
 holds_founded : Holds (founded bare_place) (with_first nothing)

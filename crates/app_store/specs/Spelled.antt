@@ -1,5 +1,5 @@
 -- How a database stands in its store, space by space.
-use Rattle.std.specs.Prelude.{◌≡◌, ℕ, ◌==◌, if◌then◌else◌, ◌<◌, ◌≤◌, ◌^◌, List, [], ◌∷◌, ◌++◌}
+use Rattle.std.specs.Prelude.{◌≡◌, ℕ, ◌==◌, if◌then◌else◌, ◌<◌, ◌^◌, List, [], ◌∷◌, ◌++◌}
 use Rattle.std.specs.Prelude.{length}
 use Rattle.std.specs.Prelude.{slice_index_or, Option, Some, None}
 use Rattle.std.specs.FinMap.{FinMap, get, entries}
@@ -12,7 +12,7 @@ use Rattle.slon_model.specs.Place.{Place, standing_rows}
 use Rattle.app_store.specs.declared.layout.TheConstants.{META, TABLES, ROWS}
 use Rattle.change_capture.specs.declared.log_row.LogRow.{LogRow}
 use Rattle.log_switch.specs.Holds.{put_logs}
-use Rattle.slon_model.specs.Deeds.{Node, knowledge, progress}
+use Rattle.slon_model.specs.Deeds.{Node}
 use Rattle.node_state.specs.declared.memory.Identity.{Identity}
 use Rattle.node_state.specs.Held.{HoldsNode, log_of}
 use Rattle.app_store.specs.declared.transact.Put.{Put}
@@ -106,8 +106,6 @@ pub record Holds (p : Place) (m : Store) : Type 0 where
   pub node_held : HoldsNode p.node m
   -- without its first rows it is no node
   pub bare : p.stamp ≡ 0 → p.node ≡ None
-  -- each event was emitted in a transaction of its own
-  pub paced : (n : Node) → p.node ≡ Some n → progress n.id (knowledge n) ≤ p.stamp
 
 -- the rows that a transaction puts, and those that it takes away
 abbrev pub Writes : Type 0

@@ -1,7 +1,6 @@
 // How a database goes down because work on its store stopped, or a number would be too big.
 ghost use Rattle.std.specs.Prelude.{◌≡◌};
 ghost use Rattle.node_keeper.specs.Fused.{fuse_kept};
-ghost use Rattle.store_rows.specs.Steps.{IsWithinLimit};
 ghost use Rattle.app_store.specs.Base.{memory_of, GoesDown};
 ghost use Rattle.app_store.specs.Parts.{halt_of};
 
@@ -15,7 +14,6 @@ use std::alloc::Global;
 
 /// Takes a database down because work on its store stopped, and says why, as its caller is told.
 pub fn fall<K: Keeper>(alloc: Global, state: &mut State, keeper: &Fuse<K>, stop: Stop) -> DbFault
-    requires { IsWithinLimit stop }
     ensures down { GoesDown (memory_of state.old) (memory_of state.new) }
     ensures fault { result ≡ halt_of stop (fuse_kept K.kept keeper.now).faults }
 {

@@ -4,7 +4,7 @@ use Rattle.std.proofs.Common.{refl, sym, ap, subst, ◌∙◌, IfOk}
 use Rattle.std.specs.FinMap.{get, entries}
 use Rattle.std.specs.Str.{bytes_eq}
 use Rattle.std.proofs.lemmas.Slice.Eq.{bytes_eq-Decides}
-use Rattle.slon_base.specs.Codec.{text_bytes, list_bytes, IsText}
+use Rattle.slon_base.specs.Codec.{text_bytes, list_bytes, IsText, AreTexts}
 use Rattle.slon_base.specs.Keeper.{Store, Kept, after}
 use Rattle.store_rows.specs.Scan.{ranged, spelled_rows}
 use Rattle.store_rows.specs.Space.{IsPending, Becomes}
@@ -13,9 +13,10 @@ use Rattle.store_rows.specs.declared.stop.Stop.{Stop}
 use Rattle.store_rows.proofs.Spaces.{pending_as, same_space}
 use Rattle.slon_model.specs.Rows.{Row, Rows, Change, Put, Remove, apply}
 use Rattle.slon_laws.proofs.Keys.{get-put, get-apply}
-use Rattle.change_apply.specs.Applied.{IsKey, HoldsRows, OthersStay, changed_in, IsChanged}
-use Rattle.change_apply.specs.Copied.{row_in, AreApart, AreRowsOf, CanCopy, AreFound, with_table, played, removals}
-use Rattle.change_apply.specs.Copied.{puts}
+use Rattle.change_apply.specs.Applied.{IsKey, HoldsRows, OthersStay, CanApply, changed_in, IsChanged}
+use Rattle.change_apply.specs.Copied.{row_in, AreApart, AreRowsOf, CanCopy, AreFound, with_table, played, turned, turns}
+use Rattle.change_apply.specs.declared.copying.Turn.{Turn}
+use Rattle.change_apply.specs.declared.copying.Turn.TheVariants.{Take, Give}
 use Rattle.change_apply.proofs.Logged.{others_stay}
 
 -- ---- what is left of changes
@@ -69,7 +70,7 @@ at_itself table c tables =
     ap (λ b. cond b (apply c (tables table)) (tables table)) ((bytes_eq-Decides table table).1 refl)
 
 put_all : (table key : List ℕ) (rows : List (List ℕ × Row)) (tables : List ℕ → Rows) → AreApart rows →
-    get (played table (puts rows) tables table) key ≡ or_else (row_in rows key) (get (tables table) key)
+    get (played table (turns Give rows) tables table) key ≡ or_else (row_in rows key) (get (tables table) key)
 unfolding or_else
 put_all table key [] tables apart = refl
 put_all table key (r ∷ rows) tables apart =
@@ -93,7 +94,7 @@ unless_in None there = there
 unless_in (Some row) there = None
 
 take_all : (table key : List ℕ) (rows : List (List ℕ × Row)) (tables : List ℕ → Rows) →
-    get (played table (removals rows) tables table) key ≡ unless_in (row_in rows key) (get (tables table) key)
+    get (played table (turns Take rows) tables table) key ≡ unless_in (row_in rows key) (get (tables table) key)
 unfolding unless_in
 take_all table key [] tables = refl
 take_all table key (r ∷ rows) tables =
@@ -110,14 +111,14 @@ take_all table key (r ∷ rows) tables =
 
 -- all rows of the table are taken away, and the given ones put
 replaced_at : (table key : List ℕ) (old rows : List (List ℕ × Row)) (tables : List ℕ → Rows) (given : Rows) →
-    IsText key → AreRowsOf (tables table) old → AreRowsOf given rows →
-    get (played table (puts rows) (played table (removals old) tables) table) key ≡ get given key
+    IsText key → AreRowsOf (tables table) old × AreRowsOf given rows →
+    get (played table (turns Give rows) (played table (turns Take old) tables) table) key ≡ get given key
 unfolding or_else unless_in
-replaced_at table key old rows tables given text was are =
-    put_all table key rows (played table (removals old) tables) are.apart
+replaced_at table key old rows tables given text are =
+    put_all table key rows (played table (turns Take old) tables) are.1.apart
     ∙ ap (or_else (row_in rows key)) (take_all table key old tables
-    ∙ ap (λ o. unless_in o (get (tables table) key)) (was.lookups key text) ∙ none (get (tables table) key))
-    ∙ none_else (row_in rows key) ∙ are.lookups key text
+    ∙ ap (λ o. unless_in o (get (tables table) key)) (are.0.lookups key text) ∙ none (get (tables table) key))
+    ∙ none_else (row_in rows key) ∙ are.1.lookups key text
   where
     none : (o : Option Row) → unless_in o o ≡ None
     none None = refl
@@ -128,22 +129,22 @@ replaced_at table key old rows tables given text was are =
     none_else (Some row) = refl
 
 pub replaced : (table : List ℕ) (old rows : List (List ℕ × Row)) (tables : List ℕ → Rows) (given : Rows) (m : Store) →
-    AreRowsOf (tables table) old → AreRowsOf given rows →
-    HoldsRows (played table (puts rows) (played table (removals old) tables)) m →
+    AreRowsOf (tables table) old × AreRowsOf given rows →
+    HoldsRows (played table (turns Give rows) (played table (turns Take old) tables)) m →
     HoldsRows (with_table table given tables) m
-replaced table old rows tables given m was are held = same_space held (λ j one. by j one (bytes_eq j.0 table) refl)
+replaced table old rows tables given m are held = same_space held (λ j one. by j one (bytes_eq j.0 table) refl)
   where
     behind : List ℕ → Rows
-    behind = played table (puts rows) (played table (removals old) tables)
+    behind = played table (turns Give rows) (played table (turns Take old) tables)
 
     by : (j : List ℕ × List ℕ) → IsKey j → (b : Bool) → bytes_eq j.0 table ≡ b →
         get (cond b given (tables j.0)) j.1 ≡ get (behind j.0) j.1
     by j one true is =
         let same : j.0 ≡ table = (bytes_eq-Decides j.0 table).0 is in
-        sym (replaced_at table j.1 old rows tables given one.1 was are) ∙ ap (λ t. get (behind t) j.1) (sym same)
+        sym (replaced_at table j.1 old rows tables given one.1 are) ∙ ap (λ t. get (behind t) j.1) (sym same)
     by j one false is =
-        ap (λ t. get t j.1) (sym (other_table table (puts rows) (played table (removals old) tables) j.0 is
-        ∙ other_table table (removals old) tables j.0 is))
+        ap (λ t. get t j.1) (sym (other_table table (turns Give rows) (played table (turns Take old) tables) j.0 is
+        ∙ other_table table (turns Take old) tables j.0 is))
 
 -- ---- what is read
 
@@ -182,3 +183,8 @@ pub stays_as : {T : Type 0} (m n : Store) (k : Kept) (result : Result T Stop) �
     IfOk result (λ u. IsPending (OthersStay n) k) → IfOk result (λ u. IsPending (OthersStay m) k)
 stays_as m n k (Ok u) same p = pending_as (λ o later space other. later space other ∙ same space other) p
 stays_as m n k (Err stop) same p = tt
+
+-- the words of what is done with a row are texts
+pub turned_can : (turn : Turn) (r : List ℕ × Row) → IsText r.0 × AreTexts r.1 → CanApply (turned turn r)
+turned_can Take r can = can.0
+turned_can Give r can = can

@@ -7,6 +7,8 @@ use Rattle.slon_base.specs.Keeper.{Store, after}
 use Rattle.store_rows.specs.Scan.{ranged, spelled_rows}
 use Rattle.slon_model.specs.Rows.{Row, Rows, Change, Put, Remove}
 use Rattle.change_apply.specs.Applied.{changed_in}
+use Rattle.change_apply.specs.declared.copying.Turn.{Turn}
+use Rattle.change_apply.specs.declared.copying.Turn.TheVariants.{Take, Give}
 
 -- the row with this key
 abbrev pub row_in : List (List ℕ × Row) → List ℕ → Option Row
@@ -43,8 +45,10 @@ abbrev pub played : List ℕ → List Change → (List ℕ → Rows) → List �
 played table [] tables = tables
 played table (c ∷ changes) tables = played table changes (changed_in table c tables)
 
-abbrev pub removals : List (List ℕ × Row) → List Change
-removals rows = map (λ r. Remove r.0) rows
+-- what is done with a row
+abbrev pub turned : Turn → List ℕ × Row → Change
+turned Take r = Remove r.0
+turned Give r = Put r.0 r.1
 
-abbrev pub puts : List (List ℕ × Row) → List Change
-puts rows = map (λ r. Put r.0 r.1) rows
+abbrev pub turns : Turn → List (List ℕ × Row) → List Change
+turns turn rows = map (turned turn) rows

@@ -9,7 +9,7 @@ ghost use Rattle.change_capture.specs.declared.action.Action.{Action as SpecActi
 ghost use Rattle.change_capture.specs.Actions.{change_of};
 ghost use Rattle.change_capture.specs.Reading.{IsLogOf};
 ghost use Rattle.change_capture.specs.Spellings.{CanLogRow};
-ghost use Rattle.change_apply.specs.Applied.{CanApply, IsChanged, HoldsRows, IsActed, AreActed};
+ghost use Rattle.change_apply.specs.Applied.{CanApply, IsChanged, HoldsRows, OthersStay, IsActed, AreActed};
 ghost use Rattle.change_apply.specs.Applied.{changed_in, acted, acted_all, AreLogOf, IsOfEither};
 
 use crate::layout::{LOG, ROWS};
@@ -118,6 +118,8 @@ pub fn apply_rows<K: Keeper>(
     // Each row is that of an action, which is done, in whatever store is pending,
     ensures acted { (m : Store) → (K.kept keeper.old).pending ≡ Some (Some m) →
         IfOk result (λ u. IsPending (AreActed rows.now m) (K.kept keeper.new)) }
+    ensures others { (m : Store) → (K.kept keeper.old).pending ≡ Some (Some m) →
+        IfOk result (λ u. IsPending (OthersStay m) (K.kept keeper.new)) }
     // and a store that holds rows of tables then holds what all actions make of them.
     ensures applies { (tables : List ℕ → Rows) (actions : List SpecAction) → AreLogOf rows.now actions →
         IsPending (HoldsRows tables) (K.kept keeper.old) →

@@ -5,8 +5,9 @@ ghost use Rattle.slon_base.specs.Keeper.{Store, sight};
 ghost use Rattle.store_rows.specs.Steps.{Safe, IsWithinLimit, IsOfSpace, Gives};
 ghost use Rattle.store_rows.specs.Space.{IsPending, Becomes};
 ghost use Rattle.slon_model.specs.Rows.{Rows};
+ghost use Rattle.change_capture.specs.Actions.{change_of};
 ghost use Rattle.change_apply.specs.Applied.{HoldsRows, OthersStay};
-ghost use Rattle.change_apply.specs.Copied.{AreRowsOf, CanCopy, AreFound, with_table, played, removals, puts};
+ghost use Rattle.change_apply.specs.Copied.{AreRowsOf, CanCopy, AreFound, with_table, played, turned, turns};
 
 use crate::applying::apply_change;
 use crate::layout::ROWS;
@@ -41,35 +42,31 @@ pub fn table_rows<K: Keeper>(
     scan_rows(alloc, keeper, ROWS, prefix.as_slice(), prefix.as_slice())
 }
 
-/// Takes these rows of a table away.
-fn take_rows<K: Keeper>(
-    alloc: Global,
-    keeper: &mut K,
-    table: &Text,
-    rows: Many<(Text, TextList)>,
-) -> Result<(), Stop>
-    requires opened { is_some (K.kept keeper.old).pending ≡ true }
-    requires table { IsText table.now }
-    requires can { CanCopy rows }
-    ensures safe { Safe (K.kept keeper.old) (K.kept keeper.new) result }
-    ensures within { IfErr result IsWithinLimit }
-    ensures space { IfErr result (IsOfSpace 3) }
-    ensures others { (m : Store) → (K.kept keeper.old).pending ≡ Some (Some m) →
-        IfOk result (λ u. IsPending (OthersStay m) (K.kept keeper.new)) }
-    ensures takes { (tables : List ℕ → Rows) → IsPending (HoldsRows tables) (K.kept keeper.old) →
-        Becomes (HoldsRows (played table.now (removals rows) tables)) (K.kept keeper.new) result }
-{
-    for (key, _) in rows.into_vec() {
-        apply_change(alloc, keeper, table.copy(alloc)?, Change::Remove { key })?;
-    }
-    Ok(())
+/// What is done with a row.
+#[derive(Clone, Copy, Drop)]
+enum Turn {
+    /// It is taken away.
+    Take,
+    /// It is put.
+    Give,
 }
 
-/// Puts these rows into a table.
-fn put_rows<K: Keeper>(
+/// What is done with this row, as a change.
+fn change_of_row(turn: Turn, key: Text, values: TextList) -> Change
+    ensures { change_of result ≡ turned turn (key, values) }
+{
+    match turn {
+        Turn::Take => Change::Remove { key },
+        Turn::Give => Change::Put { key, values },
+    }
+}
+
+/// Takes all of these rows of a table away, or puts all of them.
+fn turn_rows<K: Keeper>(
     alloc: Global,
     keeper: &mut K,
     table: &Text,
+    turn: Turn,
     rows: Many<(Text, TextList)>,
 ) -> Result<(), Stop>
     requires opened { is_some (K.kept keeper.old).pending ≡ true }
@@ -80,16 +77,12 @@ fn put_rows<K: Keeper>(
     ensures space { IfErr result (IsOfSpace 3) }
     ensures others { (m : Store) → (K.kept keeper.old).pending ≡ Some (Some m) →
         IfOk result (λ u. IsPending (OthersStay m) (K.kept keeper.new)) }
-    ensures puts { (tables : List ℕ → Rows) → IsPending (HoldsRows tables) (K.kept keeper.old) →
-        Becomes (HoldsRows (played table.now (puts rows) tables)) (K.kept keeper.new) result }
+    ensures turns { (tables : List ℕ → Rows) → IsPending (HoldsRows tables) (K.kept keeper.old) →
+        Becomes (HoldsRows (played table.now (turns turn rows) tables)) (K.kept keeper.new) result }
 {
     for (key, values) in rows.into_vec() {
-        apply_change(
-            alloc,
-            keeper,
-            table.copy(alloc)?,
-            Change::Put { key, values },
-        )?;
+        let change = change_of_row(turn, key, values);
+        apply_change(alloc, keeper, table.copy(alloc)?, change)?;
     }
     Ok(())
 }
@@ -119,6 +112,6 @@ pub fn replace_table<K: Keeper>(
         Becomes (HoldsRows (with_table table.now given tables)) (K.kept keeper.new) result }
 {
     let old = table_rows(alloc, keeper, table)?;
-    take_rows(alloc, keeper, table, old)?;
-    put_rows(alloc, keeper, table, rows)
+    turn_rows(alloc, keeper, table, Turn::Take, old)?;
+    turn_rows(alloc, keeper, table, Turn::Give, rows)
 }

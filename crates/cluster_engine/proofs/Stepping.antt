@@ -28,7 +28,7 @@ use Rattle.slon_model.specs.Moves.{commits_at}
 use Rattle.slon_model.specs.Deciding.{Decision, Refuses, Accepts as Agreed, Overflows, decide, result_of, move_of, sure}
 use Rattle.slon_model.specs.Deciding.{unsure, Fate, AllStand, Breaks, DoubtsAt}
 use Rattle.slon_model.specs.Deciding.{Choice, AsDue, AtFault, Wavers, Among, result_by, place_by, Takes}
-use Rattle.slon_model.specs.Sessions.{Memory, Running, Commit, Stated, Outcome, no_change, first_beyond}
+use Rattle.slon_model.specs.Sessions.{Memory, Running, Commit, Stated, Outcome, Excess, no_change, excess_of}
 use Rattle.slon_model.specs.Scripts.{Stepping, quiet, done_by, single, ordered, order_step, step_todo, step_of, read_as}
 use Rattle.slon_model.specs.Scripts.{kill_of}
 use Rattle.slon_model.specs.Turns.{at_node, switched_at, turned, turned_by, turn_by, sync_turn}
@@ -169,14 +169,14 @@ data MayCommit (o : Outcome) : Type 0 where
   Never : o.commits ≡ [] → MayCommit o
   Accepts : (answer : Answer) → o.reply ≡ Accepted answer → MayCommit o
 
-done_commits : (s : Stepping) (w : World) (stated : Stated) (falls : Option (List ℕ)) →
-    MayCommit (done_by s w stated falls)
+done_commits : (s : Stepping) (w : World) (stated : Stated) (found : Option Excess) →
+    MayCommit (done_by s w stated found)
 done_commits s w stated None = Accepts stated.answer refl
-done_commits s w stated (Some name) = Never refl
+done_commits s w stated (Some e) = Never refl
 
 single_commits : (s : Stepping) (w : World) (due : Result Stated Refusal) → MayCommit (single s w due)
 single_commits s w (Err refusal) = Never refl
-single_commits s w (Ok stated) = done_commits s w stated (first_beyond stated.commits w.places)
+single_commits s w (Ok stated) = done_commits s w stated (excess_of stated.commits w.places)
 
 order_commits : (s : Stepping) (w : World) (o : Order) → MayCommit (order_step s w o)
 order_commits s w (order.Echo text) = single_commits s w (Ok (quiet (Echoed text)))
@@ -195,11 +195,11 @@ switched_commits node m None w = Never refl
 switched_commits node m (Some e) w = Never refl
 
 turned_commits : (w : World) (m : Memory) (stated : Stated) → MayCommit (turned w m stated)
-turned_commits w m stated = by (first_beyond stated.commits w.places)
+turned_commits w m stated = by (excess_of stated.commits w.places)
   where
-    by : (o : Option (List ℕ)) → MayCommit (turned_by w m stated o)
+    by : (o : Option Excess) → MayCommit (turned_by w m stated o)
     by None = Accepts stated.answer refl
-    by (Some name) = Never refl
+    by (Some e) = Never refl
 
 turn_commits : (w : World) (m : Memory) (due : Result Stated Refusal) → MayCommit (turn_by w m due)
 turn_commits w m (Err refusal) = Never refl

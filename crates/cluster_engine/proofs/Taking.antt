@@ -14,7 +14,7 @@ use Rattle.slon_model.specs.declared.reply.Reply.TheVariants.{Accepted, Refused}
 use Rattle.slon_model.specs.Names.{Named, find_named}
 use Rattle.slon_model.specs.Tasks.{Act, ToSync, ToListen}
 use Rattle.slon_model.specs.Deciding.{AllStand, Breaks, DoubtsAt}
-use Rattle.slon_model.specs.Sessions.{World, Memory, Stated, Outcome, first_beyond, no_change, stand}
+use Rattle.slon_model.specs.Sessions.{World, Memory, Stated, Outcome, Excess, excess_of, no_change, stand}
 use Rattle.slon_model.specs.Sessions.{after_outcome}
 use Rattle.slon_model.specs.Turns.{Switches, turned_by, turn_by, sync_turn, switches_of, are_cut}
 use Rattle.slon_model.specs.Polls.{Poll, polled, stated_of, listen_by, left_by}
@@ -56,8 +56,8 @@ turn_goes : {act : Act} {w : World} {reply : Reply} {new : Clustered} (t : Turn 
     ActsOn act w reply new
 turn_goes {act} {w} {reply} {new} t made = by made.comes
   where
-    -- the turn is accepted, and its stamps are not too big
-    stands : (stated : Stated) → t.due ≡ Ok stated → (o : Option (List ℕ)) → first_beyond stated.commits w.places ≡ o →
+    -- the turn is accepted, and a number of it is too big, or none
+    stands : (stated : Stated) → t.due ≡ Ok stated → (o : Option Excess) → excess_of stated.commits w.places ≡ o →
         outcome act w ≡ turned_by w t.left stated o
     stands stated is o beyond =
         t.is ∙ ap (turn_by w t.left) is ∙ ap (turned_by w t.left stated) beyond
@@ -84,9 +84,9 @@ turn_goes {act} {w} {reply} {new} t made = by made.comes
           agrees = subst (λ x. Agrees (after_outcome x w) new) (sym same)
               (record { limit = made.limit; fits = fits; memory = made.done (ap is_accepted told) });
         }
-    by (executing.Bursts stated name is beyond told fits) =
-        let same = stands stated is (Some name) beyond in
-        let after = felled_moves (Some name) w.memory w in
+    by (executing.Bursts stated e is beyond told fits) =
+        let same = stands stated is (Some e) beyond in
+        let after = felled_moves (Some e.name) w.memory w in
         record {
           fate = AllStand;
           may = tt;

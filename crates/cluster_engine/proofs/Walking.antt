@@ -327,12 +327,12 @@ comes_fares s w due reply new left (executing.Stands stated is beyond told fits)
     subst (λ r. Fares s w (single s w r) (walked reply) new) (sym is)
     (subst (λ o. Fares s w (done_by s w stated o) (walked reply) new) (sym beyond)
     (subst (λ r. Fares s w (done_by s w stated None) (walked r) new) (sym told) (Stood refl refl fits)))
-comes_fares s w due reply new left (executing.Bursts stated name is beyond told fits) =
+comes_fares s w due reply new left (executing.Bursts stated e is beyond told fits) =
     subst (λ r. Fares s w (single s w r) (walked reply) new) (sym is)
     (subst (λ o. Fares s w (done_by s w stated o) (walked reply) new) (sym beyond)
-    (subst (λ r. Fares s w (done_by s w stated (Some name)) (walked r) new) (sym told)
+    (subst (λ r. Fares s w (done_by s w stated (Some e)) (walked r) new) (sym told)
     (Stood refl refl (subst (λ ps. FitsAll ps new)
-    (felled_moves (Some name) (without_script s.name w.memory) w).places fits))))
+    (felled_moves (Some e.name) (without_script s.name w.memory) w).places fits))))
 comes_fares s w due reply new left (executing.Breaks name count told can fits) =
     Broke name count (ap is_accepted told) told left can fits
 comes_fares s w due reply new left (executing.Wavers stated before stands is beyond less told fits) =

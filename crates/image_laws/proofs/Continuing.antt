@@ -27,6 +27,10 @@ use Rattle.image_laws.proofs.Moving.{doing_holds}
 use Rattle.image_laws.proofs.Stretching.{behind, behind_same}
 use Rattle.image_laws.proofs.Since.{prepared_same}
 
+-- No action below this number is behind the end of the stretch.
+pub record IsLate (first : ℕ) (s : Stretch) : Type 0 where
+  pub each : (x : ℕ) → x < first → is_before x s.last ≡ true
+
 -- The node of the database has the stretch, and no action below this number is behind its end.
 pub record Continues (s : Stretch) (first : ℕ) (q : Place) : Type 0 where
   pub node : Node
@@ -34,7 +38,7 @@ pub record Continues (s : Stretch) (first : ℕ) (q : Place) : Type 0 where
   pub stretch : Stretch
   pub found : find (is_stretch s.set_id s.era s.table) (stretches node) ≡ Some stretch
   pub same : stretch ≡ record s { last = stretch.last }
-  pub late : (x : ℕ) → x < first → is_before x stretch.last ≡ true
+  pub late : IsLate first stretch
   pub numbers : first ≤ q.numbers.next
 
 -- the node stays
@@ -53,16 +57,15 @@ stays s first q r same later c = record {
 -- ---- a deed
 
 -- and where it comes, it comes behind what was drawn
-behind_late : (own : ℕ) (c : Config) (d : Deed) (s : Stretch) (first : ℕ) →
-    ((x : ℕ) → x < first → is_before x s.last ≡ true) → first ≤ d.first → (x : ℕ) → x < first →
-    is_before x (behind own c d s).last ≡ true
-behind_late own c d s first late below x less = by s.last refl
+behind_late : (own : ℕ) (c : Config) (d : Deed) (s : Stretch) (first : ℕ) → IsLate first s → first ≤ d.first →
+    IsLate first (behind own c d s)
+behind_late own c d s first late below = record { each = λ x less. by x less s.last refl }
   where
-    by : (o : Option ℕ) → s.last ≡ o → is_before x (ended own c d.first o s).last ≡ true
-    by (Some last) is = late x less
-    by None is =
+    by : (x : ℕ) → x < first → (o : Option ℕ) → s.last ≡ o → is_before x (ended own c d.first o s).last ≡ true
+    by x less (Some last) is = late.each x less
+    by x less None is =
         elim (reigns own c s) as (λ b. is_before x (cond b s (record s { last = Some d.first })).last ≡ true) [
-          | true ↦ late x less
+          | true ↦ late.each x less
           | false ↦ lt-ltb x d.first (omega (arith, less, below))
         ]
 

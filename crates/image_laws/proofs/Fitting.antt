@@ -2,11 +2,12 @@
 use Rattle.slon_model.specs.World.{outcome}
 use Rattle.slon_model.specs.Tasks.{Act}
 use Rattle.std.proofs.Common.{◌≡◌, ℕ, Bool, true, false, cond, List, [], ◌∷◌, Option, Some, None, Result, Ok, Err, refl}
-use Rattle.std.proofs.Common.{sym, ap, subst, ◌∙◌, is_some, is_none, not}
-use Rattle.std.specs.Prelude.{◌==◌, option_map}
+use Rattle.std.proofs.Common.{◌++◌, sym, ap, subst, ◌∙◌, is_some, is_none, not}
+use Rattle.std.specs.Prelude.{◌==◌, ◌+◌, option_map}
 use Rattle.std.specs.Str.{bytes_eq}
 use Rattle.std.specs.List.{list_any, AllByRecursion}
 use Rattle.std.proofs.lemmas.Bool.{true≢false, false_from_ne_true, eqb-true, eq-eqb, and_parts}
+use Rattle.std.proofs.lemmas.List.{append_assoc}
 use Rattle.slonik_script.specs.declared.script.Command.{Command as Order}
 use Rattle.slonik_script.specs.declared.script.Command.TheVariants as order
 use Rattle.slon_model.specs.declared.command.Delivery.{Delivery}
@@ -20,16 +21,17 @@ use Rattle.node_rows.specs.declared.body.Body.TheVariants.{Sync, StoreNode, Stor
 use Rattle.slon_model.specs.Names.{find_named}
 use Rattle.slon_model.specs.Maps.{entry_at}
 use Rattle.slon_model.specs.Events.{Event}
-use Rattle.slon_model.specs.Config.{Config, change_by, is_origin, live_set, leads_row}
+use Rattle.slon_model.specs.Config.{Config, change_by, is_origin, era_of, live_set, leads_row}
 use Rattle.slon_model.specs.Deeds.{Hears, Node, Deed, Emits, knowledge, with_deeds}
 use Rattle.slon_model.specs.Place.{Place, deed, taken, node_id}
 use Rattle.slon_model.specs.Sessions.{World, Running, Commit, Stated, Seat, Emission, bind, tells, when}
-use Rattle.slon_model.specs.Sessions.{seat_of, writer_of, next_event, committing, stood_at, first_refusal}
+use Rattle.slon_model.specs.Sessions.{seat_of, writer_of, emissions, next_event, committing, stood_at, first_refusal}
 use Rattle.slon_model.specs.Membership.{comment_of, already, first_node, init_cluster, store_node, store_path}
 use Rattle.slon_model.specs.Membership.{drop_path, becoming, first_of_cluster, joining, stored_by}
 use Rattle.slon_model.specs.Reaching.{database_of_line, reach, is_node_of, down_among, any_down, known_somewhere}
-use Rattle.slon_model.specs.Reaching.{origin_of, origin_checks, commit_of, emitting, receiver_with}
+use Rattle.slon_model.specs.Reaching.{origin_of, origin_checks, owner, commit_of, emitting, receiver_with}
 use Rattle.slon_model.specs.Sets.{NewTable, adding, create_set, set_add_table}
+use Rattle.slon_model.specs.Subscribing.{NewFeed, subscribing, feed_bodies, all_tell, subscribe_set}
 use Rattle.slon_model.specs.Scripts.{ordered}
 use Rattle.slon_model.specs.Turns.{on_turn, sync_turn}
 use Rattle.slon_model.specs.Polls.{Poll, polled, stated_by, hearing}
@@ -40,12 +42,13 @@ use Rattle.stream_laws.specs.Nodes.{node_in}
 use Rattle.stream_laws.specs.Facts.{IsRegular}
 use Rattle.stream_laws.proofs.Lists.{there_here, there_with}
 use Rattle.stream_laws.proofs.Seats.{OnOk, IsSeat, IsFound, bind_ok, checked_ok, kept_ok, none_first, when_none}
-use Rattle.stream_laws.proofs.Seats.{turn_ok}
+use Rattle.stream_laws.proofs.Seats.{turn_ok, owner_ok}
 use Rattle.stream_laws.proofs.Seats.{already_none, line_ok, reach_ok, unknown, no_nodes, no_node_at, seat_node}
+use Rattle.stream_laws.proofs.Emits.{known_changed}
 use Rattle.stream_laws.proofs.Commits.{Newcomer, other_name}
 use Rattle.stream_laws.proofs.Waiting.{IsPoll, polled_ok}
 use Rattle.image_laws.specs.Fits.{IsWhole, IsKept, Fit, Keeps, CreatesSet, AddsTable, IsFirst, IsFit}
-use Rattle.image_laws.specs.Fits.{IsDoneNow, Does, Becomes}
+use Rattle.image_laws.specs.Fits.{IsDoneNow, AllDone, Does, Becomes}
 use Rattle.image_laws.specs.Facts.{Holds, NodeHolds}
 use Rattle.stream_laws.proofs.Leaves.{Leaves, outcome_has}
 
@@ -65,30 +68,74 @@ IsStated w stated = AreFit w stated.commits
 node_holds : (w : World) → Ready w → (s : Seat) → IsSeat w.places s → NodeHolds s.place s.node
 node_holds w r s is = (all_found Holds s.name s.place w.places r.holds is.found).1 s.node is.node
 
--- ---- a node emits an event
+-- ---- a node emits events
 
-abbrev event_of : Seat → Body → Event
-event_of s body = record { origin = s.node.id; number = next_event s; taken = taken s.place; body = body }
+abbrev event_of : Seat → ℕ → Body → Event
+event_of s number body = record { origin = s.node.id; number = number; taken = taken s.place; body = body }
 
-abbrev deed_of : Seat → Emission → Deed
-deed_of s m = deed s.place m.rows [] (Emits (event_of s m.body))
+abbrev deed_of : Seat → ℕ → Emission → Deed
+deed_of s number m = deed s.place m.rows [] (Emits (event_of s number m.body))
 
-emits_fit : (w : World) (s : Seat) (m : Emission) → IsSeat w.places s → Fit s.place s.node (deed_of s m) →
-    IsStated w (emitting s (m ∷ []))
-emits_fit w s m is fit =
-    let now : IsDoneNow s.place (deed_of s m) = record {
-      first = refl;
-      taken = λ e doing. let one : event_of s m.body ≡ e = cc in ap (λ (k : Event). k.taken) (sym one);
-      quiet = refl;
-    } in
-    let does = Does s.node is.node refl (tt, now, fit) in
-    (subst (HoldsAt IsFit (commit_of s (m ∷ []))) (sym is.found) does, tt)
+done_now : (s : Seat) (number : ℕ) (m : Emission) → IsDoneNow s.place (deed_of s number m)
+done_now s number m = record {
+  first = refl;
+  taken = λ e doing. let one : event_of s number m.body ≡ e = cc in ap (λ (k : Event). k.taken) (sym one);
+  quiet = refl;
+}
 
--- the sets and tables stay as they are
-quiet_fit : (w : World) (s : Seat) (body : Body) → IsSeat w.places s →
-    IsKept (knowledge s.node).config (change_by s.node.id (next_event s) body (knowledge s.node).config) →
-    IsStated w (emitting s (tells body ∷ []))
-quiet_fit w s body is kept = emits_fit w s (tells body) is (Keeps refl kept)
+-- each of these is fit for the node behind the ones before it
+abbrev AllFit : Seat → ℕ → List Emission → Node → Type 0
+AllFit s number [] n = Unit {0}
+AllFit s number (m ∷ ms) n =
+    Fit s.place n (deed_of s number m) × AllFit s (number + 1) ms (with_deeds (deed_of s number m ∷ []) n)
+
+-- deeds that are done behind others of the same commit
+done_behind : (p : Place) (n : Node) (later earlier : List Deed) → AllDone p n earlier →
+    AllDone p (with_deeds earlier n) later → AllDone p n (later ++ earlier)
+done_behind p n [] earlier before behind = before
+done_behind p n (d ∷ ds) earlier before behind = (
+  done_behind p n ds earlier before behind.0,
+  behind.1,
+  subst (λ all. Fit p (record n { deeds = all }) d) (sym (append_assoc ds earlier n.deeds)) behind.2,
+)
+
+all_done : (s : Seat) (ms : List Emission) (number : ℕ) (n : Node) → AllFit s number ms n →
+    AllDone s.place n (emissions s number ms)
+all_done s [] number n fit = tt
+all_done s (m ∷ ms) number n fit =
+    done_behind s.place n (emissions s (number + 1) ms) (deed_of s number m ∷ []) (tt, done_now s number m, fit.0)
+    (all_done s ms (number + 1) (with_deeds (deed_of s number m ∷ []) n) fit.1)
+
+emits_fit : (w : World) (s : Seat) (ms : List Emission) → IsSeat w.places s → AllFit s (next_event s) ms s.node →
+    IsStated w (emitting s ms)
+emits_fit w s ms is fit =
+    let does = Does s.node is.node refl (all_done s ms (next_event s) s.node fit) in
+    (subst (HoldsAt IsFit (commit_of s ms)) (sym is.found) does, tt)
+
+-- behind an event of this body the sets and tables are as they were
+abbrev IsQuiet : Body → Type 0
+IsQuiet body =
+    (origin number : ℕ) (c : Config) →
+    ((change_by origin number body c).sets ≡ c.sets) × ((change_by origin number body c).tables ≡ c.tables)
+
+-- events that give no rows
+told_fit : (s : Seat) (bodies : List Body) (number : ℕ) (n : Node) → AllByRecursion IsQuiet bodies →
+    AllFit s number (all_tell bodies) n
+told_fit s [] number n quiet = tt
+told_fit s (body ∷ more) number n quiet =
+    let same = quiet.0 s.node.id number (knowledge n).config in (
+      Keeps refl (record {
+        sets = same.0;
+        tables = same.1;
+        nodes = λ id known. known_changed id s.node.id number body (knowledge n).config known;
+      }),
+      told_fit s more (number + 1) (with_deeds (deed_of s number (tells body) ∷ []) n) quiet.1,
+    )
+
+quiet_fit : (w : World) (s : Seat) (bodies : List Body) → IsSeat w.places s → AllByRecursion IsQuiet bodies →
+    IsStated w (emitting s (all_tell bodies))
+quiet_fit w s bodies is quiet =
+    emits_fit w s (all_tell bodies) is (told_fit s bodies (next_event s) s.node quiet)
 
 abbrev all_kept : (c : Config) → IsKept c c
 all_kept c = record { sets = refl; tables = refl; nodes = λ id known. known }
@@ -196,8 +243,7 @@ stores_fit w r s c comment run is =
     joined = joining c.id (with_deeds commit.deeds s.node) run
 
     one : IsStated w (emitting s (tells body ∷ []))
-    one = quiet_fit w s body is
-        (record { sets = refl; tables = refl; nodes = λ id known. there_with id c.id _ _ known })
+    one = quiet_fit w s (body ∷ []) is (λ origin number c. (refl, refl), tt)
 
     found : find_named c.name (stood_at commit (find_named s.name w.places) w.places) ≡ Some c.place
     found =
@@ -254,17 +300,20 @@ create_fit id origin comment run w =
     reached w origin run _
     (λ s is. checked_ok (IsStated w) (create_checks id w)
     (emitting s (tells (StoreSet id origin (comment_of comment)) ∷ []))
-    (λ none. emits_fit w s (tells (StoreSet id origin (comment_of comment))) is.0 (CreatesSet (record {
-      set_id = id;
-      comment = comment_of comment;
-      event = event_of s (StoreSet id origin (comment_of comment));
-      doing = refl;
-      body = ap (λ by. StoreSet id by (comment_of comment)) (sym is.1);
-      rows = refl;
-      new =
-          unknown (λ c. is_some (entry_at id c.sets)) w.places (when_none _ (refused.IdUsed id)
-          (all_none (create_checks id w) none).1.0) s.name s.node (seat_node w.places s is.0);
-    }))))
+    (λ none. emits_fit w s (tells (StoreSet id origin (comment_of comment)) ∷ []) is.0 (
+      CreatesSet (record {
+        set_id = id;
+        comment = comment_of comment;
+        event = event_of s (next_event s) (StoreSet id origin (comment_of comment));
+        doing = refl;
+        body = ap (λ by. StoreSet id by (comment_of comment)) (sym is.1);
+        rows = refl;
+        new =
+            unknown (λ c. is_some (entry_at id c.sets)) w.places (when_none _ (refused.IdUsed id)
+            (all_none (create_checks id w) none).1.0) s.name s.node (seat_node w.places s is.0);
+      }),
+      tt,
+    )))
 
 none_busy : (o : Option ℕ) → option_map refused.Busy o ≡ None → o ≡ None
 none_busy None none = refl
@@ -288,24 +337,27 @@ adds_fit : (t : NewTable) (w : World) (s : Seat) → Leading t w s →
     AllByRecursion (λ o. o ≡ None) (table_checks t w s) → IsStated w (emitting s (adding s t ∷ []))
 adds_fit t w s is none =
     let node = seat_node w.places s is.0 in
-    emits_fit w s (adding s t) is.0 (AddsTable (record {
-      set_id = t.set_id;
-      table_id = t.id;
-      name = t.name;
-      comment = t.comment;
-      event = event_of s (adding s t).body;
-      doing = refl;
-      body = refl;
-      rows = refl;
-      leads = is.1;
-      new =
-          unknown (λ c. is_some (entry_at t.id c.tables)) w.places (when_none _ (refused.IdUsed t.id) none.1.1.1.0)
-          s.name s.node node;
-      unused =
-          unknown (λ c. list_any (λ e. bytes_eq t.name e.1.name) c.tables) w.places
-          (when_none _ (refused.TableUsed t.name) none.1.1.1.1.0) s.name s.node node;
-      free = none_busy (writer_of (t.name ∷ []) s.place) none.1.1.1.1.1.0;
-    }))
+    emits_fit w s (adding s t ∷ []) is.0 (
+      AddsTable (record {
+        set_id = t.set_id;
+        table_id = t.id;
+        name = t.name;
+        comment = t.comment;
+        event = event_of s (next_event s) (adding s t).body;
+        doing = refl;
+        body = refl;
+        rows = refl;
+        leads = is.1;
+        new =
+            unknown (λ c. is_some (entry_at t.id c.tables)) w.places (when_none _ (refused.IdUsed t.id) none.1.1.1.0)
+            s.name s.node node;
+        unused =
+            unknown (λ c. list_any (λ e. bytes_eq t.name e.1.name) c.tables) w.places
+            (when_none _ (refused.TableUsed t.name) none.1.1.1.1.0) s.name s.node node;
+        free = none_busy (writer_of (t.name ∷ []) s.place) none.1.1.1.1.1.0;
+      }),
+      tt,
+    )
 
 table_fit : (origin : ℕ) (t : NewTable) (run : Running) (w : World) → OnOk (IsStated w) (set_add_table origin t run w)
 table_fit origin t run w =
@@ -327,15 +379,29 @@ path_fit : (server client : ℕ) (conninfo : List ℕ) (run : Running) (w : Worl
     OnOk (IsStated w) (store_path server client conninfo run w)
 path_fit server client conninfo run w =
     reached w client run _
-    (λ s is. let fit = quiet_fit w s (StorePath server client conninfo) is.0
-    (record { sets = refl; tables = refl; nodes = λ id known. known }) in
+    (λ s is. let fit = quiet_fit w s (StorePath server client conninfo ∷ []) is.0
+    (λ origin number c. (refl, refl), tt) in
     search (kept_ok (IsStated w), fit))
 
 no_path_fit : (server client : ℕ) (run : Running) (w : World) → OnOk (IsStated w) (drop_path server client run w)
 no_path_fit server client run w =
     reached w client run _
-    (λ s is. let fit = quiet_fit w s (DropPath server client) is.0
-    (record { sets = refl; tables = refl; nodes = λ id known. known }) in
+    (λ s is. let fit = quiet_fit w s (DropPath server client ∷ []) is.0
+    (λ origin number c. (refl, refl), tt) in
+    search (kept_ok (IsStated w), fit))
+
+sync_is_quiet : AllByRecursion IsQuiet (Sync ∷ [])
+sync_is_quiet = (λ origin number c. (refl, refl), tt)
+
+feed_is_quiet : (era : ℕ) (f : NewFeed) → AllByRecursion IsQuiet (feed_bodies era f)
+feed_is_quiet era f =
+    (λ origin number c. (refl, refl), (λ origin number c. (refl, refl), (λ origin number c. (refl, refl), tt)))
+
+feed_fit : (f : NewFeed) (run : Running) (w : World) → Ready w → OnOk (IsStated w) (subscribe_set f run w)
+feed_fit f run w r =
+    bind_ok (IsSeat w.places) (IsStated w) (owner run f.set_id w) _ (owner_ok run f.set_id w r.regular.once)
+    (λ s is. let era = era_of f.set_id s.known.config in
+    let fit = quiet_fit w s (feed_bodies era f) is (feed_is_quiet era f) in
     search (kept_ok (IsStated w), fit))
 
 ordered_fit : (w : World) → Ready w → (o : Order) (run : Running) → OnOk (IsStated w) (ordered o run w)
@@ -346,14 +412,16 @@ ordered_fit w r (order.DropPath server client) run = no_path_fit server client r
 ordered_fit w r (order.CreateSet id origin comment) run = create_fit id origin comment run w
 ordered_fit w r (order.SetAddTable set origin id name key comment) run =
     table_fit origin (record { set_id = set; id = id; name = name; comment = comment_of comment }) run w
+ordered_fit w r (order.SubscribeSet set provider receiver forward) run =
+    feed_fit (subscribing set provider receiver forward) run w r
 ordered_fit w r (order.Sync id) run =
-    reached w id run _ (λ s is. quiet_fit w s Sync is.0 (all_kept (knowledge s.node).config))
+    reached w id run _ (λ s is. quiet_fit w s (Sync ∷ []) is.0 sync_is_quiet)
 ordered_fit w r others run = tt
 
 sync_fit : (w : World) → Ready w → (node : ℕ) → OnOk (IsStated w) (sync_turn node w)
 sync_fit w r node =
     bind_ok (IsSeat w.places) (IsStated w) (on_turn node w) _ (turn_ok node w r.regular.once)
-    (λ s is. let fit = quiet_fit w s Sync is (all_kept (knowledge s.node).config) in
+    (λ s is. let fit = quiet_fit w s (Sync ∷ []) is sync_is_quiet in
     search (kept_ok (IsStated w), fit))
 
 hears_fit : (w : World) (s : Seat) (confirms : List (ℕ × ℕ × ℕ)) → IsSeat w.places s → AreFit w (hearing s confirms)

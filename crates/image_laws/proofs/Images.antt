@@ -37,7 +37,7 @@ use Rattle.slon_laws.proofs.Worlds.{sound_world}
 use Rattle.stream_laws.proofs.Steps.{regular_world}
 use Rattle.image_laws.specs.Laws.{ImageIsCommittedRows, SnapshotsAreMoments, LogsHaveTheActions, LogHas, ReadingLeads}
 use Rattle.image_laws.specs.Facts.{Lasts, HoldsStretch, HasStretch, NodeHolds, Holds, HasLogged, HoldsAll}
-use Rattle.image_laws.proofs.Continuing.{Continues, keeps_continuing, turned_continues}
+use Rattle.image_laws.proofs.Continuing.{IsLate, Continues, keeps_continuing, turned_continues}
 use Rattle.image_laws.proofs.Fitting.{Ready, outcome_fit}
 use Rattle.image_laws.proofs.Found.{find_has}
 use Rattle.image_laws.proofs.Moving.{keeps_holding, bare_holds, turned_holds}
@@ -90,37 +90,47 @@ each_world {R} l limit (h ∷ hs) w leads =
 
 -- ---- a stretch, later
 
--- it holds of all databases, and the one of the name continues
-abbrev Both : Stretch → ℕ → List ℕ → Named Place → Type 0
-Both s first name ps = AllByRecursion (λ e. Holds e.1) ps × HoldsOf (Continues s first) name ps
+-- A stretch, the number below which no action may be behind its end, and the name of the database that has it.
+record Sought : Type 0 where
+  stretch : Stretch
+  first : ℕ
+  name : List ℕ
 
-continues_step : (s : Stretch) (first : ℕ) (name : List ℕ) (w v : World) (h : Happening) → Step w h v → Ready w →
-    HoldsOf (Continues s first) name w.places → HoldsOf (Continues s first) name v.places
-continues_step s first name w v h (Grants other result about granted takes told is) r (q, found, c) =
-    subst (λ u. HoldsOf (Continues s first) name u.places) (sym is) (q, found_behind name other _ q w.places found, c)
-continues_step s first name w v h (Denies other about denied sure told is) r on =
-    subst (λ u. HoldsOf (Continues s first) name u.places) (sym is) on
-continues_step s first name w v h (Misses other task about none sure told is) r on =
-    subst (λ u. HoldsOf (Continues s first) name u.places) (sym is) on
-continues_step s first name w v h (Asks t) r on =
-    subst (λ u. HoldsOf (Continues s first) name u.places) (sym t.is)
-    (put_holds name w.places (record {
+-- the database of the name continues the stretch
+abbrev IsThere : Sought → Named Place → Type 0
+IsThere s ps = HoldsOf (Continues s.stretch s.first) s.name ps
+
+-- it holds of all databases, and the one of the name continues
+abbrev Both : Sought → Named Place → Type 0
+Both s ps = AllByRecursion (λ e. Holds e.1) ps × IsThere s ps
+
+continues_step : (s : Sought) (w v : World) (h : Happening) → Step w h v → Ready w → IsThere s w.places →
+    IsThere s v.places
+continues_step s w v h (Grants other result about granted takes told is) r (q, found, c) =
+    subst (λ u. IsThere s u.places) (sym is) (q, found_behind s.name other _ q w.places found, c)
+continues_step s w v h (Denies other about denied sure told is) r on =
+    subst (λ u. IsThere s u.places) (sym is) on
+continues_step s w v h (Misses other task about none sure told is) r on =
+    subst (λ u. IsThere s u.places) (sym is) on
+continues_step s w v h (Asks t) r on =
+    subst (λ u. IsThere s u.places) (sym t.is)
+    (put_holds s.name w.places (record {
       name = t.name;
       before = t.place;
       behind = place_by t.task t.place h.choice;
       at = t.found;
-      on = λ c. kept_task (keeps_continuing s first) t.task t.place h.choice
+      on = λ c. kept_task (keeps_continuing s.stretch s.first) t.task t.place h.choice
           (tt, (all_found Holds t.name t.place w.places r.holds t.found, c));
     }) on)
-continues_step s first name w v h (Acts t) r on =
-    (acting_turns {R = Both s first name} (λ other p q ps found turned both. (
+continues_step s w v h (Acts t) r on =
+    (acting_turns {R = Both s} (λ other p q ps found turned both. (
       all_put Holds other q ps (turned_holds p q turned (all_found Holds other p ps both.0 found)) both.0,
-      put_holds name ps (record {
+      put_holds s.name ps (record {
         name = other;
         before = p;
         behind = q;
         at = found;
-        on = λ c. turned_continues s first p q turned (all_found Holds other p ps both.0 found) c;
+        on = λ c. turned_continues s.stretch s.first p q turned (all_found Holds other p ps both.0 found) c;
       }) both.1,
     )) w v h t (outcome_fit w r t.act) (r.holds, on)).1
 
@@ -136,15 +146,13 @@ record Reached (limit : ℕ) (w : World) : Type 0 where
   history : List Happening
   leads : Leads (start limit) history w
 
-continues_later : (s : Stretch) (first : ℕ) (name : List ℕ) (limit : ℕ) (w : World) (r : Reached limit w)
-    (later : List Happening) (v : World) → Leads w later v × HoldsOf (Continues s first) name w.places →
-    HoldsOf (Continues s first) name v.places
-continues_later s first name limit w r [] v is =
-    subst (λ u. HoldsOf (Continues s first) name u.places) (sym is.0) is.1
-continues_later s first name limit w r (h ∷ later) v is =
-    continues_step s first name is.0.0 v h is.0.2
-    (ready_world limit (later ++ r.history) is.0.0 (joined limit r.history later w is.0.0 r.leads is.0.1))
-    (continues_later s first name limit w r later is.0.0 (is.0.1, is.1))
+continues_later : (s : Sought) (limit : ℕ) (w : World) (r : Reached limit w) (later : List Happening) (v : World) →
+    Leads w later v → IsThere s w.places → IsThere s v.places
+continues_later s limit w r [] v is there = subst (λ u. IsThere s u.places) (sym is) there
+continues_later s limit w r (h ∷ later) v leads there =
+    continues_step s leads.0 v h leads.2
+    (ready_world limit (later ++ r.history) leads.0 (joined limit r.history later w leads.0 r.leads leads.1))
+    (continues_later s limit w r later leads.0 leads.1 there)
 
 -- ---- the image
 
@@ -163,8 +171,7 @@ image_by false now true within late same came is = absurd (false≢true (came re
 image_by false now false within late same came is = refl
 
 image_since : (p q : Place) (s t : Stretch) → Sound p → Since p q → t ≡ record s { last = t.last } →
-    ((x : ℕ) → x < p.numbers.next → is_before x t.last ≡ true) →
-    image_of q.actions q.commits (taken p) (Some t)
+    IsLate p.numbers.next t → image_of q.actions q.commits (taken p) (Some t)
     ≡ play_rows (λ a. member a.xid p.commits && nat_le s.first a.number) s.table p.actions s.before
 image_since p q s t sound since same late =
     ap (λ u. image_of q.actions q.commits (taken p) (Some u)) same
@@ -177,7 +184,7 @@ image_since p q s t sound since same late =
     (all_map (λ a. a.number < p.numbers.next) (λ a. test a ≡ (member a.xid p.commits && nat_le s.first a.number))
     (λ a below. image_by (sees (taken p) a.xid) (member a.xid q.commits) (member a.xid p.commits)
     (nat_le s.first a.number) (is_before a.number t.last) (since.commits a.xid) (seen_committed p sound a.xid)
-    (late a.number below)) p.actions sound.numbered)
+    (late.each a.number below)) p.actions sound.numbered)
   where
     test : Action → Bool
     test a =
@@ -234,14 +241,14 @@ image_is_committed_rows limit history later w v leads goes_on name p q found fou
       stretch = s;
       found = ap (λ test. find test (stretches n)) test ∙ has.found;
       same = refl;
-      late = λ x less. ap (is_before x) has.lasts;
+      late = record { each = λ x less. ap (is_before x) has.lasts };
       numbers = omega arith;
     }
 
     c : Continues s p.numbers.next q
     c =
-        let there = continues_later s p.numbers.next name limit w (record { history = history; leads = leads }) later v
-        (goes_on, (p, found, begins)) in
+        let there = continues_later (record { stretch = s; first = p.numbers.next; name = name }) limit w
+        (record { history = history; leads = leads }) later v goes_on (p, found, begins) in
         subst (Continues s p.numbers.next) (one_found there.0 q (sym there.1 ∙ found_later)) there.2
 
     since : Since p q
@@ -303,8 +310,12 @@ logs_have_the_actions limit history w leads name p found n is set table held = (
 pub reading_leads : ReadingLeads
 reading_leads limit name w p found n is old new was now covers set table held actions read =
     ap (λ o. applied actions (image_of p.actions p.commits old o)) log.1
-    ∙ read_leads p n s old new actions (sound.rising, log.2) (subst (λ t. IsRead n t old new actions) (sym same) read)
-    (image_of p.actions p.commits old (Some s))
+    ∙ read_leads p n s sound.rising log.2 (record {
+      old = old;
+      new = new;
+      actions = actions;
+      is = subst (λ t. IsRead n t old new actions) (sym same) read;
+    }) (image_of p.actions p.commits old (Some s))
     ∙ delta_leads limit name w p found old new was now covers s
     ∙ sym (ap (image_of p.actions p.commits new) log.1)
   where

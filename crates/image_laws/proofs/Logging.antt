@@ -177,17 +177,22 @@ each_logged p own log c d all holds =
     (λ s is none. subst (HasLogged p own log) (sym (behind_same own c d s))
     (same_log p own log s (behind own c d s).last (is (lasted own c d s none)))) all holds
 
+-- A stretch that begins now, of a table that was not known.
+record IsFresh (p : Place) (c : Config) (s : Stretch) : Type 0 where
+  first : s.first ≡ p.numbers.next
+  unused : IsListed s.table c → ⊥
+
 -- a new stretch has nothing in the log, and nothing to log
-none_logged : (p : Place) (own : ℕ) (log : List Logged) (c : Config) (s : Stretch) → Sound p →
-    s.first ≡ p.numbers.next → (IsListed s.table c → ⊥) → AllByRecursion (λ l. IsListed l.action.table c) log →
-    HasLogged p own log s
-none_logged p own log c s sound first unused listed = record {
+none_logged : (p : Place) (own : ℕ) (log : List Logged) (c : Config) (s : Stretch) → Sound p → IsFresh p c s →
+    AllByRecursion (λ l. IsListed l.action.table c) log → HasLogged p own log s
+none_logged p own log c s sound fresh listed = record {
   all = all_map (λ a. a.number < p.numbers.next) (λ a. bytes_eq s.table a.table ≡ true →
       member a.xid p.commits ≡ true → nat_le s.first a.number ≡ true → IsLogged log a)
-      (λ a below on came late. absurd (true≢false (sym late ∙ lt-leb s.first a.number (omega (arith, below, first)))))
-      p.actions sound.numbered;
+      (λ a below on came late.
+      let first = fresh.first in
+      absurd (true≢false (sym late ∙ lt-leb s.first a.number (omega (arith, below, first))))) p.actions sound.numbered;
   only = all_map (λ l. IsListed l.action.table c) (λ l. bytes_eq s.table l.action.table ≡ true → IsOf p own s l)
-      (λ l is on. absurd (unused (ap (λ name. list_any (λ e. bytes_eq name e.1.name) c.tables)
+      (λ l is on. absurd (fresh.unused (ap (λ name. list_any (λ e. bytes_eq name e.1.name) c.tables)
       (bytes_same s.table l.action.table on) ∙ is))) log listed;
 }
 
@@ -221,8 +226,7 @@ deed_logs p d sound h quiet k = record {
         subst Each (ap (λ first. first ++ map (behind d.node.id (known_behind p d) d.deed) (stretches d.node))
         (sym (begins_behind p d sound h a))) (
           (λ last. none_logged p d.node.id (logged d.node) (knowledge d.node).config (new_behind p d sound h a) sound
-              d.first
-              (λ listed. true≢false (sym listed ∙ a.unused)) k.listed),
+              (record { first = d.first; unused = λ listed. true≢false (sym listed ∙ a.unused) }) k.listed),
           rest,
         )
 

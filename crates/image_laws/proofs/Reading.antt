@@ -156,17 +156,23 @@ passes true false false within one two three four = absurd (false≢true three)
 passes true true came within one two three four = absurd (true≢false two)
 passes false old came within one two three four = absurd (false≢true one)
 
+-- What was read of a table in the log of a node between two snapshots.
+pub record Reading (n : Node) (table : List ℕ) : Type 0 where
+  pub old : Snapshot
+  pub new : Snapshot
+  pub actions : List Action
+  pub is : IsRead n table old new actions
+
 -- applied in order it is the delta
-pub read_leads : (p : Place) (n : Node) (s : Stretch) (old new : Snapshot) (actions : List Action) →
-    Pairs (λ a b. a.number < b.number) p.actions × LogHas p n s → IsRead n s.table old new actions → (rows : Rows) →
-    applied actions rows ≡ delta_on p.actions p.commits old new s rows
-read_leads p n s old new actions known read rows =
-    ap (λ list. applied list rows) (one_order actions (picked test p.actions) read.in_order
-    (picked_order test p.actions known.0) (there, back))
+pub read_leads : (p : Place) (n : Node) (s : Stretch) → Pairs (λ a b. a.number < b.number) p.actions → LogHas p n s →
+    (r : Reading n s.table) (rows : Rows) → applied r.actions rows ≡ delta_on p.actions p.commits r.old r.new s rows
+read_leads p n s rising log r rows =
+    ap (λ list. applied list rows) (one_order r.actions (picked test p.actions) r.is.in_order
+    (picked_order test p.actions rising) (there, back))
     ∙ picked_played delta s.table p.actions rows
   where
     delta : Action → Bool
-    delta a = ((sees new a.xid && not (sees old a.xid)) && member a.xid p.commits) && is_within s a
+    delta a = ((sees r.new a.xid && not (sees r.old a.xid)) && member a.xid p.commits) && is_within s a
 
     test : Action → Bool
     test a = delta a && bytes_eq s.table a.table
@@ -174,31 +180,31 @@ read_leads p n s old new actions known read rows =
     same_bytes : (x y : List ℕ) → x ≡ y → bytes_eq x y ≡ true
     same_bytes x y same = subst (λ z. bytes_eq x z ≡ true) same (bytes_itself x)
 
-    there : (a : Action) → IsAmong a actions → IsAmong a (picked test p.actions)
+    there : (a : Action) → IsAmong a r.actions → IsAmong a (picked test p.actions)
     there a among =
-        let from = read.only a among in
-        let one = known.1.only from.0 from.1 from.3.on in
+        let from = r.is.only a among in
+        let one = log.only from.0 from.1 from.3.on in
         let within : is_within s from.0.action ≡ true =
         and_from (nat_le s.first from.0.action.number) (is_before from.0.action.number s.last) one.first
-        (ap (is_before from.0.action.number) known.1.lasts) in
+        (ap (is_before from.0.action.number) log.lasts) in
         subst (λ b. IsAmong b (picked test p.actions)) from.2
         (is_picked test from.0.action p.actions one.among
         (and_from (delta from.0.action) (bytes_eq s.table from.0.action.table)
-        (passes (sees new from.0.action.xid) (sees old from.0.action.xid) (member from.0.action.xid p.commits)
+        (passes (sees r.new from.0.action.xid) (sees r.old from.0.action.xid) (member from.0.action.xid p.commits)
         (is_within s from.0.action) from.3.seen from.3.unseen one.came within)
         (same_bytes s.table from.0.action.table (sym from.3.on))))
 
-    back : (a : Action) → IsAmong a (picked test p.actions) → IsAmong a actions
+    back : (a : Action) → IsAmong a (picked test p.actions) → IsAmong a r.actions
     back a among =
         let is = picked_is test a p.actions among in
         let parts = and_parts (delta a) (bytes_eq s.table a.table) is.1 in
         let told =
-        tested (sees new a.xid) (sees old a.xid) (member a.xid p.commits) (is_within s a) parts.0 in
+        tested (sees r.new a.xid) (sees r.old a.xid) (member a.xid p.commits) (is_within s a) parts.0 in
         let on : a.table ≡ s.table = sym (bytes_same s.table a.table parts.1) in
-        let from = known.1.all a is.0 on told.2 told.3 in
-        subst (λ b. IsAmong b actions) from.2
-        (read.all from.0 from.1 (record {
+        let from = log.all a is.0 on told.2 told.3 in
+        subst (λ b. IsAmong b r.actions) from.2
+        (r.is.all from.0 from.1 (record {
           on = ap (λ (b : Action). b.table) from.2 ∙ on;
-          seen = ap (λ (b : Action). sees new b.xid) from.2 ∙ told.0;
-          unseen = ap (λ (b : Action). sees old b.xid) from.2 ∙ told.1;
+          seen = ap (λ (b : Action). sees r.new b.xid) from.2 ∙ told.0;
+          unseen = ap (λ (b : Action). sees r.old b.xid) from.2 ∙ told.1;
         }))

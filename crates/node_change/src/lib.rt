@@ -16,5 +16,8 @@ pub use confirming::hear;
 pub use founding::found_node;
 pub use joining::join_node;
 pub use listening::{is_known, known, listens};
-pub use lookup::{find_node_row, find_set_row, first_receiver, has_fence, has_path, has_table_row};
+pub use lookup::{
+    find_node_row, find_set_row, first_receiver, has_fence, has_path, has_subscription,
+    has_table_row,
+};
 pub use side::{Failed, Side, sided};

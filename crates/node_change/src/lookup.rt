@@ -8,7 +8,7 @@ ghost use Rattle.store_rows.specs.Rows.{IsId};
 ghost use Rattle.store_rows.specs.Space.{AllOf};
 ghost use Rattle.store_rows.specs.Steps.{Safe, IsOutside, IsWithinLimit, IsOfSpace, Gives, is_failed};
 ghost use Rattle.node_rows.specs.Spellings.{node_bytes, CanNode, set_bytes, CanSet};
-ghost use Rattle.slon_model.specs.Maps.{entry_at};
+ghost use Rattle.slon_model.specs.Maps.{entry_at, pair_at};
 ghost use Rattle.slon_model.specs.Config.{Config, has_path};
 ghost use Rattle.slon_model.specs.Reaching.{receiver_with};
 ghost use Rattle.set_config.specs.Holds.{HoldsConfig, AreIds, pair_key};
@@ -133,6 +133,29 @@ pub fn has_table_row<K: Keeper>(alloc: Global, keeper: &mut K, id: u32) -> Resul
         Gives (λ found. found ≡ is_some (entry_at id c.tables)) result }
 {
     has_row(alloc, keeper, TABLES, &id)
+}
+
+/// Whether the database knows that a node receives a set. The row is not read, only whether there is one.
+///
+/// # Errors
+///
+/// What stopped the store, and `NoMemory`.
+pub fn has_subscription<K: Keeper>(
+    alloc: Global,
+    keeper: &mut K,
+    set: u32,
+    receiver: u32,
+) -> Result<bool, Stop>
+    requires ids { IsId set × IsId receiver }
+    ensures safe { Safe (K.kept keeper.old) (K.kept keeper.new) result }
+    ensures same { OnOk result ((K.kept keeper.new).pending ≡ (K.kept keeper.old).pending) }
+    ensures only { IfErr result IsOutside }
+    ensures found { (m : Store) → sight (K.kept keeper.old) ≡ Some m →
+        IfOk result (λ found. found ≡ is_some (get (m 8) (pair_key (set, receiver)))) }
+    ensures says { (m : Store) (c : Config) → sight (K.kept keeper.old) ≡ Some m → HoldsConfig c m →
+        Gives (λ found. found ≡ is_some (pair_at set receiver c.subscriptions)) result }
+{
+    has_row(alloc, keeper, SUBSCRIPTIONS, &(set, receiver))
 }
 
 /// The receiver of the subscription with this key, if it is one to the set.

@@ -1,5 +1,5 @@
 -- What is promised over every store of work on a database, by how its last call on the store ended.
-use Rattle.std.proofs.Common.{◌≡◌, false, Option, Some, None, Result, Err, refl, sym, ap, subst, ◌∙◌}
+use Rattle.std.proofs.Common.{◌≡◌, ℕ, false, Option, Some, None, Result, Err, refl, sym, ap, subst, ◌∙◌, inl, inr}
 use Rattle.std.proofs.lemmas.Bool.{false≢true}
 use Rattle.slon_base.specs.declared.fault.Halt.{Halt as HaltOf}
 use Rattle.slon_base.specs.declared.fault.Halt.TheVariants.{Fault, Doubt, TooBig, NoMemory}
@@ -7,12 +7,15 @@ use Rattle.slon_model.specs.declared.fault.DbFault.{DbFault}
 use Rattle.slon_model.specs.declared.fault.DbFault.TheVariants.{Halt}
 use Rattle.slon_model.specs.declared.reply.Answered.{Answered}
 use Rattle.slon_model.specs.World.{halt_in}
+use Rattle.store_rows.specs.Steps.{is_stop_failed}
 use Rattle.store_rows.specs.declared.stop.Stop.{Stop}
-use Rattle.app_store.specs.Base.{Base}
-use Rattle.app_store.specs.Parts.{Part, PartCaused}
+use Rattle.store_rows.specs.declared.stop.Stop.TheVariants.{TooBig as StopTooBig}
+use Rattle.app_store.specs.Base.{Base, Memory}
+use Rattle.app_store.specs.Parts.{Part, PartCaused, halt_of}
 use Rattle.app_store.specs.Serves.{NeedsNothing, halts, Caused, Falls, IsBig, NeedsStamp, answered, is_memory, trouble}
-use Rattle.app_store.proofs.Serving.{Ran, Halted, Bursts, Doubted, stop_caused, fault_failure, stop_small, stop_falls}
-use Rattle.node_store.specs.Acting.{Acts, acting}
+use Rattle.app_store.proofs.Serving.{Ran, Bursts, Doubted, stop_caused, fault_failure, stop_falls}
+use Rattle.node_store.specs.Acting.{Acts, IsTooBig, acting}
+use Rattle.node_store.specs.Midways.{IsOfEvent}
 
 -- what work left of a store in which no call failed
 pub record RanWell (old new : Base) : Type 0 where
@@ -51,22 +54,36 @@ acts_memory old new w = record {
   quiet = λ calm. w.ran.sure.quiet refl;
 }
 
--- the store failed before the commit, or a row was not in its form
-pub acts_stop : (old new : Base) (stop : Stop) (fault : DbFault) → Halted acting old new stop fault →
+-- what is told of a stop of which a number that is too big is that of an event
+stop_big : (m : Memory) (stop : Stop) (count : ℕ) → IsOfEvent stop → m.up ≡ false →
+    IsTooBig (halt_in (halt_of stop count)) m
+stop_big m (StopTooBig space) count of down = (inl of, down)
+stop_big m others count of down = tt
+
+-- Work on the store stopped before a commit, and the database is down.
+pub record Stops (old new : Base) (stop : Stop) (fault : DbFault) : Type 0 where
+  pub fault_is : fault ≡ halt_of stop new.kept.faults
+  pub within : IsOfEvent stop
+  pub ran : Ran (is_stop_failed stop) old.kept new.kept
+  pub doubts : new.kept.doubts ≡ old.kept.doubts
+  pub fell : new.memory.up ≡ false
+
+-- the store failed before the commit, a row was not in its form, or a number was too big
+pub acts_stop : (old new : Base) (stop : Stop) (fault : DbFault) → Stops old new stop fault →
     Acts (halt_in fault) old new
 acts_stop old new stop fault h = record {
   tries = record {
     later = h.ran.later;
     caused = subst (λ f. Caused acting old.kept (halt_in f) new.kept) (sym h.fault_is)
-        (stop_caused acting old.kept new.kept stop h.ran.rose h.doubts);
-    sure = λ calm. h.doubts refl;
+        (stop_caused acting old.kept new.kept stop h.ran.rose (λ plain. h.doubts));
+    sure = λ calm. h.doubts;
     still = h.ran.sure.still;
     spends = λ failed. h.ran.sure.spends (sym (fault_failure stop fault new.kept.faults h.fault_is) ∙ failed);
     falls = subst (λ f. Falls (halt_in f) new.memory) (sym h.fault_is)
         (stop_falls new.memory stop new.kept.faults h.fell);
     told = h.ran.sure.told;
-    big = subst (λ f. IsBig NeedsStamp (halt_in f) new.memory) (sym h.fault_is)
-        (stop_small NeedsStamp new.memory stop new.kept.faults h.within);
+    big = subst (λ f. IsTooBig (halt_in f) new.memory) (sym h.fault_is)
+        (stop_big new.memory stop new.kept.faults h.within h.fell);
   };
   quiet = λ calm. h.ran.sure.quiet (sym (fault_failure stop fault new.kept.faults h.fault_is) ∙ calm);
 }
@@ -83,7 +100,7 @@ acts_big old new fault b doubts = subst (λ f. Acts (halt_in f) old new) (sym b.
     spends = λ failed. absurd (false≢true failed);
     falls = b.fell;
     told = b.ran.sure.told;
-    big = (refl, b.needed, b.fell);
+    big = (inr (refl, b.needed), b.fell);
   };
   quiet = λ calm. b.ran.sure.quiet refl;
 })
@@ -134,7 +151,7 @@ acts_part old new result part doubts = record {
     caused (Some Doubt) is = absurd is
     caused (Some others) is = tt
 
-    small : (t : Option HaltOf) → IsBig NeedsNothing t new.memory → IsBig NeedsStamp t new.memory
+    small : (t : Option HaltOf) → IsBig NeedsNothing t new.memory → IsTooBig t new.memory
     small None big = tt
     small (Some (TooBig space)) big = absurd big.1
     small (Some others) big = tt

@@ -12,7 +12,7 @@ use Rattle.slon_base.specs.Keeper.{Kept, Store, put_at}
 use Rattle.slon_base.specs.Codec.{number_bytes, text_bytes}
 use Rattle.store_rows.proofs.Spaces.{any_of}
 use Rattle.slon_model.specs.Names.{find_named}
-use Rattle.slon_model.specs.Deeds.{Node, knowledge, progress}
+use Rattle.slon_model.specs.Deeds.{Node, knowledge}
 use Rattle.slon_model.specs.Membership.{becoming}
 use Rattle.slon_model.specs.Place.{Place, node_id, standing_rows}
 use Rattle.slon_model.specs.Sessions.{committing, in_doubt}
@@ -23,11 +23,10 @@ use Rattle.node_state.proofs.Staying.{node_stays}
 use Rattle.node_change.specs.Becoming.{IsNode}
 use Rattle.slon_model.specs.declared.fault.DbFault.{DbFault}
 use Rattle.slon_model.specs.declared.reply.Answer.TheVariants.{Done}
-use Rattle.slon_model.specs.Moves.{is_last_stamp}
 use Rattle.slon_model.specs.World.{halt_in}
 use Rattle.app_store.specs.Serves.{answered, is_memory, trouble}
 use Rattle.store_rows.specs.declared.stop.Stop.{Stop}
-use Rattle.node_store.specs.Acting.{ActsAs, Stood, Wavered, KeepsNode, WritesNode, joined}
+use Rattle.node_store.specs.Acting.{ActsAs, Stood, Wavered, KeepsNode, WritesNode, excess_at, joined}
 use Rattle.node_store.specs.Finishing.{Becomes, IsHalted}
 use Rattle.node_store.specs.Midways.{Midway}
 use Rattle.app_store.specs.Base.{Base}
@@ -39,10 +38,9 @@ use Rattle.app_store.proofs.Holding.{stored_of, restamped, put_other, never_bare
 use Rattle.app_store.proofs.Standing.{fits_running, opens_same}
 use Rattle.app_store.proofs.Upright.{UpAt, running, IsChanged}
 
--- A new node, which has emitted nothing and whose log is the first one.
-pub record IsNew (n : Node) : Type 0 where
-  pub log : (knowledge n).log ≡ 0
-  pub silent : progress n.id (knowledge n) ≡ 0
+-- a new node, whose log is the first one
+abbrev pub IsNew : Node → Type 0
+IsNew n = (knowledge n).log ≡ 0
 
 -- ---- the meta entries
 
@@ -90,7 +88,7 @@ meta_becomes stamp xids numbers {n} {m} {store} founded new is held = record {
         ∙ sym (ap (option_map (λ v. v)) (ap (meta_at stamp xids numbers (Some n)) (eqb-true key 5 is_five) ∙ at_key 5))
     by_key key false false is_four is_five =
         is.entries (key ∷ []) (other_key key 4 is_four) (other_key key 5 is_five) ∙ held.lookups key tt
-        ∙ ap (option_map (λ v. v)) (sym (same_entry stamp xids numbers n key new.log is_four is_five))
+        ∙ ap (option_map (λ v. v)) (sym (same_entry stamp xids numbers n key new is_four is_five))
 
     other_bytes : (q other : List ℕ) → bytes_eq q other ≡ false → q ≡ other → ⊥
     other_bytes q other differ same = false≢true (sym differ ∙ (bytes_eq-Decides q other).1 same)
@@ -115,10 +113,6 @@ holds_becoming {p} {n} {m} {store} name founded none new is holds = record {
   node_held = node_stays (Some n) store _
       (λ space other. put_other meta stamp_key (number_bytes (p.stamp + 1)) store space refl other) is.held;
   bare = never_bare (p.stamp + 1) (omega arith);
-  paced = λ other same.
-      let equal : n ≡ other = cc in
-      let silent = new.silent in
-      subst (λ (k : Node). progress k.id (knowledge k) ≤ p.stamp + 1) equal (omega (arith, silent));
 }
 
 -- ---- what came of it
@@ -260,7 +254,7 @@ halted_short h memory = absurd (false≢true (sym memory ∙ ap (λ f. is_memory
 
 pub becomes_as : {p : Place} {b mid new : Base} {kept : NodeMemory} (at : UpAt p b) (n : Node) (name : List ℕ)
     (result : Result Bool DbFault) → WroteNode at n kept mid → Becomes kept (b.memory.stamp + 1) mid result new →
-    is_memory (trouble (answered joined result)) ≡ false → is_last_stamp p ≡ false →
+    is_memory (trouble (answered joined result)) ≡ false → excess_at (becoming name n) p ≡ None →
     ActsAs (becoming name n) Done p (answered joined result) new
 becomes_as {new = new} at n name (Ok false) w becomes memory room =
     Stood refl room (node_stands at n name new w becomes)

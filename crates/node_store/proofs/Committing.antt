@@ -1,5 +1,5 @@
 -- A commit in doubt of a database that does something as a node.
-use Rattle.std.proofs.Common.{◌≡◌, ℕ, ◌+◌, ◌≤◌, Bool, true, false, [], ◌∷◌, Option, Some, None, refl, ◌⊎◌, inl, inr}
+use Rattle.std.proofs.Common.{◌≡◌, ℕ, ◌+◌, ◌≤◌, Bool, true, false, List, Option, Some, None, refl, ◌⊎◌, inl, inr}
 use Rattle.std.proofs.Common.{arith}
 use Rattle.std.specs.Option.{option_map, option_or}
 use Rattle.std.proofs.lemmas.Bool.{false≢true}
@@ -59,9 +59,9 @@ commit_wavers {p} {b} {store} {new} at c w =
       )
     ]
 
--- a deed leaves a node its id
-pub same_id : (d : Deed) (own : Option Node) (promised : Option ℕ) →
-    option_or (option_map (λ n. n.id) (option_map (with_deeds (d ∷ [])) own)) promised
+-- deeds leave a node its id
+pub same_id : (ds : List Deed) (own : Option Node) (promised : Option ℕ) →
+    option_or (option_map (λ n. n.id) (option_map (with_deeds ds) own)) promised
     ≡ option_or (option_map (λ n. n.id) own) promised
-same_id d None promised = refl
-same_id d (Some n) promised = refl
+same_id ds None promised = refl
+same_id ds (Some n) promised = refl

@@ -1,5 +1,5 @@
 -- A node that hears confirmations: what its store holds then, and the place that fits.
-use Rattle.std.proofs.Common.{◌≡◌, ℕ, ◌+◌, ◌≤◌, ◌<◌, Bool, true, false, List, [], ◌∷◌, Option, Some, Result, Ok, Err}
+use Rattle.std.proofs.Common.{◌≡◌, ℕ, ◌+◌, ◌<◌, Bool, true, false, List, [], ◌∷◌, Option, Some, Result, Ok, Err}
 use Rattle.std.proofs.Common.{refl, sym, ap, subst}
 use Rattle.std.proofs.Common.{◌∙◌, ◌⊎◌, inl, inr, arith}
 use Rattle.std.specs.Prelude.{OnOk, IfErr}
@@ -12,7 +12,7 @@ use Rattle.store_rows.specs.Steps.{IsOutside}
 use Rattle.store_rows.specs.declared.stop.Stop.{Stop}
 use Rattle.store_rows.proofs.Spaces.{same_space}
 use Rattle.slon_model.specs.Names.{find_named}
-use Rattle.slon_model.specs.Deeds.{Node, Deed, Hears, knowledge, progress, with_deeds}
+use Rattle.slon_model.specs.Deeds.{Node, Deed, Hears, with_deeds}
 use Rattle.slon_model.specs.Place.{Place, deed, standing_rows}
 use Rattle.slon_model.specs.Sessions.{Commit, committing, in_doubt}
 use Rattle.node_state.specs.Held.{HoldsNode}
@@ -62,10 +62,6 @@ holds_heard {p} {m} {store} h founded has holds = record {
       (λ space other. put_other meta stamp_key (number_bytes (p.stamp + 1)) store space refl other)
       (has.held (hears_in h) refl refl));
   bare = never_bare (p.stamp + 1) (omega arith);
-  paced = λ n is.
-      let same : node_after h ≡ n = cc (is, after_is h) in
-      let less = holds.paced h.node h.is in
-      subst (λ (k : Node). progress k.id (knowledge k) ≤ p.stamp + 1) same (omega (arith, less));
 }
 
 -- ---- the memory
@@ -129,7 +125,7 @@ heard_wavers {p} {b} at h store new has left =
     })
   where
     by_stands : (stands : Bool) → IsNamed p new.memory → IsNamed (in_doubt (heard_in h) stands p) new.memory
-    by_stands true named = named ∙ sym (same_id (hears_in h) p.node p.promised)
+    by_stands true named = named ∙ sym (same_id (hears_in h ∷ []) p.node p.promised)
     by_stands false named = named
 
 -- ---- what the code wrote

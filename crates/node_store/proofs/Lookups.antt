@@ -25,7 +25,9 @@ use Rattle.app_store.specs.Serves.{is_memory}
 use Rattle.app_store.proofs.Halting.{stopped}
 use Rattle.app_store.proofs.Standing.{is_down, look_fell, looked}
 use Rattle.app_store.proofs.Upright.{UpAt, is_up}
-use Rattle.node_store.specs.Looking.{OfConfig, live_origin}
+use Rattle.store_rows.specs.Space.{AllOf}
+use Rattle.node_rows.specs.Spellings.{CanSet}
+use Rattle.node_store.specs.Looking.{IsSmall, OfConfig, live_reign, reign_of}
 
 -- nothing is known of the cluster
 abbrev no_config : Config
@@ -95,14 +97,23 @@ look_fits {p} {b} {new} at l =
     subst (λ m. Fits p (record { kept = new.kept; memory = m })) (sym l.memory)
     (looked p b new.kept at.ready.fits l.held l.later)
 
--- ---- the origin of a set
+-- ---- who leads a set
 
-pub origin_some : (row : SetRow) → then_some row.live row.origin ≡ live_origin (Some row)
-origin_some row = by row.live
+pub reign_some : (row : SetRow) → then_some row.live (reign_of row) ≡ live_reign (Some row)
+reign_some row = by row.live
   where
-    by : (b : Bool) → then_some b row.origin ≡ option_map (λ r. r.origin) (cond b (Some row) None)
+    by : (b : Bool) → then_some b (reign_of row) ≡ option_map reign_of (cond b (Some row) None)
     by true = refl
     by false = refl
+
+-- the number of the era of a row can be stored
+pub small_reign : (row : Option SetRow) → AllOf CanSet row → AllOf IsSmall (live_reign row)
+small_reign None can = tt
+small_reign (Some row) can = by row.live
+  where
+    by : (b : Bool) → AllOf IsSmall (option_map reign_of (cond b (Some row) None))
+    by true = can.1
+    by false = tt
 
 -- ---- what is pending
 

@@ -4,7 +4,7 @@ use Rattle.std.proofs.lemmas.Bool.{false≢true}
 use Rattle.std.specs.Prelude.{IfErr}
 use Rattle.slon_base.specs.Keeper.{Kept}
 use Rattle.store_rows.specs.declared.stop.Stop.{Stop}
-use Rattle.store_rows.specs.declared.stop.Stop.TheVariants.{NoMemory}
+use Rattle.store_rows.specs.declared.stop.Stop.TheVariants.{NoMemory, TooBig}
 use Rattle.store_rows.specs.Steps.{Safe, IsOutside, IsWithinLimit, is_stop_failed}
 use Rattle.store_rows.proofs.Causes.{outside_within}
 use Rattle.app_store.specs.declared.transact.Made.{Made}
@@ -14,6 +14,7 @@ use Rattle.node_change.specs.declared.side.Side.TheVariants.{From, To}
 use Rattle.node_change.specs.declared.side.Failed.{Failed}
 use Rattle.node_change.specs.Both.{IsWell, StopsOne as BothStop, stopped}
 use Rattle.node_store.specs.Midways.{Begun, Midway, BreaksOff, Enters, EntersSecond, EntersBoth, StopsOne, StopsBoth}
+use Rattle.node_store.specs.Midways.{IsOfEvent}
 use Rattle.app_store.proofs.Pending.{knows_none, knows_on, knows_safe, rose_later, doubts_since}
 
 pub midway_begun : {old new : Kept} {u : Unit {0}} → Starts old new (Ok u) → Midway old new
@@ -34,6 +35,11 @@ midway_on one two = record {
   opened = two.opened ∙ one.opened;
 }
 
+-- a stop that tells of no number that is too big tells of none but that of an event
+pub within_event : (stop : Stop) → IsWithinLimit stop → IsOfEvent stop
+within_event (TooBig space) within = absurd within
+within_event others within = tt
+
 -- memory ran out before it began
 pub breaks_early : (k : Kept) → BreaksOff NoMemory k k
 breaks_early k = record {
@@ -51,7 +57,7 @@ breaks_start {stop = stop} b = record {
   sure = b.sure;
   later = b.later;
   failed = λ failed. b.rises failed _ (omega arith);
-  within = outside_within stop b.only;
+  within = within_event stop (outside_within stop b.only);
   held = b.held;
   doubts = b.doubts;
 }
@@ -64,7 +70,7 @@ breaks_on {old = old} {new = new} told one two within same = record {
   sure = subst (λ failed. Knows failed old new) (sym same) (knows_on one.sure (knows_safe two));
   later = omega (arith, one.later, two.later);
   failed = λ failed. two.rises (sym same ∙ failed) _ one.later;
-  within = within;
+  within = within_event told within;
   held = two.held ∙ one.held;
   doubts = two.doubts ∙ one.doubts;
 }

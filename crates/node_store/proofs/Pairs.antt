@@ -1,11 +1,10 @@
 -- What is promised over every store of the two databases of a join.
-use Rattle.std.proofs.Common.{◌≡◌, ℕ, true, false, Some, None, Result, Ok, Err, refl, sym, ap, subst, ◌∙◌, arith}
+use Rattle.std.proofs.Common.{◌≡◌, ◌==◌, ℕ, true, false, Some, None, Result, Ok, Err, refl, sym, ap, subst, ◌∙◌, arith}
 use Rattle.std.proofs.lemmas.Bool.{false≢true}
 use Rattle.slon_base.specs.Keeper.{Kept}
 use Rattle.slon_base.specs.declared.fault.Halt.TheVariants.{Doubt}
 use Rattle.slon_model.specs.declared.fault.DbFault.{DbFault}
 use Rattle.slon_model.specs.World.{halt_in}
-use Rattle.store_rows.specs.Steps.{IsWithinLimit}
 use Rattle.store_rows.specs.declared.stop.Stop.{Stop}
 use Rattle.store_rows.specs.declared.stop.Stop.TheVariants.{NoMemory, TooBig as StopTooBig}
 use Rattle.node_change.specs.declared.side.Side.{Side}
@@ -21,7 +20,7 @@ use Rattle.node_store.specs.declared.joining.Fell.{Fell}
 use Rattle.node_store.specs.Acting.{Acts, Tries}
 use Rattle.node_store.specs.Finishing.{IsHalted}
 use Rattle.node_store.specs.Joining.{Pair, Stamps, ActsBoth, EndsBoth, HaltsOne, IsSpared, is_calm_halt}
-use Rattle.node_store.specs.Midways.{Begun, Midway, BreaksOff}
+use Rattle.node_store.specs.Midways.{Begun, Midway, BreaksOff, IsOfEvent}
 use Rattle.node_store.proofs.Acting.{acts_well, acts_stop, acts_doubt}
 use Rattle.node_store.proofs.Midways.{midway_ends}
 
@@ -53,9 +52,9 @@ halted_acts {old} {mid} {new} fault way h =
     let t = midway_ends (Err NoMemory) way h.finishes in
     acts_stop old new NoMemory fault (record {
       fault_is = h.fault_is;
-      within = t.counted.within;
+      within = tt;
       ran = record { later = t.counted.later; rose = t.counted.failed; sure = t.sure };
-      doubts = λ plain. t.doubts;
+      doubts = t.doubts;
       fell = h.down.up;
     })
 
@@ -71,7 +70,7 @@ broken_acts {old} {new} {stop} fault b = acts_stop old new stop fault (record {
   fault_is = b.fault_is;
   within = b.breaks.within;
   ran = record { later = b.breaks.later; rose = b.breaks.failed; sure = b.breaks.sure };
-  doubts = λ plain. b.breaks.doubts;
+  doubts = b.breaks.doubts;
   fell = b.down.up;
 })
 
@@ -93,15 +92,16 @@ begun_way way = record { sure = way.sure; later = way.later; held = way.held; do
 
 -- ---- both
 
--- a stop at a store tells that it failed, that a row is not in its form, or that memory ran out
-loud : (stop : Stop) (count : ℕ) → IsWithinLimit stop → is_calm_halt (halt_in (halt_of stop count)) ≡ false
-loud (StopTooBig space) count within = absurd within
-loud others count within = refl
+-- a stop at a store tells that it failed, that a row is not in its form, that the number of an event is too big, or
+-- that memory ran out
+loud : (stop : Stop) (count : ℕ) → IsOfEvent stop → is_calm_halt (halt_in (halt_of stop count)) ≡ false
+loud (StopTooBig space) count of = ap (λ s. s == 1) of
+loud others count of = refl
 
-pub never_calm : {P : Type 0} {fault : DbFault} (stop : Stop) (count : ℕ) → IsWithinLimit stop →
+pub never_calm : {P : Type 0} {fault : DbFault} (stop : Stop) (count : ℕ) → IsOfEvent stop →
     fault ≡ halt_of stop count → is_calm_halt (halt_in fault) ≡ true → P
-never_calm stop count within is calm =
-    absurd (false≢true (sym (loud stop count within) ∙ sym (ap (λ f. is_calm_halt (halt_in f)) is) ∙ calm))
+never_calm stop count of is calm =
+    absurd (false≢true (sym (loud stop count of) ∙ sym (ap (λ f. is_calm_halt (halt_in f)) is) ∙ calm))
 
 halted_loud : {P : Type 0} {old new : Base} {fault : DbFault} → IsHalted old fault new →
     is_calm_halt (halt_in fault) ≡ true → P

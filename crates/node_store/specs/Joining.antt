@@ -1,6 +1,7 @@
 -- What a step does that commits in two databases: a node emits the event that stores a node, and another database
 -- becomes that node.
-use Rattle.std.specs.Prelude.{◌≡◌, ℕ, ◌+◌, Bool, true, false, List, [], ◌∷◌, Option, Some, None, Result, Ok, Err}
+use Rattle.std.specs.Prelude.{◌≡◌, ℕ, ◌+◌, ◌==◌, if◌then◌else◌, Bool, true, false, List, [], ◌∷◌, Option}
+use Rattle.std.specs.Prelude.{Some, None, Result, Ok, Err}
 use Rattle.std.specs.Prelude.{is_some}
 use Rattle.slon_base.specs.declared.fault.Halt.{Halt as HaltOf}
 use Rattle.slon_base.specs.declared.fault.Halt.TheVariants.{TooBig, Doubt}
@@ -10,12 +11,11 @@ use Rattle.node_rows.specs.declared.body.Body.TheVariants.{StoreNode}
 use Rattle.slon_base.specs.Keeper.{Store, Kept}
 use Rattle.slon_model.specs.Maps.{entry_at}
 use Rattle.slon_model.specs.Snapshots.{Snapshot}
-use Rattle.slon_model.specs.Events.{Event}
-use Rattle.slon_model.specs.Deeds.{Node, Deed, Emits, knowledge, progress, with_deeds}
+use Rattle.slon_model.specs.Deeds.{Node, knowledge, progress, with_deeds}
 use Rattle.slon_model.specs.Place.{Place, fallen, taken}
 use Rattle.slon_model.specs.Moves.{is_last_stamp}
 use Rattle.slon_model.specs.Membership.{becoming, joining}
-use Rattle.slon_model.specs.Sessions.{Commit, Running, committing, in_doubt}
+use Rattle.slon_model.specs.Sessions.{Commit, Running, committing, in_doubt, has_late, tells}
 use Rattle.slon_model.specs.World.{halt_in}
 use Rattle.store_rows.specs.Spending.{Rests}
 use Rattle.node_change.specs.declared.side.Side.{Side}
@@ -23,6 +23,8 @@ use Rattle.node_change.specs.declared.side.Side.TheVariants.{From, To}
 use Rattle.node_change.specs.declared.side.Failed.{Failed}
 use Rattle.node_state.specs.declared.memory.NodeMemory.{NodeMemory}
 use Rattle.store_rows.specs.Steps.{IsOutside}
+use Rattle.store_rows.specs.declared.stop.Stop.{Stop}
+use Rattle.store_rows.specs.declared.stop.Stop.TheVariants.{TooBig as StopTooBig}
 use Rattle.node_state.specs.Known.{Learns}
 use Rattle.app_store.specs.Base.{Base, GoesDown}
 use Rattle.app_store.specs.Steps.{Finishes}
@@ -33,7 +35,7 @@ use Rattle.app_store.specs.Serves.{is_memory}
 use Rattle.node_store.specs.declared.joining.Joined.{Joined}
 use Rattle.node_store.specs.declared.joining.Joined.TheVariants.{Done, EventInDoubt, NodeInDoubt}
 use Rattle.node_store.specs.declared.joining.Fell.{Fell}
-use Rattle.node_store.specs.Acting.{Tries, WritesEvent, WritesNode, next_event, emission}
+use Rattle.node_store.specs.Acting.{Tries, Emitter, WritesEvents, WritesNode, next_event, emission, behind, are_late}
 use Rattle.node_store.specs.Finishing.{Becomes, GivesUp, IsHalted}
 
 -- the database of the event node, and that which becomes a node
@@ -59,10 +61,10 @@ trouble_at From (Ok (number, EventInDoubt)) = Some Doubt
 trouble_at To (Ok (number, NodeInDoubt)) = Some Doubt
 trouble_at side (Ok others) = None
 
--- the stop tells of no failure, and of no row that is not in its form
+-- the stop tells of no failure, of no row that is not in its form, and of no number of an event
 abbrev pub is_calm_halt : Option HaltOf → Bool
 is_calm_halt None = true
-is_calm_halt (Some (TooBig space)) = true
+is_calm_halt (Some (TooBig space)) = space == 1
 is_calm_halt others = false
 
 abbrev pub is_done : Joined → Bool
@@ -100,15 +102,11 @@ pub record FitBoth (p q : Place) (new : Pair) : Type 0 where
   pub from : Fits p new.from
   pub to : Fits q new.to
 
--- both stamps are within the limit
-pub record HaveRoom (both : Both) : Type 0 where
-  pub from : is_last_stamp both.from ≡ false
-  pub to : is_last_stamp both.to ≡ false
-
--- the stamp of one of them would be too big, and that of the one before it not
-abbrev pub IsFull : Side → Both → Type 0
-IsFull From both = is_last_stamp both.from ≡ true
-IsFull To both = (is_last_stamp both.from ≡ false) × (is_last_stamp both.to ≡ true)
+-- which of them would store a number above the limit, and in which space: the stamps are looked at first
+abbrev pub excess_both : Both → Option (Side × ℕ)
+excess_both both =
+    if is_last_stamp both.from then Some (From, 1)
+    else (if is_last_stamp both.to then Some (To, 1) else (if has_late both.event.deeds then Some (From, 10) else None))
 
 -- one of them is felled, and the other stays
 abbrev pub FellOne : Side → Both → Pair → Type 0
@@ -121,17 +119,17 @@ BrokeOne From both fault new = FellTo both.from both.from fault new.from × Fits
 BrokeOne To both fault new = Fits both.from new.from × FellTo both.to both.to fault new.to
 
 -- What came of them: both stand; or the first is in doubt, and the second not made; or the second is in doubt; or a
--- stamp would be too big; or the store of one failed, and neither stands.
+-- number would be too big; or the store of one failed, and neither stands.
 pub data JoinsAs (both : Both) (number : ℕ) (result : Result (ℕ × Joined) Fell) (new : Pair) : Type 0 where
-  BothStood : result ≡ Ok (number, Done) → HaveRoom both →
+  BothStood : result ≡ Ok (number, Done) → excess_both both ≡ None →
       FitBoth (committing both.event both.from) (committing both.becomes both.to) new → JoinsAs both number result new
-  FirstWavered : (stands : Bool) → result ≡ Ok (number, EventInDoubt) → HaveRoom both →
+  FirstWavered : (stands : Bool) → result ≡ Ok (number, EventInDoubt) → excess_both both ≡ None →
       FitBoth (in_doubt both.event stands both.from) both.to new → JoinsAs both number result new
-  SecondWavered : (stands : Bool) → result ≡ Ok (number, NodeInDoubt) → HaveRoom both →
+  SecondWavered : (stands : Bool) → result ≡ Ok (number, NodeInDoubt) → excess_both both ≡ None →
       FitBoth (committing both.event both.from) (in_doubt both.becomes stands both.to) new →
       JoinsAs both number result new
-  OneBurst : (side : Side) → result ≡ Err (record { side = side; fault = Halt (TooBig 1) }) → IsFull side both →
-      FellOne side both new → JoinsAs both number result new
+  OneBurst : (side : Side) (space : ℕ) → result ≡ Err (record { side = side; fault = Halt (TooBig space) }) →
+      excess_both both ≡ Some (side, space) → FellOne side both new → JoinsAs both number result new
   OneBroke : (side : Side) (fault : DbFault) → result ≡ Err (record { side = side; fault = fault }) →
       BrokeOne side both fault new → JoinsAs both number result new
 
@@ -154,7 +152,7 @@ pub record Stage : Type 0 where
 
 abbrev pub both_of : Joiner → Stage → Both
 both_of j s =
-    let event = emission s.from_name [] s.from s.node (StoreNode j.id j.comment) in
+    let event = emission s.from_name s.from s.node (tells (StoreNode j.id j.comment) ∷ []) in
     record {
       from = s.from;
       to = s.to;
@@ -185,12 +183,6 @@ Joins j old result new =
 
 -- ---- in the stores
 
--- the event node, what its store holds, and its event by the number
-pub record Emitter : Type 0 where
-  pub node : Node
-  pub held : Store
-  pub event : ℕ → Event
-
 -- the new node, the script, and what its store holds
 pub record Newcomer : Type 0 where
   pub id : ℕ
@@ -202,13 +194,17 @@ pub record Stamps : Type 0 where
   pub from : ℕ
   pub to : ℕ
 
--- what is pending in both stores; or there was no memory, or a store failed
+-- a number of the event node would be too big; or there was no memory, or the store failed
+abbrev pub StopsEvent : Emitter → Side → Stop → Type 0
+StopsEvent e From (StopTooBig space) = (space ≡ 10) × (are_late e.place e.node e.parts ≡ true)
+StopsEvent e side stop = IsOutside stop
+
+-- what is pending in both stores, or why one of them stopped
 abbrev pub WritesBoth : Emitter → Newcomer → Stamps → Result (ℕ × NodeMemory) Failed → Kept → Kept → Type 0
 WritesBoth e new stamps (Ok found) from to =
-    WritesEvent e.node e.held e.event stamps.from (Ok found.0) from
-    × ((d : Deed) → d.doing ≡ Emits (e.event found.0) → d.logs ≡ [] →
-    WritesNode (joining new.id (with_deeds (d ∷ []) e.node) new.run) new.held stamps.to (Ok found.1) to)
-WritesBoth e new stamps (Err f) from to = IsOutside f.stop
+    WritesEvents e stamps.from (Ok found.0) from
+    × WritesNode (joining new.id (behind e.place e.node e.parts) new.run) new.held stamps.to (Ok found.1) to
+WritesBoth e new stamps (Err f) from to = StopsEvent e f.side f.stop
 
 -- ---- the end of both transactions
 

@@ -3,7 +3,8 @@ use Rattle.std.specs.Prelude.{◌≡◌, ◌≤◌, true, false, Result, Ok, Err
 use Rattle.slon_base.specs.Counts.{Rose}
 use Rattle.slon_base.specs.Keeper.{Kept}
 use Rattle.store_rows.specs.declared.stop.Stop.{Stop}
-use Rattle.store_rows.specs.Steps.{IsWithinLimit, is_stop_failed}
+use Rattle.store_rows.specs.declared.stop.Stop.TheVariants.{TooBig}
+use Rattle.store_rows.specs.Steps.{is_stop_failed}
 use Rattle.node_change.specs.declared.side.Side.{Side}
 use Rattle.node_change.specs.declared.side.Side.TheVariants.{From, To}
 use Rattle.node_change.specs.declared.side.Failed.{Failed}
@@ -25,12 +26,22 @@ pub record Begun (old new : Kept) : Type 0 where
   pub held : new.held ≡ old.held
   pub doubts : new.doubts ≡ old.doubts
 
+-- a number that is too big is that of an event
+abbrev pub IsOfEvent : Stop → Type 0
+IsOfEvent (TooBig space) = space ≡ 10
+IsOfEvent others = Unit {0}
+
+-- a stop, of which a number that is too big is told so
+abbrev pub of_event : Stop → Stop
+of_event (TooBig space) = TooBig 10
+of_event others = others
+
 -- it stopped before its commit
 pub record BreaksOff (stop : Stop) (old new : Kept) : Type 0 where
   pub sure : Knows (is_stop_failed stop) old new
   pub later : old.faults ≤ new.faults
   pub failed : is_stop_failed stop ≡ true → Rose old.faults new.faults
-  pub within : IsWithinLimit stop
+  pub within : IsOfEvent stop
   pub held : new.held ≡ old.held
   pub doubts : new.doubts ≡ old.doubts
 

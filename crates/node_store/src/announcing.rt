@@ -1,6 +1,7 @@
 // Events that a database emits as a node.
-ghost use Rattle.std.specs.Prelude.{◌≡◌, ◌+◌, ◌<◌, ◌^◌, Some, true, is_some, IfOk};
+ghost use Rattle.std.specs.Prelude.{◌≡◌, ◌+◌, ◌<◌, ◌^◌, Some, true, is_some, length, IfOk, OnOk};
 ghost use Rattle.std.specs.Option.{option_map};
+ghost use Rattle.slon_base.specs.Codec.{AllAre};
 ghost use Rattle.node_rows.specs.Spellings.{CanBody};
 ghost use Rattle.slon_model.specs.Place.{Place, is_running, taken};
 ghost use Rattle.txn_core.specs.Snapshots.{seen_as};
@@ -9,14 +10,15 @@ ghost use Rattle.event_store.specs.Spellings.{CanSnapshot};
 ghost use Rattle.app_store.specs.Base.{base_of};
 ghost use Rattle.app_store.specs.Fits.{Ready};
 ghost use Rattle.app_store.specs.Serves.{answered, trouble};
-ghost use Rattle.node_store.specs.Acting.{Acts, Announces, AnnouncesAt, emitted, own_id};
+ghost use Rattle.node_store.specs.Acting.{Acts, Announces, AnnouncesAt, HasLearned, emitted, own_id};
 
-use crate::writing::write_event;
+use crate::writing::write_events;
 use app_store::{Database, DbFault, Made, Snapshot, fall, finish, overflow};
 use node_keeper::Keeper;
 use node_rows::Body;
+use node_state::NodeMemory;
 use slon_base::STORED_LIMIT;
-use std::alloc::AllocError;
+use std::alloc::{AllocError, Global};
 
 /// The greatest number of running transactions that a snapshot can list in a store.
 const MOST_RUNNING: usize = 4_294_967_295;
@@ -39,20 +41,24 @@ pub(crate) fn stored_snapshot<K: Keeper>(database: &Database<K>) -> Result<Snaps
     Err(AllocError)
 }
 
-/// The node emits an event with this body and makes the change that it names, in one transaction. Answers the number of
-/// the event, and whether the commit is in doubt.
+/// The node emits events with these bodies, one after the other, and makes the changes that they name, in one
+/// transaction. Answers the number of the last one, and whether the commit is in doubt.
 ///
 /// # Errors
 ///
 /// `TooBig`, and what stopped the store.
-pub fn announce<K: Keeper>(database: &mut Database<K>, body: &Body) -> Result<(u64, bool), DbFault>
+pub fn announce<K: Keeper>(
+    database: &mut Database<K>,
+    bodies: &[Body],
+) -> Result<(u64, bool), DbFault>
     requires up { database.old.state.up ≡ true }
     requires node { is_some database.old.state.node.identity ≡ true }
-    requires can { CanBody body.now }
-    requires keeps { KeepsViews body.now }
+    requires can { AllAre CanBody bodies.now }
+    requires keeps { AllAre KeepsViews bodies.now }
+    requires some { 0 < length bodies.now }
     ensures acts { Acts (trouble (answered (emitted (own_id database.old.state.node.identity)) result))
         (base_of K.kept database.old) (base_of K.kept database.new) }
-    ensures announces { Announces body.now (base_of K.kept database.old)
+    ensures announces { Announces bodies.now (base_of K.kept database.old)
         (answered (emitted (own_id database.old.state.node.identity)) result) (base_of K.kept database.new) }
 {
     match database.node_id() {
@@ -62,36 +68,49 @@ pub fn announce<K: Keeper>(database: &mut Database<K>, body: &Body) -> Result<(u
                 return Err(overflow(database.alloc, &mut database.state));
             }
             let taken = stored_snapshot(database)?;
-            emit(database, own, &taken, body)
+            emit(database, own, &taken, bodies)
         }
     }
 }
 
-/// The same, with its snapshot, as the node of this id.
+/// Keeps what events with these bodies, which the node emitted, change of the tables of its sets.
+fn learn_each(alloc: Global, node: &mut NodeMemory, bodies: &[Body]) -> Result<(), AllocError>
+    requires { AllAre CanBody bodies.now }
+    ensures learned { OnOk result (HasLearned bodies.now node.old.members node.new.members) }
+    ensures identity { node.new.identity ≡ node.old.identity }
+{
+    for body in bodies {
+        node.learn(alloc, body)?;
+    }
+    Ok(())
+}
+
+/// The same, with their snapshot, as the node of this id.
 fn emit<K: Keeper>(
     database: &mut Database<K>,
     own: u32,
     taken: &Snapshot,
-    body: &Body,
+    bodies: &[Body],
 ) -> Result<(u64, bool), DbFault>
     requires up { database.old.state.up ≡ true }
     requires own { option_map (λ i. i.id) database.old.state.node.identity ≡ Some own }
-    requires can { CanSnapshot (seen_as taken.now) × CanBody body.now }
-    requires keeps { KeepsViews body.now }
+    requires can { CanSnapshot (seen_as taken.now) × AllAre CanBody bodies.now }
+    requires keeps { AllAre KeepsViews bodies.now }
+    requires some { 0 < length bodies.now }
     requires room { database.old.state.stamp + 1 < 2 ^ 63 }
     ensures acts { Acts (trouble (answered (emitted own) result)) (base_of K.kept database.old)
         (base_of K.kept database.new) }
-    ensures announces { AnnouncesAt (seen_as taken.now) body.now (base_of K.kept database.old)
+    ensures announces { AnnouncesAt (seen_as taken.now) bodies.now (base_of K.kept database.old)
         (answered (emitted own) result) (base_of K.kept database.new) }
 {
     let alloc = database.alloc;
     let stamp = database.state.stamp + 1;
-    match write_event(alloc, &mut database.keeper, own, taken, body, stamp) {
+    match write_events(alloc, &mut database.keeper, own, taken, bodies, stamp) {
         Ok(number) => match finish(&mut database.keeper) {
             Ok(made) => match made {
                 Made::Done => {
                     database.state.stamp = stamp;
-                    database.state.node.learn(alloc, body)?;
+                    learn_each(alloc, &mut database.state.node, bodies)?;
                     Ok((number, false))
                 }
                 Made::InDoubt => {

@@ -18,8 +18,8 @@ pub use founding::found;
 pub use hearing::hear;
 pub use joining::{Fell, Joined, join};
 pub use looking::{
-    first_receiver, has_table, is_dropped, knows_node, knows_path, knows_set, knows_table,
-    names_table, set_origin, writer,
+    Reign, first_receiver, has_table, is_dropped, knows_live, knows_node, knows_path,
+    knows_receiver, knows_set, knows_table, names_table, set_reign, writer,
 };
 pub use node_change::Side;
 pub use polling::news_among;

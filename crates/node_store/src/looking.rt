@@ -1,12 +1,14 @@
 // What statements look up at a database that is a node.
-ghost use Rattle.std.specs.Prelude.{◌≡◌, is_some, true, [], ◌∷◌};
+ghost use Rattle.std.specs.Prelude.{◌≡◌, is_some, true, [], ◌∷◌, IfOk};
 ghost use Rattle.std.specs.List.{list_any};
 ghost use Rattle.std.specs.Option.{option_map};
 ghost use Rattle.std.specs.Str.{bytes_eq};
 ghost use Rattle.slon_base.specs.Codec.{IsText};
 ghost use Rattle.store_rows.specs.Rows.{IsId};
+ghost use Rattle.store_rows.specs.Space.{AllOf};
+ghost use Rattle.slon_model.specs.Config as config;
 ghost use Rattle.slon_model.specs.Config.{has_path, set_row};
-ghost use Rattle.slon_model.specs.Maps.{entry_at};
+ghost use Rattle.slon_model.specs.Maps.{entry_at, pair_at};
 ghost use Rattle.slon_model.specs.Membership as membership;
 ghost use Rattle.slon_model.specs.Names.{find_named};
 ghost use Rattle.slon_model.specs.Reaching.{receiver_with};
@@ -15,10 +17,12 @@ ghost use Rattle.app_store.specs.Base.{base_of};
 ghost use Rattle.app_store.specs.Parts.{Looks, Remembers};
 ghost use Rattle.app_store.specs.Serves.{halts};
 ghost use Rattle.node_store.specs.Acting.{Acts};
-ghost use Rattle.node_store.specs.Looking.{OfConfig, live_origin};
+ghost use Rattle.node_store.specs.Looking.{IsSmall, OfConfig, live_reign, reign_of};
 
 use app_store::{Database, DbFault, fall};
-use node_change::{find_node_row, find_set_row, has_path, has_table_row};
+use node_change::{
+    find_node_row, find_set_row, has_path, has_subscription, has_table_row, is_known,
+};
 use node_keeper::Keeper;
 use node_rows::{NodeRow, SetRow};
 use slon_base::Text;
@@ -113,31 +117,89 @@ pub fn knows_set<K: Keeper>(database: &mut Database<K>, id: u32) -> Result<bool,
     }
 }
 
-/// The origin in the row of a set, if the set is live.
-fn origin_in(row: &Option<SetRow>) -> Option<u32>
-    ensures { result ≡ live_origin row.now }
+/// Who leads a set, and in which era.
+#[derive(Clone, Copy, Debug, PartialEq, Eq)]
+pub struct Reign {
+    /// The origin of the set.
+    pub origin: u32,
+    /// The number of the era, which is 1 for the first one.
+    pub era: u64,
+}
+
+/// Who leads the set of a row, if the set is live.
+fn reign_in(row: &Option<SetRow>) -> Option<Reign>
+    ensures { result ≡ live_reign row.now }
 {
     match row {
         None => None,
-        Some(row) => row.live.then_some(row.origin),
+        Some(row) => {
+            let reign = Reign {
+                origin: row.origin,
+                era: row.era,
+            };
+            row.live.then_some(reign)
+        }
     }
 }
 
-/// The origin of a set, if the node knows that the set is live.
+/// Who leads a set, if the node knows that the set is live.
 ///
 /// # Errors
 ///
 /// What stopped the store; the database is down then.
-pub fn set_origin<K: Keeper>(database: &mut Database<K>, set: u32) -> Result<Option<u32>, DbFault>
+pub fn set_reign<K: Keeper>(database: &mut Database<K>, set: u32) -> Result<Option<Reign>, DbFault>
     requires up { database.old.state.up ≡ true }
     requires id { IsId set }
     ensures acts { Acts (halts result) (base_of K.kept database.old) (base_of K.kept database.new) }
-    ensures looks { Looks (OfConfig (λ c found. found ≡ option_map (λ row. row.origin) (set_row set c)))
+    ensures small { IfOk result (AllOf IsSmall) }
+    ensures looks { Looks (OfConfig (λ c found. found ≡ option_map reign_of (set_row set c)))
         (base_of K.kept database.old) result (base_of K.kept database.new) }
     ensures same { Remembers (base_of K.kept database.old) result (base_of K.kept database.new) }
 {
     match find_set_row(database.alloc, &mut database.keeper, set) {
-        Ok(row) => Ok(origin_in(&row)),
+        Ok(row) => Ok(reign_in(&row)),
+        Err(stop) => Err(fall(database.alloc, &mut database.state, &database.keeper, stop)),
+    }
+}
+
+/// Whether the node knows that a node is live, and knows no fence against it.
+///
+/// # Errors
+///
+/// What stopped the store; the database is down then.
+pub fn knows_live<K: Keeper>(database: &mut Database<K>, id: u32) -> Result<bool, DbFault>
+    requires up { database.old.state.up ≡ true }
+    requires id { IsId id }
+    ensures acts { Acts (halts result) (base_of K.kept database.old) (base_of K.kept database.new) }
+    ensures looks { Looks (OfConfig (λ c found. found ≡ config.is_known id c))
+        (base_of K.kept database.old) result (base_of K.kept database.new) }
+    ensures same { Remembers (base_of K.kept database.old) result (base_of K.kept database.new) }
+{
+    match is_known(database.alloc, &mut database.keeper, id) {
+        Ok(found) => Ok(found),
+        Err(stop) => Err(fall(database.alloc, &mut database.state, &database.keeper, stop)),
+    }
+}
+
+/// Whether the node knows that a node receives a set.
+///
+/// # Errors
+///
+/// What stopped the store; the database is down then.
+pub fn knows_receiver<K: Keeper>(
+    database: &mut Database<K>,
+    set: u32,
+    receiver: u32,
+) -> Result<bool, DbFault>
+    requires up { database.old.state.up ≡ true }
+    requires ids { IsId set × IsId receiver }
+    ensures acts { Acts (halts result) (base_of K.kept database.old) (base_of K.kept database.new) }
+    ensures looks { Looks (OfConfig (λ c found. found ≡ is_some (pair_at set receiver c.subscriptions)))
+        (base_of K.kept database.old) result (base_of K.kept database.new) }
+    ensures same { Remembers (base_of K.kept database.old) result (base_of K.kept database.new) }
+{
+    match has_subscription(database.alloc, &mut database.keeper, set, receiver) {
+        Ok(found) => Ok(found),
         Err(stop) => Err(fall(database.alloc, &mut database.state, &database.keeper, stop)),
     }
 }

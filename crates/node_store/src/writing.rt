@@ -1,5 +1,6 @@
 // What a node does in its store: it begins, and emits events.
-ghost use Rattle.std.specs.Prelude.{◌≡◌, ◌<◌, ◌^◌, Some, None, true, false, is_some, OnOk, IfErr, List, map, ℕ};
+ghost use Rattle.std.specs.Prelude.{◌≡◌, ◌<◌, ◌^◌, Some, None, true, false, is_some, OnOk, IfErr};
+ghost use Rattle.std.specs.Prelude.{List, [], ◌∷◌, map, ℕ};
 ghost use Rattle.slon_base.specs.Codec.{AllAre, IsText};
 ghost use Rattle.event_store.specs.Telling.{IsOfOther, named};
 ghost use Rattle.slon_model.specs.Membership.{first_of_cluster, joining as joining_node};
@@ -7,25 +8,21 @@ ghost use Rattle.slon_model.specs.Sessions.{Running};
 ghost use Rattle.slon_base.specs.Keeper.{Store, sight};
 ghost use Rattle.node_rows.specs.Spellings.{CanBody};
 ghost use Rattle.store_rows.specs.Rows.{IsId};
-ghost use Rattle.store_rows.specs.Steps.{Safe, IsOutside, IsWithinLimit, is_stop_failed};
+ghost use Rattle.store_rows.specs.Steps.{Safe, IsWithinLimit};
 ghost use Rattle.txn_core.specs.Snapshots.{seen_as};
 ghost use Rattle.node_rows.specs.declared.body.Body.TheVariants.{StoreNode};
 ghost use Rattle.node_change.specs.Becoming.{IsNode};
 ghost use Rattle.slon_model.specs.Maps.{entry_at};
 ghost use Rattle.slon_model.specs.Deeds.{Node, knowledge};
 ghost use Rattle.event_store.specs.Keeping.{KeepsViews};
-ghost use Rattle.event_store.specs.Emitting.{next_number};
-ghost use Rattle.event_store.specs.Seen.{event_by};
 ghost use Rattle.event_store.specs.Spellings.{CanSnapshot};
-ghost use Rattle.event_store.specs.Streams.{streams_of};
 ghost use Rattle.node_state.specs.Held.{HoldsNode};
-ghost use Rattle.node_store.specs.Acting.{WritesEvent, WritesHeard, WritesNode, KeepsNode};
+ghost use Rattle.node_store.specs.Acting.{Emitter, IsTold, EmitsEach, WritesEvents, WritesHeard, WritesNode, KeepsNode};
 ghost use Rattle.node_change.specs.Both.{stopped};
-ghost use Rattle.node_state.specs.Known.{IsHomed};
-ghost use Rattle.node_store.specs.Midways.{Enters, EntersSecond, EntersBoth};
+ghost use Rattle.node_store.specs.Midways.{Enters, EntersSecond, EntersBoth, of_event};
 ghost use Rattle.node_store.specs.Joining.{WritesBoth};
 
-use crate::layout::{CONFIRMATIONS, META, STAMP};
+use crate::layout::{EVENTS, META, STAMP};
 use app_store::begin;
 use event_store::Confirmation;
 use node_change::{Failed, Side, announce, found_node, hear, join_node, sided};
@@ -33,47 +30,66 @@ use node_rows::Body;
 use node_state::{NodeMemory, find_node};
 use slon_base::{Keeper, Text};
 use std::alloc::Global;
+use std::array;
 use store_rows::{Stop, put_pair, spelling};
 use txn_core::Snapshot;
 
-/// Why an event was not emitted. That no number is left for it, while one is for the stamp, says that the row of how
-/// far the node is is not in its form.
+/// Why events were not emitted: a number that is too big is that of an event.
 fn unemitted(stop: Stop) -> Stop
-    ensures within { IsWithinLimit result }
-    ensures failed { is_stop_failed result ≡ is_stop_failed stop }
-    ensures outside { IsOutside stop → IsOutside result }
+    ensures told { result ≡ of_event stop }
 {
     match stop {
-        Stop::TooBig { .. } => Stop::BadRow {
-            space: CONFIRMATIONS,
-        },
+        Stop::TooBig { .. } => Stop::TooBig { space: EVENTS },
         other => other,
     }
 }
 
-/// Begins a transaction, and has the node emit an event with this body and make the change that it names, with the
-/// stamp of the transaction.
-pub(crate) fn write_event<K: Keeper>(
+/// Has a node emit events with these bodies, one after the other, and make the changes that they name, in what is
+/// pending. Answers the number of the last one.
+fn emit_each<K: Keeper>(
     alloc: Global,
     keeper: &mut K,
     own: u32,
     taken: &Snapshot,
-    body: &Body,
+    bodies: &[Body],
+) -> Result<u64, Stop>
+    requires opened { is_some (K.kept keeper.old).pending ≡ true }
+    requires own { IsId own }
+    requires can { CanSnapshot (seen_as taken.now) × AllAre CanBody bodies.now }
+    requires keeps { AllAre KeepsViews bodies.now }
+    ensures safe { Safe (K.kept keeper.old) (K.kept keeper.new) result }
+    ensures emits { (e : Emitter) → IsTold own (seen_as taken.now) bodies.now e →
+        (K.kept keeper.old).pending ≡ Some (Some e.held) → EmitsEach e result (K.kept keeper.new) }
+{
+    let mut last = 0;
+    for body in bodies {
+        last = announce(alloc, keeper, own, taken, body)?;
+    }
+    Ok(last)
+}
+
+/// Begins a transaction, and has a node emit events with these bodies and make the changes that they name, with the
+/// stamp of the transaction. Answers the number of the last one.
+pub(crate) fn write_events<K: Keeper>(
+    alloc: Global,
+    keeper: &mut K,
+    own: u32,
+    taken: &Snapshot,
+    bodies: &[Body],
     stamp: u64,
 ) -> Result<u64, Stop>
     requires idle { is_some (K.kept keeper.old).pending ≡ false }
     requires own { IsId own }
-    requires can { CanSnapshot (seen_as taken.now) × CanBody body.now }
-    requires keeps { KeepsViews body.now }
+    requires can { CanSnapshot (seen_as taken.now) × AllAre CanBody bodies.now }
+    requires keeps { AllAre KeepsViews bodies.now }
     requires room { stamp < 2 ^ 63 }
     ensures enters { Enters (K.kept keeper.old) (K.kept keeper.new) result }
-    ensures writes { (n : Node) (m : Store) → n.id ≡ own → (K.kept keeper.old).held ≡ Some m → HoldsNode (Some n) m →
-        IsHomed body.now (knowledge n).config → next_number (streams_of n) < 2 ^ 63 →
-        WritesEvent n m (λ number. event_by own number taken.now body.now) stamp result (K.kept keeper.new) }
+    ensures writes { (e : Emitter) → IsTold own (seen_as taken.now) bodies.now e →
+        (K.kept keeper.old).held ≡ Some e.held → WritesEvents e stamp result (K.kept keeper.new) }
 {
     let stamp = spelling(alloc, &stamp)?;
     begin(keeper)?;
-    match announce(alloc, keeper, own, taken, body) {
+    match emit_each(alloc, keeper, own, taken, bodies) {
         Ok(number) => {
             put_pair(keeper, META, &STAMP, stamp.as_slice())?;
             Ok(number)
@@ -177,22 +193,17 @@ pub(crate) fn write_both<K: Keeper>(
     requires keeps { KeepsViews body.now }
     requires room { (joining.event_stamp < 2 ^ 63) × (joining.node_stamp < 2 ^ 63) }
     ensures enters { EntersBoth (K.kept from.old) (K.kept from.new) (K.kept to.old) (K.kept to.new) result }
-    ensures writes { (n : Node) (run : Running) (m t : Store) (comment : List ℕ) → n.id ≡ joining.entry.own →
-        run.cluster ≡ joining.entry.cluster.now → body.now ≡ StoreNode joining.entry.new comment →
-        (K.kept from.old).held ≡ Some m → HoldsNode (Some n) m →
-        IsHomed body.now (knowledge n).config → next_number (streams_of n) < 2 ^ 63 →
+    ensures writes { (e : Emitter) (run : Running) (t : Store) (comment : List ℕ) →
+        IsTold joining.entry.own (seen_as taken.now) (body.now ∷ []) e → run.cluster ≡ joining.entry.cluster.now →
+        body.now ≡ StoreNode joining.entry.new comment → (K.kept from.old).held ≡ Some e.held →
         (K.kept to.old).held ≡ Some t → HoldsNode None t →
-        WritesBoth (record {
-          node = n;
-          held = m;
-          event = λ number. event_by joining.entry.own number taken.now body.now;
-        })
-        (record { id = joining.entry.new; run = run; held = t }) (record {
+        WritesBoth e (record { id = joining.entry.new; run = run; held = t }) (record {
           from = joining.entry.event_stamp;
           to = joining.entry.node_stamp;
         }) result (K.kept from.new) (K.kept to.new) }
 {
-    match write_event(alloc, from, joining.own, taken, body, joining.event_stamp) {
+    let bodies = array::from_ref(body);
+    match write_events(alloc, from, joining.own, taken, bodies, joining.event_stamp) {
         Err(stop) => Err(Failed {
             side: Side::From,
             stop,

@@ -1,23 +1,19 @@
 // Rows of a log, applied to the rows of the tables of a store, and tables that are copied.
-ghost use Rattle.std.specs.Prelude.{◌≡◌, ◌<◌, ◌^◌, is_some, false, IfOk, OnOk};
-ghost use Rattle.change_capture.specs.Spellings.{CanLogRow};
+ghost use Rattle.std.specs.Prelude.{◌≡◌, ◌<◌, ◌^◌, is_some, false, OnOk};
 
+use crate::stored_nodes::{LOG, log_row, row_of};
 use change_apply::{apply_rows, replace_table, table_rows};
-use change_capture::LogRow;
-use log_switch::{append, between_from};
+use log_switch::between_from;
 use node_keeper::{Fuse, Keeper, MemKeeper};
 use slon_base::{Text, TextList};
 use std::alloc::Global;
 use std::test::Fail;
-use store_rows::{Stop, read_alone, scan_rows};
+use store_rows::{Stop, scan_rows};
 use test_words::{expect, require};
 use txn_core::Snapshot;
 
 /// The space of the rows of tables.
 const ROWS: u8 = 3;
-
-/// The space of the first log.
-const LOG: u8 = 15;
 
 /// Rows of the log of transaction 7 on table 2, which is `public.t`, each with its number, and what the table holds
 /// after it.
@@ -57,26 +53,6 @@ const LOGGED: &[(u32, &[u8], &str)] = &[
 /// A row of the log that is that of no action: its command deletes, and it names no key.
 const OF_NO_ACTION: &[u8] =
     b"\0\0\0\0\0\0\0\x07\0\0\0\0\0\0\0\x02\0\0\0\x06public\0\0\0\x01tD\0\0\0\0\0\0\0\0\0\0\0\0";
-
-/// The row of the log that these bytes are.
-fn row_of(alloc: Global, bytes: &[u8]) -> Result<LogRow, Stop>
-    ensures { IfOk result CanLogRow }
-{
-    read_alone(alloc, LOG, bytes)
-}
-
-/// The store logs a row of node 1.
-fn log_row<K: Keeper>(alloc: Global, keeper: &mut K, number: u64, bytes: &[u8]) -> Result<(), Fail>
-    requires idle { is_some (K.kept keeper.old).pending ≡ false }
-    requires small { number < 2 ^ 63 }
-    ensures { OnOk result (is_some (K.kept keeper.new).pending ≡ false) }
-{
-    let rows = [(number, row_of(alloc, bytes)?)];
-    keeper.begin()?;
-    append(alloc, keeper, 1, &rows)?;
-    keeper.commit()?;
-    Ok(())
-}
 
 /// The key and the value of each row of the tables of the store.
 fn tell_rows<K: Keeper>(alloc: Global, keeper: &mut K) -> Result<String, Fail>

@@ -1,12 +1,13 @@
 // A database that becomes a further node of a cluster, and what statements look up at a node.
-ghost use Rattle.std.specs.Prelude.{◌≡◌, true, false, is_some, OnOk};
+ghost use Rattle.std.specs.Prelude.{◌≡◌, true, is_some, OnOk};
+ghost use Rattle.store_rows.specs.Rows.{IsId};
 
 use crate::nodes::{configure, create, found, obey_line, rise, status};
 use app_store::{Database, Fuse};
 use node_keeper::MemKeeper;
 use node_store::{
-    Fell, Joined, first_receiver, has_table, is_dropped, join, knows_node, knows_path, knows_set,
-    knows_table, names_table, set_origin, writer,
+    Fell, Joined, Reign, first_receiver, has_table, is_dropped, join, knows_node, knows_path,
+    knows_set, knows_table, names_table, set_reign, writer,
 };
 use slon_base::Text;
 use std::alloc::Global;
@@ -163,27 +164,44 @@ fn nodes_join_over_failing_stores(rt: HostRuntime) -> Result<(), Fail> {
     Ok(())
 }
 
+/// Whether the first node knows the node of this id, as one that is not dropped.
+fn expect_node(node: &mut Database<MemKeeper>, id: u32, known: bool) -> Result<(), Fail>
+    requires { IsId id }
+{
+    require_up(node)?;
+    require(knows_node(node, id) == Ok(known), "a node")?;
+    require_up(node)?;
+    require(is_dropped(node, id) == Ok(false), "a dropped node")
+}
+
+/// Which node the first one knows as the origin of the set of this id, which no node receives.
+fn expect_set(node: &mut Database<MemKeeper>, id: u32, reign: Option<Reign>) -> Result<(), Fail>
+    requires { IsId id }
+{
+    require_up(node)?;
+    require(
+        knows_set(node, id) == Ok(reign.is_some()),
+        "whether there is the set",
+    )?;
+    require_up(node)?;
+    require(set_reign(node, id) == Ok(reign), "who leads the set")?;
+    require_up(node)?;
+    require(first_receiver(node, id) == Ok(None), "a receiver")
+}
+
 /// What the first node knows of its cluster.
 fn expect_knowledge(alloc: Global, node: &mut Database<MemKeeper>) -> Result<(), Fail> {
-    for (id, known) in [(1u32, true), (2, true), (3, false)] {
-        require_up(node)?;
-        require(knows_node(node, id) == Ok(known), "a node")?;
-        require_up(node)?;
-        require(is_dropped(node, id) == Ok(false), "a dropped node")?;
-        require_up(node)?;
-        require(knows_set(node, id) == Ok(id == 1), "a set")?;
-        require_up(node)?;
-        let origin = if id == 1 { Some(1) } else { None };
-        require(set_origin(node, id) == Ok(origin), "an origin")?;
-        require_up(node)?;
-        require(first_receiver(node, id) == Ok(None), "a receiver")?;
-    }
+    expect_node(node, 1, true)?;
+    expect_node(node, 2, true)?;
+    expect_node(node, 3, false)?;
+    expect_set(node, 1, Some(Reign { origin: 1, era: 1 }))?;
+    expect_set(node, 2, None)?;
     require_up(node)?;
     require(knows_path(node, 1, 2) == Ok(false), "a path")?;
-    for (id, known) in [(7u32, true), (1, false)] {
-        require_up(node)?;
-        require(knows_table(node, id) == Ok(known), "a table of a set")?;
-    }
+    require_up(node)?;
+    require(knows_table(node, 7) == Ok(true), "a table of a set")?;
+    require_up(node)?;
+    require(knows_table(node, 1) == Ok(false), "no table of a set")?;
     expect_tables(alloc, node)
 }
 

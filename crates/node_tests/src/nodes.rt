@@ -11,6 +11,7 @@ use session_text::{print_reply, read_command};
 use slon_base::Text;
 use slon_model::{Answered, Reply};
 use std::alloc::Global;
+use std::array;
 use std::test::Fail;
 use test_words::{expect, require};
 
@@ -69,7 +70,7 @@ pub(crate) fn emit(
     if !database.is_up() || database.node_id().is_none() {
         return Err(Fail::new("no node that is up"));
     }
-    Ok(announce(database, body))
+    Ok(announce(database, array::from_ref(body)))
 }
 
 /// A second node.

@@ -15,7 +15,7 @@ use test_words::{expect, require};
 use txn_core::Snapshot;
 
 /// The space of the first log.
-const LOG: u8 = 15;
+pub(crate) const LOG: u8 = 15;
 
 /// Two rows of the log of transaction 7 on table 2.
 const LOGGED: &[(u64, &[u8], &[u8])] = &[
@@ -83,14 +83,19 @@ fn new_nodes_know_what_they_are_given(rt: HostRuntime) -> Result<(), Fail> {
 }
 
 /// The row of the log that these bytes are.
-fn row_of(alloc: Global, bytes: &[u8]) -> Result<LogRow, Stop>
+pub(crate) fn row_of(alloc: Global, bytes: &[u8]) -> Result<LogRow, Stop>
     ensures { IfOk result CanLogRow }
 {
     read_alone(alloc, LOG, bytes)
 }
 
 /// The first node logs a row.
-fn log_row<K: Keeper>(alloc: Global, keeper: &mut K, number: u64, bytes: &[u8]) -> Result<(), Fail>
+pub(crate) fn log_row<K: Keeper>(
+    alloc: Global,
+    keeper: &mut K,
+    number: u64,
+    bytes: &[u8],
+) -> Result<(), Fail>
     requires idle { is_some (K.kept keeper.old).pending ≡ false }
     requires small { number < 2 ^ 63 }
     ensures { OnOk result (is_some (K.kept keeper.new).pending ≡ false) }

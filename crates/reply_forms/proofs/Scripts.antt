@@ -23,8 +23,8 @@ use Rattle.slon_model.specs.Tasks.{Act, ToRead, ToStep, ToForget, ToStart, ToSto
 use Rattle.slon_model.specs.Config.{is_known}
 use Rattle.slon_model.specs.Deeds.{Node}
 use Rattle.slon_model.specs.Place.{Place, is_running, node_id}
-use Rattle.slon_model.specs.Sessions.{World, Memory, Running, Stated, Outcome, Seat, seat_of, first_beyond, no_change}
-use Rattle.slon_model.specs.Sessions.{bind, when}
+use Rattle.slon_model.specs.Sessions.{World, Memory, Running, Stated, Outcome, Excess, Seat, seat_of, excess_of}
+use Rattle.slon_model.specs.Sessions.{no_change, bind, when}
 use Rattle.slon_model.specs.Scripts.{Stepping, ending, done_by, single, order_step, statement_step, step_todo, step_of}
 use Rattle.slon_model.specs.Scripts.{ordered, quiet, read_as, kill_of}
 use Rattle.slon_model.specs.Turns.{is_id, at_node, switched, switched_at, is_cut, with_cuts, seat_at, on_turn}
@@ -77,7 +77,7 @@ record Steps (s : Stepping) (w : World) : Type 0 where
   lines : AreNodeLines s.run.lines
   rest : AreStatements s.rest
 
-done_ends : (s : Stepping) (w : World) (stated : Stated) (o : Option (List ℕ)) → Steps s w → StatedReads stated →
+done_ends : (s : Stepping) (w : World) (stated : Stated) (o : Option Excess) → Steps s w → StatedReads stated →
     Ends (done_by s w stated o)
 done_ends s w stated None steps reads =
     record {
@@ -85,7 +85,7 @@ done_ends s w stated None steps reads =
       commits = reads.1;
       scripts = ((steps.lines, steps.rest), without_running s.name w.memory.scripts steps.known.scripts);
     }
-done_ends s w stated (Some name) steps reads =
+done_ends s w stated (Some e) steps reads =
     record {
       reply = tt;
       commits = tt;
@@ -96,7 +96,7 @@ single_ends : (s : Stepping) (w : World) (r : Result Stated Refusal) → Steps s
     Ends (single s w r)
 single_ends s w (Err refusal) steps reads = ended s.name w (Refused refusal) steps.known reads
 single_ends s w (Ok stated) steps reads =
-    done_ends s w stated (first_beyond stated.commits w.places) steps reads
+    done_ends s w stated (excess_of stated.commits w.places) steps reads
 
 order_ends : (s : Stepping) (w : World) (o : Order) → Steps s w → IsOrder o → Ends (order_step s w o)
 order_ends s w (order.Echo text) steps line = single_ends s w (Ok (quiet (Echoed text))) steps (line, tt)
@@ -195,12 +195,12 @@ turn_reads node w known =
 
 turned_ends : (w : World) (m : Memory) (stated : Stated) → m.scripts ≡ w.memory.scripts → Known w →
     StatedReads stated → Ends (turned w m stated)
-turned_ends w m stated same known reads = by (first_beyond stated.commits w.places)
+turned_ends w m stated same known reads = by (excess_of stated.commits w.places)
   where
-    by : (o : Option (List ℕ)) → Ends (turned_by w m stated o)
+    by : (o : Option Excess) → Ends (turned_by w m stated o)
     by None =
         record { reply = reads.0; commits = reads.1; scripts = subst AreRunning (sym same) known.scripts }
-    by (Some name) = record { reply = tt; commits = tt; scripts = known.scripts }
+    by (Some e) = record { reply = tt; commits = tt; scripts = known.scripts }
 
 turn_ends : (w : World) (m : Memory) (due : Result Stated Refusal) → m.scripts ≡ w.memory.scripts → Known w →
     Gives StatedReads due → Ends (turn_by w m due)

@@ -18,12 +18,14 @@ use Rattle.slon_model.specs.Sessions.{World, Running, Commit, Stated, Seat, bind
 use Rattle.slon_model.specs.Sessions.{unless_refused, checked, seat_of, writer_of}
 use Rattle.slon_model.specs.Reaching.{database_in, database_up, database_by, database_of_line, is_node_of, reach}
 use Rattle.slon_model.specs.Reaching.{nodes_of, down_among, any_down, known_somewhere, origin_checks, origin_of}
-use Rattle.slon_model.specs.Reaching.{receiver_with}
+use Rattle.slon_model.specs.Reaching.{receiver_with, best_of, found_owner, owner}
 use Rattle.slon_model.specs.Membership.{comment_of, already, first_node, stored_by, init_cluster, store_node}
 use Rattle.slon_model.specs.Membership.{is_dropped, store_path, drop_path, sync_node}
 use Rattle.slon_model.specs.Sets.{create_set, NewTable, set_add_table}
+use Rattle.slon_model.specs.Subscribing.{NewFeed, subscribing, feed_checks, subscribe_set}
 use Rattle.slon_model.specs.Scripts.{first_word, ordered}
-use Rattle.slon_model.proofs.Names.{bytes_same}
+use Rattle.slon_model.proofs.Names.{all_map, bytes_same}
+use Rattle.slon_laws.proofs.Owners.{OnSome, OfNode, owner_is}
 use Rattle.reply_forms.proofs.Words.{AnswerReads, RefusalReads}
 use Rattle.reply_forms.proofs.Conninfo.{IsLineIn, database_line}
 
@@ -168,6 +170,15 @@ origin_gives run origin set w runs =
     bind_gives IsSeat IsSeat (reach run origin w) _ (reach_gives run origin w runs) (λ s named.
     checked_gives IsSeat (origin_checks s set) s (when_tells _ _ tt, (when_tells _ _ tt, tt)) named)
 
+owner_gives : (run : Running) (set : ℕ) (w : World) → Runs run w → Gives IsSeat (owner run set w)
+owner_gives run set w runs =
+    by (best_of set run None w.places)
+    (owner_is IsSeat set run w (all_map IsOne (OfNode IsSeat) (λ e named n is. named) w.places runs.named))
+  where
+    by : (best : Option Seat) → OnSome IsSeat best → Gives IsSeat (found_owner set best)
+    by None named = tt
+    by (Some s) named = named
+
 -- ---- statements
 
 -- the databases of commits have names
@@ -237,6 +248,12 @@ table_gives origin t run w line runs =
     (receives, (when_tells _ _ line, (any_tells w runs.named, (when_tells _ _ tt, (when_tells _ _ line, (busy, tt))))))
     (tt, (named, tt)))
 
+feed_gives : (f : NewFeed) (run : Running) (w : World) → Runs run w → Gives StatedReads (subscribe_set f run w)
+feed_gives f run w runs =
+    bind_gives IsSeat StatedReads (owner run f.set_id w) _ (owner_gives run f.set_id w runs) (λ s named.
+    checked_gives StatedReads (feed_checks s f) _
+    (when_tells _ _ tt, (when_tells _ _ tt, (when_tells _ _ tt, (when_tells _ _ refl, tt)))) (tt, (named, tt)))
+
 sync_gives : (id : ℕ) (run : Running) (w : World) → Runs run w → Gives StatedReads (sync_node id run w)
 sync_gives id run w runs =
     bind_gives IsSeat StatedReads (reach run id w) _ (reach_gives run id w runs) (λ s named. (tt, (named, tt)))
@@ -257,5 +274,7 @@ ordered_gives (order.DropPath server client) run w texts runs = drop_gives serve
 ordered_gives (order.CreateSet id origin comment) run w texts runs = set_gives id origin comment run w runs
 ordered_gives (order.SetAddTable set origin id name key comment) run w texts runs =
     table_gives origin (record { set_id = set; id = id; name = name; comment = comment_of comment }) run w texts runs
+ordered_gives (order.SubscribeSet set provider receiver forward) run w texts runs =
+    feed_gives (subscribing set provider receiver forward) run w runs
 ordered_gives (order.Sync id) run w texts runs = sync_gives id run w runs
 ordered_gives others run w texts runs = word_line others

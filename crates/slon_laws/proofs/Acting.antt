@@ -19,7 +19,8 @@ use Rattle.slon_model.specs.Moves.{is_last_stamp}
 use Rattle.slon_model.specs.Deciding.{Fate, AllStand, Breaks, DoubtsAt}
 use Rattle.slon_model.specs.Sessions.{World, Memory, Running, Commit, Stated, committing, in_doubt, stood_at}
 use Rattle.slon_model.specs.Sessions.{stood}
-use Rattle.slon_model.specs.Sessions.{felled, felled_at, beyond_at, first_beyond, no_change}
+use Rattle.slon_model.specs.Sessions.{felled, felled_at, beyond_at, first_beyond, first_late, no_change, Excess}
+use Rattle.slon_model.specs.Sessions.{excess_by, excess_of}
 use Rattle.slon_model.specs.Scripts.{Stepping, done_by, single, order_step, statement_step, step_todo, step_of, read_as}
 use Rattle.slon_model.specs.Scripts.{ordered, kill_of}
 use Rattle.slon_model.specs.Turns.{at_node, switched_at, turned, turned_by, turn_by, sync_turn}
@@ -34,14 +35,19 @@ use Rattle.slon_laws.specs.Turning.{Commits, Falls, Doubts, Carries, HoldsAt, Al
 abbrev AreWithin : List Commit → Named Place → Type 0
 AreWithin cs ps = first_beyond cs ps ≡ None
 
-done_within : (s : Stepping) (w : World) (stated : Stated) (o : Option (List ℕ)) →
-    first_beyond stated.commits w.places ≡ o → AreWithin (done_by s w stated o).commits w.places
-done_within s w stated None is = is
-done_within s w stated (Some name) is = refl
+-- where nothing is too big, no stamp is
+stamps_within : (beyond late : Option (List ℕ)) → excess_by beyond late ≡ None → beyond ≡ None
+stamps_within None late none = refl
+stamps_within (Some name) late none = absurd cc
+
+done_within : (s : Stepping) (w : World) (stated : Stated) (o : Option Excess) →
+    excess_of stated.commits w.places ≡ o → AreWithin (done_by s w stated o).commits w.places
+done_within s w stated None is = stamps_within (first_beyond stated.commits w.places) (first_late stated.commits) is
+done_within s w stated (Some e) is = refl
 
 single_within : (s : Stepping) (w : World) (r : Result Stated Refusal) → AreWithin (single s w r).commits w.places
 single_within s w (Err refusal) = refl
-single_within s w (Ok stated) = done_within s w stated (first_beyond stated.commits w.places) refl
+single_within s w (Ok stated) = done_within s w stated (excess_of stated.commits w.places) refl
 
 order_within : (s : Stepping) (w : World) (o : Order) → AreWithin (order_step s w o).commits w.places
 order_within s w (order.Echo text) = refl
@@ -75,12 +81,12 @@ switched_within node m None w = refl
 switched_within node m (Some e) w = refl
 
 turned_within : (w : World) (m : Memory) (stated : Stated) → AreWithin (turned w m stated).commits w.places
-turned_within w m stated = by (first_beyond stated.commits w.places) refl
+turned_within w m stated = by (excess_of stated.commits w.places) refl
   where
-    by : (o : Option (List ℕ)) → first_beyond stated.commits w.places ≡ o →
+    by : (o : Option Excess) → excess_of stated.commits w.places ≡ o →
         AreWithin (turned_by w m stated o).commits w.places
-    by None is = is
-    by (Some name) is = refl
+    by None is = stamps_within (first_beyond stated.commits w.places) (first_late stated.commits) is
+    by (Some e) is = refl
 
 turn_within : (w : World) (m : Memory) (due : Result Stated Refusal) → AreWithin (turn_by w m due).commits w.places
 turn_within w m (Err refusal) = refl

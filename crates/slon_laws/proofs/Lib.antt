@@ -10,6 +10,7 @@ pub mod Laws
 pub mod Locks
 pub mod Memories
 pub mod Opens
+pub mod Owners
 pub mod Played
 pub mod Sounds
 pub mod Spells

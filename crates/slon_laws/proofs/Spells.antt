@@ -223,9 +223,15 @@ keeps_spelled = record {
           spelled_done task move p formed may s.0 s.1,
         );
     falls =
-        λ count p s. (keeps_sound.tasks.falls count p s.0, spelled_same p _ (refl, refl, omega arith, refl, refl, refl) s.1);
+        λ count p s. (
+          keeps_sound.tasks.falls count p s.0,
+          spelled_same p _ (refl, refl, omega arith, refl, refl, refl) s.1,
+        );
     wavers =
-        λ stands p s. (keeps_sound.tasks.wavers stands p s.0, spelled_same p _ (refl, refl, omega arith, refl, refl, refl) s.1);
+        λ stands p s. (
+          keeps_sound.tasks.wavers stands p s.0,
+          spelled_same p _ (refl, refl, omega arith, refl, refl, refl) s.1,
+        );
   };
   commits = λ c p within s. (
     keeps_sound.commits c p within s.0,

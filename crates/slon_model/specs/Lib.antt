@@ -20,6 +20,7 @@ pub mod Sessions
 pub mod Sets
 pub mod Snapshots
 pub mod Spoken
+pub mod Subscribing
 pub mod Tasks
 pub mod Turns
 pub mod Views

@@ -1,7 +1,8 @@
 -- Polls: a node asks a server for the events and the confirmations that it lacks. What the server has of them is
 -- delivered, once or twice, or lost on the way.
 use Rattle.std.specs.Prelude.{ℕ, ◌==◌, ◌&&◌, ◌||◌, if◌then◌else◌, not, nat_lt, max, Bool, true, false, List, [], ◌∷◌}
-use Rattle.std.specs.Prelude.{◌++◌, filter, flat_map, length, map, reverse, Option, Some, None, Result, Ok, Err, unwrap_or}
+use Rattle.std.specs.Prelude.{◌++◌, filter, flat_map, length, map, reverse, Option, Some, None, unwrap_or, Result}
+use Rattle.std.specs.Prelude.{Ok, Err}
 use Rattle.slon_model.specs.declared.command.Delivery.{Delivery}
 use Rattle.slon_model.specs.declared.command.Delivery.TheVariants.{Once, Lost, Again}
 use Rattle.slon_model.specs.declared.reply.Answer.TheVariants.{Heard, LostOnTheWay}

@@ -1,7 +1,7 @@
 -- How a script reaches a node: by its NODE line, the name of a database in it, and what that database is.
-use Rattle.std.specs.Prelude.{ℕ, suc, ◌==◌, ◌&&◌, ◌||◌, if◌then◌else◌, not, is_some, is_none, Bool, List, [], ◌∷◌}
-use Rattle.std.specs.Prelude.{length, filter, find, filter_map, take, drop, codes, Option, Some, None, option_map}
-use Rattle.std.specs.Prelude.{unwrap_or, Result, Ok, Err}
+use Rattle.std.specs.Prelude.{ℕ, suc, ◌==◌, ◌&&◌, ◌||◌, if◌then◌else◌, not, is_some, is_none, Bool, true, List, [], ◌∷◌}
+use Rattle.std.specs.Prelude.{length, filter, find, filter_map, nat_lt, take, drop, codes, Option, Some, None}
+use Rattle.std.specs.Prelude.{option_map, unwrap_or, Result, Ok, Err}
 use Rattle.std.specs.Str.{bytes_eq}
 use Rattle.std.specs.Option.{option_or}
 use Rattle.std.specs.List.{slice_split, list_any}
@@ -11,11 +11,11 @@ use Rattle.slon_model.specs.declared.reply.Refusal.TheVariants as refused
 use Rattle.slon_model.specs.Names.{Named, find_named}
 use Rattle.slon_model.specs.Maps.{entry_at}
 use Rattle.node_rows.specs.declared.rows.Subscription.{Subscription}
-use Rattle.slon_model.specs.Config.{Config, set_row, is_origin, receivers}
-use Rattle.slon_model.specs.Deeds.{Knowledge, knowledge}
+use Rattle.slon_model.specs.Config.{Config, set_row, is_origin, era_of, receivers}
+use Rattle.slon_model.specs.Deeds.{Node, Knowledge, knowledge}
 use Rattle.slon_model.specs.Place.{Place, is_running, node_id}
-use Rattle.slon_model.specs.Sessions.{World, Running, Seat, Stated, Commit, Emission, bind, when, checked, seat_of}
-use Rattle.slon_model.specs.Sessions.{emissions, next_event}
+use Rattle.slon_model.specs.Sessions.{World, Running, Seat, Stated, Commit, Emission, bind, when, checked, seat}
+use Rattle.slon_model.specs.Sessions.{seat_of, emissions, next_event}
 
 -- ---- conninfo
 
@@ -98,6 +98,54 @@ origin_checks s set =
 
 abbrev pub origin_of : Running → ℕ → ℕ → World → Result Seat Refusal
 origin_of run origin set w = bind (reach run origin w) (λ s. checked (origin_checks s set) s)
+
+-- ---- the owner of a set
+
+-- some NODE line names this database
+abbrev pub is_on_line : Running → List ℕ → Bool
+is_on_line run name = list_any (λ line. bytes_eq name (database_in line.1)) run.lines
+
+-- a database that is up and a node
+abbrev pub seat_at_place : List ℕ → Place → Option Node → Option Seat
+seat_at_place name p None = None
+seat_at_place name p (Some n) = if is_running p.standing then Some (seat name p n) else None
+
+-- of the NODE lines
+abbrev pub seat_on_line : Running → List ℕ × Place → Option Seat
+seat_on_line run e = if is_on_line run e.0 then seat_at_place e.0 e.1 e.1.node else None
+
+-- its node says that it is the origin of the set, in this era
+abbrev pub claims : ℕ → Seat → Bool
+claims set s = is_origin s.node.id set s.known.config
+
+abbrev pub era_at : ℕ → Seat → ℕ
+era_at set s = era_of set s.known.config
+
+-- the greater era counts, and then the lower id
+abbrev pub is_better : ℕ → Seat → Seat → Bool
+is_better set a b =
+    nat_lt (era_at set b) (era_at set a) || (era_at set a == era_at set b && nat_lt a.node.id b.node.id)
+
+abbrev pub beats : ℕ → Seat → Option Seat → Bool
+beats set s None = true
+beats set s (Some b) = is_better set s b
+
+-- the best of these and of one that was found
+abbrev pub better : ℕ → Option Seat → Option Seat → Option Seat
+better set best None = best
+better set best (Some s) = if claims set s && beats set s best then Some s else best
+
+abbrev pub best_of : ℕ → Running → Option Seat → Named Place → Option Seat
+best_of set run best [] = best
+best_of set run best (e ∷ es) = best_of set run (better set best (seat_on_line run e)) es
+
+-- the owner of a set: 47 where there is none
+abbrev pub found_owner : ℕ → Option Seat → Result Seat Refusal
+found_owner set None = Err (refused.NoSet set)
+found_owner set (Some s) = Ok s
+
+abbrev pub owner : Running → ℕ → World → Result Seat Refusal
+owner run set w = found_owner set (best_of set run None w.places)
 
 -- ---- what several statements ask
 

@@ -18,9 +18,10 @@ use Rattle.slon_model.specs.Names.{find_named, without}
 use Rattle.slon_model.specs.Maps.{Map, with_entry, number_at}
 use Rattle.slon_model.specs.Events.{Event}
 use Rattle.slon_model.specs.Deeds.{Deed, emitted_by}
-use Rattle.slon_model.specs.Sessions.{World, Memory, Running, Commit, Stated, Outcome, no_change, first_beyond}
+use Rattle.slon_model.specs.Sessions.{World, Memory, Running, Commit, Stated, Outcome, Excess, no_change, excess_of}
 use Rattle.slon_model.specs.Membership.{comment_of, init_cluster, store_node, store_path, drop_path, sync_node}
 use Rattle.slon_model.specs.Sets.{create_set, set_add_table}
+use Rattle.slon_model.specs.Subscribing.{subscribing, subscribe_set}
 
 -- ---- one statement
 
@@ -28,7 +29,6 @@ use Rattle.slon_model.specs.Sets.{create_set, set_add_table}
 abbrev pub first_word : Order → List ℕ
 first_word (order.DropNode id event_node) = codes "drop"
 first_word (order.DropSet id origin) = codes "drop"
-first_word (order.SubscribeSet set provider receiver forward) = codes "subscribe"
 first_word (order.UnsubscribeSet set receiver) = codes "unsubscribe"
 first_word (order.LockSet id origin) = codes "lock"
 first_word (order.UnlockSet id origin) = codes "unlock"
@@ -46,6 +46,7 @@ ordered (order.DropPath server client) = drop_path server client
 ordered (order.CreateSet id origin comment) = create_set id origin comment
 ordered (order.SetAddTable set origin id name key comment) =
     set_add_table origin (record { set_id = set; id = id; name = name; comment = comment_of comment })
+ordered (order.SubscribeSet set provider receiver forward) = subscribe_set (subscribing set provider receiver forward)
 ordered (order.Sync id) = sync_node id
 ordered others = λ run w. Err (refused.NotBuilt (first_word others))
 
@@ -87,9 +88,8 @@ ending name w reply = record { reply = reply; commits = []; falls = None; memory
 
 -- ---- a step
 
--- A statement is done, or a number would be too big, which ends the script too. Event numbers are no greater than
--- stamps, so they are not looked at.
-abbrev pub done_by : Stepping → World → Stated → Option (List ℕ) → Outcome
+-- A statement is done, or a number would be too big, which ends the script too.
+abbrev pub done_by : Stepping → World → Stated → Option Excess → Outcome
 done_by s w stated None =
     record {
       reply = Accepted stated.answer;
@@ -97,13 +97,18 @@ done_by s w stated None =
       falls = None;
       memory = going_on s stated.commits w.memory;
     }
-done_by s w stated others =
-    record { reply = Refused (refused.TooBig 1); commits = []; falls = others; memory = without_script s.name w.memory }
+done_by s w stated (Some e) =
+    record {
+      reply = Refused (refused.TooBig e.space);
+      commits = [];
+      falls = Some e.name;
+      memory = without_script s.name w.memory;
+    }
 
 -- a refusal ends the script
 abbrev pub single : Stepping → World → Result Stated Refusal → Outcome
 single s w (Err refusal) = ending s.name w (Refused refusal)
-single s w (Ok stated) = done_by s w stated (first_beyond stated.commits w.places)
+single s w (Ok stated) = done_by s w stated (excess_of stated.commits w.places)
 
 -- without commits
 abbrev pub quiet : Answer → Stated

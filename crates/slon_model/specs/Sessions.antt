@@ -1,6 +1,6 @@
 -- What the rules know of a whole session, which commits a step makes in it, and what they leave.
-use Rattle.std.specs.Prelude.{ℕ, ◌+◌, ◌==◌, ◌&&◌, if◌then◌else◌, not, Bool, true, false, List, [], ◌∷◌, ◌++◌, find}
-use Rattle.std.specs.Prelude.{Option, Some, None, option_map, Result, Ok, Err}
+use Rattle.std.specs.Prelude.{ℕ, ◌+◌, ◌==◌, ◌&&◌, if◌then◌else◌, not, nat_le, Bool, true, false, List, [], ◌∷◌, ◌++◌}
+use Rattle.std.specs.Prelude.{find, Option, Some, None, option_map, Result, Ok, Err}
 use Rattle.std.specs.Option.{option_or}
 use Rattle.std.specs.List.{list_any}
 use Rattle.slonik_script.specs.declared.script.Statement.{Statement}
@@ -14,10 +14,10 @@ use Rattle.node_rows.specs.declared.rows.Fence.{Fence}
 use Rattle.node_rows.specs.declared.body.Body.{Body}
 use Rattle.slon_model.specs.Events.{Event}
 use Rattle.slon_model.specs.Views.{View}
-use Rattle.slon_model.specs.Deeds.{Node, Deed, Emits, Knowledge, knowledge, with_deeds, progress}
+use Rattle.slon_model.specs.Deeds.{Node, Deed, Emits, Knowledge, knowledge, with_deeds, progress, emitted_by}
 use Rattle.slon_model.specs.Logs.{named}
 use Rattle.slon_model.specs.Place.{Place, is_running, fallen, doubted, deed, open_xids, taken}
-use Rattle.slon_model.specs.Moves.{is_last_stamp}
+use Rattle.slon_model.specs.Moves.{is_last_stamp, stored_limit}
 
 -- What a node read for its next event of an origin: of each set the view that stood then and how many rows there were,
 -- or the view that was copied; and the fence that stood then.
@@ -166,6 +166,32 @@ first_beyond [] ps = None
 first_beyond (c ∷ cs) ps =
     let found = find_named c.name ps in
     beyond_at c found (first_beyond cs (stood_at c found ps))
+
+-- the first of them with an event whose number would be
+abbrev pub is_late : Option Event → Bool
+is_late None = false
+is_late (Some e) = nat_le stored_limit e.number
+
+abbrev pub has_late : List Deed → Bool
+has_late ds = list_any (λ d. is_late (emitted_by d.doing)) ds
+
+abbrev pub first_late : List Commit → Option (List ℕ)
+first_late [] = None
+first_late (c ∷ cs) = if has_late c.deeds then Some c.name else first_late cs
+
+-- A number above the limit would be stored: the database that goes down for it, and the space of the number.
+pub record Excess : Type 0 where
+  pub name : List ℕ
+  pub space : ℕ
+
+abbrev pub excess_by : Option (List ℕ) → Option (List ℕ) → Option Excess
+excess_by (Some name) late = Some (record { name = name; space = 1 })
+excess_by None (Some name) = Some (record { name = name; space = 10 })
+excess_by None None = None
+
+-- of commits in this order; all stamps are looked at before the numbers of events
+abbrev pub excess_of : List Commit → Named Place → Option Excess
+excess_of cs ps = excess_by (first_beyond cs ps) (first_late cs)
 
 -- ---- refusals in order
 

@@ -13,8 +13,8 @@ use Rattle.slon_model.specs.Snapshots.{Snapshot}
 use Rattle.slon_model.specs.Events.{Event, last_sync}
 use Rattle.slon_model.specs.Deeds.{held, progress}
 use Rattle.slon_model.specs.Place.{Place, is_running, node_id, taken}
-use Rattle.slon_model.specs.Sessions.{World, Memory, Stated, Outcome, Seat, no_change, forgotten, bind, when}
-use Rattle.slon_model.specs.Sessions.{checked, seat_of, first_beyond}
+use Rattle.slon_model.specs.Sessions.{World, Memory, Stated, Outcome, Excess, Seat, no_change, forgotten, bind, when}
+use Rattle.slon_model.specs.Sessions.{checked, seat_of, excess_of}
 use Rattle.slon_model.specs.Membership.{synced}
 
 abbrev pub is_id : ℕ → Option ℕ → Bool
@@ -103,14 +103,14 @@ on_turn node w =
     (λ s. checked (when (not (member node w.memory.started)) (refused.Off node) ∷ []) s)
 
 -- it is done, with this in memory; or a number would be too big
-abbrev pub turned_by : World → Memory → Stated → Option (List ℕ) → Outcome
+abbrev pub turned_by : World → Memory → Stated → Option Excess → Outcome
 turned_by w m stated None =
     record { reply = Accepted stated.answer; commits = stated.commits; falls = None; memory = m }
-turned_by w m stated others =
-    record { reply = Refused (refused.TooBig 1); commits = []; falls = others; memory = w.memory }
+turned_by w m stated (Some e) =
+    record { reply = Refused (refused.TooBig e.space); commits = []; falls = Some e.name; memory = w.memory }
 
 abbrev pub turned : World → Memory → Stated → Outcome
-turned w m stated = turned_by w m stated (first_beyond stated.commits w.places)
+turned w m stated = turned_by w m stated (excess_of stated.commits w.places)
 
 -- what a turn comes to that leaves this in memory: it is refused, or done
 abbrev pub turn_by : World → Memory → Result Stated Refusal → Outcome

@@ -18,6 +18,8 @@ mod sessions;
 #[cfg(test)]
 mod stores;
 #[cfg(test)]
+mod subscriptions;
+#[cfg(test)]
 mod system;
 #[cfg(test)]
 mod wanted;

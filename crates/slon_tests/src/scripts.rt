@@ -8,7 +8,7 @@ use std::test::Fail;
 use test_words::{expect, keeping, require};
 
 /// The databases, with their tables.
-const DATABASES: &[Step] = &[
+pub const DATABASES: &[Step] = &[
     ("database a", "ok"),
     ("database b", "ok"),
     ("database c", "ok"),
@@ -222,7 +222,8 @@ const SYNCED: &[Step] = &[
     ("sync 1", "no 60 nothing"),
     ("sync 2", "ok event 2 2"),
     (
-        "slonik t <<\ncluster name = demo;\nnode 1 admin conninfo = 'dbname=a';\ncreate set (id = 2, origin = 1);\nsync (id = 1);\nsync (id = 2);\n>>",
+        "slonik t <<\ncluster name = demo;\nnode 1 admin conninfo = 'dbname=a';\n\
+         create set (id = 2, origin = 1);\nsync (id = 1);\nsync (id = 2);\n>>",
         "ok statements 3",
     ),
     ("step t", "ok event 1 6"),

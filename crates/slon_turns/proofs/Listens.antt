@@ -159,16 +159,16 @@ acts_as : {c : Commit} {p : Place} {new : Base} (events confirms : ℕ) (result 
     ActsAs c (Heard events confirms) p (answered (heard_as events confirms) result) new
 acts_as events confirms (Ok false) (Stood is last fits) = Stood refl last fits
 acts_as events confirms (Ok false) (Wavered stands is last fits) = absurd cc
-acts_as events confirms (Ok false) (Burst is last fits) = absurd cc
+acts_as events confirms (Ok false) (Burst space is last fits) = absurd cc
 acts_as events confirms (Ok false) (Broke fault is last fell) = absurd cc
 acts_as events confirms (Ok true) (Stood is last fits) = absurd cc
 acts_as events confirms (Ok true) (Wavered stands is last fits) = Wavered stands refl last fits
-acts_as events confirms (Ok true) (Burst is last fits) = absurd cc
+acts_as events confirms (Ok true) (Burst space is last fits) = absurd cc
 acts_as events confirms (Ok true) (Broke fault is last fell) = absurd cc
 acts_as events confirms (Err e) (Stood is last fits) = absurd cc
 acts_as events confirms (Err e) (Wavered stands is last fits) = absurd cc
-acts_as events confirms (Err e) (Burst is last fits) =
-    let same : e ≡ Halt (TooBig 1) = cc in Burst (ap (λ f. Err f) same) last fits
+acts_as events confirms (Err e) (Burst space is last fits) =
+    let same : e ≡ Halt (TooBig space) = cc in Burst space (ap (λ f. Err f) same) last fits
 acts_as events confirms (Err e) (Broke fault is last fell) =
     let same : e ≡ fault = cc in Broke fault (ap (λ f. Err f) same) last fell
 

@@ -5,3 +5,4 @@ pub mod Polls
 pub mod Refusals
 pub mod Running
 pub mod Streams
+pub mod Subscribing

@@ -18,27 +18,27 @@ use Rattle.slon_worked.proofs.Running.{Worked, Asks, Meets, replies, Head, reads
 use Rattle.slon_worked.proofs.Capture.{head}
 
 -- what is done to a node and undone again
-abbrev crash : List ℕ → Subject
+abbrev pub crash : List ℕ → Subject
 crash database = OnOne database (ToCrash Now)
 
-abbrev rise : List ℕ → Subject
+abbrev pub rise : List ℕ → Subject
 rise database = OnOne database ToRise
 
-abbrev listen : ℕ → ℕ → Delivery → Worked
+abbrev pub listen : ℕ → ℕ → Delivery → Worked
 listen node server delivery = Asks (OnAll (ToListen node server delivery))
 
-abbrev heard : ℕ → ℕ → Reply
+abbrev pub heard : ℕ → ℕ → Reply
 heard events confirms = Accepted (answer.Heard events confirms)
 
-abbrev emitted : ℕ → ℕ → Reply
+abbrev pub emitted : ℕ → ℕ → Reply
 emitted node number = Accepted (answer.Emitted node number)
 
-abbrev done : Reply
+abbrev pub done : Reply
 done = Accepted answer.Done
 
 -- ---- two nodes with paths to one another
 
-abbrev begun : List Worked → List Worked
+abbrev pub begun : List Worked → List Worked
 begun more =
     Asks (OnNew (codes "a"))
     ∷ Asks (OnNew (codes "b"))
@@ -62,7 +62,7 @@ begun more =
     ∷ Asks (OnAll (ToStart 2))
     ∷ more
 
-abbrev begun_replies : List Reply → List Reply
+abbrev pub begun_replies : List Reply → List Reply
 begun_replies more =
     done
     ∷ done
@@ -140,7 +140,7 @@ cut_leaves = refl
 
 -- ---- three nodes
 
-abbrev head_of_three : Head
+abbrev pub head_of_three : Head
 head_of_three = record {
   cluster = codes "demo";
   nodes = (1, codes "dbname=a") ∷ (2, codes "dbname=b") ∷ (3, codes "dbname=c") ∷ [];

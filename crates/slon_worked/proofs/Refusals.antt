@@ -1,5 +1,5 @@
--- Each refusal of each statement once, in one session.
-use Rattle.std.proofs.Common.{◌≡◌, List, [], ◌∷◌, codes, refl, Some, None}
+-- Each refusal of each statement once; those of SUBSCRIBE SET are in Subscribing.
+use Rattle.std.proofs.Common.{◌≡◌, List, [], ◌∷◌, codes, refl, None}
 use Rattle.slonik_script.specs.declared.refusal.ScriptRefusal.TheVariants as wrong
 use Rattle.slonik_script.specs.declared.script.Command.TheVariants as order
 use Rattle.slonik_script.specs.declared.script.NodeChoice.TheVariants as choice
@@ -71,7 +71,7 @@ begun_replies more =
     ∷ more
 
 -- a script of one statement is read, and the statement is refused so
-abbrev each_refused : List Refusal → List Reply → List Reply
+abbrev pub each_refused : List Refusal → List Reply → List Reply
 each_refused [] more = more
 each_refused (refusal ∷ refusals) more =
     Accepted (answer.Statements 1) ∷ Refused refusal ∷ each_refused refusals more
@@ -206,7 +206,6 @@ scripts : replies (start 16)
     ∷ refused_each (codes "r") head
     (order.DropNode 2 1
     ∷ order.DropSet 1 1
-    ∷ order.SubscribeSet 1 1 2 (Some Rattle.std.specs.Prelude.true)
     ∷ order.UnsubscribeSet 1 2
     ∷ order.LockSet 1 1
     ∷ order.UnlockSet 1 1
@@ -229,7 +228,6 @@ scripts : replies (start 16)
     ∷ each_refused
     (refused.NotBuilt (codes "drop")
     ∷ refused.NotBuilt (codes "drop")
-    ∷ refused.NotBuilt (codes "subscribe")
     ∷ refused.NotBuilt (codes "unsubscribe")
     ∷ refused.NotBuilt (codes "lock")
     ∷ refused.NotBuilt (codes "unlock")

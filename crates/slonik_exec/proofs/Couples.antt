@@ -133,7 +133,7 @@ calm_fell : (words : Words) (fault : DbFault) → is_memory (halt_in fault) ≡ 
 calm_fell words (Halt (Fault count)) full calm = absurd (false≢true calm)
 calm_fell words (Halt Doubt) full calm = absurd (false≢true calm)
 calm_fell words (Halt (BadRow space)) full calm = absurd (false≢true calm)
-calm_fell words (Halt (TooBig space)) full calm = refl
+calm_fell words (Halt (TooBig space)) full calm = calm
 calm_fell words (Halt NoMemory) full calm = absurd (true≢false full)
 calm_fell words others full calm = refl
 

@@ -24,26 +24,26 @@ use Rattle.node_state.specs.Known.{Learns}
 use Rattle.node_state.proofs.Formed.{if_ok}
 use Rattle.app_store.specs.Fits.{Ready}
 use Rattle.slonik_exec.specs.Answering.{Answers, ComesAt}
-use Rattle.slonik_exec.specs.Emitting.{Emits}
+use Rattle.slonik_exec.specs.Emitting.{Emits, EmitsAll}
 use Rattle.slonik_exec.proofs.Telling.{words_at}
 use Rattle.slonik_exec.proofs.Works.{Checked, commits_due, passed_due, answers_then, ready_still}
 
--- The reply to the emission of an event, of which there was memory to tell.
-pub record Announced (name : List ℕ) (body : Body) (old : Base) (reply : Reply) (new : Base) : Type 0 where
+-- The reply to the emission of events, of which there was memory to tell.
+pub record Announced (name : List ℕ) (bodies : List Body) (old : Base) (reply : Reply) (new : Base) : Type 0 where
   pub result : Result Answered DbFault
   pub told : reply ≡ reply_of (words_at name) result
   pub memory : is_memory (trouble result) ≡ false
-  pub announces : Announces body old result new
+  pub announces : Announces bodies old result new
 
-pub emits_so : {name : List ℕ} {body : Body} {old new : Base} {reply : Reply} → Announced name body old reply new →
-    Emits name body old reply new
-emits_so {name} a p n rows ready is learns =
-    commits_due a.told (record { is = refl; named = refl }) (a.announces p n ready is a.memory learns name rows)
+pub emits_so : {name : List ℕ} {bodies : List Body} {old new : Base} {reply : Reply} →
+    Announced name bodies old reply new → EmitsAll name bodies old reply new
+emits_so {name} a p n ms ready is same learns =
+    commits_due a.told (record { is = refl; named = refl }) (a.announces p n ready is a.memory name ms same learns)
 
-pub emits_if : {E : Type 0} {body : Body} {old new : Base} (name : List ℕ) (r : Result Reply E)
+pub emits_if : {E : Type 0} {bodies : List Body} {old new : Base} (name : List ℕ) (r : Result Reply E)
     (result : Result Answered DbFault) → IfOk r (λ reply. reply ≡ reply_of (words_at name) result) →
-    (is_memory (trouble result) ≡ true → is_err r ≡ true) → Announces body old result new →
-    IfOk r (λ reply. Emits name body old reply new)
+    (is_memory (trouble result) ≡ true → is_err r ≡ true) → Announces bodies old result new →
+    IfOk r (λ reply. EmitsAll name bodies old reply new)
 emits_if name (Ok reply) result told memory announces =
     emits_so (record {
       result = result;
@@ -52,6 +52,12 @@ emits_if name (Ok reply) result told memory announces =
       announces = announces;
     })
 emits_if name (Err e) result told memory announces = tt
+
+-- one event is a list of one
+pub emits_one : {name : List ℕ} {body : Body} {old new : Base} {reply : Reply} →
+    EmitsAll name (body ∷ []) old reply new → Emits name body old reply new
+emits_one {body = body} emits p n rows ready is learns =
+    emits p n (record { body = body; rows = rows } ∷ []) ready is refl (learns, tt)
 
 -- the id of the node by the memory of its database
 own_by : (identity : Option Identity) (found : Option ℕ) (node : ℕ) → found ≡ option_map (λ i. i.id) identity →

@@ -3,7 +3,8 @@ use Rattle.std.proofs.Common.{◌≡◌, ◌∙◌, ℕ, zero, suc, ◌<◌, ◌
 use Rattle.std.proofs.Common.{drop, map, get_or, filter, is_some, Option, Some, None, refl, sym, ap}
 use Rattle.std.proofs.Common.{subst, arith}
 use Rattle.std.proofs.lemmas.Bool.{false≢true, false_from_ne_true}
-use Rattle.std.specs.List.{list_any, filter_map}
+use Rattle.std.proofs.lemmas.List.{drop_all}
+use Rattle.std.specs.List.{list_any, filter_map, slice_get}
 use Rattle.std.specs.Option.{option_map}
 use Rattle.std.specs.Str.{bytes_eq}
 use Rattle.slon_model.specs.Names.{Named, find_named, put_named}
@@ -102,7 +103,9 @@ somewhere_by test (Some n) e es is = rw is refl
 -- the place at an index
 pub record NextPlace (name : List ℕ) (places : Named Place) (i : ℕ) : Type 0 where
   pub entry : List ℕ × Place
+  pub named : entry.0 ≡ name
   pub found : find_named name places ≡ Some entry.1
+  pub at : slice_get places i ≡ Some entry
   pub next : drop i places ≡ entry ∷ drop (suc i) places
 
 pub next_place : {X : Type 0} (f : X → List ℕ × Base) (name : List ℕ) (d : X) (places : Named Place) (items : List X)
@@ -111,6 +114,8 @@ next_place f name d places [] i (all, first) = absurd (omega (arith, first.insid
 next_place f name d [] (x ∷ xs) i (all, first) = absurd all
 next_place f name d (p ∷ ps) (x ∷ xs) zero (all, first) = record {
   entry = p;
+  named = all.0 ∙ sym (bytes_same name (f x).0 first.named);
+  at = refl;
   found = ap (λ b. cond b (Some p.1) (find_named name ps)) (ap (bytes_eq name) all.0 ∙ first.named);
   next = refl;
 }
@@ -118,6 +123,8 @@ next_place f name d (p ∷ ps) (x ∷ xs) (suc i) (all, first) =
     let rest = next_place f name d ps xs i (all.2, first_later f name d x xs i first) in
     record {
       entry = rest.entry;
+      named = rest.named;
+      at = rest.at;
       found = ap (λ b. cond b (Some p.1) (find_named name ps)) (ap (bytes_eq name) all.0 ∙ first.before 0 (omega arith))
           ∙ rest.found;
       next = rest.next;
@@ -173,16 +180,10 @@ none_asked test bases = record {
   left = λ w ready awake. (ready.fits, refl);
 }
 
-drop_all : {X : Type 0} (xs : List X) (n : ℕ) → length xs ≤ n → drop n xs ≡ []
-drop_all [] zero less = refl
-drop_all [] (suc n) less = refl
-drop_all (x ∷ xs) zero less = absurd (omega (arith, less))
-drop_all (x ∷ xs) (suc n) less = drop_all xs n (omega (arith, less))
-
 -- all were asked
 pub all_asked : (test : Config → Bool) (olds news : Named Base) (i : ℕ) → AreAsked test olds news i →
     length news ≤ i → (w : World) → AreReady w olds → any_down w ≡ None → HearsIn test w (Known false) news
 all_asked test olds news i asked less w ready awake =
     let left = asked.left w ready awake in
     let same = same_length w.places news left.0 in
-    (sym (left.1 ∙ ap (somewhere test) (drop_all w.places i (omega (arith, same, less)))), left.0)
+    (sym (left.1 ∙ ap (somewhere test) (drop_all i w.places (omega (arith, same, less)))), left.0)

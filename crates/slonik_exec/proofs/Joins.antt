@@ -1,10 +1,9 @@
 -- What a join comes to by the rules of all databases, by what came of the two.
-use Rattle.std.proofs.Common.{◌≡◌, ◌∙◌, ℕ, ◌+◌, Bool, true, false, cond, List, [], ◌∷◌, Some, None, Result}
+use Rattle.std.proofs.Common.{◌≡◌, ◌∙◌, ℕ, ◌+◌, Bool, true, false, cond, List, [], ◌∷◌, Option, Some, None, Result}
 use Rattle.std.proofs.Common.{Ok, Err, refl, sym, ap, subst, arith}
+use Rattle.std.specs.Option.{option_map}
 use Rattle.std.specs.Str.{bytes_eq}
-use Rattle.slon_base.specs.declared.fault.Halt.TheVariants.{TooBig}
 use Rattle.slon_model.specs.declared.fault.DbFault.{DbFault}
-use Rattle.slon_model.specs.declared.fault.DbFault.TheVariants.{Halt}
 use Rattle.slon_model.specs.declared.reply.Answer.TheVariants.{Emitted}
 use Rattle.slon_model.specs.declared.reply.Reply.{Reply}
 use Rattle.slon_model.specs.Names.{Named, find_named, put_named}
@@ -12,7 +11,8 @@ use Rattle.slon_model.specs.Deeds.{knowledge, progress}
 use Rattle.slon_model.specs.Place.{Place, is_running, fallen}
 use Rattle.slon_model.specs.Moves.{is_last_stamp}
 use Rattle.slon_model.specs.Sessions.{World, Stated, Commit, committing, in_doubt, stood, stood_at, stand, felled}
-use Rattle.slon_model.specs.Sessions.{felled_at, first_beyond, beyond_at}
+use Rattle.slon_model.specs.Sessions.{Excess, felled_at, first_beyond, first_late, beyond_at, has_late, excess_by}
+use Rattle.slon_model.specs.Sessions.{excess_of}
 use Rattle.slon_model.specs.World.{CanFail, refusal_of, wavering, wavering_at, broken_at}
 use Rattle.slon_model.proofs.Names.{bytes_turned_false, put_other}
 use Rattle.node_change.specs.declared.side.Side.{Side}
@@ -23,10 +23,10 @@ use Rattle.node_store.specs.Acting.{own_id}
 use Rattle.node_store.specs.declared.joining.Joined.{Joined}
 use Rattle.node_store.specs.declared.joining.Fell.{Fell as FellOf}
 use Rattle.node_store.specs.Joining.{Pair, Joiner, Stage, both_of, IsReady, JoinsAs, BothStood, FirstWavered}
-use Rattle.node_store.specs.Joining.{SecondWavered, OneBurst, OneBroke, FitBoth, HaveRoom, IsFull, FellOne, BrokeOne}
+use Rattle.node_store.specs.Joining.{SecondWavered, OneBurst, OneBroke, FitBoth, FellOne, BrokeOne, excess_both}
 use Rattle.slonik_exec.specs.Databases.{FitsAll}
 use Rattle.slonik_exec.specs.Executing.{Comes, Stands, Bursts, Breaks, Wavers}
-use Rattle.slonik_exec.specs.Stored.{PairNames, JoinsTold, join_reply}
+use Rattle.slonik_exec.specs.Stored.{PairNames, JoinsTold, join_reply, name_at}
 use Rattle.slonik_exec.proofs.Lists.{fits_put}
 use Rattle.slonik_exec.proofs.Telling.{words_at}
 use Rattle.slonik_exec.proofs.Asking.{one_place}
@@ -62,6 +62,13 @@ beyond_two places c d p q two =
     ap (λ o. beyond_at c o (first_beyond (d ∷ []) (stood_at c o places))) two.first
     ∙ ap (λ o. cond (is_last_stamp p) (Some c.name) (beyond_at d o (first_beyond [] (stood_at d o mid))))
     (found_behind_first places c d p q (committing c p) two)
+
+excess_two : (places : Named Place) (c d : Commit) (p q : Place) → TwoCommits places c d p q →
+    excess_of (c ∷ d ∷ []) places
+    ≡ excess_by (cond (is_last_stamp p) (Some c.name) (cond (is_last_stamp q) (Some d.name) None))
+    (cond (has_late c.deeds) (Some c.name) (cond (has_late d.deeds) (Some d.name) None))
+excess_two places c d p q two =
+    ap (λ o. excess_by o (first_late (c ∷ d ∷ []))) (beyond_two places c d p q two)
 
 -- ---- a join
 
@@ -114,29 +121,40 @@ fit_second w bases s new y scene fit =
     (put_itself s.from_name s.from w.places scene.from)
     (fit_two w bases s new s.from y scene fit)
 
+-- ---- a number that is too big
+
+-- by the database that goes down for it
+abbrev excess_for : PairNames → Side × ℕ → Excess
+excess_for names found = record { name = name_at found.0 names; space = found.1 }
+
+three_numbers : (names : PairNames) (from to late : Bool) →
+    excess_by (cond from (Some names.from) (cond to (Some names.to) None)) (cond late (Some names.from) None)
+    ≡ option_map (excess_for names)
+    (cond from (Some (From, 1)) (cond to (Some (To, 1)) (cond late (Some (From, 10)) None)))
+three_numbers names true to late = refl
+three_numbers names false true late = refl
+three_numbers names false false true = refl
+three_numbers names false false false = refl
+
+excess_joined : (w : World) (bases : Named Base) (j : Joiner) (s : Stage) (found : Option (Side × ℕ)) →
+    Scene w bases s → excess_both (both_of j s) ≡ found →
+    excess_of (joining_stated j s).commits w.places ≡ option_map (excess_for (names_of s)) found
+excess_joined w bases j s found scene is =
+    let both = both_of j s in
+    excess_two w.places both.event both.becomes s.from s.to (two_commits w bases j s scene)
+    ∙ three_numbers (names_of s) (is_last_stamp s.from) (is_last_stamp s.to) (has_late both.event.deeds)
+    ∙ ap (option_map (excess_for (names_of s))) is
+
 -- ---- what came of it
 
 comes_stood : (w : World) (bases : Named Base) (j : Joiner) (s : Stage) (new : Pair) → Scene w bases s →
-    HaveRoom (both_of j s)
-    × FitBoth (committing (both_of j s).event s.from) (committing (both_of j s).becomes s.to) new →
+    FitBoth (committing (both_of j s).event s.from) (committing (both_of j s).becomes s.to) new →
     FitsAll (stood (joining_stated j s).commits w.places) (put_both (names_of s) new bases)
-    × (first_beyond (joining_stated j s).commits w.places ≡ None)
-comes_stood w bases j s new scene (room, fit) =
+comes_stood w bases j s new scene fit =
     let both = both_of j s in
-    let two = two_commits w bases j s scene in (
-      subst (λ ps. FitsAll ps (put_both (names_of s) new bases))
-          (sym (stood_two w.places both.event both.becomes s.from s.to two))
-          (fit_two w bases s new (committing both.event s.from) (committing both.becomes s.to) scene fit),
-      beyond_two w.places both.event both.becomes s.from s.to two ∙ (rw (room.from, room.to) refl),
-    )
-
--- no stamp is too big
-beyond_none : (w : World) (bases : Named Base) (j : Joiner) (s : Stage) → Scene w bases s →
-    HaveRoom (both_of j s) → first_beyond (joining_stated j s).commits w.places ≡ None
-beyond_none w bases j s scene room =
-    let both = both_of j s in
-    beyond_two w.places both.event both.becomes s.from s.to (two_commits w bases j s scene)
-    ∙ (rw (room.from, room.to) refl)
+    subst (λ ps. FitsAll ps (put_both (names_of s) new bases))
+    (sym (stood_two w.places both.event both.becomes s.from s.to (two_commits w bases j s scene)))
+    (fit_two w bases s new (committing both.event s.from) (committing both.becomes s.to) scene fit)
 
 -- the event is in doubt
 fits_first_wavers : (w : World) (bases : Named Base) (j : Joiner) (s : Stage) (new : Pair) (stands : Bool) →
@@ -167,31 +185,20 @@ fits_second_wavers w bases j s new stands (scene, fit) =
     (sym found)
     (fit_two w bases s new (committing both.event s.from) (in_doubt both.becomes stands s.to) scene fit))
 
--- a stamp would be too big
+-- a number would be too big
 fits_felled : (w : World) (name : List ℕ) (p : Place) (news : Named Base) → find_named name w.places ≡ Some p →
     FitsAll (put_named name (fallen p.told p) w.places) news → FitsAll (felled (Some name) w).places news
 fits_felled w name p news found fits = subst (λ o. FitsAll (felled_at name o w).places news) (sym found) fits
 
-bursts_by : (side : Side) (w : World) (bases : Named Base) (j : Joiner) (s : Stage) (new : Pair)
-    (reply : Reply) → Scene w bases s × (reply ≡ join_reply s.node.id (names_of s)
-    (Err (record { side = side; fault = Halt (TooBig 1) }))) × IsFull side (both_of j s)
-    × FellOne side (both_of j s) new →
-    Comes w (Ok (joining_stated j s)) reply (put_both (names_of s) new bases)
-bursts_by From w bases j s new reply (scene, told, full, fell) =
-    let both = both_of j s in
-    Bursts (joining_stated j s) s.from_name refl
-    (beyond_two w.places both.event both.becomes s.from s.to (two_commits w bases j s scene) ∙ (rw full refl))
-    told
-    (fits_felled w s.from_name s.from (put_both (names_of s) new bases) scene.from
-    (fit_first w bases s new (fallen s.from.told s.from) scene fell))
-bursts_by To w bases j s new reply (scene, told, full, fell) =
-    let both = both_of j s in
-    Bursts (joining_stated j s) s.to_name refl
-    (beyond_two w.places both.event both.becomes s.from s.to (two_commits w bases j s scene)
-    ∙ (rw (full.0, full.1) refl))
-    told
-    (fits_felled w s.to_name s.to (put_both (names_of s) new bases) scene.to
-    (fit_second w bases s new (fallen s.to.told s.to) scene fell))
+fell_by : (side : Side) (w : World) (bases : Named Base) (j : Joiner) (s : Stage) (new : Pair) → Scene w bases s →
+    FellOne side (both_of j s) new →
+    FitsAll (felled (Some (name_at side (names_of s))) w).places (put_both (names_of s) new bases)
+fell_by From w bases j s new scene fell =
+    fits_felled w s.from_name s.from (put_both (names_of s) new bases) scene.from
+    (fit_first w bases s new (fallen s.from.told s.from) scene fell)
+fell_by To w bases j s new scene fell =
+    fits_felled w s.to_name s.to (put_both (names_of s) new bases) scene.to
+    (fit_second w bases s new (fallen s.to.told s.to) scene fell)
 
 -- the store of one failed
 fits_broken : (w : World) (name : List ℕ) (count : ℕ) (p : Place) (news : Named Base) →
@@ -222,19 +229,20 @@ comes_by : (w : World) (bases : Named Base) (j : Joiner) (s : Stage) (new : Pair
     (r : Result (ℕ × Joined) FellOf) → Scene w bases s × JoinsAs (both_of j s) (number_of s) r new →
     Comes w (Ok (joining_stated j s)) (join_reply s.node.id (names_of s) r) (put_both (names_of s) new bases)
 comes_by w bases j s new r (scene, BothStood is room fit) =
-    let stood_so = comes_stood w bases j s new scene (room, fit) in
-    Stands (joining_stated j s) refl stood_so.1 (ap (join_reply s.node.id (names_of s)) is) stood_so.0
+    Stands (joining_stated j s) refl (excess_joined w bases j s None scene room)
+    (ap (join_reply s.node.id (names_of s)) is) (comes_stood w bases j s new scene fit)
 comes_by w bases j s new r (scene, FirstWavered stands is room fit) =
-    Wavers (joining_stated j s) 0 stands refl (beyond_none w bases j s scene room) (omega arith)
+    Wavers (joining_stated j s) 0 stands refl (excess_joined w bases j s None scene room) (omega arith)
     (ap (join_reply s.node.id (names_of s)) is)
     (fits_first_wavers w bases j s new stands (scene, fit))
 comes_by w bases j s new r (scene, SecondWavered stands is room fit) =
-    Wavers (joining_stated j s) 1 stands refl (beyond_none w bases j s scene room) (omega arith)
+    Wavers (joining_stated j s) 1 stands refl (excess_joined w bases j s None scene room) (omega arith)
     (ap (join_reply s.node.id (names_of s)) is)
     (fits_second_wavers w bases j s new stands (scene, fit))
-comes_by w bases j s new r (scene, OneBurst side is full fell) =
-    bursts_by side w bases j s new (join_reply s.node.id (names_of s) r)
-    (scene, ap (join_reply s.node.id (names_of s)) is, full, fell)
+comes_by w bases j s new r (scene, OneBurst side space is full fell) =
+    Bursts (joining_stated j s) (excess_for (names_of s) (side, space)) refl
+    (excess_joined w bases j s (Some (side, space)) scene full) (ap (join_reply s.node.id (names_of s)) is)
+    (fell_by side w bases j s new scene fell)
 comes_by w bases j s new r (scene, OneBroke side fault is broke) =
     subst (λ x. Comes w (Ok (joining_stated j s)) (join_reply s.node.id (names_of s) x)
     (put_both (names_of s) new bases)) (sym is)

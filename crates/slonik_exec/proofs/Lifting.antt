@@ -11,13 +11,15 @@ use Rattle.slon_model.specs.declared.reply.Reply.{Reply}
 use Rattle.slon_model.specs.declared.reply.Reply.TheVariants.{Refused, InDoubt}
 use Rattle.slon_model.specs.Names.{Named, find_named, put_named}
 use Rattle.slon_model.specs.Place.{Place, is_running, fallen}
-use Rattle.slon_model.specs.Sessions.{World, Stated, Commit, committing, in_doubt, stood_at, beyond_at, felled_at}
+use Rattle.slon_model.specs.Sessions.{World, Stated, Commit, Excess, committing, in_doubt, stood_at, beyond_at}
+use Rattle.slon_model.specs.Sessions.{felled_at, has_late, excess_by, excess_of}
 use Rattle.slon_model.specs.Moves.{is_last_stamp}
 use Rattle.slon_model.specs.World.{CanFail, broken_at, wavering_at}
 use Rattle.slon_model.proofs.Names.{bytes_same, bytes_itself}
 use Rattle.app_store.specs.Base.{Base}
 use Rattle.app_store.specs.Fits.{Fits}
 use Rattle.app_store.specs.Serves.{is_failure}
+use Rattle.node_store.specs.Acting.{excess_at}
 use Rattle.slonik_exec.specs.Databases.{FitsAll, Runs, TriesAll, Trouble, told_by, trouble_here, is_calm}
 use Rattle.slonik_exec.specs.Telling.{troubled}
 use Rattle.slonik_exec.specs.Answering.{trouble_in, Answers, ComesAt, RefusesAt, StandsAt, BurstsAt}
@@ -84,12 +86,24 @@ found_commit : {w : World} {name : List ℕ} {p : Place} {bases : Named Base} (s
     c.name ≡ name → find_named c.name w.places ≡ Some p
 found_commit {w} s c named = ap (λ n. find_named n w.places) named ∙ s.found
 
--- the stamp of its commit is too big, or not
-beyond_is : {w : World} {name : List ℕ} {p : Place} {bases : Named Base} (s : Sits w name p bases) (c : Commit)
-    (last : Bool) → c.name ≡ name → is_last_stamp p ≡ last →
-    beyond_at c (find_named c.name w.places) None ≡ cond last (Some c.name) None
-beyond_is s c last named is =
-    ap (λ o. beyond_at c o None) (found_commit s c named) ∙ ap (λ b. cond b (Some c.name) None) is
+-- a number that is too big of a database
+abbrev excess : List ℕ → ℕ → Excess
+excess name space = record { name = name; space = space }
+
+one_excess : (name : List ℕ) (last late : Bool) →
+    excess_by (cond last (Some name) None) (cond late (Some name) None)
+    ≡ option_map (excess name) (cond last (Some 1) (cond late (Some 10) None))
+one_excess name true late = refl
+one_excess name false true = refl
+one_excess name false false = refl
+
+-- a number of its commit is too big, or none
+excess_is : {w : World} {name : List ℕ} {p : Place} {bases : Named Base} (s : Sits w name p bases) (c : Commit)
+    (found : Option ℕ) → c.name ≡ name → excess_at c p ≡ found →
+    excess_of (c ∷ []) w.places ≡ option_map (excess c.name) found
+excess_is {p = p} s c found named is =
+    ap (λ o. excess_by (beyond_at c o None) (cond (has_late c.deeds) (Some c.name) None)) (found_commit s c named)
+    ∙ one_excess c.name (is_last_stamp p) (has_late c.deeds) ∙ ap (option_map (excess c.name)) is
 
 -- what it comes to there is what it comes to
 pub comes_at : {w : World} {name : List ℕ} {p : Place} {bases : Named Base} {due : Result Stated Refusal}
@@ -97,11 +111,12 @@ pub comes_at : {w : World} {name : List ℕ} {p : Place} {bases : Named Base} {d
     Comes w due reply (put_named name new bases)
 comes_at s (RefusesAt refusal due is fits) = Refuses refusal due is (still_all s fits)
 comes_at {w} {name} {p} {bases} {new = new} s (StandsAt answer c one last is fits) =
-    Stands (record { answer = answer; commits = c ∷ [] }) one.is (beyond_is s c false one.named last) is
+    Stands (record { answer = answer; commits = c ∷ [] }) one.is (excess_is s c None one.named last) is
     (subst (λ o. FitsAll (stood_at c o w.places) (put_named name new bases)) (sym (found_commit s c one.named))
     (put_commit s c (committing c p) one.named fits))
-comes_at {w} {name} {p} {bases} {new = new} s (BurstsAt answer c one last is fits) =
-    Bursts (record { answer = answer; commits = c ∷ [] }) c.name one.is (beyond_is s c true one.named last) is
+comes_at {w} {name} {p} {bases} {new = new} s (BurstsAt answer c space one last is fits) =
+    Bursts (record { answer = answer; commits = c ∷ [] }) (excess c.name space) one.is
+    (excess_is s c (Some space) one.named last) is
     (subst (λ o. FitsAll (felled_at c.name o w).places (put_named name new bases)) (sym (found_commit s c one.named))
     (put_commit s c (fallen p.told p) one.named fits))
 comes_at {w} {name} {p} {bases} {new = new} s (BreaksAt count is rose fits) =
@@ -109,7 +124,7 @@ comes_at {w} {name} {p} {bases} {new = new} s (BreaksAt count is rose fits) =
     (subst (λ o. FitsAll (broken_at name count o w).places (put_named name new bases)) (sym s.found)
     (fits_put name (fallen count p) new w.places bases s.fits fits))
 comes_at {w} {name} {p} {bases} {new = new} s (WaversAt answer c stands one last is fits) =
-    Wavers (record { answer = answer; commits = c ∷ [] }) 0 stands one.is (beyond_is s c false one.named last)
+    Wavers (record { answer = answer; commits = c ∷ [] }) 0 stands one.is (excess_is s c None one.named last)
     (omega arith) (is ∙ ap (λ n. InDoubt n answer) (sym one.named))
     (subst (λ o. FitsAll (wavering_at c stands o w).places (put_named name new bases))
     (sym (found_commit s c one.named)) (put_commit s c (in_doubt c stands p) one.named fits))

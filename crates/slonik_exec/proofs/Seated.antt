@@ -28,19 +28,19 @@ use Rattle.slon_model.proofs.Names.{bytes_same, bytes_itself}
 use Rattle.node_state.specs.declared.memory.Identity.{Identity}
 use Rattle.node_state.specs.Known.{identity_of}
 use Rattle.app_store.specs.Base.{Base, base_of}
-use Rattle.app_store.specs.Fits.{Fits, Ready}
+use Rattle.app_store.specs.Fits.{Fits}
 use Rattle.slonik_exec.specs.declared.databases.Named.{Named as NamedDatabase}
 use Rattle.slonik_exec.specs.declared.reaching.Reached.TheVariants.{At, Refused}
 use Rattle.slonik_exec.specs.Databases.{FitsAll, bases_of, named_base, told_by}
 use Rattle.slonik_exec.specs.Heard.{AreDistinct}
 use Rattle.slonik_exec.specs.Answering.{Answers, AtNode}
 use Rattle.slonik_exec.specs.Executing.{Comes, Refuses}
+use Rattle.slonik_exec.specs.Reached.{IsSeatAt}
 use Rattle.slonik_exec.specs.Turning.{is_this, IsSeatHere, SitsOn, HasTurn, Turns}
 use Rattle.slonik_exec.proofs.Downs.{named_fits}
 use Rattle.slonik_exec.proofs.Seats.{same_up, known_up}
-use Rattle.slonik_exec.proofs.Lifting.{comes_at, Worked, put_worked}
-use Rattle.slonik_exec.proofs.Lists.{find_position, ready_at}
-use Rattle.slon_model.proofs.Names.{one_found}
+use Rattle.slonik_exec.proofs.Lifting.{Worked}
+use Rattle.slonik_exec.proofs.Seating.{comes_worked}
 
 -- ---- lists
 
@@ -271,27 +271,30 @@ node_up {kept = kept} {d = d} ps f up some = by f.place.node refl
         absurd (false≢true (sym (ap is_some (known.identity_is ∙ ap identity_of none)) ∙ some))
     by (Some n) is = (n, is)
 
--- a database that is up and has its turn, for every one that stands at the index
+-- a database that is up and a node, for every one that stands at the index
+pub seat_here : {K : Type 0} {g : Ghosts K} {d : NamedDatabase K g} (kept : K → Kept) (ds : List (NamedDatabase K g))
+    (i : ℕ) → AreDistinct (bases_of kept ds) → (i < length ds) × (d ≡ get_or ds i d) →
+    (d.database.state.up ≡ true) × (is_some d.database.state.node.identity ≡ true) → IsSeatAt ds i
+seat_here {d = d} kept ds i distinct (inside, at) (up, some) = (
+  inside,
+  λ x held. record {
+    here = record {
+      inside = inside;
+      at = subst (λ y. position (λ z. bytes_eq y.name z.name) ds ≡ Some i) (sym held)
+          (alone_at kept ds i x distinct inside).at;
+      up = λ y there. subst (λ z. z.database.state.up ≡ true) (same_held ds i d y inside at there) up;
+    };
+    node = λ y there.
+        subst (λ z. is_some z.database.state.node.identity ≡ true) (same_held ds i d y inside at there) some;
+  },
+)
+
+-- so is one that is up and has its turn
 pub seat_at_turn : {K : Type 0} {g : Ghosts K} {kept : K → Kept} {node : ℕ} {ds : List (NamedDatabase K g)} {i : ℕ}
     {d : NamedDatabase K g} → Turning kept node ds i d →
     (d.database.state.up ≡ true) × (is_some d.database.state.node.identity ≡ true) → IsSeatHere {g = g} ds (At i)
-seat_at_turn {kept = kept} {node} {ds} {i} {d} t (up, some) =
-    let inside = found_inside (is_this node) ds i d t.at in (
-      inside,
-      λ x held.
-          let same : d ≡ x = same_held ds i d x inside t.held held in
-          let alone = alone_at kept ds i x t.distinct inside in
-          record {
-            here = record {
-              inside = inside;
-              at = subst (λ y. position (λ z. bytes_eq y.name z.name) ds ≡ Some i) (sym held) alone.at;
-              up = λ y there. subst (λ z. z.database.state.up ≡ true) (same_held ds i d y inside t.held there) up;
-            };
-            node = λ y there.
-                subst (λ z. is_some z.database.state.node.identity ≡ true)
-                (same_held ds i d y inside t.held there) some;
-          },
-    )
+seat_at_turn {kept = kept} {node} {ds} {i} {d} t seated =
+    seat_here kept ds i t.distinct (found_inside (is_this node) ds i d t.at, t.held) seated
 
 -- up to whether its slon is on
 up_turn : {K : Type 0} {g : Ghosts K} {kept : K → Kept} {node : ℕ} {d : NamedDatabase K g}
@@ -359,14 +362,10 @@ pub turns_worked : {K : Type 0} {g : Ghosts K} {node : ℕ} {started : List ℕ}
     Turns node started (λ w. bind (on_turn node w) does) (bases_of kept ds) reply (bases_of kept (set ds i y))
 turns_worked {node = node} {ds = ds} {i} {x} {y} kept does reply at turns (answers, comes) w ready on =
     let sits = turns w ready.fits on x at.is.held in
-    let found = find_position (named_base kept) x.name ds i x at.is in
-    let r = ready_at x.name (base_of kept x.database) w (bases_of kept ds) ready found in
-    let same : r.place ≡ sits.place = one_found r.place sits.place (sym r.found ∙ sits.found) in
-    let here = comes sits.place sits.own (subst (λ p. Ready p (base_of kept x.database)) same r.ready) sits.is in
     record {
       comes = subst (λ due. Comes w due reply (bases_of kept (set ds i y))) (sym (ap (λ r. bind r does) sits.due))
-          (subst (Comes w (does (seat x.name sits.place sits.own)) reply) (put_worked at)
-          (comes_at (record { found = sits.found; running = sits.running; fits = ready.fits }) here));
+          (comes_worked does at ready
+          (record { found = sits.found; running = sits.running; fits = ready.fits }) sits.is comes);
       own = λ name halt told.
           ap (is_of name) sits.at ∙ ap (bytes_eq name) (sym (answers.own name halt told)) ∙ bytes_itself name;
     }

@@ -8,6 +8,8 @@ use Rattle.slon_model.specs.declared.reply.Refusal.{Refusal}
 use Rattle.slon_model.specs.declared.reply.Reply.{Reply}
 use Rattle.slon_model.specs.declared.reply.Reply.TheVariants as replied
 use Rattle.slon_model.specs.Names.{Named, find_named}
+use Rattle.slon_model.specs.Deeds.{Node}
+use Rattle.slon_model.specs.Place.{Place}
 use Rattle.slon_model.specs.Sessions.{World, Running, Seat, Stated, bind, seat}
 use Rattle.slon_model.specs.Reaching.{reach}
 use Rattle.slon_model.proofs.Names.{one_found}
@@ -87,17 +89,23 @@ pub worked_at : {X : Type 0} (f : X → List ℕ × Base) (name : List ℕ) (ite
     Worked f name items i (get_or items i d) y
 worked_at f name items i d y at same = record { is = is_at f name items i d at; same = same }
 
+-- work at a database that is up and this node is what its node comes to
+pub comes_worked : {X : Type 0} {f : X → List ℕ × Base} {name : List ℕ} {items : List X} {i : ℕ} {x y : X} {w : World}
+    {p : Place} {n : Node} {reply : Reply} (does : Seat → Result Stated Refusal) → Worked f name items i x y →
+    AreReady w (map f items) → Sits w name p (map f items) → p.node ≡ Some n →
+    AtNode name does (f x).1 reply (f y).1 → Comes w (does (seat name p n)) reply (map f (set items i y))
+comes_worked {f = f} {name} {items} {i} {x} {w = w} {p} {n} {reply} does at ready sits is comes =
+    let found = ready_at name (f x).1 w (map f items) ready (find_position f name items i x at.is) in
+    let same : found.place ≡ p = one_found found.place p (sym found.found ∙ sits.found) in
+    subst (Comes w (does (seat name p n)) reply) (put_worked at)
+    (comes_at sits (comes p n (subst (λ q. Ready q (f x).1) same found.ready) is))
+
 -- what a statement comes to at the node that it reached is what it comes to
 pub executes_worked : {X : Type 0} {f : X → List ℕ × Base} {items : List X} {i : ℕ} {x y : X} {a : Addresses} {id : ℕ}
     (does : Seat → Result Stated Refusal) (reply : Reply) → Worked f (name_on id a.lines) items i x y →
     Reaches a id (map f items) (At i) → AtNode (f x).0 does (f x).1 reply (f y).1 →
     Executes a (λ run w. bind (reach run id w) does) (map f items) reply (map f (set items i y))
 executes_worked {f = f} {items} {i} {x} {y} {a} {id} does reply at reaches comes =
-    let name = name_on id a.lines in
-    let here : AtNode name does (f x).1 reply (f y).1
-    = subst (λ n. AtNode n does (f x).1 reply (f y).1) (own_at at.is) comes in
     executes_called {a = a} {id = id} i (λ run w. does) reply reaches (λ w run call.
-    let sits = call.sits in
-    let ready = ready_sat (map f items) sits call.ready (find_position f name items i x at.is) in
-    subst (Comes w (does (seat name sits.place sits.node)) reply) (put_worked at)
-    (comes_at (sits_among (map f items) sits call.ready.fits) (here sits.place sits.node ready sits.is)))
+    comes_worked does at call.ready (sits_among (map f items) call.sits call.ready.fits) call.sits.is
+    (subst (λ n. AtNode n does (f x).1 reply (f y).1) (own_at at.is) comes))

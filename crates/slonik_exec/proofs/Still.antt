@@ -1,6 +1,6 @@
 -- What was found of a database holds still where all have the names and the memory that they had.
 use Rattle.std.proofs.Common.{◌≡◌, ◌∙◌, ℕ, zero, suc, ◌+◌, ◌<◌, true, cond, not, ltb, List, [], ◌∷◌, length, get_or}
-use Rattle.std.proofs.Common.{Some, None, refl, sym, ap, is_some, arith}
+use Rattle.std.proofs.Common.{Some, None, refl, sym, ap, subst, is_some, arith}
 use Rattle.std.proofs.lemmas.List.{get_or_default}
 use Rattle.std.specs.List.{position, prefix_len}
 use Rattle.std.specs.Str.{bytes_eq}
@@ -10,7 +10,8 @@ use Rattle.app_store.specs.Base.{base_of}
 use Rattle.slonik_exec.specs.declared.databases.Named.{Named as NamedDatabase}
 use Rattle.slonik_exec.specs.Databases.{bases_of}
 use Rattle.slonik_exec.specs.Heard.{AreSame, KeepsAll}
-use Rattle.slonik_exec.specs.Reached.{IsUpAt, IsNodeAt}
+use Rattle.slonik_exec.specs.Reached.{IsUpAt, IsNodeAt, IsSeatAt}
+use Rattle.slonik_exec.proofs.Seats.{name_here}
 
 -- how many databases stand before the first one of a name
 before_name : {K : Type 0} {g : Ghosts K} → List ℕ → List (NamedDatabase K g) → ℕ
@@ -88,3 +89,16 @@ all_still kept olds news same = record {
   ups = λ name i here. up_still kept name olds news i same here;
   nodes = λ name i at. node_still kept name olds news i same at;
 }
+
+-- and so does a database at an index that is up and a node
+pub seat_still : {K : Type 0} {g : Ghosts K} (kept : K → Kept) (olds news : List (NamedDatabase K g)) (i : ℕ) →
+    AreSame (bases_of kept olds) (bases_of kept news) → IsSeatAt olds i → IsSeatAt news i
+seat_still {K} {g} kept olds news i same (inside, each) =
+    let count = same_count kept olds news same in (omega (arith, count, inside), λ d held. here d held)
+  where
+    here : (d : NamedDatabase K g) → d ≡ get_or news i d → IsNodeAt d.name news i
+    here d held =
+        let o = get_or olds i d in
+        let still = node_still kept o.name olds news i same (each o (get_or_default olds i d o inside)) in
+        subst (λ n. IsNodeAt n news i)
+        (name_here kept news i o.name d still.here.at ∙ ap (λ (x : NamedDatabase K g). x.name) (sym held)) still

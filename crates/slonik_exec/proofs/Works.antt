@@ -1,5 +1,5 @@
 -- What a statement promises of the one database that it works at, by the calls that it makes on it.
-use Rattle.std.proofs.Common.{◌≡◌, ◌∙◌, ℕ, ◌++◌, true, false, cond, List, [], ◌∷◌, Option, Some, None}
+use Rattle.std.proofs.Common.{◌≡◌, ◌∙◌, ℕ, ◌++◌, ◌==◌, Bool, true, false, cond, List, [], ◌∷◌, Option, Some, None}
 use Rattle.std.proofs.Common.{Result, Ok, Err, refl, sym, ap, subst}
 use Rattle.std.specs.Prelude.{unwrap_or, IfOk}
 use Rattle.slon_base.specs.declared.fault.Halt.{Halt as HaltOf}
@@ -23,7 +23,7 @@ use Rattle.node_store.specs.Acting.{Acts, ActsAs, Stood, Wavered, Burst, Broke}
 use Rattle.slonik_exec.specs.Databases.{told_by, trouble_here}
 use Rattle.slonik_exec.specs.Telling.{failure_of, troubled}
 use Rattle.slonik_exec.specs.Answering.{trouble_in, Answers, OneCommit, ComesAt, RefusesAt, StandsAt, BurstsAt}
-use Rattle.slonik_exec.specs.Answering.{BreaksAt}
+use Rattle.slonik_exec.specs.Answering.{is_id, BreaksAt}
 use Rattle.slonik_exec.specs.Answering.{WaversAt, AtNode, EndsAt, RefusedAt, BrokenAt, ChecksAt, AtSeat, Checks}
 use Rattle.node_state.specs.Known.{identity_of}
 use Rattle.slonik_exec.proofs.Seats.{same_up, known_up}
@@ -100,6 +100,11 @@ pub own_identity : (p : Place) (n : Node) (old : Base) → Ready p old → old.m
     old.memory.identity ≡ identity_of (Some n)
 own_identity p n old ready up is =
     (known_up p old ready.fits (sym (same_up p old ready.fits) ∙ up)).identity_is ∙ ap identity_of is
+
+-- it is this node or not, by the code and by the rules
+pub own_test : (p : Place) (n : Node) (old : Base) (id : ℕ) (is_it : Bool) → Ready p old × (p.node ≡ Some n) →
+    old.memory.up ≡ true → is_id id old.memory.identity ≡ is_it → (id == n.id) ≡ is_it
+own_test p n old id is_it (ready, is) up own = sym (ap (is_id id) (own_identity p n old ready up is)) ∙ own
 
 -- A check of a statement: what is promised over every store, and by the rules.
 pub record Checked (name : List ℕ) (due : Seat → List (Option Refusal)) (old : Base) (found : Option Reply)
@@ -262,6 +267,15 @@ pub passed_due : {name : List ℕ} {p : Place} {reply : Reply} {new : Base} (che
 passed_due {name} {p} {reply} {new} checks stated none comes =
     subst (λ due. ComesAt name p due reply new) (sym (ap (λ o. unless_refused o stated) none)) comes
 
+-- the same from every place that is the node
+pub passed_behind : {name : List ℕ} {one : Seat → List (Option Refusal)} {old mid new : Base} {reply : Reply}
+    (stated : Seat → Stated) → Checked name one old None mid → AtNode name (λ s. Ok (stated s)) mid reply new →
+    AtNode name (λ s. checked (one s) (stated s)) old reply new
+passed_behind {name} {one} stated first comes p n ready is =
+    let here = first.refuses p n ready is in
+    let s = seat name p n in
+    passed_due (one s) (stated s) here.0 (comes p n (ready_still ready here.1) is)
+
 -- a commit was made, or not
 pub commits_due : {name : List ℕ} {p : Place} {reply : Reply} {new : Base} {due : Result Stated Refusal} {c : Commit}
     {answer : Answer} {result : Result Answered DbFault} → reply ≡ reply_of (words_at name) result →
@@ -270,8 +284,8 @@ commits_due {name} {c = c} {answer} told one (Stood is last fits) =
     StandsAt answer c one last (told ∙ ap (reply_of (words_at name)) is) fits
 commits_due {name} {c = c} {answer} told one (Wavered stands is last fits) =
     WaversAt answer c stands one last (told ∙ ap (reply_of (words_at name)) is) fits
-commits_due {name} {c = c} {answer} told one (Burst is last fits) =
-    BurstsAt answer c one last (told ∙ ap (reply_of (words_at name)) is) fits
+commits_due {name} {c = c} {answer} told one (Burst space is last fits) =
+    BurstsAt answer c space one last (told ∙ ap (reply_of (words_at name)) is) fits
 commits_due {name} {p} {new = new} told one (Broke fault is last (Fell count stands why rose fits)) =
     BreaksAt count (told ∙ ap (reply_of (words_at name)) is ∙ ap (refusal_of (words_at name)) why) rose
     (one_place p count stands new fits)

@@ -1,5 +1,5 @@
 -- What a statement comes to that does all its work at one database, which is a node.
-use Rattle.std.specs.Prelude.{◌≡◌, ◌==◌, ℕ, Bool, true, false, List, [], ◌∷◌, Option, Some, None, Result, Ok, Err}
+use Rattle.std.specs.Prelude.{◌≡◌, ◌==◌, ℕ, Bool, false, List, [], ◌∷◌, Option, Some, None, Result, Ok, Err}
 use Rattle.slon_base.specs.Counts.{Rose}
 use Rattle.slon_base.specs.declared.fault.Halt.{Halt as HaltOf}
 use Rattle.slon_model.specs.declared.reply.Answer.{Answer}
@@ -9,12 +9,11 @@ use Rattle.slon_model.specs.declared.reply.Reply.{Reply}
 use Rattle.slon_model.specs.declared.reply.Reply.TheVariants.{Accepted, Refused, InDoubt}
 use Rattle.slon_model.specs.Deeds.{Node}
 use Rattle.slon_model.specs.Place.{Place, fallen}
-use Rattle.slon_model.specs.Moves.{is_last_stamp}
 use Rattle.slon_model.specs.Sessions.{Seat, Stated, Commit, committing, in_doubt, seat, first_refusal}
 use Rattle.node_state.specs.declared.memory.Identity.{Identity}
 use Rattle.app_store.specs.Base.{Base}
 use Rattle.app_store.specs.Fits.{Fits, Ready}
-use Rattle.node_store.specs.Acting.{Acts}
+use Rattle.node_store.specs.Acting.{Acts, excess_at}
 use Rattle.slonik_exec.specs.Databases.{told_by, trouble_here}
 
 -- ---- over every store
@@ -39,19 +38,19 @@ pub record OneCommit (name : List ℕ) (due : Result Stated Refusal) (answer : A
   pub is : due ≡ Ok (record { answer = answer; commits = c ∷ [] })
   pub named : c.name ≡ name
 
--- It is refused; its one commit stands; the stamp of that would be too big; the store failed, and it does not stand; or
+-- It is refused; its one commit stands; a number of that would be too big; the store failed, and it does not stand; or
 -- it is in doubt.
 pub data ComesAt (name : List ℕ) (p : Place) (due : Result Stated Refusal) (reply : Reply) (new : Base) : Type 0 where
   RefusesAt : (refusal : Refusal) → due ≡ Err refusal → reply ≡ Refused refusal → Fits p new →
       ComesAt name p due reply new
-  StandsAt : (answer : Answer) (c : Commit) → OneCommit name due answer c → is_last_stamp p ≡ false →
+  StandsAt : (answer : Answer) (c : Commit) → OneCommit name due answer c → excess_at c p ≡ None →
       reply ≡ Accepted answer → Fits (committing c p) new → ComesAt name p due reply new
-  BurstsAt : (answer : Answer) (c : Commit) → OneCommit name due answer c → is_last_stamp p ≡ true →
-      reply ≡ Refused (refused.TooBig 1) → Fits (fallen p.told p) new → ComesAt name p due reply new
+  BurstsAt : (answer : Answer) (c : Commit) (space : ℕ) → OneCommit name due answer c → excess_at c p ≡ Some space →
+      reply ≡ Refused (refused.TooBig space) → Fits (fallen p.told p) new → ComesAt name p due reply new
   BreaksAt : (count : ℕ) → reply ≡ Refused (refused.Fault name count) → Rose p.told count →
       Fits (fallen count p) new → ComesAt name p due reply new
   WaversAt : (answer : Answer) (c : Commit) (stands : Bool) → OneCommit name due answer c →
-      is_last_stamp p ≡ false → reply ≡ InDoubt name answer → Fits (in_doubt c stands p) new →
+      excess_at c p ≡ None → reply ≡ InDoubt name answer → Fits (in_doubt c stands p) new →
       ComesAt name p due reply new
 
 -- from every place that is this node

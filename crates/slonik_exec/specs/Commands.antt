@@ -5,7 +5,7 @@ use Rattle.store_rows.specs.Rows.{IsId}
 use Rattle.slonik_script.specs.declared.script.Command.{Command}
 use Rattle.slonik_script.specs.declared.script.Command.TheVariants.{InitCluster, StoreNode, StorePath, DropPath}
 use Rattle.slonik_script.specs.declared.script.Command.TheVariants.{CreateSet}
-use Rattle.slonik_script.specs.declared.script.Command.TheVariants.{SetAddTable, Sync}
+use Rattle.slonik_script.specs.declared.script.Command.TheVariants.{SetAddTable, SubscribeSet, Sync}
 
 -- its ids are in their range, and its texts can be stored
 abbrev pub IsRunnable : Command → Type 0
@@ -15,6 +15,7 @@ IsRunnable (StorePath server client conninfo retry) = IsId server × IsId client
 IsRunnable (DropPath server client) = IsId server × IsId client
 IsRunnable (CreateSet id origin comment) = IsId id × IsId origin
 IsRunnable (SetAddTable set origin id name key comment) = IsId set × IsId origin × IsId id × IsText name
+IsRunnable (SubscribeSet id provider receiver forward) = IsId id × IsId provider × IsId receiver
 IsRunnable (Sync id) = IsId id
 IsRunnable others = Unit {0}
 
@@ -25,3 +26,12 @@ comment_in (StoreNode id event_node comment) = comment
 comment_in (CreateSet id origin comment) = comment
 comment_in (SetAddTable set origin id name key comment) = comment
 comment_in others = None
+
+-- it is none of those on nodes and their paths, and no SYNC
+abbrev pub IsOnSets : Command → Type 0
+IsOnSets (InitCluster id comment) = ⊥
+IsOnSets (StoreNode id event_node comment) = ⊥
+IsOnSets (StorePath server client conninfo retry) = ⊥
+IsOnSets (DropPath server client) = ⊥
+IsOnSets (Sync id) = ⊥
+IsOnSets others = Unit {0}

@@ -1,5 +1,5 @@
 -- What the code keeps of the databases of a session, and when the rules agree with it.
-use Rattle.std.specs.Prelude.{◌≡◌, ℕ, Bool, true, false, if◌then◌else◌, List, [], ◌∷◌, map, Option, Some, None}
+use Rattle.std.specs.Prelude.{◌≡◌, ◌==◌, ℕ, Bool, true, false, if◌then◌else◌, List, [], ◌∷◌, map, Option, Some, None}
 use Rattle.std.specs.Str.{bytes_eq}
 use Rattle.slon_base.specs.Keeper.{Kept}
 use Rattle.slon_base.specs.declared.fault.Halt.{Halt as HaltOf}
@@ -85,10 +85,11 @@ TriesAll calm told (o ∷ os) (n ∷ ns) =
     (n.0 ≡ o.0) × Tried calm (trouble_here told o.0) o.1 n.1 × TriesAll calm (trouble_later told o.0) os ns
 TriesAll calm told olds news = ⊥
 
--- it tells of no fault and no doubt, and of no row that is not in its form
+-- it tells of no fault and no doubt, of no row that is not in its form, and of no number of an event
 abbrev pub is_calm : Reply → Bool
 is_calm (Refused (refused.Fault database count)) = false
 is_calm (Refused (refused.BadRow space)) = false
+is_calm (Refused (refused.TooBig space)) = space == 1
 is_calm (InDoubt database answer) = false
 is_calm others = true
 

@@ -6,29 +6,29 @@ use Rattle.slon_model.specs.declared.reply.Reply.{Reply}
 use Rattle.slon_model.specs.declared.reply.Reply.TheVariants.{Accepted, Refused}
 use Rattle.slon_model.specs.Names.{Named, find_named}
 use Rattle.slon_model.specs.Reaching.{any_down}
-use Rattle.slon_model.specs.Sessions.{World, Running, Stated, stood, stand, felled, first_beyond, first_refusal}
+use Rattle.slon_model.specs.Sessions.{World, Running, Stated, Excess, stood, stand, felled, excess_of, first_refusal}
 use Rattle.slon_model.specs.World.{CanFail, broken_at, wavering, doubt_reply}
 use Rattle.app_store.specs.Base.{Base}
 use Rattle.slonik_exec.specs.Databases.{FitsAll, AreReady, TriesAll, Runs}
 use Rattle.slonik_exec.specs.Heard.{AreSame, BreaksDown}
 use Rattle.slonik_exec.specs.Reached.{Addresses}
 
--- What a statement comes to that the rules answer so: it is refused; its commits stand; the stamp of one of them would
+-- What a statement comes to that the rules answer so: it is refused; its commits stand; a number of one of them would
 -- be too big; the store of one database failed, and none stands; or the commit behind a number of others is in doubt,
 -- those before it stand, and those behind it are not made.
 pub data Comes (w : World) (due : Result Stated Refusal) (reply : Reply) (new : Named Base) : Type 0 where
   Refuses : (refusal : Refusal) → due ≡ Err refusal → reply ≡ Refused refusal → FitsAll w.places new →
       Comes w due reply new
-  Stands : (stated : Stated) → due ≡ Ok stated → first_beyond stated.commits w.places ≡ None →
+  Stands : (stated : Stated) → due ≡ Ok stated → excess_of stated.commits w.places ≡ None →
       reply ≡ Accepted stated.answer → FitsAll (stood stated.commits w.places) new → Comes w due reply new
-  Bursts : (stated : Stated) (name : List ℕ) → due ≡ Ok stated → first_beyond stated.commits w.places ≡ Some name →
-      reply ≡ Refused (refused.TooBig 1) → FitsAll (felled (Some name) w).places new → Comes w due reply new
+  Bursts : (stated : Stated) (e : Excess) → due ≡ Ok stated → excess_of stated.commits w.places ≡ Some e →
+      reply ≡ Refused (refused.TooBig e.space) → FitsAll (felled (Some e.name) w).places new → Comes w due reply new
   Breaks : (name : List ℕ) (count : ℕ) → reply ≡ Refused (refused.Fault name count) →
       CanFail count (find_named name w.places) → FitsAll
       (broken_at name count (find_named name w.places) w).places new →
       Comes w due reply new
   Wavers : (stated : Stated) (before : ℕ) (stands : Bool) → due ≡ Ok stated →
-      first_beyond stated.commits w.places ≡ None → before < length stated.commits →
+      excess_of stated.commits w.places ≡ None → before < length stated.commits →
       reply ≡ doubt_reply (drop before stated.commits) (Accepted stated.answer) →
       FitsAll (wavering (drop before stated.commits) stands (stand (take before stated.commits) w)).places new →
       Comes w due reply new

@@ -4,6 +4,7 @@ pub mod Databases
 pub mod Emitting
 pub mod Executing
 pub mod Heard
+pub mod Owned
 pub mod Reached
 pub mod Statements
 pub mod Stored

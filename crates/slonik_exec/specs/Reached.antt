@@ -39,6 +39,11 @@ pub record IsNodeAt {K : Type 0} {g : Ghosts K} (name : List ℕ) (databases : L
   pub here : IsUpAt name databases i
   pub node : (d : NamedDatabase K g) → d ≡ get_or databases i d → is_some d.database.state.node.identity ≡ true
 
+-- the database at this index is the first one of its name, is up, and is a node
+abbrev pub IsSeatAt : {K : Type 0} {g : Ghosts K} → List (NamedDatabase K g) → ℕ → Type 0
+IsSeatAt {K} {g} databases i =
+    (i < length databases) × ((d : NamedDatabase K g) → d ≡ get_or databases i d → IsNodeAt d.name databases i)
+
 abbrev pub IsUpHere : {K : Type 0} {g : Ghosts K} → List ℕ → List (NamedDatabase K g) → Reached → Type 0
 IsUpHere name databases (At i) = IsUpAt name databases i
 IsUpHere name databases (Refused refusal) = Unit {0}

@@ -10,16 +10,19 @@ use Rattle.slon_model.specs.declared.reply.Refusal.TheVariants as refused
 use Rattle.node_rows.specs.declared.body.Body.TheVariants.{StorePath, DropPath}
 use Rattle.slon_model.specs.Maps.{entry_at}
 use Rattle.slon_model.specs.Names.{find_named}
-use Rattle.slon_model.specs.Config.{has_path, is_origin, set_row}
+use Rattle.slon_model.specs.Config.{era_of, has_path, is_origin, set_row}
 use Rattle.slon_model.specs.Deeds.{Node, knowledge}
 use Rattle.slon_model.specs.Place.{Place}
 use Rattle.slon_model.specs.Membership.{is_dropped, becoming, first_of_cluster}
 use Rattle.slon_model.specs.Reaching.{emitting, known_somewhere, receiver_with}
 use Rattle.slon_model.specs.Sessions.{World, Running, Seat, Stated, seat, when, checked, tells, writer_of}
 use Rattle.slon_model.specs.Sets.{NewTable, adding}
+use Rattle.slon_model.specs.Subscribing as subscribing
+use Rattle.slon_model.specs.Subscribing.{all_tell, feed_bodies}
 use Rattle.app_store.specs.Base.{Base}
 use Rattle.app_store.specs.Fits.{Ready}
 use Rattle.node_store.specs.Acting.{NewNode}
+use Rattle.slonik_exec.specs.declared.subscribing.NewFeed.{NewFeed}
 use Rattle.slonik_exec.specs.Answering.{ComesAt}
 
 abbrev pub path_stored : ℕ → ℕ → List ℕ → Seat → Result Stated Refusal
@@ -65,6 +68,16 @@ abbrev pub AddsTable : List ℕ → NewTable → Base → Reply → Base → Typ
 AddsTable name t old reply new =
     (p : Place) (n : Node) → Ready p old → p.node ≡ Some n → IsAddable n t →
     ComesAt name p (table_added t (seat name p n)) reply new
+
+-- ---- subscriptions
+
+-- a subscription of a call, as the rules name it
+abbrev pub feed_as : NewFeed → subscribing.NewFeed
+feed_as f = record { set_id = f.set_id; provider = f.provider; receiver = f.receiver; forward = f.forward }
+
+-- what the owner of the set emits, in the era in which it knows the set
+abbrev pub feed_said : subscribing.NewFeed → Seat → Stated
+feed_said f s = emitting s (all_tell (feed_bodies (era_of f.set_id s.known.config) f))
 
 -- ---- nodes
 

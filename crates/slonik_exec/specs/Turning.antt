@@ -1,5 +1,5 @@
 -- A turn of the slon of a node.
-use Rattle.std.specs.Prelude.{◌≡◌, ◌<◌, ℕ, Bool, true, List, length, get_or, Some, Result, Ok, Err}
+use Rattle.std.specs.Prelude.{◌≡◌, ℕ, Bool, true, List, get_or, Some, Result, Ok, Err}
 use Rattle.std.specs.List.{position}
 use Rattle.std.specs.Option.{option_map}
 use Rattle.slon_base.specs.Keeper.{Kept}
@@ -19,7 +19,7 @@ use Rattle.slonik_exec.specs.declared.reaching.Reached.{Reached}
 use Rattle.slonik_exec.specs.declared.reaching.Reached.TheVariants.{At, Refused}
 use Rattle.slonik_exec.specs.Databases.{FitsAll, AreReady, bases_of, told_by}
 use Rattle.slonik_exec.specs.Executing.{Comes}
-use Rattle.slonik_exec.specs.Reached.{IsNodeAt}
+use Rattle.slonik_exec.specs.Reached.{IsSeatAt}
 
 -- ---- in the code
 
@@ -27,10 +27,8 @@ use Rattle.slonik_exec.specs.Reached.{IsNodeAt}
 abbrev pub is_this : {K : Type 0} {g : Ghosts K} → ℕ → NamedDatabase K g → Bool
 is_this node d = is_id node (option_map (λ i. i.id) d.database.state.node.identity)
 
--- the database at this index is the first one of its name, is up, and is a node
 abbrev pub IsSeatHere : {K : Type 0} {g : Ghosts K} → List (NamedDatabase K g) → Reached → Type 0
-IsSeatHere {K} {g} databases (At i) =
-    (i < length databases) × ((d : NamedDatabase K g) → d ≡ get_or databases i d → IsNodeAt d.name databases i)
+IsSeatHere databases (At i) = IsSeatAt databases i
 IsSeatHere databases (Refused refusal) = Unit {0}
 
 -- it is the first one that is this node

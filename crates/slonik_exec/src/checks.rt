@@ -3,7 +3,7 @@ ghost use Rattle.std.specs.Prelude.{◌≡◌, true, is_none, is_some, not, [], 
 ghost use Rattle.std.specs.Option.{option_map};
 ghost use Rattle.slon_base.specs.Codec.{IsText};
 ghost use Rattle.store_rows.specs.Rows.{IsId};
-ghost use Rattle.slon_model.specs.Config.{has_path, is_origin, set_row};
+ghost use Rattle.slon_model.specs.Config.{has_path, is_known, is_origin, set_row};
 ghost use Rattle.slon_model.specs.Maps.{entry_at};
 ghost use Rattle.slon_model.specs.Membership as membership;
 ghost use Rattle.slon_model.specs.Names.{find_named};
@@ -21,7 +21,9 @@ use crate::knowing::down_node;
 use crate::replies::told;
 use crate::short::NoMemory;
 use node_keeper::Keeper;
-use node_store::{Database, first_receiver, has_table, is_dropped, knows_path, set_origin, writer};
+use node_store::{
+    Database, first_receiver, has_table, is_dropped, knows_live, knows_path, set_reign, writer,
+};
 use slon_base::Text;
 use slon_model::{Refusal, Reply};
 use std::alloc::Global;
@@ -71,8 +73,30 @@ pub(crate) fn check_path<K: Keeper>(
     }
 }
 
+/// 44: the node does not know that another one is live, or knows a fence against it.
+pub(crate) fn check_live<K: Keeper>(
+    alloc: Global,
+    seat: &mut Named<K>,
+    node: u32,
+) -> Result<Option<Reply>, NoMemory>
+    requires up { seat.old.database.state.up ≡ true }
+    requires id { IsId node }
+    ensures checks { IfOk result (λ found. Checks seat.old.name (base_of K.kept seat.old.database) found
+        (base_of K.kept seat.new.database)) }
+    ensures refuses { IfOk result (λ found. AtSeat seat.old.name (λ s.
+        when (not (is_known node s.known.config)) (refused.NoNode node) ∷ [])
+        (base_of K.kept seat.old.database) found (base_of K.kept seat.new.database)) }
+    ensures name { seat.new.name ≡ seat.old.name }
+{
+    match knows_live(&mut seat.database, node) {
+        Ok(true) => Ok(None),
+        Ok(false) => Ok(Some(Reply::Refused(Refusal::NoNode { node }))),
+        Err(fault) => Ok(Some(told(alloc, &seat.name, fault)?)),
+    }
+}
+
 /// Whether the database is this node.
-fn is_own<K: Keeper>(database: &Database<K>, id: u32) -> bool
+pub(crate) fn is_own<K: Keeper>(database: &Database<K>, id: u32) -> bool
     ensures { result ≡ is_id id database.now.state.node.identity }
 {
     match database.node_id() {
@@ -96,10 +120,10 @@ pub(crate) fn check_origin<K: Keeper>(
         (base_of K.kept seat.old.database) found (base_of K.kept seat.new.database)) }
     ensures name { seat.new.name ≡ seat.old.name }
 {
-    match set_origin(&mut seat.database, set) {
+    match set_reign(&mut seat.database, set) {
         Ok(None) => Ok(Some(Reply::Refused(Refusal::NoSet { set }))),
-        Ok(Some(origin)) => {
-            if is_own(&seat.database, origin) {
+        Ok(Some(reign)) => {
+            if is_own(&seat.database, reign.origin) {
                 return Ok(None);
             }
             Ok(Some(Reply::Refused(Refusal::NotOrigin { set })))

@@ -4,7 +4,7 @@ ghost use Rattle.slon_base.specs.Codec.{IsText};
 ghost use Rattle.slon_model.specs.Membership as membership;
 ghost use Rattle.slon_model.specs.Scripts as rules;
 ghost use Rattle.store_rows.specs.Rows.{IsId};
-ghost use Rattle.slonik_exec.specs.Commands.{IsRunnable, comment_in};
+ghost use Rattle.slonik_exec.specs.Commands.{IsOnSets, IsRunnable, comment_in};
 ghost use Rattle.slonik_exec.specs.Databases.{bases_of, Runs};
 ghost use Rattle.slonik_exec.specs.Executing.{Executes};
 ghost use Rattle.slonik_exec.specs.Heard.{AreDistinct};
@@ -15,6 +15,7 @@ use crate::membership::{init_cluster, store_node};
 use crate::paths::{drop_path, store_path};
 use crate::sets::{NewTable, create_set, set_add_table};
 use crate::short::NoMemory;
+use crate::subscribing::{NewFeed, subscribe_set};
 use crate::syncing::sync;
 use node_keeper::Keeper;
 use slon_base::Text;
@@ -59,7 +60,6 @@ fn first_word(command: &Command) -> &'static str
 {
     match command {
         Command::DropNode { .. } | Command::DropSet { .. } => "drop",
-        Command::SubscribeSet { .. } => "subscribe",
         Command::UnsubscribeSet { .. } => "unsubscribe",
         Command::LockSet { .. } => "lock",
         Command::UnlockSet { .. } => "unlock",
@@ -107,8 +107,72 @@ fn is_runnable(command: &Command) -> bool
             fully_qualified_name,
             ..
         } => is_id(*set_id) && is_id(*origin) && is_id(*id) && is_short(fully_qualified_name),
+        Command::SubscribeSet {
+            id,
+            provider,
+            receiver,
+            ..
+        } => is_id(*id) && is_id(*provider) && is_id(*receiver),
         Command::Sync { id } => is_id(*id),
         _ => true,
+    }
+}
+
+/// Runs a command on a set, or refuses one that is not run yet.
+fn run_on_set<K: Keeper>(
+    alloc: Global,
+    databases: &mut [Named<K>],
+    caller: Caller<'_>,
+    command: &Command,
+    comment: &Text,
+) -> Result<Reply, NoMemory>
+    requires on_sets { IsOnSets command.now }
+    requires can { IsRunnable command.now × IsText comment.now }
+    requires said { comment.now ≡ membership.comment_of (comment_in command.now) }
+    requires distinct { AreDistinct (bases_of K.kept databases.old) }
+    ensures runs { IfOk result (λ reply. Runs (bases_of K.kept databases.old) reply
+        (bases_of K.kept databases.new)) }
+    ensures executes { IfOk result (λ reply. Executes
+        (record { lines = caller.entry.lines.now; cluster = caller.entry.cluster.now }) (rules.ordered command.now)
+        (bases_of K.kept databases.old) reply (bases_of K.kept databases.new)) }
+{
+    match command {
+        Command::CreateSet { id, origin, .. } => {
+            create_set(alloc, databases, caller, *id, *origin, comment)
+        }
+        Command::SetAddTable {
+            set_id,
+            origin,
+            id,
+            fully_qualified_name,
+            ..
+        } => {
+            let table = NewTable {
+                set_id: *set_id,
+                id: *id,
+                name: fully_qualified_name,
+                comment,
+            };
+            set_add_table(alloc, databases, caller, *origin, table)
+        }
+        Command::SubscribeSet {
+            id,
+            provider,
+            receiver,
+            forward,
+        } => {
+            let feed = NewFeed {
+                set_id: *id,
+                provider: *provider,
+                receiver: *receiver,
+                forward: forward.unwrap_or(false),
+            };
+            subscribe_set(alloc, databases, caller, feed)
+        }
+        _ => {
+            let word = Text::from_str(alloc, first_word(command))?;
+            Ok(Reply::Refused(Refusal::NotBuilt { word }))
+        }
     }
 }
 
@@ -150,28 +214,7 @@ pub fn run_command<K: Keeper>(
         Command::DropPath { server, client } => {
             drop_path(alloc, databases, caller, *client, *server)
         }
-        Command::CreateSet { id, origin, .. } => {
-            create_set(alloc, databases, caller, *id, *origin, &comment)
-        }
-        Command::SetAddTable {
-            set_id,
-            origin,
-            id,
-            fully_qualified_name,
-            ..
-        } => {
-            let table = NewTable {
-                set_id: *set_id,
-                id: *id,
-                name: fully_qualified_name,
-                comment: &comment,
-            };
-            set_add_table(alloc, databases, caller, *origin, table)
-        }
         Command::Sync { id } => sync(alloc, databases, caller, *id),
-        _ => {
-            let word = Text::from_str(alloc, first_word(command))?;
-            Ok(Reply::Refused(Refusal::NotBuilt { word }))
-        }
+        _ => run_on_set(alloc, databases, caller, command, &comment),
     }
 }

@@ -8,11 +8,13 @@ mod databases;
 mod emitting;
 mod knowing;
 mod membership;
+mod owning;
 mod paths;
 mod reaching;
 mod replies;
 mod sets;
 mod short;
+mod subscribing;
 mod syncing;
 mod turns;
 

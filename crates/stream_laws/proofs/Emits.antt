@@ -23,7 +23,7 @@ use Rattle.stream_laws.proofs.Growing.{facts_grown, go_further, go_same, placed,
 
 -- ---- an id that is known stays known
 
-abbrev IsKnown : ℕ → Config → Type 0
+abbrev pub IsKnown : ℕ → Config → Type 0
 IsKnown id c = is_some (entry_at id c.nodes) ≡ true
 
 known_taken : (id backup : ℕ) (sets : List Taken) (c : Config) → IsKnown id c → IsKnown id (taken_over backup sets c)
@@ -44,7 +44,7 @@ known_named id node nodes is =
       | false ↦ there_with id node _ nodes is
     ]
 
-known_changed : (id origin number : ℕ) (body : Body) (c : Config) → IsKnown id c →
+pub known_changed : (id origin number : ℕ) (body : Body) (c : Config) → IsKnown id c →
     IsKnown id (change_by origin number body c)
 known_changed id origin number (StoreNode node comment) c is = there_with id node _ c.nodes is
 known_changed id origin number (DropNode node) c is = there_with id node _ c.nodes is

@@ -16,7 +16,7 @@ use Rattle.slon_model.specs.Maps.{Map}
 use Rattle.slon_model.specs.Events.{Event}
 use Rattle.slon_model.specs.Tasks.{Act, ToRead, ToStep, ToForget, ToStart, ToStop, ToSync, ToListen}
 use Rattle.slon_model.specs.Place.{Place}
-use Rattle.slon_model.specs.Sessions.{World, Memory, Running, Commit, Stated, Outcome, first_beyond, no_change}
+use Rattle.slon_model.specs.Sessions.{World, Memory, Running, Commit, Stated, Outcome, Excess, excess_of, no_change}
 use Rattle.slon_model.specs.Sessions.{forgotten}
 use Rattle.slon_model.specs.Scripts.{Stepping, done_by, single, order_step, statement_step, step_todo, step_of, read_as}
 use Rattle.slon_model.specs.Scripts.{ordered, kill_of, quiet}
@@ -42,16 +42,16 @@ abbrev Has : (List Commit → Queues → Type 0) → Outcome → Type 0
 Has P o = P o.commits o.memory.queues
 
 done_has : (w : World) (P : List Commit → Queues → Type 0) → P [] w.memory.queues →
-    (s : Stepping) (stated : Stated) (o : Option (List ℕ)) →
+    (s : Stepping) (stated : Stated) (o : Option Excess) →
     P stated.commits w.memory.queues → Has P (done_by s w stated o)
 done_has w P nothing s stated None is = is
-done_has w P nothing s stated (Some name) is = nothing
+done_has w P nothing s stated (Some e) is = nothing
 
 single_has : (w : World) (P : List Commit → Queues → Type 0) → P [] w.memory.queues →
     (s : Stepping) (r : Result Stated Refusal) →
     OnOk (λ stated. P stated.commits w.memory.queues) r → Has P (single s w r)
 single_has w P nothing s (Err refusal) is = nothing
-single_has w P nothing s (Ok stated) is = done_has w P nothing s stated (first_beyond stated.commits w.places) is
+single_has w P nothing s (Ok stated) is = done_has w P nothing s stated (excess_of stated.commits w.places) is
 
 order_has : (w : World) (P : List Commit → Queues → Type 0) → Leaves w P → (s : Stepping) (o : Order) →
     Has P (order_step s w o)
@@ -76,11 +76,11 @@ step_of_has w P l name (Some run) = todo_has w P l name run run.todo
 
 turned_has : (w : World) (P : List Commit → Queues → Type 0) → P [] w.memory.queues → (m : Memory) (stated : Stated) →
     P stated.commits m.queues → Has P (turned w m stated)
-turned_has w P nothing m stated is = by (first_beyond stated.commits w.places)
+turned_has w P nothing m stated is = by (excess_of stated.commits w.places)
   where
-    by : (o : Option (List ℕ)) → Has P (turned_by w m stated o)
+    by : (o : Option Excess) → Has P (turned_by w m stated o)
     by None = is
-    by (Some name) = nothing
+    by (Some e) = nothing
 
 turn_has : (w : World) (P : List Commit → Queues → Type 0) → P [] w.memory.queues → (r : Result Stated Refusal) →
     OnOk (λ stated. P stated.commits w.memory.queues) r → Has P (turn_by w w.memory r)

@@ -3,7 +3,7 @@ use Rattle.std.proofs.Common.{◌≡◌, ℕ, Bool, true, false, cond, List, [],
 use Rattle.std.proofs.Common.{sym, ap, subst, ◌∙◌, not}
 use Rattle.std.specs.Prelude.{◌||◌, filter_map, option_map, find}
 use Rattle.std.specs.Option.{option_or}
-use Rattle.std.specs.List.{list_any, cons_option}
+use Rattle.std.specs.List.{list_any, cons_option, AllByRecursion}
 use Rattle.std.specs.Str.{bytes_eq}
 use Rattle.std.proofs.lemmas.Bool.{false≢true}
 use Rattle.slon_model.specs.declared.reply.Refusal.{Refusal}
@@ -15,10 +15,11 @@ use Rattle.slon_model.specs.Config.{Config}
 use Rattle.slon_model.specs.Deeds.{Node, knowledge}
 use Rattle.slon_model.specs.Place.{Place, is_running, node_id}
 use Rattle.slon_model.specs.Sessions.{World, Running, Seat, bind, when, first_refusal, unless_refused, checked, seat_of}
-use Rattle.slon_model.specs.Reaching.{database_up, database_by, database_of_line, reach}
+use Rattle.slon_model.specs.Reaching.{database_up, database_by, database_of_line, reach, best_of, found_owner, owner}
 use Rattle.slon_model.specs.Membership.{already, first_id}
 use Rattle.slon_model.specs.Turns.{at_node, seat_at, on_turn}
-use Rattle.slon_model.proofs.Names.{bytes_itself, bytes_same, one_found}
+use Rattle.slon_model.proofs.Names.{all_map, bytes_itself, bytes_same, one_found}
+use Rattle.slon_laws.proofs.Owners.{OnSome, OfNode, owner_is}
 use Rattle.stream_laws.specs.Nodes.{nodes_in, node_in}
 use Rattle.stream_laws.specs.Facts.{AreNamedOnce}
 
@@ -109,6 +110,30 @@ reach_ok run id w =
     (seat_of_ok w.places (refused.NotInitialised id) e found)
     (λ s is. search (kept_ok (IsSeat w.places), is)))
 
+-- ---- what is found by its name
+
+-- what is found behind another one, where no name stands twice
+found_behind : {X : Type 0} (f : List ℕ × X) (es : Named X) (e : List ℕ × X) → find_named f.0 es ≡ None →
+    find_named e.0 es ≡ Some e.1 → find_named e.0 (f ∷ es) ≡ Some e.1
+found_behind f es e once there = by (bytes_eq e.0 f.0) refl
+  where
+    by : (b : Bool) → bytes_eq e.0 f.0 ≡ b → cond b (Some f.1) (find_named e.0 es) ≡ Some e.1
+    by true same =
+        let none : find_named e.0 es ≡ None = ap (λ k. find_named k es) (bytes_same e.0 f.0 same) ∙ once in
+        absurd cc
+    by false other = there
+
+found_first : {X : Type 0} (e : List ℕ × X) (es : Named X) → find_named e.0 (e ∷ es) ≡ Some e.1
+found_first e es = ap (λ b. cond b (Some e.1) (find_named e.0 es)) (bytes_itself e.0)
+
+-- each database of a session is found by its name
+all_once : (ps : Named Place) → AreNamedOnce ps → AllByRecursion (IsFound ps) ps
+all_once [] once = tt
+all_once (p ∷ ps) once = (
+  found_first p ps,
+  all_map (IsFound ps) (IsFound (p ∷ ps)) (λ e found. found_behind p ps e once.0 found) ps (all_once ps once.1),
+)
+
 -- ---- seats of turns
 
 -- what is found by a test is found by its name, where no name stands twice
@@ -117,19 +142,11 @@ found_once : {X : Type 0} (test : List ℕ × X → Bool) (es : Named X) (e : Li
 found_once test [] e once is = absurd cc
 found_once {X} test (f ∷ fs) e once is = by (found_once test fs e once.1) (test f) is
   where
-    apart : (b : Bool) → bytes_eq e.0 f.0 ≡ b → find_named e.0 fs ≡ Some e.1 →
-        cond b (Some f.1) (find_named e.0 fs) ≡ Some e.1
-    apart true same there =
-        let none : find_named e.0 fs ≡ None = ap (λ k. find_named k fs) (bytes_same e.0 f.0 same) ∙ once.0 in
-        absurd cc
-    apart false other there = there
-
     by : (find test fs ≡ Some e → find_named e.0 fs ≡ Some e.1) → (b : Bool) → cond b (Some f) (find test fs) ≡ Some e →
         find_named e.0 (f ∷ fs) ≡ Some e.1
     by later true here =
-        subst (λ (g : List ℕ × X). find_named g.0 (f ∷ fs) ≡ Some g.1) (one_found f e here)
-        (ap (λ b. cond b (Some f.1) (find_named f.0 fs)) (bytes_itself f.0))
-    by later false there = apart (bytes_eq e.0 f.0) refl (later there)
+        subst (λ (g : List ℕ × X). find_named g.0 (f ∷ fs) ≡ Some g.1) (one_found f e here) (found_first f fs)
+    by later false there = found_behind f fs e once.0 (later there)
 
 pub at_node_found : (node : ℕ) (w : World) (e : List ℕ × Place) → AreNamedOnce w.places → at_node node w ≡ Some e →
     IsFound w.places e
@@ -151,6 +168,19 @@ turn_ok node w once =
     bind_ok (IsSeat w.places) (IsSeat w.places) (seat_at node (at_node node w)) _
     (seat_at_ok node w (at_node node w) (λ e is. at_node_found node w e once is))
     (λ s is. kept_ok (IsSeat w.places) (when (not (member node w.memory.started)) (refused.Off node) ∷ []) s is)
+
+-- ---- the owner of a set
+
+owner_found : (P : Seat → Type 0) (set : ℕ) (best : Option Seat) → OnSome P best → OnOk P (found_owner set best)
+owner_found P set None is = tt
+owner_found P set (Some s) is = is
+
+pub owner_ok : (run : Running) (set : ℕ) (w : World) → AreNamedOnce w.places → OnOk (IsSeat w.places) (owner run set w)
+owner_ok run set w once =
+    owner_found (IsSeat w.places) set (best_of set run None w.places)
+    (owner_is (IsSeat w.places) set run w
+    (all_map (IsFound w.places) (OfNode (IsSeat w.places))
+    (λ e found n is. record { found = found; node = is; known = refl }) w.places (all_once w.places once)))
 
 -- ---- what no node knows, and sessions without nodes
 

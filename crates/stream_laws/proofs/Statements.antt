@@ -11,13 +11,14 @@ use Rattle.slon_model.specs.Sessions.{World, Running, Stated, Seat, Emission, bi
 use Rattle.slon_model.specs.Membership.{comment_of, already, first_node, init_cluster, store_node, store_path}
 use Rattle.slon_model.specs.Membership.{drop_path}
 use Rattle.slon_model.specs.Reaching.{database_of_line, reach, down_among, any_down, known_somewhere, origin_of}
-use Rattle.slon_model.specs.Reaching.{origin_checks, emitting}
+use Rattle.slon_model.specs.Reaching.{origin_checks, owner, emitting}
 use Rattle.slon_model.specs.Sets.{NewTable, create_set, set_add_table}
+use Rattle.slon_model.specs.Subscribing.{NewFeed, subscribing, subscribe_set}
 use Rattle.slon_model.specs.Scripts.{ordered}
 use Rattle.stream_laws.specs.Nodes.{nodes_in}
 use Rattle.stream_laws.specs.Facts.{IsRegular}
 use Rattle.stream_laws.proofs.Seats.{OnOk, IsSeat, IsFound, bind_ok, checked_ok, kept_ok, none_first, when_none}
-use Rattle.stream_laws.proofs.Seats.{already_none, line_ok, reach_ok, unknown, no_nodes, no_node_at}
+use Rattle.stream_laws.proofs.Seats.{already_none, line_ok, reach_ok, owner_ok, unknown, no_nodes, no_node_at}
 use Rattle.stream_laws.proofs.Commits.{AllGoOn, emits_all, inits_all, stores_all}
 
 abbrev pub IsStated : World → Stated → Type 0
@@ -83,6 +84,11 @@ table_stated origin t run w regular =
     (λ s is. kept_ok (IsSeat w.places) (origin_checks s t.set_id) s is))
     (λ s is. search (kept_ok (IsStated w), emits_stated w regular s is))
 
+feed_stated : (f : NewFeed) (run : Running) (w : World) → IsRegular w → OnOk (IsStated w) (subscribe_set f run w)
+feed_stated f run w regular =
+    bind_ok (IsSeat w.places) (IsStated w) (owner run f.set_id w) _ (owner_ok run f.set_id w regular.once)
+    (λ s is. search (kept_ok (IsStated w), emits_stated w regular s is))
+
 pub ordered_stated : (o : Order) (run : Running) (w : World) → IsRegular w → OnOk (IsStated w) (ordered o run w)
 ordered_stated (order.InitCluster id comment) run w regular = init_stated id comment run w regular
 ordered_stated (order.StoreNode id event_node comment) run w regular = store_stated id event_node comment run w regular
@@ -92,6 +98,8 @@ ordered_stated (order.DropPath server client) run w regular = no_path_stated ser
 ordered_stated (order.CreateSet id origin comment) run w regular = set_stated id origin comment run w regular
 ordered_stated (order.SetAddTable set origin id name key comment) run w regular =
     table_stated origin (record { set_id = set; id = id; name = name; comment = comment_of comment }) run w regular
+ordered_stated (order.SubscribeSet set provider receiver forward) run w regular =
+    feed_stated (subscribing set provider receiver forward) run w regular
 ordered_stated (order.Sync id) run w regular =
     reached_stated w id run _ (λ s is. emits_stated w regular s is (tells Sync ∷ []))
 ordered_stated others run w regular = tt

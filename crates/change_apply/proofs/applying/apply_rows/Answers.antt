@@ -10,7 +10,7 @@ use Rattle.change_capture.specs.declared.action.Action.{Action}
 use Rattle.change_capture.specs.declared.log_row.LogRow.{LogRow}
 use Rattle.change_capture.specs.Spellings.{CanLogRow}
 use Rattle.change_apply.specs.Applied.{HoldsRows, AreLogOf}
-use Rattle.change_apply.proofs.Logged.{IsLeft, Goes, all_left, one_less, none_left, goes_on, stops_at}
+use Rattle.change_apply.proofs.Logged.{IsLeft, Goes, all_left, one_less, none_left, goes_on, stops_at, all_others_stay}
 use Rattle.change_apply.proofs.applying.apply_rows.Goals as goal
 
 pub loop-number-init : goal.loop-number-init
@@ -65,6 +65,10 @@ returns-clause-acted g c m is =
     pending_as (λ n goes. goes n refl)
     (subst (λ more. IsPending (Goes more rows m) (g.K.Keeper.kept c.loop-number.keeper)) end
     (c.loop-number.invariant.on m is))
+
+pub returns-clause-others : goal.returns-clause-others
+returns-clause-others g c m is =
+    pending_as (λ n acts. all_others_stay c.args.rows.now m n acts) (returns-clause-acted g c m is)
 
 pub returns-clause-applies : goal.returns-clause-applies
 returns-clause-applies g c tables actions are p =

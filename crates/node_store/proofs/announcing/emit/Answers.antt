@@ -1,12 +1,13 @@
-use Rattle.std.proofs.Common.{◌∙◌, ◌+◌, Ok, refl, sym, arith}
+use Rattle.std.proofs.Common.{◌∙◌, ◌+◌, Ok, ap, refl, sym, subst, arith}
 use Rattle.std.proofs.lemmas.Result.{err_from_is_err_and}
 use Rattle.node_keeper.specs.Fused.{fuse_kept}
-use Rattle.slon_model.specs.declared.reply.Answer.TheVariants.{Emitted}
 use Rattle.slon_model.specs.declared.reply.Answered.TheVariants.{Sure, InDoubt}
-use Rattle.node_store.specs.Acting.{Stood, Wavered, Broke}
+use Rattle.txn_core.specs.Snapshots.{seen_as}
+use Rattle.node_store.specs.Acting.{Stood, Wavered, Broke, HasLearned}
 use Rattle.app_store.specs.Base.{base_of, memory_of}
-use Rattle.node_store.proofs.Emitted.{Emission, own_is, is_left, held_node, is_written, held_stood, either_held}
-use Rattle.node_store.proofs.Emitted.{emission_stands, emission_wavers}
+use Rattle.node_store.proofs.Emitted.{Announcement, Said, emitter_in, told_in, own_is, is_written, held_stood}
+use Rattle.node_store.proofs.Emitted.{number_in, either_held, emission_stands, emission_wavers, emission_stops}
+use Rattle.node_store.proofs.Several.{emission_within}
 use Rattle.node_store.proofs.Acting.{never_memory}
 use Rattle.app_store.proofs.Halting.{stopped}
 use Rattle.app_store.proofs.Pending.{rose_later}
@@ -15,59 +16,68 @@ use Rattle.app_store.proofs.Transacting.{small_stamp}
 use Rattle.app_store.proofs.Upright.{up_at, running}
 use Rattle.node_store.proofs.announcing.emit.Goals as goal
 
-pub returns-in_ok-learn-in-Done-clause-announces : goal.returns-in_ok-learn-in-Done-clause-announces
-returns-in_ok-learn-in-Done-clause-announces g c p n ready is memory learns seen name rows =
+pub returns-in_ok-learn_each-in-Done-clause-announces : goal.returns-in_ok-learn_each-in-Done-clause-announces
+returns-in_ok-learn_each-in-Done-clause-announces g c p n ready is memory seen name ms bodies learns =
     let at = up_at ready c.requires.up in
-    let e : Emission p = record { node = n; is = is; body = c.args.body.now; name = name; rows = rows } in
-    let own = own_is n at is c.requires.own in
-    let w = is_written {mid = fuse_kept g.K.Keeper.kept c.write_event.new.keeper} at e
-    (record { own_is = own; seen = seen })
-    (c.in-Ok.ensures.writes n ready.fits.held.0 (sym own) ready.fits.held.1 (held_node n at is)
-    learns.home (is_left n at is c.requires.room)) in
+    let a : Announcement p = record { node = n; is = is; parts = ms; name = name } in
+    let said : Said a c.args.own (seen_as c.args.taken.now) c.args.bodies.now = record {
+      own_is = own_is n at is c.requires.own;
+      seen_is = seen;
+      bodies_are = bodies;
+      some = c.requires.some;
+      learns = learns;
+    } in
+    let w = is_written {mid = fuse_kept g.K.Keeper.kept c.write_events.new.keeper} at a
+    (c.in-Ok.ensures.writes (emitter_in at a) (told_in at a said) ready.fits.held.1) in
     let done = rw c.in-Done.is at c.in-Ok-finish.ensures.ends in
-    Stood (λ i. Ok (Sure (Emitted (own i) (w.number_is i))))
-    (small_stamp p c.args.database.now.state.stamp (running at).1.stamp c.requires.room)
-    (emission_stands at e _ (record {
+    Stood (ap (λ x. Ok (Sure x)) (number_in a said w.has))
+    (emission_within name p n ms
+    (small_stamp p c.args.database.now.state.stamp (running at).1.stamp c.requires.room) w.has.small)
+    (emission_stands at a _ (record {
       store = w.store;
+      number = c.in-Ok.number;
       has = w.has;
       changed = record {
         held = held_stood w _ done.ends;
         later = omega (arith, c.in-Ok.ensures.enters.later, done.counted.later);
       };
-      members = c.learn.new.self.members;
-      learned = record {
-        members = c.in_ok-learn-in-Done.ensures.members;
-        names = c.in_ok-learn-in-Done.ensures.names;
-      };
+      members = c.learn_each.new.node.members;
+      learned = subst (λ bs. HasLearned bs c.args.database.now.state.node.members c.learn_each.new.node.members)
+          (sym bodies) c.in_ok-learn_each-in-Done.ensures.learned;
       memory = λ i. record (memory_of c.args.database.now.state) {
         stamp = c.args.database.now.state.stamp + 1;
-        identity = c.in_ok-learn-in-Done.ensures.identity i;
-        members = c.learn.new.self.members;
+        identity = c.in_ok-learn_each-in-Done.ensures.identity i;
+        members = c.learn_each.new.node.members;
       };
     }) learns)
 
 pub returns-in-InDoubt-clause-announces : goal.returns-in-InDoubt-clause-announces
-returns-in-InDoubt-clause-announces g c p n ready is memory learns seen name rows =
+returns-in-InDoubt-clause-announces g c p n ready is memory seen name ms bodies learns =
     let at = up_at ready c.requires.up in
-    let e : Emission p = record { node = n; is = is; body = c.args.body.now; name = name; rows = rows } in
-    let own = own_is n at is c.requires.own in
-    let w = is_written {mid = fuse_kept g.K.Keeper.kept c.write_event.new.keeper} at e
-    (record { own_is = own; seen = seen })
-    (c.in-Ok.ensures.writes n ready.fits.held.0 (sym own) ready.fits.held.1 (held_node n at is)
-    learns.home (is_left n at is c.requires.room)) in
+    let a : Announcement p = record { node = n; is = is; parts = ms; name = name } in
+    let said : Said a c.args.own (seen_as c.args.taken.now) c.args.bodies.now = record {
+      own_is = own_is n at is c.requires.own;
+      seen_is = seen;
+      bodies_are = bodies;
+      some = c.requires.some;
+      learns = learns;
+    } in
+    let w = is_written {mid = fuse_kept g.K.Keeper.kept c.write_events.new.keeper} at a
+    (c.in-Ok.ensures.writes (emitter_in at a) (told_in at a said) ready.fits.held.1) in
     let doubt = rw c.in-InDoubt.is at c.in-Ok-finish.ensures.ends in
-    let fits = emission_wavers at e w.store _ w.has (record {
+    let fits = emission_wavers at a w.store _ w.has (record {
       up = c.take_down.ensures.up;
       doubt = refl;
       identity = c.take_down.ensures.identity;
       later = omega (arith, c.in-Ok.ensures.enters.later, doubt.counted.later);
       either = either_held w (fuse_kept g.K.Keeper.kept c.finish.new.keeper) c.in-Ok.ensures.enters.held doubt.ends;
     }) in
-    Wavered fits.0 (λ i. Ok (InDoubt (Emitted (own i) (w.number_is i))))
-    (small_stamp p c.args.database.now.state.stamp (running at).1.stamp c.requires.room) fits.1
+    Wavered fits.0 (ap (λ x. Ok (InDoubt x)) (number_in a said w.has))
+    (emission_within name p n ms
+    (small_stamp p c.args.database.now.state.stamp (running at).1.stamp c.requires.room) w.has.small) fits.1
 
 pub returns-in-Err-finish-clause-announces : goal.returns-in-Err-finish-clause-announces
-returns-in-Err-finish-clause-announces g c p n ready is memory learns seen name rows =
+returns-in-Err-finish-clause-announces g c p n ready is memory seen name ms bodies learns =
     let at = up_at ready c.requires.up in
     Broke c.fall.result refl (small_stamp p c.args.database.now.state.stamp (running at).1.stamp c.requires.room)
     (look_fell p (base_of g.K.Keeper.kept c.args.database.now) _ c.in-Err-finish.stop c.fall.result
@@ -78,20 +88,30 @@ returns-in-Err-finish-clause-announces g c p n ready is memory learns seen name 
     (memory, c.in-Err-finish.ensures.ends.ends.1)))
 
 pub returns-in-Err-clause-announces : goal.returns-in-Err-clause-announces
-returns-in-Err-clause-announces g c p n ready is memory learns seen name rows =
+returns-in-Err-clause-announces g c p n ready is memory seen name ms bodies learns =
     let at = up_at ready c.requires.up in
-    let own = own_is n at is c.requires.own in
-    Broke c.fall-in-Err.result refl (small_stamp p c.args.database.now.state.stamp (running at).1.stamp c.requires.room)
-    (look_fell p (base_of g.K.Keeper.kept c.args.database.now) _ c.in-Err.stop c.fall-in-Err.result
-    (up_from ready c.requires.up) c.in-Err.ensures.enters.held
-    (stopped _ _ _ _ (is_down c.fall-in-Err.ensures.down) c.in-Err.ensures.enters.failed
-    c.fall-in-Err.ensures.fault (
+    let a : Announcement p = record { node = n; is = is; parts = ms; name = name } in
+    let said : Said a c.args.own (seen_as c.args.taken.now) c.args.bodies.now = record {
+      own_is = own_is n at is c.requires.own;
+      seen_is = seen;
+      bodies_are = bodies;
+      some = c.requires.some;
+      learns = learns;
+    } in
+    emission_stops (c.args.database.now.state.stamp + 1) at a c.in-Err.stop c.fall-in-Err.result _
+    (small_stamp p c.args.database.now.state.stamp (running at).1.stamp c.requires.room)
+    (c.in-Err.ensures.writes (emitter_in at a) (told_in at a said) ready.fits.held.1) (
+      record {
+        held = c.in-Err.ensures.enters.held;
+        down = c.fall-in-Err.ensures.down;
+        rose = c.in-Err.ensures.enters.failed;
+        fault_is = c.fall-in-Err.ensures.fault;
+      },
+      c.in-Err.ensures.enters.later,
       memory,
-      c.in-Err.ensures.writes n ready.fits.held.0 (sym own) ready.fits.held.1 (held_node n at is)
-          learns.home (is_left n at is c.requires.room),
-    )))
+    )
 
-pub returns-in_err-learn-in-Done-clause-announces : goal.returns-in_err-learn-in-Done-clause-announces
-returns-in_err-learn-in-Done-clause-announces g c p n ready is memory learns seen name rows =
+pub returns-in_err-learn_each-in-Done-clause-announces : goal.returns-in_err-learn_each-in-Done-clause-announces
+returns-in_err-learn_each-in-Done-clause-announces g c p n ready is memory seen name ms bodies learns =
     absurd (never_memory _ c.from_residual.result
     (err_from_is_err_and c.from_residual.result c.from_residual.ensures.1) memory)

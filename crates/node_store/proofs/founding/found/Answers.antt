@@ -1,10 +1,11 @@
 use Rattle.std.proofs.Common.{Err, refl, ap, arith}
-use Rattle.slon_model.specs.Membership.{first_of_cluster}
+use Rattle.slon_model.specs.Membership.{becoming, first_of_cluster}
 use Rattle.node_store.specs.Acting.{Burst, Broke}
 use Rattle.app_store.proofs.Transacting.{small_stamp, last_stamp}
 use Rattle.app_store.proofs.Upright.{up_at, running, untouched}
 use Rattle.node_store.proofs.Becoming.{becomes_as, none_held}
 use Rattle.node_store.proofs.Emitted.{felled_fits}
+use Rattle.node_store.proofs.Several.{stamp_beyond, within_limit}
 use Rattle.node_store.proofs.Lookups.{look_stops}
 use Rattle.node_store.proofs.founding.found.Goals as goal
 
@@ -12,8 +13,9 @@ pub returns-then-database-ge-STORED_LIMIT-clause-founds : goal.returns-then-data
 returns-then-database-ge-STORED_LIMIT-clause-founds g c p ready none memory name run cluster =
     let at = up_at ready c.requires.up in
     let most = c.if-database-ge-STORED_LIMIT.true in
-    Burst (ap (λ f. Err f) c.overflow.ensures.fault)
-    (last_stamp p c.args.database.now.state.stamp (running at).1.stamp (omega (arith, most)))
+    Burst 1 (ap (λ f. Err f) c.overflow.ensures.fault)
+    (stamp_beyond (becoming name (first_of_cluster c.args.id c.args.comment.now run)) p
+    (last_stamp p c.args.database.now.state.stamp (running at).1.stamp (omega (arith, most))))
     (felled_fits at _ (record { down = c.overflow.ensures.down; looked = untouched _ }))
 
 pub returns-in-Ok-clause-founds : goal.returns-in-Ok-clause-founds
@@ -24,7 +26,7 @@ returns-in-Ok-clause-founds g c p ready none memory name run cluster =
     let w = c.in-Ok.ensures.writes run ready.fits.held.0 cluster ready.fits.held.1 (none_held at none) in
     becomes_as at n name c.become_node.result (record {
       none = none;
-      fresh = record { log = refl; silent = refl };
+      fresh = refl;
       store = w.0;
       pending = w.1;
       is = w.2;
@@ -32,7 +34,8 @@ returns-in-Ok-clause-founds g c p ready none memory name run cluster =
       way = c.in-Ok.ensures.enters;
       memory = refl;
     }) c.become_node.ensures memory
-    (small_stamp p c.args.database.now.state.stamp (running at).1.stamp (omega (arith, room)))
+    (within_limit (becoming name n) p
+    (small_stamp p c.args.database.now.state.stamp (running at).1.stamp (omega (arith, room))) refl)
 
 pub returns-in-Err-clause-founds : goal.returns-in-Err-clause-founds
 returns-in-Err-clause-founds g c p ready none memory name run cluster =

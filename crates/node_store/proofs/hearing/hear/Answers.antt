@@ -3,10 +3,11 @@ use Rattle.std.specs.Prelude.{unwrap_or}
 use Rattle.slon_base.specs.Codec.{AllAre}
 use Rattle.node_keeper.specs.Fused.{fuse_kept}
 use Rattle.event_store.specs.Telling.{IsOfOther, named}
-use Rattle.node_store.specs.Acting.{Stood, Wavered, Broke, Burst}
+use Rattle.node_store.specs.Acting.{Stood, Wavered, Broke, Burst, hearing}
 use Rattle.app_store.specs.Base.{base_of}
 use Rattle.node_store.proofs.Emitted.{own_is, held_node, felled_fits}
-use Rattle.node_store.proofs.Heard.{Hearer, is_written, held_stood, either_held, heard_stands, heard_wavers}
+use Rattle.node_store.proofs.Several.{stamp_beyond, within_limit}
+use Rattle.node_store.proofs.Heard.{Hearer, heard_in, is_written, held_stood, either_held, heard_stands, heard_wavers}
 use Rattle.app_store.proofs.Halting.{stopped}
 use Rattle.app_store.proofs.Pending.{rose_later}
 use Rattle.app_store.proofs.Standing.{is_down, look_fell, up_from}
@@ -23,8 +24,9 @@ pub returns-then-database-ge-STORED_LIMIT-clause-hears : goal.returns-then-datab
 returns-then-database-ge-STORED_LIMIT-clause-hears g c p n ready is memory name =
     let at = up_at ready c.requires.up in
     let most = c.if-database-ge-STORED_LIMIT.true in
-    Burst (ap (λ f. Err f) c.overflow.ensures.fault)
-    (last_stamp p c.args.database.now.state.stamp (running at).1.stamp (omega (arith, most)))
+    Burst 1 (ap (λ f. Err f) c.overflow.ensures.fault)
+    (stamp_beyond (hearing name p (map named c.args.rows.now)) p
+    (last_stamp p c.args.database.now.state.stamp (running at).1.stamp (omega (arith, most))))
     (felled_fits at _ (record { down = c.overflow.ensures.down; looked = untouched _ }))
 
 pub returns-in-Done-clause-hears : goal.returns-in-Done-clause-hears
@@ -36,7 +38,8 @@ returns-in-Done-clause-hears g c p n ready is memory name =
     let w = is_written {mid = fuse_kept g.K.Keeper.kept c.write_heard.new.keeper} at h
     (c.in-Ok.ensures.writes n ready.fits.held.0 (sym own) ready.fits.held.1 (held_node n at is)) in
     let done = rw c.in-Done.is at c.in-Ok-finish.ensures.ends in
-    Stood refl (small_stamp p c.args.database.now.state.stamp (running at).1.stamp (omega (arith, room)))
+    Stood refl (within_limit (heard_in h) p
+    (small_stamp p c.args.database.now.state.stamp (running at).1.stamp (omega (arith, room))) refl)
     (heard_stands at h _ (record {
       store = w.store;
       has = w.has;
@@ -63,8 +66,8 @@ returns-in-InDoubt-clause-hears g c p n ready is memory name =
       later = omega (arith, c.in-Ok.ensures.enters.later, doubt.counted.later);
       either = either_held w (fuse_kept g.K.Keeper.kept c.finish.new.keeper) c.in-Ok.ensures.enters.held doubt.ends;
     }) in
-    Wavered fits.0 refl (small_stamp p c.args.database.now.state.stamp (running at).1.stamp (omega (arith, room)))
-    fits.1
+    Wavered fits.0 refl (within_limit (heard_in h) p
+    (small_stamp p c.args.database.now.state.stamp (running at).1.stamp (omega (arith, room))) refl) fits.1
 
 pub returns-in-Err-finish-clause-hears : goal.returns-in-Err-finish-clause-hears
 returns-in-Err-finish-clause-hears g c p n ready is memory name =

@@ -1,15 +1,12 @@
-use Rattle.std.proofs.Common.{◌∙◌, IfOk, Some, Err, ap, sym, subst, refl}
+use Rattle.std.proofs.Common.{◌∙◌, IfOk, Some, ap, sym, subst}
 use Rattle.slon_model.specs.Membership as membership
 use Rattle.slon_model.specs.Membership.{comment_of}
 use Rattle.slon_model.specs.Scripts.{ordered}
-use Rattle.slon_model.specs.Sets as sets
 use Rattle.slonik_exec.specs.Commands.{IsRunnable, comment_in}
 use Rattle.slonik_exec.specs.Databases.{bases_of}
-use Rattle.slonik_exec.specs.Executing.{Executes, Refuses}
+use Rattle.slonik_exec.specs.Executing.{Executes}
 use Rattle.slonik_exec.specs.Reached.{Addresses}
-use Rattle.slon_model.specs.declared.reply.Refusal.TheVariants as refused
-use Rattle.slonik_exec.proofs.Orders.{not_built}
-use Rattle.slonik_exec.proofs.Storing.{runs_refused}
+use Rattle.slonik_exec.proofs.Orders.{on_sets}
 use Rattle.slonik_exec.proofs.command.run_command.Goals as goal
 
 pub init_cluster-requires : goal.init_cluster-requires
@@ -68,44 +65,6 @@ returns-in-DropPath-clause-executes g c =
     subst (λ o. IfOk c.drop_path.result (λ reply. Executes a (ordered o) old reply new)) (sym c.in-DropPath.is)
     (c.drop_path.ensures.executes)
 
-pub create_set-requires-clause-can : goal.create_set-requires-clause-can
-create_set-requires-clause-can g c =
-    let both = subst IsRunnable c.in-CreateSet.is (c.is_runnable.ensures c.if-not-is_runnable.false) in
-    (both.0, both.1, c.is_short.ensures c.if-not-is_short.false)
-
-pub returns-in-CreateSet-clause-executes : goal.returns-in-CreateSet-clause-executes
-returns-in-CreateSet-clause-executes g c =
-    let a : Addresses = record { lines = c.args.caller.lines.now; cluster = c.args.caller.cluster.now } in
-    let old = bases_of g.K.Keeper.kept c.args.databases.now in
-    let new = bases_of g.K.Keeper.kept c.create_set.new.databases in
-    subst (λ o. IfOk c.create_set.result (λ reply. Executes a (ordered o) old reply new)) (sym c.in-CreateSet.is)
-    (subst (λ t. IfOk c.create_set.result
-    (λ reply. Executes a (sets.create_set c.in-CreateSet.id c.in-CreateSet.origin (Some t)) old reply new))
-    (c.in_ok-comment.ensures ∙ ap (λ o. comment_of (comment_in o)) c.in-CreateSet.is) c.create_set.ensures.executes)
-
-pub set_add_table-requires-clause-can : goal.set_add_table-requires-clause-can
-set_add_table-requires-clause-can g c =
-    let all = subst IsRunnable c.in-SetAddTable.is (c.is_runnable.ensures c.if-not-is_runnable.false) in
-    (all.1, all.0, all.2, all.3, c.is_short.ensures c.if-not-is_short.false)
-
-pub returns-in-SetAddTable-clause-executes : goal.returns-in-SetAddTable-clause-executes
-returns-in-SetAddTable-clause-executes g c =
-    let a : Addresses = record { lines = c.args.caller.lines.now; cluster = c.args.caller.cluster.now } in
-    let old = bases_of g.K.Keeper.kept c.args.databases.now in
-    let new = bases_of g.K.Keeper.kept c.set_add_table.new.databases in
-    subst (λ o. IfOk c.set_add_table.result (λ reply. Executes a (ordered o) old reply new)) (sym c.in-SetAddTable.is)
-    (subst (λ t. IfOk c.set_add_table.result
-    (λ reply. Executes a (sets.set_add_table c.in-SetAddTable.origin
-    (record {
-      set_id = c.in-SetAddTable.set_id;
-      id = c.in-SetAddTable.id;
-      name =
-          c.in-SetAddTable.fully_qualified_name;
-      comment = t;
-    })) old reply new))
-    (c.in_ok-comment.ensures ∙ ap
-    (λ o. comment_of (comment_in o)) c.in-SetAddTable.is) c.set_add_table.ensures.executes)
-
 pub sync-requires : goal.sync-requires
 sync-requires g c = record {
   can = subst IsRunnable c.in-Sync.is (c.is_runnable.ensures c.if-not-is_runnable.false);
@@ -119,20 +78,19 @@ returns-in-Sync-clause-executes g c =
     subst (λ o. IfOk c.sync.result (λ reply. Executes a (ordered o) old reply new)) (sym c.in-Sync.is)
     c.sync.ensures.executes
 
-pub returns : goal.returns
-returns g c = record {
-  runs = runs_refused (refused.NotBuilt c.in_ok-word-in_default.word) (bases_of g.K.Keeper.kept c.args.databases.now)
-      refl;
-  executes = λ w run ready lines cluster.
-      Refuses (refused.NotBuilt c.in_ok-word-in_default.word) (not_built c.args.command.now (record {
-        init = c.in_default.not-InitCluster;
-        node = c.in_default.not-StoreNode;
-        path = c.in_default.not-StorePath;
-        drop = c.in_default.not-DropPath;
-        set = c.in_default.not-CreateSet;
-        table = c.in_default.not-SetAddTable;
-        sync = c.in_default.not-Sync;
-      }) run w ∙ ap (λ word. Err (refused.NotBuilt word))
-      (sym (c.in_ok-word-in_default.ensures ∙ c.first_word.ensures)))
-      refl ready.fits;
+pub run_on_set-requires : goal.run_on_set-requires
+run_on_set-requires g c = record {
+  on_sets = on_sets c.args.command.now (record {
+    init = c.in_default.not-InitCluster;
+    node = c.in_default.not-StoreNode;
+    path = c.in_default.not-StorePath;
+    drop = c.in_default.not-DropPath;
+    sync = c.in_default.not-Sync;
+  });
+  can = (
+    c.is_runnable.ensures c.if-not-is_runnable.false,
+    c.is_short.ensures c.if-not-is_short.false,
+  );
+  said = c.in_ok-comment.ensures;
+  distinct = c.requires.distinct;
 }

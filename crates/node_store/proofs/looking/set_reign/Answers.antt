@@ -1,15 +1,20 @@
-use Rattle.std.proofs.Common.{◌≡◌, ◌∙◌, ap, refl, Err, Option, arith}
+use Rattle.std.proofs.Common.{◌≡◌, ◌∙◌, ap, sym, subst, refl, Err, Option, arith}
+use Rattle.store_rows.specs.Space.{AllOf}
 use Rattle.slon_model.specs.Config.{Config}
 use Rattle.slon_model.specs.Deeds.{knowledge}
 use Rattle.slon_model.specs.Maps.{entry_at}
 use Rattle.node_rows.specs.declared.rows.SetRow.{SetRow}
-use Rattle.node_store.specs.Looking.{live_origin}
+use Rattle.node_store.specs.Looking.{IsSmall, live_reign}
 use Rattle.app_store.specs.Base.{base_of}
 use Rattle.app_store.proofs.Pending.{sight-idle}
 use Rattle.app_store.proofs.Upright.{up_at}
 use Rattle.node_store.proofs.Emitted.{held_node}
-use Rattle.node_store.proofs.Lookups.{look_gives, look_stops, look_fits}
-use Rattle.node_store.proofs.looking.set_origin.Goals as goal
+use Rattle.node_store.proofs.Lookups.{small_reign, look_gives, look_stops, look_fits}
+use Rattle.node_store.proofs.looking.set_reign.Goals as goal
+
+pub returns-in-Ok-clause-small : goal.returns-in-Ok-clause-small
+returns-in-Ok-clause-small g c =
+    subst (AllOf IsSmall) (sym c.reign_in.ensures) (small_reign c.in-Ok.row c.in-Ok.ensures.can)
 
 pub returns-in-Ok-clause-looks : goal.returns-in-Ok-clause-looks
 returns-in-Ok-clause-looks g c p ready memory =
@@ -18,7 +23,7 @@ returns-in-Ok-clause-looks g c p ready memory =
     let seen = sight-idle b.kept (c.args.database.now.idle c.requires.up) ∙ ready.fits.held.1 in (
       λ n is. let held = held_node n at is in
           let found = c.in-Ok.ensures.says ready.fits.held.0 (knowledge n).config seen held.config in
-          c.origin_in.ensures ∙ ap live_origin found,
+          c.reign_in.ensures ∙ ap live_reign found,
       look_fits at (record {
         held = c.in-Ok.ensures.safe.held;
         later = c.in-Ok.ensures.safe.later;

@@ -4,7 +4,7 @@ use Rattle.std.specs.Option.{option_map}
 use Rattle.slon_base.specs.Keeper.{Store, put_at}
 use Rattle.store_rows.proofs.Causes.{outside_within}
 use Rattle.node_store.proofs.Midways.{midway_begun, midway_on, breaks_on, enters_as}
-use Rattle.node_store.proofs.writing.write_event.Goals as goal
+use Rattle.node_store.proofs.writing.write_events.Goals as goal
 
 pub returns-in_err-put_pair-in-Ok-clause-enters : goal.returns-in_err-put_pair-in-Ok-clause-enters
 returns-in_err-put_pair-in-Ok-clause-enters g c =
@@ -16,14 +16,13 @@ returns-in_err-put_pair-in-Ok-clause-enters g c =
     (outside_within _ put.only) refl)
 
 pub returns-in-Ok-clause-writes : goal.returns-in-Ok-clause-writes
-returns-in-Ok-clause-writes g c n m own held holds home left =
-    let turns = c.in-Ok.ensures.turns n m own (c.in_ok-begin.ensures.opened ∙ ap (λ h. Some h) held) holds home in
+returns-in-Ok-clause-writes g c e told held =
+    let emits = c.in-Ok.ensures.emits e told (c.in_ok-begin.ensures.opened ∙ ap (λ h. Some h) held) in
     let put = c.in_ok-put_pair-in-Ok.ensures in (
-      turns.0,
-      turns.2.store,
+      emits.store,
       put.put
           ∙ ap (λ (q : Option (Option Store)). option_map (option_map (put_at 1 (1 ∷ []) c.as_slice.result.now)) q)
-          turns.2.is
-          ∙ ap (λ v. Some (Some (put_at 1 (1 ∷ []) v turns.2.store))) (c.as_slice.ensures ∙ c.in_ok-stamp.ensures),
-      turns.2.has,
+          emits.is
+          ∙ ap (λ v. Some (Some (put_at 1 (1 ∷ []) v emits.store))) (c.as_slice.ensures ∙ c.in_ok-stamp.ensures),
+      emits.has,
     )

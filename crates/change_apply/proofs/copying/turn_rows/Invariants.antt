@@ -6,9 +6,9 @@ use Rattle.store_rows.specs.Space.{IsPending}
 use Rattle.store_rows.specs.Spending.{Stays, Rests}
 use Rattle.slon_model.specs.Rows.{Rows}
 use Rattle.change_apply.specs.Applied.{HoldsRows, OthersStay}
-use Rattle.change_apply.specs.Copied.{CanCopy, removals}
+use Rattle.change_apply.specs.Copied.{CanCopy, turns}
 use Rattle.change_apply.proofs.Replacing.{IsRest}
-use Rattle.change_apply.proofs.copying.take_rows.Given as goal
+use Rattle.change_apply.proofs.copying.turn_rows.Given as goal
 
 abbrev pub invariant-loop-key : goal.invariant-loop-key
 invariant-loop-key g l =
@@ -24,7 +24,8 @@ invariant-loop-key g l =
       opened : is_some now.pending ≡ true;
       counted : into_iter_len l.key-iterator ≡ length (into_iter_items l.key-iterator);
       can : CanCopy (into_iter_items l.key-iterator);
-      takes : (tables : List ℕ → Rows) → IsPending (HoldsRows tables) old →
-          IsPending (IsRest l.fn.table (removals (into_iter_items l.key-iterator)) (removals l.fn.rows) tables) now;
+      plays : (tables : List ℕ → Rows) → IsPending (HoldsRows tables) old →
+          IsPending (IsRest l.fn.table (turns l.fn.turn (into_iter_items l.key-iterator)) (turns l.fn.turn l.fn.rows)
+          tables) now;
       on : (m : Store) → old.pending ≡ Some (Some m) → IsPending (OthersStay m) now;
     }

@@ -1,0 +1,168 @@
+// Sessions in which a node subscribes to a set at its origin.
+use crate::scripts::DATABASES;
+use crate::wanted::{Step, expect_wanted, nothing_wanted};
+use std::alloc::Global;
+use std::test::Fail;
+
+/// The nodes by their databases.
+const NODES: &str = "cluster name = demo;
+node 1 admin conninfo = 'dbname=a';
+node 2 admin conninfo = 'dbname=b';
+node 3 admin conninfo = 'dbname=c';
+";
+
+/// The first node alone has no NODE line.
+const OTHERS: &str = "cluster name = demo;
+node 2 admin conninfo = 'dbname=b';
+node 3 admin conninfo = 'dbname=c';
+";
+
+/// A cluster of three nodes, with a set of a table.
+const CLUSTER: &[Step] = &[
+    ("init cluster (id = 1);", "ok"),
+    ("store node (id = 2, event node = 1);", "ok event 1 1"),
+    ("store node (id = 3, event node = 1);", "ok event 1 2"),
+    (
+        "store path (server = 1, client = 2, conninfo = 'dbname=a');",
+        "ok event 2 1",
+    ),
+    ("create set (id = 1, origin = 1);", "ok event 1 3"),
+    (
+        "set add table (set id = 1, origin = 1, id = 1, fully qualified name = 'public.t');",
+        "ok event 1 4",
+    ),
+];
+
+/// Statements that are refused, each in a script of its own, the first cause first.
+const REFUSED: &[Step] = &[
+    (
+        "subscribe set (id = 7, provider = 9, receiver = 9);",
+        "no 47 noset 7",
+    ),
+    (
+        "subscribe set (id = 1, provider = 8, receiver = 9);",
+        "no 44 nonode 9",
+    ),
+    (
+        "subscribe set (id = 1, provider = 8, receiver = 1);",
+        "no 44 nonode 8",
+    ),
+    (
+        "subscribe set (id = 1, provider = 2, receiver = 1);",
+        "no 78 samenode 1",
+    ),
+    (
+        "subscribe set (id = 1, provider = 2, receiver = 2);",
+        "no 78 samenode 2",
+    ),
+    (
+        "subscribe set (id = 1, provider = 3, receiver = 2);",
+        "no 98 notbuilt subscribe",
+    ),
+];
+
+/// The owner is sought among the databases that the NODE lines name and that are up.
+const UNOWNED: Step = (
+    "subscribe set (id = 1, provider = 1, receiver = 2);",
+    "no 47 noset 1",
+);
+
+const SUBSCRIBED: Step = (
+    "subscribe set (id = 1, provider = 1, receiver = 2, forward = yes);",
+    "ok event 1 7",
+);
+
+/// A script whose statements were all done ends at its next step.
+const ENDED: Step = ("step s", "ok ended 0");
+
+/// What the cluster answers behind it: the receiver subscribes already, and the set has a receiver.
+const BEHIND: &[Step] = &[
+    (
+        "subscribe set (id = 1, provider = 1, receiver = 2);",
+        "no 98 notbuilt subscribe",
+    ),
+    (
+        "set add table (set id = 1, origin = 1, id = 2, fully qualified name = 'public.v');",
+        "no 46 hasreceivers 2",
+    ),
+    (
+        "subscribe set (id = 1, provider = 1, receiver = 3);",
+        "ok event 1 10",
+    ),
+];
+
+/// The receiver hears of the events, and there was nothing to say since the SYNC among them.
+const HEARD: &[Step] = &[
+    ("start 1", "ok"),
+    ("start 2", "ok"),
+    ("listen 2 1", "ok events 9 confirms 0"),
+    ("sync 1", "no 60 nothing"),
+    (
+        "status a",
+        "ok node 1 log 0 progress 1 10 progress 2 0 progress 3 0",
+    ),
+    ("crash a", "ok"),
+    ("up a", "ok"),
+    (
+        "status a",
+        "ok node 1 log 0 progress 1 10 progress 2 0 progress 3 0",
+    ),
+];
+
+#[test]
+fn subscriptions_are_answered(rt: HostRuntime) -> Result<(), Fail> {
+    let alloc = rt.alloc();
+    let mut wanted = nothing_wanted(alloc);
+    wanted.push_all(DATABASES)?;
+    wanted.push_script(NODES, CLUSTER)?;
+    wanted.push_all(&[ENDED])?;
+    wanted.push_each(NODES, REFUSED)?;
+    wanted.push_each(OTHERS, &[UNOWNED])?;
+    wanted.push("crash a", "ok")?;
+    wanted.push_each(NODES, &[UNOWNED])?;
+    wanted.push("up a", "ok")?;
+    wanted.push_each(NODES, &[SUBSCRIBED])?;
+    wanted.push_all(&[ENDED])?;
+    wanted.push_each(NODES, BEHIND)?;
+    wanted.push_all(HEARD)?;
+    expect_wanted(alloc, &wanted)
+}
+
+/// All three events stand or none does, where their commit is in doubt.
+fn expect_doubt(alloc: Global, keep: bool) -> Result<(), Fail> {
+    let mut wanted = nothing_wanted(alloc);
+    wanted.push_all(DATABASES)?;
+    wanted.push_script(NODES, CLUSTER)?;
+    wanted.push_all(&[ENDED])?;
+    let (statement, _) = SUBSCRIBED;
+    if keep {
+        wanted.push("crash a commit keep", "ok")?;
+    } else {
+        wanted.push("crash a commit lose", "ok")?;
+    }
+    wanted.push_each(NODES, &[(statement, "doubt a ok event 1 7")])?;
+    if keep {
+        wanted.push("up a", "ok kept")?;
+        wanted.push(
+            "status a",
+            "ok node 1 log 0 progress 1 7 progress 2 0 progress 3 0",
+        )?;
+        wanted.push_each(NODES, &[(statement, "no 98 notbuilt subscribe")])?;
+    } else {
+        wanted.push("up a", "ok lost")?;
+        wanted.push(
+            "status a",
+            "ok node 1 log 0 progress 1 4 progress 2 0 progress 3 0",
+        )?;
+        wanted.push_each(NODES, &[SUBSCRIBED])?;
+    }
+    expect_wanted(alloc, &wanted)
+}
+
+#[test]
+fn subscriptions_stand_whole_or_not(rt: HostRuntime) -> Result<(), Fail> {
+    for keep in [false, true] {
+        expect_doubt(rt.alloc(), keep)?;
+    }
+    Ok(())
+}

@@ -1,0 +1,112 @@
+-- SUBSCRIBE SET at the owner of the set.
+use Rattle.std.proofs.Common.{◌≡◌, ◌∙◌, ℕ, true, List, [], Option, Some, None, Result, Ok, Err, refl, sym}
+use Rattle.std.proofs.Common.{ap, set, subst}
+use Rattle.std.specs.Prelude.{is_err, unwrap_or, IfOk}
+use Rattle.std.specs.Option.{option_map}
+use Rattle.std.proofs.lemmas.Bool.{false≢true, false_from_ne_true}
+use Rattle.slon_base.specs.Keeper.{Kept}
+use Rattle.slon_base.specs.declared.keeper.Keeper.{Ghosts}
+use Rattle.node_rows.specs.declared.body.Body.{Body}
+use Rattle.node_rows.specs.declared.rows.SetRow.{SetRow}
+use Rattle.slon_model.specs.declared.fault.DbFault.{DbFault}
+use Rattle.slon_model.specs.declared.reply.Refusal.{Refusal}
+use Rattle.slon_model.specs.declared.reply.Refusal.TheVariants as refused
+use Rattle.slon_model.specs.declared.reply.Reply.{Reply}
+use Rattle.slon_model.specs.declared.reply.Reply.TheVariants.{Refused}
+use Rattle.slon_model.specs.Names.{Named}
+use Rattle.slon_model.specs.Config.{era_of, set_row}
+use Rattle.slon_model.specs.Deeds.{Node, knowledge}
+use Rattle.slon_model.specs.Place.{Place}
+use Rattle.slon_model.specs.Reaching.{owner}
+use Rattle.slon_model.specs.Sessions.{Seat, Stated, bind}
+use Rattle.slon_model.specs.Subscribing.{NewFeed, all_tell, feed_bodies}
+use Rattle.slon_model.specs.World.{refusal_of, halt_in}
+use Rattle.node_state.proofs.Learning.{plain_learns}
+use Rattle.node_store.specs.declared.looking.Reign.{Reign}
+use Rattle.node_store.specs.Acting.{LearnsAll}
+use Rattle.node_store.specs.Looking.{reign_of}
+use Rattle.app_store.specs.Base.{Base, base_of}
+use Rattle.app_store.specs.Serves.{is_memory}
+use Rattle.slonik_exec.specs.declared.databases.Named.{Named as NamedDatabase}
+use Rattle.slonik_exec.specs.declared.owning.Owner.TheVariants.{At, Nobody, Stopped}
+use Rattle.slonik_exec.specs.Answering.{AtNode}
+use Rattle.slonik_exec.specs.Databases.{bases_of, named_base}
+use Rattle.slonik_exec.specs.Emitting.{EmitsAll}
+use Rattle.slonik_exec.specs.Executing.{Comes, Refuses, Executes}
+use Rattle.slonik_exec.specs.Owned.{Owns}
+use Rattle.slonik_exec.specs.Reached.{Addresses}
+use Rattle.slonik_exec.specs.Statements.{feed_said}
+use Rattle.slonik_exec.proofs.Leading.{SaysReign}
+use Rattle.slonik_exec.proofs.Lifting.{Worked}
+use Rattle.slonik_exec.proofs.Seating.{comes_worked, ready_mids}
+use Rattle.slonik_exec.proofs.Sitting.{breaks_so}
+use Rattle.slonik_exec.proofs.Telling.{words_at}
+use Rattle.slonik_exec.proofs.Works.{Looked, ready_still, stops, ended_due}
+
+-- the era of the row of a set, by what was answered of it
+era_row : (o : Option SetRow) →
+    unwrap_or (option_map (λ r. r.era) (option_map reign_of o)) 0 ≡ unwrap_or (option_map (λ row. row.era) o) 0
+era_row None = refl
+era_row (Some row) = refl
+
+-- none of its events tells of a set or a table
+feed_learns : (p : Place) (n : Node) (era : ℕ) (f : NewFeed) → LearnsAll p n (all_tell (feed_bodies era f))
+feed_learns p n era f = (plain_learns n _ refl, (plain_learns _ _ refl, (plain_learns _ _ refl, tt)))
+
+-- the events are emitted in the era that the node was asked
+pub feed_emitted : {name : List ℕ} {bodies : List Body} {old mid new : Base} {reply : Reply} {found : Option Reign}
+    (f : NewFeed) → Looked (SaysReign f.set_id) old (Ok found) mid →
+    bodies ≡ feed_bodies (unwrap_or (option_map (λ r. r.era) found) 0) f → EmitsAll name bodies mid reply new →
+    AtNode name (λ s. Ok (feed_said f s)) old reply new
+feed_emitted {found = found} f look is emits p n ready node =
+    let seen = look.looks p ready refl in
+    let era = era_of f.set_id (knowledge n).config in
+    let same : unwrap_or (option_map (λ r. r.era) found) 0 ≡ era
+    = ap (λ o. unwrap_or (option_map (λ r. r.era) o) 0) (seen.0 n node)
+    ∙ era_row (set_row f.set_id (knowledge n).config) in
+    emits p n (all_tell (feed_bodies era f)) (ready_still ready seen.1) node
+    (sym (is ∙ ap (λ e. feed_bodies e f) same)) (feed_learns p n era f)
+
+-- the store stopped at a look before any work
+pub stopped_due : {E T : Type 0} {says : Place → T → Type 0} {fault : DbFault} {old new : Base} (name : List ℕ)
+    (stated : Seat → Stated) (r : Result Reply E) → Looked says old (Err fault) new →
+    IfOk r (λ reply. reply ≡ refusal_of (words_at name) fault) →
+    (is_memory (halt_in fault) ≡ true → is_err r ≡ true) →
+    IfOk r (λ reply. AtNode name (λ s. Ok (stated s)) old reply new)
+stopped_due {fault = fault} name stated (Ok reply) look told memory =
+    ended_due stated (stops name (λ s. []) look (record {
+      is = told;
+      memory = false_from_ne_true (is_memory (halt_in fault)) (λ short. false≢true (memory short));
+    }))
+stopped_due name stated (Err e) look told memory = tt
+
+-- ---- on all databases
+
+-- what the owner's database comes to is what the statement comes to
+pub owned_worked : {K : Type 0} {g : Ghosts K} {set_id : ℕ} {a : Addresses} {olds : Named Base}
+    {ds : List (NamedDatabase K g)} {i : ℕ} {x y : NamedDatabase K g} (kept : K → Kept)
+    (does : Seat → Result Stated Refusal) (reply : Reply) → Worked (named_base kept) x.name ds i x y →
+    Owns kept set_id a.lines olds (At i) ds →
+    AtNode x.name does (base_of kept x.database) reply (base_of kept y.database) →
+    Executes a (λ run w. bind (owner run set_id w) does) olds reply (bases_of kept (set ds i y))
+owned_worked {ds = ds} {i} {x} {y} kept does reply at owns comes w run ready lines cluster =
+    let found = owns w run ready lines in
+    let own = found.1 x at.is.held in
+    subst (λ due. Comes w due reply (bases_of kept (set ds i y))) (sym (ap (λ r. bind r does) own.due))
+    (comes_worked does at (ready_mids ready found.0)
+    (record { found = own.found; running = own.running; fits = found.0 }) own.is comes)
+
+-- nobody owns the set
+pub owned_nobody : {K : Type 0} {g : Ghosts K} (kept : K → Kept) (set_id : ℕ) (a : Addresses) (olds : Named Base)
+    (ds : List (NamedDatabase K g)) (does : Seat → Result Stated Refusal) → Owns kept set_id a.lines olds Nobody ds →
+    Executes a (λ run w. bind (owner run set_id w) does) olds (Refused (refused.NoSet set_id)) (bases_of kept ds)
+owned_nobody kept set_id a olds ds does owns w run ready lines cluster =
+    let found = owns w run ready lines in
+    Refuses (refused.NoSet set_id) (ap (λ r. bind r does) found.1) refl found.0
+
+-- the store of a database stopped
+pub owned_stopped : {K : Type 0} {g : Ghosts K} {reply : Reply} (kept : K → Kept) (set_id : ℕ) (a : Addresses)
+    (olds : Named Base) (ds : List (NamedDatabase K g)) (does : Seat → Result Stated Refusal) →
+    Owns kept set_id a.lines olds (Stopped reply) ds →
+    Executes a (λ run w. bind (owner run set_id w) does) olds reply (bases_of kept ds)
+owned_stopped kept set_id a olds ds does owns w run ready lines cluster = breaks_so (owns w run ready lines)

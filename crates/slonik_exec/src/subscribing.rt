@@ -1,0 +1,220 @@
+// SUBSCRIBE SET.
+ghost use Rattle.std.specs.Prelude.{◌≡◌, true, is_some, ◌||◌, ◌==◌, [], ◌∷◌, Some, Ok, IfOk, unwrap_or, codes};
+ghost use Rattle.std.specs.Option.{option_map};
+ghost use Rattle.store_rows.specs.Rows.{IsId};
+ghost use Rattle.slon_model.specs.Sessions.{when};
+ghost use Rattle.slon_model.specs.Subscribing as rules;
+ghost use Rattle.slon_model.specs.declared.reply.Refusal.TheVariants as refused;
+ghost use Rattle.slon_model.specs.declared.reply.Reply.TheVariants as replied;
+ghost use Rattle.app_store.specs.Base.{base_of};
+ghost use Rattle.slonik_exec.specs.Answering.{Answers, AtNode, AtSeat, Checks, is_id};
+ghost use Rattle.slonik_exec.specs.Databases.{bases_of, Runs};
+ghost use Rattle.slonik_exec.specs.Executing.{Executes};
+ghost use Rattle.slonik_exec.specs.Heard.{AreDistinct};
+ghost use Rattle.slonik_exec.specs.Statements.{feed_as, feed_said};
+
+use crate::caller::Caller;
+use crate::checks::{check_live, is_own};
+use crate::databases::Named;
+use crate::emitting::emit_all;
+use crate::owning::{Owner, find_owner};
+use crate::replies::told;
+use crate::short::NoMemory;
+use node_keeper::Keeper;
+use node_rows::Body;
+use node_store::{Database, Reign, knows_receiver, set_reign};
+use slon_base::Text;
+use slon_model::{Refusal, Reply};
+use std::alloc::Global;
+
+/// A node that is to receive a set from another one.
+#[derive(Clone, Copy)]
+pub(crate) struct NewFeed {
+    pub(crate) set_id: u32,
+    pub(crate) provider: u32,
+    pub(crate) receiver: u32,
+    /// Whether it forwards what it applies.
+    pub(crate) forward: bool,
+}
+
+/// Whether a node would feed itself: the receiver is the node of the database, or the provider.
+fn feeds_itself<K: Keeper>(database: &Database<K>, feed: NewFeed) -> bool
+    ensures { result ≡ (is_id feed.receiver database.now.state.node.identity || feed.receiver == feed.provider) }
+{
+    is_own(database, feed.receiver) || feed.receiver == feed.provider
+}
+
+/// 78: the receiver is the node itself, or the provider.
+fn check_apart<K: Keeper>(seat: &Named<K>, feed: NewFeed) -> Option<Reply>
+    requires up { seat.now.database.state.up ≡ true }
+    ensures checks { Checks seat.now.name (base_of K.kept seat.now.database) result
+        (base_of K.kept seat.now.database) }
+    ensures refuses { AtSeat seat.now.name (λ s.
+        when (feed.receiver == s.node.id || feed.receiver == feed.provider) (refused.SameNode feed.receiver) ∷ [])
+        (base_of K.kept seat.now.database) result (base_of K.kept seat.now.database) }
+{
+    if feeds_itself(&seat.database, feed) {
+        let node = feed.receiver;
+        return Some(Reply::Refused(Refusal::SameNode { node }));
+    }
+    None
+}
+
+/// 98: what is replied where a subscription is not built yet.
+fn unbuilt(alloc: Global) -> Result<Option<Reply>, NoMemory>
+    ensures { IfOk result (λ found. found ≡ Some (replied.Refused (refused.NotBuilt (codes "subscribe")))) }
+{
+    let word = Text::from_str(alloc, "subscribe")?;
+    Ok(Some(Reply::Refused(Refusal::NotBuilt { word })))
+}
+
+/// 98: the provider is not the node itself, or the receiver subscribes to the set already.
+fn check_built<K: Keeper>(
+    alloc: Global,
+    seat: &mut Named<K>,
+    feed: NewFeed,
+) -> Result<Option<Reply>, NoMemory>
+    requires up { seat.old.database.state.up ≡ true }
+    requires can { IsId feed.set_id × IsId feed.receiver }
+    ensures checks { IfOk result (λ found. Checks seat.old.name (base_of K.kept seat.old.database) found
+        (base_of K.kept seat.new.database)) }
+    ensures refuses { IfOk result (λ found. AtSeat seat.old.name (λ s.
+        when (rules.is_unbuilt s (feed_as feed)) (refused.NotBuilt (codes "subscribe")) ∷ [])
+        (base_of K.kept seat.old.database) found (base_of K.kept seat.new.database)) }
+    ensures name { seat.new.name ≡ seat.old.name }
+{
+    if !is_own(&seat.database, feed.provider) {
+        return unbuilt(alloc);
+    }
+    match knows_receiver(&mut seat.database, feed.set_id, feed.receiver) {
+        Ok(false) => Ok(None),
+        Ok(true) => unbuilt(alloc),
+        Err(fault) => Ok(Some(told(alloc, &seat.name, fault)?)),
+    }
+}
+
+/// What is checked of a subscription at the owner of its set: 44 of the receiver, 44 of the provider, 78 and 98.
+fn check_feed<K: Keeper>(
+    alloc: Global,
+    seat: &mut Named<K>,
+    feed: NewFeed,
+) -> Result<Option<Reply>, NoMemory>
+    requires up { seat.old.database.state.up ≡ true }
+    requires can { IsId feed.set_id × IsId feed.provider × IsId feed.receiver }
+    ensures checks { IfOk result (λ found. Checks seat.old.name (base_of K.kept seat.old.database) found
+        (base_of K.kept seat.new.database)) }
+    ensures refuses { IfOk result (λ found. AtSeat seat.old.name (λ s. rules.feed_checks s (feed_as feed))
+        (base_of K.kept seat.old.database) found (base_of K.kept seat.new.database)) }
+    ensures name { seat.new.name ≡ seat.old.name }
+{
+    if let Some(reply) = check_live(alloc, seat, feed.receiver)? {
+        return Ok(Some(reply));
+    }
+    if let Some(reply) = check_live(alloc, seat, feed.provider)? {
+        return Ok(Some(reply));
+    }
+    if let Some(reply) = check_apart(seat, feed) {
+        return Ok(Some(reply));
+    }
+    check_built(alloc, seat, feed)
+}
+
+/// The era in which a set is led, or 0 where the node knows no such live set.
+fn era_in(reign: Option<Reign>) -> u64
+    ensures { result ≡ unwrap_or (option_map (λ r. r.era) reign) 0 }
+{
+    match reign {
+        Some(reign) => reign.era,
+        None => 0,
+    }
+}
+
+/// What the owner emits: a SYNC, the subscription, and the event at which the receiver copies the set.
+fn feed_bodies(feed: NewFeed, era: u64) -> [Body; 3]
+    ensures { result ≡ rules.feed_bodies era (feed_as feed) }
+{
+    let NewFeed {
+        set_id: set,
+        provider,
+        receiver,
+        forward,
+    } = feed;
+    [
+        Body::Sync,
+        Body::SubscribeSet {
+            set,
+            provider,
+            receiver,
+            forward,
+        },
+        Body::EnableSubscription {
+            set,
+            provider,
+            receiver,
+            forward,
+            era,
+        },
+    ]
+}
+
+/// The node emits the events of a subscription, in the era in which it knows the set.
+fn emit_feed<K: Keeper>(
+    alloc: Global,
+    seat: &mut Named<K>,
+    feed: NewFeed,
+) -> Result<Reply, NoMemory>
+    requires up { seat.old.database.state.up ≡ true }
+    requires node { is_some seat.old.database.state.node.identity ≡ true }
+    requires can { IsId feed.set_id × IsId feed.provider × IsId feed.receiver }
+    ensures answers { IfOk result (λ reply. Answers seat.old.name (base_of K.kept seat.old.database) reply
+        (base_of K.kept seat.new.database)) }
+    ensures comes { IfOk result (λ reply. AtNode seat.old.name (λ s. Ok (feed_said (feed_as feed) s))
+        (base_of K.kept seat.old.database) reply (base_of K.kept seat.new.database)) }
+    ensures name { seat.new.name ≡ seat.old.name }
+{
+    match set_reign(&mut seat.database, feed.set_id) {
+        Ok(reign) => emit_all(alloc, seat, &feed_bodies(feed, era_in(reign))),
+        Err(fault) => told(alloc, &seat.name, fault),
+    }
+}
+
+/// The owner of the set emits the events of a subscription, unless 44 it does not know the receiver or the provider, 78
+/// the receiver is the owner or the provider, or 98 the provider is another node or the receiver subscribes already.
+fn feed_at<K: Keeper>(alloc: Global, seat: &mut Named<K>, feed: NewFeed) -> Result<Reply, NoMemory>
+    requires up { seat.old.database.state.up ≡ true }
+    requires node { is_some seat.old.database.state.node.identity ≡ true }
+    requires can { IsId feed.set_id × IsId feed.provider × IsId feed.receiver }
+    ensures answers { IfOk result (λ reply. Answers seat.old.name (base_of K.kept seat.old.database) reply
+        (base_of K.kept seat.new.database)) }
+    ensures comes { IfOk result (λ reply. AtNode seat.old.name (rules.fed_at (feed_as feed))
+        (base_of K.kept seat.old.database) reply (base_of K.kept seat.new.database)) }
+    ensures name { seat.new.name ≡ seat.old.name }
+{
+    if let Some(reply) = check_feed(alloc, seat, feed)? {
+        return Ok(reply);
+    }
+    emit_feed(alloc, seat, feed)
+}
+
+/// SUBSCRIBE SET: the owner of the set is found, and emits the events of the subscription. 47 nobody owns it.
+pub(crate) fn subscribe_set<K: Keeper>(
+    alloc: Global,
+    databases: &mut [Named<K>],
+    caller: Caller<'_>,
+    feed: NewFeed,
+) -> Result<Reply, NoMemory>
+    requires can { IsId feed.set_id × IsId feed.provider × IsId feed.receiver }
+    requires distinct { AreDistinct (bases_of K.kept databases.old) }
+    ensures runs { IfOk result (λ reply. Runs (bases_of K.kept databases.old) reply
+        (bases_of K.kept databases.new)) }
+    ensures executes { IfOk result (λ reply. Executes
+        (record { lines = caller.entry.lines.now; cluster = caller.entry.cluster.now })
+        (rules.subscribe_set (feed_as feed))
+        (bases_of K.kept databases.old) reply (bases_of K.kept databases.new)) }
+{
+    match find_owner(alloc, databases, caller.lines, feed.set_id)? {
+        Owner::At(i) => feed_at(alloc, &mut databases[i], feed),
+        Owner::Nobody => Ok(Reply::Refused(Refusal::NoSet { set: feed.set_id })),
+        Owner::Stopped(reply) => Ok(reply),
+    }
+}
