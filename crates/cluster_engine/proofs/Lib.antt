@@ -2,6 +2,7 @@ pub mod Certain
 pub mod Charges
 pub mod Failing
 pub mod Lifting
+pub mod Living
 pub mod Moving
 pub mod Recalling
 pub mod Stepping
@@ -10,3 +11,4 @@ pub mod Trials
 pub mod Taking
 pub mod Turns
 pub mod Walking
+pub mod Working

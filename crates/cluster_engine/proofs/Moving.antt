@@ -12,7 +12,7 @@ use Rattle.slon_model.specs.declared.fault.DbFault.{DbFault}
 use Rattle.slon_model.specs.declared.fault.DbFault.TheVariants.{NotEmpty, Halt}
 use Rattle.slon_model.specs.declared.command.Command.{Command}
 use Rattle.slon_model.specs.declared.command.Command.TheVariants.{Database, Slonik, Step, Kill, Start, Stop, Cut, Join}
-use Rattle.slon_model.specs.declared.command.Command.TheVariants.{Sync, Listen}
+use Rattle.slon_model.specs.declared.command.Command.TheVariants.{Sync, Listen, Work}
 use Rattle.slon_model.specs.declared.command.Delivery.{Delivery}
 use Rattle.slon_model.specs.declared.reading.Reading.{Reading}
 use Rattle.slon_model.specs.declared.reply.Answer.TheVariants.{Done}
@@ -240,6 +240,7 @@ pub record IsOther (c : Command) : Type 0 where
   pub join : (node other : ℕ) → c ≡ Join node other → ⊥
   pub sync : (node : ℕ) → c ≡ Sync node → ⊥
   pub listen : (node server : ℕ) (delivery : Delivery) → c ≡ Listen node server delivery → ⊥
+  pub work : (node origin : ℕ) → c ≡ Work node origin → ⊥
 
 pub one_left : (c : Command) → IsOther c → is_one (subject_of c) ≡ true
 one_left (Database name) other = absurd (other.database name refl)
@@ -252,6 +253,7 @@ one_left (Cut a b) other = absurd (other.cut a b refl)
 one_left (Join a b) other = absurd (other.join a b refl)
 one_left (Sync node) other = absurd (other.sync node refl)
 one_left (Listen node server delivery) other = absurd (other.listen node server delivery refl)
+one_left (Work node origin) other = absurd (other.work node origin refl)
 one_left others other = refl
 
 -- and takes memory

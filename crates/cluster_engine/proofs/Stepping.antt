@@ -21,7 +21,7 @@ use Rattle.slon_model.specs.declared.reply.Reply.{Reply}
 use Rattle.slon_model.specs.declared.reply.Reply.TheVariants.{Accepted, Refused}
 use Rattle.slon_model.specs.Names.{find_named}
 use Rattle.slon_model.specs.Tasks.{Task, ToFound, Act, ToRead, ToStep, ToForget, ToStart, ToStop, ToCut, ToJoin, ToSync}
-use Rattle.slon_model.specs.Tasks.{ToListen}
+use Rattle.slon_model.specs.Tasks.{ToListen, ToWork}
 use Rattle.slon_model.specs.Tasks.{Subject, OnNew, OnOne, OnAll, Words, words_of}
 use Rattle.slon_model.specs.Place.{Place, bare_place}
 use Rattle.slon_model.specs.Moves.{commits_at}
@@ -31,9 +31,9 @@ use Rattle.slon_model.specs.Deciding.{Choice, AsDue, AtFault, Wavers, Among, res
 use Rattle.slon_model.specs.Sessions.{Memory, Running, Commit, Stated, Outcome, Excess, no_change, excess_of}
 use Rattle.slon_model.specs.Scripts.{Stepping, quiet, done_by, single, ordered, order_step, step_todo, step_of, read_as}
 use Rattle.slon_model.specs.Scripts.{kill_of}
-use Rattle.slon_model.specs.Turns.{at_node, switched_at, turned, turned_by, turn_by, sync_turn}
-use Rattle.slon_model.specs.Polls.{Poll, polled, left_by, stated_by, listen_by}
-use Rattle.slon_model.specs.declared.command.Delivery.{Delivery}
+use Rattle.slon_model.specs.Turns.{at_node, switched_at, turned, turned_by, taken_turn, sync_turn}
+use Rattle.slon_model.specs.Polls.{polled}
+use Rattle.slon_model.specs.Working.{worked, applied_by, taken_from}
 use Rattle.slon_model.specs.World.{World, Happening, Step, Grants as StepGrants, Denies as StepDenies}
 use Rattle.slon_model.specs.World.{Misses as StepMisses, Asks as StepAsks, database_due, due, due_on, ask, asked, after}
 use Rattle.slon_model.specs.World.{Acts as StepActs, after_on, adopted, changed, is_accepted, reply_of, outcome}
@@ -201,13 +201,10 @@ turned_commits w m stated = by (excess_of stated.commits w.places)
     by None = Accepts stated.answer refl
     by (Some e) = Never refl
 
-turn_commits : (w : World) (m : Memory) (due : Result Stated Refusal) → MayCommit (turn_by w m due)
-turn_commits w m (Err refusal) = Never refl
-turn_commits w m (Ok stated) = turned_commits w m stated
-
-listen_commits : (delivery : Delivery) (w : World) (due : Result Poll Refusal) → MayCommit (listen_by delivery w due)
-listen_commits delivery w (Err refusal) = Never refl
-listen_commits delivery w (Ok b) = turned_commits w (left_by delivery b w.memory) (stated_by delivery b)
+taken_commits : {X : Type 0} (w : World) (left : X → Memory) (stated : X → Stated) (due : Result X Refusal) →
+    MayCommit (taken_turn w left stated due)
+taken_commits w left stated (Err refusal) = Never refl
+taken_commits w left stated (Ok x) = turned_commits w (left x) (stated x)
 
 act_commits : (act : Act) (w : World) → MayCommit (outcome act w)
 act_commits (ToRead name (Wrong refusal)) w =
@@ -236,8 +233,10 @@ act_commits (ToStart node) w = switched_commits node _ (at_node node w) w
 act_commits (ToStop node) w = switched_commits node _ (at_node node w) w
 act_commits (ToCut node other) w = Never refl
 act_commits (ToJoin node other) w = Never refl
-act_commits (ToSync node) w = turn_commits w w.memory (sync_turn node w)
-act_commits (ToListen node server delivery) w = listen_commits delivery w (polled node server w)
+act_commits (ToSync node) w = taken_commits w _ _ (sync_turn node w)
+act_commits (ToListen node server delivery) w = taken_commits w _ _ (polled node server w)
+act_commits (ToWork node origin) w =
+    taken_commits w (λ x. taken_from x w.memory) applied_by (worked node origin w)
 
 -- a doubt is told where a step commits
 doubt_unsure : (before : ℕ) (cs : List Commit) (answer : Answer) → before < length cs →

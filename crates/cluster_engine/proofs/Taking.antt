@@ -12,12 +12,14 @@ use Rattle.slon_model.specs.declared.reply.Refusal.{Refusal}
 use Rattle.slon_model.specs.declared.reply.Reply.{Reply}
 use Rattle.slon_model.specs.declared.reply.Reply.TheVariants.{Accepted, Refused}
 use Rattle.slon_model.specs.Names.{Named, find_named}
-use Rattle.slon_model.specs.Tasks.{Act, ToSync, ToListen}
+use Rattle.slon_model.specs.Tasks.{Act, ToSync, ToListen, ToWork}
 use Rattle.slon_model.specs.Deciding.{AllStand, Breaks, DoubtsAt}
-use Rattle.slon_model.specs.Sessions.{World, Memory, Stated, Outcome, Excess, excess_of, no_change, stand}
+use Rattle.slon_model.specs.Events.{Event}
+use Rattle.slon_model.specs.Sessions.{World, Memory, Seat, Stated, Outcome, Excess, bind, excess_of, no_change, stand}
 use Rattle.slon_model.specs.Sessions.{after_outcome}
-use Rattle.slon_model.specs.Turns.{Switches, turned_by, turn_by, sync_turn, switches_of, are_cut}
-use Rattle.slon_model.specs.Polls.{Poll, polled, stated_of, listen_by, left_by}
+use Rattle.slon_model.specs.Turns.{Switches, turned_by, taken_turn, turn_by, sync_turn, switches_of, are_cut}
+use Rattle.slon_model.specs.Polls.{Poll, polled, stated_by, left_by}
+use Rattle.slon_model.specs.Working.{worked, applied_by, taken_from}
 use Rattle.slon_model.specs.World.{outcome, may_break, memory_after, is_accepted, wavering, doubt_reply}
 use Rattle.app_store.specs.Base.{Base}
 use Rattle.slonik_exec.specs.Databases.{FitsAll, Runs, told_by}
@@ -26,10 +28,12 @@ use Rattle.slonik_exec.specs.Executing.{Comes}
 use Rattle.slonik_exec.specs.Turning.{Turns}
 use Rattle.slon_turns.specs.declared.polling.Listen.{Listen}
 use Rattle.slon_turns.specs.Polling.{left_when}
-use Rattle.slon_turns.specs.Turning.{Queues, WaitsIn, Polls}
+use Rattle.slon_turns.specs.Turning.{Queues, WaitsIn, Kept, Polls}
+use Rattle.slon_turns.specs.Working.{left_by_work, Works}
 use Rattle.cluster_engine.specs.Agreed.{Clustered, Remembered, Agrees, FitsScripts, FitsMemory}
 use Rattle.cluster_engine.specs.Calls.{ActsOn, IsActed}
 use Rattle.cluster_engine.proofs.Walking.{ready_of, fits_kept, denied_doubt, felled_moves, broken_moves, wavering_moves}
+use Rattle.cluster_engine.proofs.Working.{takes_up}
 
 abbrev pub with_bases : Named Base → Clustered → Clustered
 with_bases news c = record c { bases = news }
@@ -155,60 +159,126 @@ pub sync_if : {E : Type 0} (node : ℕ) (old : Clustered) (news : Named Base) (r
 sync_if node old news (Ok reply) runs turns = sync_acted node old reply news runs turns
 sync_if node old news (Err e) runs turns = tt
 
--- ---- polls
+-- ---- turns by which other events wait
 
 -- the code keeps other databases, and other queues
 abbrev pub with_queues : Named Base → Queues → Clustered → Clustered
 with_queues news queues c = record c { bases = news; memory = record c.memory { queues = queues } }
 
--- what a poll leaves in memory where it is done
-abbrev left_of : Delivery → Result Poll Refusal → Memory → Memory
-left_of delivery (Ok b) m = left_by delivery b m
-left_of delivery (Err refusal) m = m
+-- what a turn leaves in memory where it is done, by what it found
+abbrev left_of : {X : Type 0} → (X → Memory) → Result X Refusal → Memory → Memory
+left_of left (Ok x) m = left x
+left_of left (Err refusal) m = m
 
--- it leaves the scripts, and what is switched
-left_same : (delivery : Delivery) (b : Poll) (m : Memory) →
-    ((left_by delivery b m).scripts ≡ m.scripts) × (switches_of (left_by delivery b m) ≡ switches_of m)
-left_same Once b m = (refl, refl)
-left_same Lost b m = (refl, refl)
-left_same Again b m = (refl, refl)
+-- and with this reply
+abbrev left_with : {X : Type 0} → (X → Memory) → Result X Refusal → Reply → Memory → Memory
+left_with left (Ok x) (Accepted answer) m = left x
+left_with left found reply m = m
 
-left_fits : (delivery : Delivery) (due : Result Poll Refusal) (m : Memory) (r : Remembered) (queues : Queues) →
-    FitsMemory m r → ((name : List ℕ) → WaitsIn name (left_of delivery due m) (get queues name)) →
-    FitsMemory (left_of delivery due m) (record r { queues = queues })
-left_fits delivery (Err refusal) m r queues fits waits =
-    record { scripts = fits.scripts; switches = fits.switches; waits = waits }
-left_fits delivery (Ok b) m r queues fits waits =
-    let same = left_same delivery b m in
-    record {
-      scripts = subst (λ rs. FitsScripts rs r.scripts) (sym same.0) fits.scripts;
-      switches = same.1 ∙ fits.switches;
+-- A turn that finds this, what that leaves in memory, and what it states. The scripts stay, and what is switched.
+record Finding (X : Type 0) (act : Act) (w : World) : Type 0 where
+  found : Result X Refusal
+  left : X → Memory
+  stated : X → Stated
+  is : outcome act w ≡ taken_turn w left stated found
+  keeps : memory_after act w.memory ≡ w.memory
+  same : (x : X) → ((left x).scripts ≡ w.memory.scripts) × (switches_of (left x) ≡ switches_of w.memory)
+
+-- What the code made of it: with this reply, databases, and what waits there.
+record Found {X : Type 0} {act : Act} {w : World} (f : Finding X act w) (old : Clustered) (reply : Reply)
+    (news : Named Base) (queues : Queues) : Type 0 where
+  agrees : Agrees w old
+  comes : Comes w (bind f.found (λ x. Ok (f.stated x))) reply news
+  own : (name : List ℕ) (halt : HaltOf) → told_by reply ≡ Some (name, halt) → may_break act name w ≡ true
+  waits : (name : List ℕ) → WaitsIn name (left_with f.left f.found reply w.memory) (get queues name)
+
+-- it is a turn
+found_is : {X : Type 0} (w : World) (left : X → Memory) (stated : X → Stated) (found : Result X Refusal) →
+    taken_turn w left stated found
+    ≡ turn_by w (left_of left found w.memory) (bind found (λ x. Ok (stated x)))
+found_is w left stated (Err refusal) = refl
+found_is w left stated (Ok x) = refl
+
+done_left : {X : Type 0} (left : X → Memory) (found : Result X Refusal) (reply : Reply) (m : Memory) →
+    is_accepted reply ≡ true → left_with left found reply m ≡ left_of left found m
+done_left left (Ok x) (Accepted answer) m accepted = refl
+done_left left (Err refusal) (Accepted answer) m accepted = refl
+done_left left found others m accepted = absurd (false≢true accepted)
+
+undone_left : {X : Type 0} (left : X → Memory) (found : Result X Refusal) (reply : Reply) (m : Memory) →
+    is_accepted reply ≡ false → left_with left found reply m ≡ m
+undone_left left found (Accepted answer) m refused = absurd (true≢false refused)
+undone_left left (Ok x) others m refused = refl
+undone_left left (Err refusal) others m refused = refl
+
+left_fits : {X : Type 0} {act : Act} {w : World} (f : Finding X act w) (r : Remembered) (queues : Queues) →
+    FitsMemory w.memory r →
+    ((name : List ℕ) → WaitsIn name (left_of f.left f.found w.memory) (get queues name)) →
+    FitsMemory (left_of f.left f.found w.memory) (record r { queues = queues })
+left_fits {X} {act} {w} f r queues fits waits = by f.found waits
+  where
+    by : (found : Result X Refusal) →
+        ((name : List ℕ) → WaitsIn name (left_of f.left found w.memory) (get queues name)) →
+        FitsMemory (left_of f.left found w.memory) (record r { queues = queues })
+    by (Err refusal) waits = record { scripts = fits.scripts; switches = fits.switches; waits = waits }
+    by (Ok x) waits = record {
+      scripts = subst (λ rs. FitsScripts rs r.scripts) (sym (f.same x).0) fits.scripts;
+      switches = (f.same x).1 ∙ fits.switches;
       waits = waits;
     }
 
--- a poll is a turn
-poll_is : (delivery : Delivery) (w : World) (due : Result Poll Refusal) →
-    listen_by delivery w due ≡ turn_by w (left_of delivery due w.memory) (stated_of delivery due)
-poll_is delivery w (Err refusal) = refl
-poll_is delivery w (Ok b) = refl
+finding_goes : {X : Type 0} {act : Act} {w : World} {old : Clustered} {reply : Reply} {news : Named Base}
+    {queues : Queues} (f : Finding X act w) → Found f old reply news queues →
+    ActsOn act w reply (with_queues news queues old)
+finding_goes {w = w} {old} {reply} {queues = queues} f found =
+    turn_goes (record {
+      due = bind f.found (λ x. Ok (f.stated x));
+      left = left_of f.left f.found w.memory;
+      is = f.is ∙ found_is w f.left f.stated f.found;
+      keeps = f.keeps;
+    }) (record {
+      comes = found.comes;
+      own = found.own;
+      limit = found.agrees.limit;
+      done = λ accepted. left_fits f old.memory queues fits
+          (λ name. subst (λ m. WaitsIn name m (get queues name))
+          (done_left f.left f.found reply w.memory accepted) (found.waits name));
+      undone = λ refused. record {
+        scripts = fits.scripts;
+        switches = fits.switches;
+        waits = λ name. subst (λ m. WaitsIn name m (get queues name))
+            (undone_left f.left f.found reply w.memory refused) (found.waits name);
+      };
+    })
+  where
+    fits : FitsMemory w.memory old.memory
+    fits = found.agrees.memory
 
-done_left : (delivery : Delivery) (due : Result Poll Refusal) (reply : Reply) (m : Memory) →
-    is_accepted reply ≡ true → left_when delivery due reply m ≡ left_of delivery due m
-done_left delivery (Ok b) (Accepted answer) m accepted = refl
-done_left delivery (Err refusal) (Accepted answer) m accepted = refl
-done_left delivery due others m accepted = absurd (false≢true accepted)
+-- what the code keeps of the databases and of what waits there
+abbrev pub kept_of : Clustered → Kept
+kept_of c = record { bases = c.bases; queues = c.memory.queues }
 
-undone_left : (delivery : Delivery) (due : Result Poll Refusal) (reply : Reply) (m : Memory) →
-    is_accepted reply ≡ false → left_when delivery due reply m ≡ m
-undone_left delivery due (Accepted answer) m refused = absurd (true≢false refused)
-undone_left delivery (Ok b) others m refused = refl
-undone_left delivery (Err refusal) others m refused = refl
+abbrev pub kept_as : Named Base → Queues → Kept
+kept_as news queues = record { bases = news; queues = queues }
+
+-- ---- polls
+
+polled_same : (delivery : Delivery) (b : Poll) (m : Memory) →
+    ((left_by delivery b m).scripts ≡ m.scripts) × (switches_of (left_by delivery b m) ≡ switches_of m)
+polled_same Once b m = (refl, refl)
+polled_same Lost b m = (refl, refl)
+polled_same Again b m = (refl, refl)
+
+polled_left : (delivery : Delivery) (due : Result Poll Refusal) (reply : Reply) (m : Memory) →
+    left_when delivery due reply m ≡ left_with (λ b. left_by delivery b m) due reply m
+polled_left delivery (Ok b) (Accepted answer) m = refl
+polled_left delivery (Ok b) others m = refl
+polled_left delivery (Err refusal) reply m = refl
 
 -- what is promised of the databases and of what waits is promised of the command
 pub poll_acted : (l : Listen) (old : Clustered) (reply : Reply) (news : Named Base) (queues : Queues) →
-    Runs old.bases reply news →
-    Polls l old.memory.switches.started (record { bases = old.bases; queues = old.memory.queues }) reply
-    (record { bases = news; queues = queues }) → are_cut l.node l.server old.memory.switches.cuts ≡ l.cut →
+    Runs old.bases reply news → Polls l old.memory.switches.started (kept_of old) reply (kept_as news queues) →
+    are_cut l.node l.server old.memory.switches.cuts ≡ l.cut →
     IsActed (ToListen l.node l.server l.delivery) old reply (with_queues news queues old)
 poll_acted l old reply news queues runs polls cut = record {
   runs = runs;
@@ -220,32 +290,75 @@ poll_acted l old reply news queues runs polls cut = record {
       let takes = polls w (ready_of w old follows) (ap (λ s. s.started) fits.switches)
       (ap (λ (s : Switches). are_cut l.node l.server s.cuts) fits.switches ∙ cut)
       (λ name p found running. fits.waits name) in
-      turn_goes (record {
-        due = stated_of l.delivery due;
-        left = left_of l.delivery due w.memory;
-        is = poll_is l.delivery w due;
+      finding_goes (record {
+        found = due;
+        left = λ b. left_by l.delivery b w.memory;
+        stated = stated_by l.delivery;
+        is = refl;
         keeps = refl;
+        same = λ b. polled_same l.delivery b w.memory;
       }) (record {
+        agrees = follows.agrees;
         comes = takes.comes;
         own = takes.own;
-        limit = follows.agrees.limit;
-        done = λ accepted. left_fits l.delivery due w.memory old.memory queues fits
-            (λ name. subst (λ m. WaitsIn name m (get queues name)) (done_left l.delivery due reply w.memory accepted)
-            (takes.waits name (fits.waits name)));
-        undone = λ refused. record {
-          scripts = fits.scripts;
-          switches = fits.switches;
-          waits = λ name. subst (λ m. WaitsIn name m (get queues name))
-              (undone_left l.delivery due reply w.memory refused) (takes.waits name (fits.waits name));
-        };
+        waits = λ name. subst (λ m. WaitsIn name m (get queues name)) (polled_left l.delivery due reply w.memory)
+            (takes.waits name (fits.waits name));
       });
 }
 
 pub poll_if : {E : Type 0} (l : Listen) (old : Clustered) (news : Named Base) (queues : Queues) (r : Result Reply E) →
     IfOk r (λ reply. Runs old.bases reply news) ×
-    IfOk r (λ reply. Polls l old.memory.switches.started
-    (record { bases = old.bases; queues = old.memory.queues }) reply
-    (record { bases = news; queues = queues })) → are_cut l.node l.server old.memory.switches.cuts ≡ l.cut →
+    IfOk r (λ reply. Polls l old.memory.switches.started (kept_of old) reply (kept_as news queues)) →
+    are_cut l.node l.server old.memory.switches.cuts ≡ l.cut →
     IfOk r (λ reply. IsActed (ToListen l.node l.server l.delivery) old reply (with_queues news queues old))
 poll_if l old news queues (Ok reply) both cut = poll_acted l old reply news queues both.0 both.1 cut
 poll_if l old news queues (Err e) both cut = tt
+
+-- ---- work
+
+worked_same : (x : Seat × Event) (m : Memory) →
+    ((taken_from x m).scripts ≡ m.scripts) × (switches_of (taken_from x m) ≡ switches_of m)
+worked_same (s, e) m = (refl, refl)
+
+worked_left : (due : Result (Seat × Event) Refusal) (reply : Reply) (m : Memory) →
+    left_by_work due reply m ≡ left_with (λ x. taken_from x m) due reply m
+worked_left (Ok x) (Accepted answer) m = refl
+worked_left (Ok x) others m = refl
+worked_left (Err refusal) reply m = refl
+
+-- what is promised of the databases and of what waits is promised of the command
+pub work_acted : (node origin : ℕ) (old : Clustered) (reply : Reply) (news : Named Base) (queues : Queues) →
+    Runs old.bases reply news →
+    Works node origin old.memory.switches.started (kept_of old) reply (kept_as news queues) →
+    IsActed (ToWork node origin) old reply (with_queues news queues old)
+work_acted node origin old reply news queues runs works = record {
+  runs = runs;
+  limit = refl;
+  given = refl;
+  goes = λ w follows.
+      let due = worked node origin w in
+      let fits = follows.agrees.memory in
+      let takes = works w (ready_of w old follows) (ap (λ s. s.started) fits.switches)
+      (λ name p found running. fits.waits name) (takes_up node origin w old follows) in
+      finding_goes (record {
+        found = due;
+        left = λ x. taken_from x w.memory;
+        stated = applied_by;
+        is = refl;
+        keeps = refl;
+        same = λ x. worked_same x w.memory;
+      }) (record {
+        agrees = follows.agrees;
+        comes = takes.comes;
+        own = takes.own;
+        waits = λ name. subst (λ m. WaitsIn name m (get queues name)) (worked_left due reply w.memory)
+            (takes.waits name (fits.waits name));
+      });
+}
+
+pub work_if : {E : Type 0} (node origin : ℕ) (old : Clustered) (news : Named Base) (queues : Queues)
+    (r : Result Reply E) → IfOk r (λ reply. Runs old.bases reply news) →
+    IfOk r (λ reply. Works node origin old.memory.switches.started (kept_of old) reply (kept_as news queues)) →
+    IfOk r (λ reply. IsActed (ToWork node origin) old reply (with_queues news queues old))
+work_if node origin old news queues (Ok reply) runs works = work_acted node origin old reply news queues runs works
+work_if node origin old news queues (Err e) runs works = tt

@@ -1,13 +1,18 @@
 -- What the code keeps of a session, and when the rules agree with it.
-use Rattle.std.specs.Prelude.{◌≡◌, ℕ, List, drop, Option, Some, None}
+use Rattle.std.specs.Prelude.{◌≡◌, ℕ, true, List, drop, Option, Some, None}
+use Rattle.std.specs.List.{AllByRecursion}
 use Rattle.std.specs.FinMap.{FinMap, get}
 use Rattle.slon_base.specs.Keeper.{key_cmp}
 use Rattle.slon_model.specs.Names.{Named, find_named}
+use Rattle.slon_model.specs.Config.{Config}
+use Rattle.slon_model.specs.Deeds.{Node}
+use Rattle.slon_model.specs.Place.{Place}
 use Rattle.slon_model.specs.Sessions.{World, Memory, Running}
 use Rattle.slon_model.specs.Turns.{Switches, switches_of}
 use Rattle.slon_laws.specs.Sound.{Sound}
 use Rattle.slon_laws.specs.Spelled.{IsSpelled}
 use Rattle.slon_laws.specs.Worlds.{AllPlaces}
+use Rattle.stream_laws.specs.Facts.{IsRegular}
 use Rattle.app_store.specs.Base.{Base}
 use Rattle.slonik_exec.specs.Databases.{FitsAll}
 use Rattle.slon_turns.specs.Turning.{Queues, WaitsIn}
@@ -53,14 +58,29 @@ pub record FitsMemory (m : Memory) (r : Remembered) : Type 0 where
   pub switches : switches_of m ≡ r.switches
   pub waits : (name : List ℕ) → WaitsIn name m (get r.queues name)
 
+-- the sets that a node knows are live
+abbrev pub AreLive : Config → Type 0
+AreLive c = AllByRecursion (λ e. e.1.live ≡ true) c.sets
+
+-- so were those that it knew as it became one
+abbrev pub WasGivenLive : Option Node → Type 0
+WasGivenLive None = Unit {0}
+WasGivenLive (Some n) = AreLive n.given.config
+
+-- and a database is such a node, or none
+abbrev pub BeganLive : Place → Type 0
+BeganLive p = WasGivenLive p.node
+
 -- The rules agree with the code.
 pub record Agrees (w : World) (c : Clustered) : Type 0 where
   pub limit : w.limit ≡ c.limit
   pub fits : FitsAll w.places c.bases
   pub memory : FitsMemory w.memory c.memory
 
--- They do, and each database has what each one of a legal history has.
+-- They do, and the session and each database of it have what each legal history leads to.
 pub record Follows (w : World) (c : Clustered) : Type 0 where
   pub agrees : Agrees w c
   pub sound : AllPlaces Sound w
   pub spelled : AllPlaces IsSpelled w
+  pub regular : IsRegular w
+  pub live : AllPlaces BeganLive w

@@ -8,7 +8,7 @@ ghost use Rattle.slon_model.specs.declared.reply.Reply.TheVariants.{Accepted as 
 ghost use Rattle.slon_model.specs.Names.{find_named};
 ghost use Rattle.slon_model.specs.Spoken.{IsSpoken};
 ghost use Rattle.slon_model.specs.Tasks.{subject_of, ToRead, ToStep, ToForget, ToStart, ToStop, ToCut, ToJoin, ToSync};
-ghost use Rattle.slon_model.specs.Tasks.{ToListen};
+ghost use Rattle.slon_model.specs.Tasks.{ToListen, ToWork};
 ghost use Rattle.store_rows.specs.Rows.{IsId};
 ghost use Rattle.slon_model.specs.World.{start};
 ghost use Rattle.app_store.specs.Base.{base_of};
@@ -26,7 +26,7 @@ use event_store::Queue;
 use node_keeper::{Fuse, Keeper};
 use slon_base::{ByteMap, Text};
 use slon_model::{Answer, Command, DbFault, Delivery, Reading, Refusal, Reply};
-use slon_turns::{Listen, take_poll};
+use slon_turns::{Listen, Work, take_poll, take_work};
 use slonik_exec::{
     Named, NoMemory, answered, has_node, index_of, index_of_node, refused, take_sync,
 };
@@ -252,6 +252,23 @@ impl<K: Keeper> Cluster<K> {
         )
     }
 
+    /// The slon of a node has its turn to apply an event of an origin.
+    fn work(&mut self, node: u32, origin: u32) -> Result<Reply, NoMemory>
+        requires distinct { AreDistinct (cluster_of K.kept self.old).bases }
+        requires id { IsId origin }
+        ensures { IfOk result (λ reply. IsActed (ToWork node origin) (cluster_of K.kept self.old) reply
+            (cluster_of K.kept self.new)) }
+    {
+        let work = Work { node, origin };
+        take_work(
+            self.alloc,
+            &mut self.databases,
+            &mut self.queues,
+            &self.started,
+            work,
+        )
+    }
+
     /// Grants a new database, has a database that is there obey, steps and ends scripts, turns slons on and off and
     /// gives them their turns, and cuts nodes off from one another.
     fn obey(&mut self, command: &Command) -> Result<Reply, NoMemory>
@@ -277,6 +294,7 @@ impl<K: Keeper> Cluster<K> {
                 server,
                 delivery,
             } => self.listen(*node, *server, *delivery),
+            Command::Work { node, origin } => self.work(*node, *origin),
             _ => self.ask(command),
         }
     }

@@ -12,6 +12,7 @@ use Rattle.std.specs.FinMap.{entries, entries_sorted}
 use Rattle.std.specs.FinMap.Entries.{is_sorted, below_all}
 use Rattle.std.proofs.lemmas.Bool.{cases_lt, false≢true, le-ltb, lt-ltb, ltb-true, ltb-false}
 use Rattle.std.proofs.lemmas.List.{append-nil}
+use mathlib.Core.HLevel.{is_prop→PathP}
 use Rattle.slon_base.specs.Codec.{number_bytes, AllAre}
 use Rattle.slon_base.specs.Keeper.{Store, key_cmp, after}
 use Rattle.slon_base.proofs.Order.{Entries, less_of, front_of, back_of, behind, prefixed, past_prefix}
@@ -34,8 +35,9 @@ use Rattle.set_config.proofs.Ordering.{same_front}
 use Rattle.set_config.proofs.Ranges.{IsRange, are_map, both_are, scanned, scanned_rows, row_found, sorted_in}
 use Rattle.event_store.specs.declared.event.Event.{Event}
 use Rattle.event_store.specs.declared.event.EventRow.{EventRow}
-use Rattle.event_store.specs.Behind.{numbered, event_of, AreBehind, AreAfter}
+use Rattle.event_store.specs.Behind.{numbered, row_as, AreOf, AreMade, AreBehind, AreAfter}
 use Rattle.event_store.specs.Holds.{HoldsStreams}
+use Rattle.event_store.specs.Parts.{event_by, CanEvent-prop}
 use Rattle.event_store.specs.Seen.{seen_event, snapshot_as, row_bytes, CanRow}
 use Rattle.event_store.specs.Spellings.{IsStored, IsNumbered, event_bytes, CanEvent}
 use Rattle.event_store.specs.Streams.{Streams, event_at}
@@ -208,29 +210,29 @@ IsEvent origin held r = CanEvent r.1 × (event_at held (origin, r.0) ≡ Some r.
 -- the events of these rows
 record Named (origin : ℕ) (rows : List (ℕ × Model)) : Type 0 where
   events : List Event
-  can : AllAre (λ e. (e.origin ≡ origin) × CanEvent (seen_event e)) events
+  origins : AreOf origin events
   rows_are : rows ≡ map numbered events
 
-held_as : Model → Event
-held_as e = record { origin = e.origin; number = e.number; taken = snapshot_as e.taken; body = e.body }
+held_as : (e : Model) → CanEvent e → Event
+held_as e can = record { origin = e.origin; number = e.number; taken = snapshot_as e.taken; body = e.body; can = can }
 
 named : (origin : ℕ) (held : List Model) (rows : List (ℕ × Model)) → AllAre (IsEvent origin held) rows →
     Named origin rows
 unfolding held_as
-named origin held [] all = record { events = []; can = tt; rows_are = refl }
+named origin held [] all = record { events = []; origins = tt; rows_are = refl }
 named origin held (r ∷ rs) all =
     let rest = named origin held rs all.1 in
     let names = event_named held (origin, r.0) r.1 all.0.1 in
     let number = sym names.1 in
     let behind = rest.rows_are in
     record {
-      events = held_as r.1 ∷ rest.events;
-      can = ((names.0, all.0.0), rest.can);
+      events = held_as r.1 all.0.0 ∷ rest.events;
+      origins = (names.0, rest.origins);
       rows_are = λ k. (number k, r.1) ∷ behind k;
     }
 
 -- a look for a number among events of one origin
-found_event : (origin n : ℕ) (events : List Event) → AllAre (λ e. e.origin ≡ origin) events →
+found_event : (origin n : ℕ) (events : List Event) → AreOf origin events →
     event_at (map seen_event events) (origin, n) ≡ row_of same_id n (map numbered events)
 found_event origin n [] all = refl
 found_event origin n (e ∷ es) all =
@@ -250,12 +252,10 @@ pub record IsRead (origin number : ℕ) (held : List Model) (m : Store) : Type 0
   pub are_behind : AreBehind origin number m events
   pub are_after : AreAfter origin number held events
 
-are_within : (origin number : ℕ) (events : List Event) → AllByRecursion (λ y. number < y) (map (λ e. e.number) events) →
-    AllAre (λ e. (e.origin ≡ origin) × CanEvent (seen_event e)) events →
+are_within : (number : ℕ) (events : List Event) → AllByRecursion (λ y. number < y) (map (λ e. e.number) events) →
     AllAre (λ e. (number < e.number) × IsStored e.number) events
-are_within origin number [] above can = tt
-are_within origin number (e ∷ es) above can =
-    ((above.0, can.0.1.numbered.1), are_within origin number es above.1 can.1)
+are_within number [] above = tt
+are_within number (e ∷ es) above = ((above.0, e.can.numbered.1), are_within number es above.1)
 
 pub read_after : (origin number : ℕ) (s : Streams) (m : Store) → IsNumbered (origin, number) → HoldsStreams s m →
     IsRead origin number s.events m
@@ -274,20 +274,19 @@ read_after origin number s m one held =
     (both_are (λ e. CanEvent e.1) (λ e. event_at s.events (origin, e.0) ≡ Some e.1) r.rows
     (are_map r.rows (λ e can. can.1) r.can) r.stand)) in
     let numbers = ap ids n.rows_are ∙ numbers_are n.events in
-    let origins = are_map n.events (λ e can. can.0) n.can in
     record {
       events = n.events;
       are_behind = record {
-        can = n.can;
+        origins = n.origins;
         spelled = behind_in p (number_bytes number) (entries (m 10)) (omega (arith, length-number_bytes number))
             (entries_sorted (m 10)) ∙ spelled ∙ ap (spelled_rows p number_bytes event_bytes) n.rows_are;
       };
       are_after = record {
         rising = subst Rising numbers (rows_rise event_bytes p rows few sorted);
-        within = are_within origin number n.events (subst (AllByRecursion (λ y. number < y)) numbers
-            (rows_above event_bytes p number rows one.1 few below)) n.can;
-        origins = origins;
-        events_are = λ k less fits. found_event origin k n.events origins
+        within = are_within number n.events (subst (AllByRecursion (λ y. number < y)) numbers
+            (rows_above event_bytes p number rows one.1 few below));
+        origins = n.origins;
+        events_are = λ k less fits. found_event origin k n.events n.origins
             ∙ ap (row_of same_id k) (sym n.rows_are) ∙ row_after number k r.rows less
             ∙ row_found (m 10) k id_test (event_range origin one.0) held.events r fits;
       };
@@ -299,21 +298,13 @@ read_after origin number s m one held =
 abbrev pub AreKeys : ℕ → ℕ → List ℕ → List ℕ → Type 0
 AreKeys origin number prefix from = (prefix ≡ number_bytes origin) × (from ≡ pair_key (origin, number))
 
-pub row_as : Event → ℕ × EventRow
-row_as e = (e.number, record { taken = e.taken; body = e.body })
-
-pub rows_can : (origin : ℕ) (events : List Event) →
-    AllAre (λ e. (e.origin ≡ origin) × CanEvent (seen_event e)) events →
-    AllAre (λ r. IsStored r.0 × CanRow r.1) (map row_as events)
-unfolding row_as
-rows_can origin [] can = tt
-rows_can origin (e ∷ es) can =
-    ((can.0.1.numbered.1, (can.0.1.taken, can.0.1.body)), rows_can origin es can.1)
+pub rows_can : (events : List Event) → AllAre (λ r. IsStored r.0 × CanRow r.1) (map row_as events)
+rows_can [] = tt
+rows_can (e ∷ es) = ((e.can.numbered.1, (e.can.taken, e.can.body)), rows_can es)
 
 rows_spelled : (p : List ℕ) (events : List Event) →
     spelled_rows p number_bytes event_bytes (map numbered events)
     ≡ spelled_rows p number_bytes row_bytes (map row_as events)
-unfolding row_as
 rows_spelled p [] = refl
 rows_spelled p (e ∷ es) =
     ap (λ rest. (p ++ number_bytes e.number, event_bytes (seen_event e)) ∷ rest) (rows_spelled p es)
@@ -327,42 +318,36 @@ of_keys {origin} {number} {m} {events} prefix from keys are =
     ∙ are.spelled ∙ rows_spelled (number_bytes origin) events
     ∙ ap (λ p. spelled_rows p number_bytes row_bytes (map row_as events)) (sym keys.0)
 
--- the rows of these events are those that they were made of
-pub same_events : (origin : ℕ) (events : List Event) →
-    AllAre (λ e. (e.origin ≡ origin) × CanEvent (seen_event e)) events →
-    map (event_of origin) (map row_as events) ≡ events
-unfolding row_as
-same_events origin [] can = refl
-same_events origin (e ∷ es) can =
-    let is = sym can.0.0 in
-    let rest = same_events origin es can.1 in
-    λ k. record e { origin = is k } ∷ rest k
+-- an event is known by its origin, its number and its row
+same_event : (e f : Event) → e.origin ≡ f.origin → row_as e ≡ row_as f → e ≡ f
+same_event e f origin row =
+    let parts : (k : 𝕀) → Model = λ k. event_by (origin k) (row k).0 (row k).1.taken (row k).1.body in
+    let can = is_prop→PathP (λ k. CanEvent (parts k)) (λ k. CanEvent-prop (parts k)) e.can f.can in
+    λ k. record { origin = origin k; number = (row k).0; taken = (row k).1.taken; body = (row k).1.body; can = can k }
 
-made_can : (origin : ℕ) (rows : List (ℕ × EventRow)) → IsId origin →
-    AllAre (λ r. IsStored r.0 × CanRow r.1) rows →
-    AllAre (λ e. (e.origin ≡ origin) × CanEvent (seen_event e)) (map (event_of origin) rows)
-made_can origin [] id can = tt
-made_can origin (r ∷ rs) id can =
-    ((refl, record { numbered = (id, can.0.0); taken = can.0.1.0; body = can.0.1.1 }), made_can origin rs id can.1)
-
-made_spelled : (p : List ℕ) (origin : ℕ) (rows : List (ℕ × EventRow)) →
-    spelled_rows p number_bytes row_bytes rows
-    ≡ spelled_rows p number_bytes event_bytes (map numbered (map (event_of origin) rows))
-made_spelled p origin [] = refl
-made_spelled p origin (r ∷ rs) =
-    ap (λ rest. (p ++ number_bytes r.0, row_bytes r.1) ∷ rest) (made_spelled p origin rs)
+-- and so are the events of an origin by their rows
+pub same_events : (origin : ℕ) (es fs : List Event) → AreOf origin es → AreOf origin fs →
+    map row_as es ≡ map row_as fs → es ≡ fs
+same_events origin [] [] one two is = refl
+same_events origin [] (f ∷ fs) one two is = cc
+same_events origin (e ∷ es) [] one two is = cc
+same_events origin (e ∷ es) (f ∷ fs) one two is =
+    let first = same_event e f (one.0 ∙ sym two.0) cc in
+    let rest = same_events origin es fs one.1 two.1 cc in
+    λ k. first k ∷ rest k
 
 -- what was read are the events behind the number
-pub made_behind : {m : Store} (origin number : ℕ) (rows : List (ℕ × EventRow)) (prefix from : List ℕ) → IsId origin →
-    AreKeys origin number prefix from →
-    AllAre (λ r. IsStored r.0 × CanRow r.1) rows
+pub made_behind : {m : Store} {rows : List (ℕ × EventRow)} (origin number : ℕ) (events : List Event)
+    (prefix from : List ℕ) → AreKeys origin number prefix from → AreMade origin rows events
     × (ranged prefix (after from (entries (m 10))) ≡ spelled_rows prefix number_bytes row_bytes rows) →
-    AreBehind origin number m (map (event_of origin) rows)
-made_behind {m} origin number rows prefix from id keys (can, spelled) = record {
-  can = made_can origin rows id can;
+    AreBehind origin number m events
+made_behind {m} {rows} origin number events prefix from keys (made, spelled) = record {
+  origins = made.origins;
   spelled = ap (λ p. ranged p (after (pair_key (origin, number)) (entries (m 10)))) (sym keys.0)
       ∙ ap (λ k. ranged prefix (after k (entries (m 10)))) (sym keys.1) ∙ spelled
-      ∙ ap (λ p. spelled_rows p number_bytes row_bytes rows) keys.0 ∙ made_spelled (number_bytes origin) origin rows;
+      ∙ ap (λ p. spelled_rows p number_bytes row_bytes rows) keys.0
+      ∙ ap (spelled_rows (number_bytes origin) number_bytes row_bytes) (sym made.rows_are)
+      ∙ sym (rows_spelled (number_bytes origin) events);
 }
 
 -- what is given has a property of these events

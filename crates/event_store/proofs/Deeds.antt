@@ -11,7 +11,7 @@ use Rattle.slon_model.specs.Deeds.{knowledge, with_deeds, met}
 use Rattle.slon_model.specs.Views.{Views, views_emitted}
 use Rattle.event_store.specs.Keeping.{KeepsViews}
 use Rattle.event_store.specs.Streams.{streams_of, emitted, given}
-use Rattle.event_store.specs.Following.{EmittingAdds, KeepingAdds, CommittingStays, HearingAdds}
+use Rattle.event_store.specs.Following.{EmittingAdds, KeepingAdds, ApplyingAdds, CommittingStays, HearingAdds}
 use Rattle.event_store.specs.Following.{FirstHasNone, JoiningGives}
 use Rattle.event_store.proofs.Holding.{whole, moved}
 
@@ -33,6 +33,14 @@ pub keeping_adds : KeepingAdds
 keeping_adds n d e is behind keeps =
     let s = streams_of n in
     adds n d e is behind ∙ ap (λ views. record (emitted e s) { views = views }) (kept_views e e.body s.views keeps)
+
+pub applying_adds : ApplyingAdds
+applying_adds n d e is behind =
+    let low = (knowledge n).low in
+    let s = streams_of n in
+    ap (λ doing. streams_of (with_deeds (record d { doing = doing } ∷ []) n)) is
+    ∙ ap (λ b. record (emitted e s) { events = cond b (e ∷ s.events) s.events })
+    (lt-ltb (number_at e.origin low) e.number behind)
 
 pub stays : CommittingStays
 stays n d xid is = ap (λ doing. streams_of (with_deeds (record d { doing = doing } ∷ []) n)) is

@@ -8,12 +8,13 @@ use Rattle.slon_base.specs.Codec.{AllAre}
 use Rattle.store_rows.specs.Rows.{IsId}
 use Rattle.slon_model.specs.Events.{Event}
 use Rattle.slon_model.specs.Maps.{Map, Map2, entry_at, number_at, row_at, pair_at, with_entry, with_pair}
-use Rattle.slon_model.specs.Deeds.{Doing, Deed, Node, Emits, Commits, Hears, raised, heard, knowledge, held}
-use Rattle.slon_model.specs.Deeds.{with_deeds, told_to, told_progress}
+use Rattle.slon_model.specs.Deeds.{Doing, Deed, Node, Emits, Applies, Commits, Hears, raised, heard, knowledge, held}
+use Rattle.slon_model.specs.Deeds.{with_deeds, noticed, told_to, told_progress}
+use Rattle.slon_model.specs.Views.{Views, views_emitted}
 use Rattle.set_config.specs.Holds.{AreIds}
 use Rattle.set_config.proofs.Entries.{entry-with}
 use Rattle.set_config.proofs.Ranges.{are_map}
-use Rattle.event_store.specs.Following.{GoesOn, RegularStays, FirstRegular, GivenRegular}
+use Rattle.event_store.specs.Following.{GoesOn, IsNewAt, RegularStays, FirstRegular, GivenRegular}
 use Rattle.event_store.specs.Giving.{HearsOfOthers}
 use Rattle.event_store.specs.Ordered.{IsOrdered, AreOrdered}
 use Rattle.event_store.specs.Regular.{AreFalling, IsRegular}
@@ -66,9 +67,23 @@ met_itself e progress =
     ∙ ap (λ b. cond b e.number (number_at e.origin progress)) (eq-eqb e.origin e.origin refl) in
     omega (arith, same)
 
-emits_regular : (n : Node) (d : Deed) (e : Event) → GoesOn n (Emits e) → IsRegular (streams_of n) →
-    IsRegular (streams_of (with_deeds (record d { doing = Emits e } ∷ []) n))
-emits_regular n d e (can, more) regular =
+-- the streams of a node that met an event, with these views
+abbrev meeting : Node → Event → Views → Streams
+meeting n e views =
+    let k = knowledge n in
+    record {
+      own = n.id;
+      views = views;
+      events = cond (nat_lt (number_at e.origin k.low) e.number) (e ∷ held n) (held n);
+      progress = with_entry e.origin e.number k.progress;
+      low = k.low;
+      news = noticed e k.news;
+      told = k.told;
+    }
+
+meets_regular : (n : Node) (e : Event) (views : Views) → IsNewAt n e → IsRegular (streams_of n) →
+    IsRegular (meeting n e views)
+meets_regular n e views (can, more) regular =
     let k = knowledge n in
     let next : Next e k.progress (held n) = record { next = more; met = regular.met } in
     record {
@@ -128,7 +143,8 @@ pub regular_stays : RegularStays
 regular_stays n d goes regular = of d.doing goes
   where
     of : (doing : Doing) → GoesOn n doing → IsRegular (streams_of (with_deeds (record d { doing = doing } ∷ []) n))
-    of (Emits e) goes = emits_regular n d e goes regular
+    of (Emits e) goes = meets_regular n e (views_emitted e e.body (knowledge n).views) goes regular
+    of (Applies e) goes = meets_regular n e (knowledge n).views goes regular
     of (Commits xid) goes = record {
       others = regular.others;
       progress = regular.progress;

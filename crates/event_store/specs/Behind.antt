@@ -11,20 +11,29 @@ use Rattle.event_store.specs.declared.event.Event.{Event}
 use Rattle.event_store.specs.declared.event.EventRow.{EventRow}
 use Rattle.event_store.specs.Regular.{AreFalling}
 use Rattle.event_store.specs.Seen.{seen_event}
-use Rattle.event_store.specs.Spellings.{IsStored, event_bytes, CanEvent}
+use Rattle.event_store.specs.Spellings.{IsStored, event_bytes}
 use Rattle.event_store.specs.Streams.{event_at}
 
 -- an event with its number
 abbrev pub numbered : Event → ℕ × Model
 numbered e = (e.number, seen_event e)
 
--- the event of this origin whose row stands at a number
-abbrev pub event_of : ℕ → ℕ × EventRow → Event
-event_of origin r = record { origin = origin; number = r.0; taken = r.1.taken; body = r.1.body }
+-- the number of an event, and its row
+abbrev pub row_as : Event → ℕ × EventRow
+row_as e = (e.number, record { taken = e.taken; body = e.body })
+
+-- each event is of this origin
+abbrev pub AreOf : ℕ → List Event → Type 0
+AreOf origin events = AllAre (λ (e : Event). e.origin ≡ origin) events
+
+-- the rows of these events of the origin are these
+pub record AreMade (origin : ℕ) (rows : List (ℕ × EventRow)) (events : List Event) : Type 0 where
+  pub origins : AreOf origin events
+  pub rows_are : map row_as events ≡ rows
 
 -- the pairs of a store that are those of the origin behind this number are these events
 pub record AreBehind (origin number : ℕ) (m : Store) (events : List Event) : Type 0 where
-  pub can : AllAre (λ e. (e.origin ≡ origin) × CanEvent (seen_event e)) events
+  pub origins : AreOf origin events
   pub spelled : ranged (number_bytes origin) (after (pair_key (origin, number)) (entries (m 10)))
       ≡ spelled_rows (number_bytes origin) number_bytes event_bytes (map numbered events)
 
@@ -40,7 +49,7 @@ events_behind origin number held = filter (λ e. e.origin == origin && nat_lt nu
 pub record AreAfter (origin number : ℕ) (held : List Model) (events : List Event) : Type 0 where
   pub rising : Rising (map (λ e. e.number) events)
   pub within : AllAre (λ e. (number < e.number) × IsStored e.number) events
-  pub origins : AllAre (λ e. e.origin ≡ origin) events
+  pub origins : AreOf origin events
   pub events_are : (n : ℕ) → number < n → IsStored n →
       event_at (map seen_event events) (origin, n) ≡ event_at held (origin, n)
 

@@ -7,7 +7,7 @@ use Rattle.store_rows.specs.Rows.{IsId}
 use Rattle.set_config.specs.Holds.{AreIds}
 use Rattle.slon_model.specs.Maps.{number_at}
 use Rattle.slon_model.specs.Events.{Event}
-use Rattle.slon_model.specs.Deeds.{Node, Deed, Doing, Emits, Commits, Hears, heard, knowledge, with_deeds}
+use Rattle.slon_model.specs.Deeds.{Node, Deed, Doing, Emits, Applies, Commits, Hears, heard, knowledge, with_deeds}
 use Rattle.slon_model.specs.Views.{views_emitted}
 use Rattle.slon_model.specs.Sessions.{Running}
 use Rattle.slon_model.specs.Membership.{first_of_cluster, joining}
@@ -32,6 +32,11 @@ abbrev pub KeepingAdds : Type 0
 KeepingAdds = (n : Node) (d : Deed) (e : Event) → d.doing ≡ Emits e → IsBehindLow e n → KeepsViews e.body →
     streams_of (with_deeds (d ∷ []) n) ≡ emitted e (streams_of n)
 
+-- Applying an event of another node adds it to what the node has.
+abbrev pub ApplyingAdds : Type 0
+ApplyingAdds = (n : Node) (d : Deed) (e : Event) → d.doing ≡ Applies e → IsBehindLow e n →
+    streams_of (with_deeds (d ∷ []) n) ≡ emitted e (streams_of n)
+
 -- What an application commits changes nothing of the streams.
 abbrev pub CommittingStays : Type 0
 CommittingStays = (n : Node) (d : Deed) (xid : ℕ) → d.doing ≡ Commits xid →
@@ -43,9 +48,14 @@ HearingAdds = (n : Node) (d : Deed) (confirms : List (ℕ × ℕ × ℕ)) → d.
     streams_of (with_deeds (d ∷ []) n)
     ≡ record (streams_of n) { told = heard confirms (streams_of n).told }
 
--- what it emits is behind all events of the origin that it met, and what it hears is no confirmation of its own
+-- the event has a name in a store, and is behind all events of its origin that the node met
+abbrev pub IsNewAt : Node → Event → Type 0
+IsNewAt n e = IsNumbered (e.origin, e.number) × (number_at e.origin (knowledge n).progress < e.number)
+
+-- what it emits or applies is new there, and what it hears is no confirmation of its own
 abbrev pub GoesOn : Node → Doing → Type 0
-GoesOn n (Emits e) = IsNumbered (e.origin, e.number) × (number_at e.origin (knowledge n).progress < e.number)
+GoesOn n (Emits e) = IsNewAt n e
+GoesOn n (Applies e) = IsNewAt n e
 GoesOn n (Hears confirms) = AllByRecursion (λ c. (c.1 ≡ n.id → ⊥) × AreIds (c.0, c.1)) confirms
 GoesOn n others = Unit {0}
 

@@ -10,6 +10,7 @@ pub mod Keeping
 pub mod Kept
 pub mod Lines
 pub mod Ordered
+pub mod Parts
 pub mod Queueing
 pub mod Regular
 pub mod Seen

@@ -1,5 +1,6 @@
 -- Events of the program, seen as those of the model.
 use Rattle.std.specs.Prelude.{ℕ, List, ◌++◌}
+pub use Rattle.event_store.specs.Parts.{event_by}
 use Rattle.node_rows.specs.declared.body.Body.{Body}
 use Rattle.node_rows.specs.Spellings.{body_bytes, CanBody}
 use Rattle.slon_model.specs.Events.{Event}
@@ -9,11 +10,6 @@ use Rattle.txn_core.specs.Snapshots.{seen_as}
 use Rattle.event_store.specs.declared.event.Event as declared
 use Rattle.event_store.specs.declared.event.EventRow.{EventRow}
 use Rattle.event_store.specs.Spellings.{snapshot_bytes, CanSnapshot}
-
--- the event of this origin with this number, whose row has these parts
-abbrev pub event_by : ℕ → ℕ → Snapshot → Body → Event
-event_by origin number taken body =
-    record { origin = origin; number = number; taken = seen_as taken; body = body }
 
 abbrev pub seen_event : declared.Event → Event
 seen_event e = event_by e.origin e.number e.taken e.body

@@ -1,4 +1,7 @@
 // An event with its row: the origin and the number are the key, and the row has the snapshot and the body.
+ghost use Rattle.event_store.specs.Parts.{event_by, CanEvent-prop};
+ghost use Rattle.event_store.specs.Spellings.{CanEvent};
+
 use crate::snapshot::{read_snapshot, spell_snapshot};
 use node_rows::Body;
 use slon_base::{RowFault, RowIn, RowOut};
@@ -17,6 +20,7 @@ pub struct Event {
     pub taken: Snapshot,
     /// What it tells all nodes.
     pub body: Body,
+    pub ghost can: { CanEvent (event_by origin number taken body) } by { CanEvent-prop _ },
 }
 
 /// What the row of an event has.

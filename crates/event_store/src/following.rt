@@ -1,13 +1,14 @@
 // Laws of the streams of a node: how they follow how it began and what it did since, and what they leave as it was.
 ghost use Rattle.event_store.specs.Apart.{ConfigStays, StreamsStay};
-ghost use Rattle.event_store.specs.Following.{EmittingAdds, KeepingAdds, CommittingStays, HearingAdds, RegularStays};
-ghost use Rattle.event_store.specs.Following.{FirstHasNone, FirstRegular, JoiningGives, GivenRegular};
+ghost use Rattle.event_store.specs.Following.{EmittingAdds, KeepingAdds, ApplyingAdds, CommittingStays, HearingAdds};
+ghost use Rattle.event_store.specs.Following.{RegularStays, FirstHasNone, FirstRegular, JoiningGives, GivenRegular};
 
-/// The streams of a node follow what it does: an event that it emits is added to them, a transaction of an application
-/// changes nothing of them, and confirmations change what it was told of others.
+/// The streams of a node follow what it does: an event that it emits or applies is added to them, a transaction of an
+/// application changes nothing of them, and confirmations change what it was told of others.
 pub fn streams_follow_deeds()
     ensures adds { EmittingAdds }
     ensures keeps { KeepingAdds }
+    ensures applies { ApplyingAdds }
     ensures stays { CommittingStays }
     ensures confirms { HearingAdds }
     ensures regular { RegularStays }

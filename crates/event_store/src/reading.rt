@@ -1,12 +1,15 @@
 // The events of an origin behind a number, as a node holds them for others.
-ghost use Rattle.std.specs.Prelude.{◌≡◌, List, map, Some, OnOk, IfOk, IfErr};
+ghost use Rattle.std.specs.Prelude.{◌≡◌, List, Some, OnOk, IfOk, IfErr};
+ghost use Rattle.slon_base.specs.Codec.{AllAre};
 ghost use Rattle.slon_base.specs.Keeper.{Store, sight};
+ghost use Rattle.store_rows.specs.Rows.{IsId};
 ghost use Rattle.store_rows.specs.Steps.{Safe, IsWithinLimit, IsOfSpace, Gives};
 ghost use Rattle.event_store.specs.declared.event.Event.{Event};
-ghost use Rattle.event_store.specs.Behind.{event_of, AreBehind, HasBehind, AreAfter, AfterIsAll};
+ghost use Rattle.event_store.specs.Behind.{AreMade, AreBehind, HasBehind, AreAfter, AfterIsAll};
 ghost use Rattle.event_store.specs.Formed.{Lacks, Reads};
 ghost use Rattle.event_store.specs.Holds.{HoldsStreams};
-ghost use Rattle.event_store.specs.Spellings.{IsNumbered};
+ghost use Rattle.event_store.specs.Seen.{CanRow};
+ghost use Rattle.event_store.specs.Spellings.{IsStored, IsNumbered};
 ghost use Rattle.event_store.specs.Streams.{Streams};
 
 use crate::event::{Event, EventRow};
@@ -21,7 +24,9 @@ fn events_of(
     origin: u32,
     rows: Many<(u64, EventRow)>,
 ) -> Result<Many<Event>, AllocError>
-    ensures { IfOk result (λ events. events ≡ map (event_of origin) rows) }
+    requires origin { IsId origin }
+    requires rows { AllAre (λ r. IsStored r.0 × CanRow r.1) rows }
+    ensures { IfOk result (AreMade origin rows) }
 {
     let mut events = Many::new(alloc);
     for (number, row) in rows.into_vec() {

@@ -13,7 +13,7 @@ ghost use Rattle.txn_core.specs.Snapshots.{seen_as};
 ghost use Rattle.event_store.specs.Emitting.{EmitsNext, IsEmitStop};
 ghost use Rattle.set_config.specs.Holds.{pair_key};
 ghost use Rattle.event_store.specs.Seen.{seen_event, event_by};
-ghost use Rattle.event_store.specs.Spellings.{IsStored, event_bytes, CanEvent, CanSnapshot};
+ghost use Rattle.event_store.specs.Spellings.{IsStored, event_bytes, CanSnapshot};
 ghost use Rattle.event_store.specs.Streams.{Streams, event_at, emitted};
 ghost use Rattle.event_store.specs.Holds.{HoldsStreams, ShowsStreams};
 ghost use Rattle.event_store.specs.Formed.{HasProgress, HasEvent, Lacks, Reads, ReadsBelow};
@@ -72,7 +72,6 @@ pub fn emit<K: Keeper>(
 pub fn store<K: Keeper>(alloc: Global, keeper: &mut K, own: u32, event: &Event) -> Result<(), Stop>
     requires opened { is_some (K.kept keeper.old).pending ≡ true }
     requires own { IsId own }
-    requires can { CanEvent (seen_event event.now) }
     ensures safe { Safe (K.kept keeper.old) (K.kept keeper.new) result }
     ensures only { IfErr result IsOutside }
     ensures turns { (base : Store) (s : Streams) → s.own ≡ own →
@@ -128,7 +127,7 @@ pub fn find_event<K: Keeper>(
     ensures space { IfErr result (IsOfSpace 10) }
     ensures found { (m : Store) → sight (K.kept keeper.old) ≡ Some m → IfOk result
         (λ found. get (m 10) (pair_key (origin, number)) ≡ option_map (λ e. event_bytes (seen_event e)) found) }
-    ensures is { IfOk result (AllOf (λ e. (e.origin ≡ origin) × (e.number ≡ number) × CanEvent (seen_event e))) }
+    ensures is { IfOk result (AllOf (λ e. (e.origin ≡ origin) × (e.number ≡ number))) }
     ensures says { (m : Store) (s : Streams) → sight (K.kept keeper.old) ≡ Some m → HoldsStreams s m →
         Gives (λ found. option_map seen_event found ≡ event_at s.events (origin, number)) result }
     ensures form { (m : Store) → sight (K.kept keeper.old) ≡ Some m →

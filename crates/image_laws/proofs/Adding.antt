@@ -4,7 +4,8 @@ use Rattle.std.proofs.Common.{refl, sym, ap, subst, ◌∙◌, is_some, arith}
 use Rattle.std.specs.Prelude.{◌==◌, ◌&&◌, ◌||◌, find, filter_map, option_map, nat_le}
 use Rattle.std.specs.Str.{bytes_eq}
 use Rattle.std.specs.List.{AllByRecursion, list_any}
-use Rattle.std.proofs.lemmas.Bool.{false≢true, true≢false, false_from_ne_true, lt-leb, eq-eqb, and_right, and_from}
+use Rattle.std.proofs.lemmas.Bool.{false≢true, true≢false, false_from_ne_true, lt-leb, eq-eqb, and_parts, and_right}
+use Rattle.std.proofs.lemmas.Bool.{and_from}
 use Rattle.std.proofs.lemmas.List.{append-nil}
 use Rattle.node_rows.specs.declared.rows.SetRow.{SetRow}
 use Rattle.node_rows.specs.declared.rows.TableRow.{TableRow}
@@ -12,8 +13,8 @@ use Rattle.node_rows.specs.declared.body.Body.{Body}
 use Rattle.slon_model.specs.Events.{Event}
 use Rattle.slon_model.specs.Maps.{entry_at, with_entry}
 use Rattle.slon_model.specs.Rows.{Rows, Action, member, play_rows}
-use Rattle.slon_model.specs.Config.{Config, live_set, leads_row, is_origin, era_of, set_row, set_of, change_by}
-use Rattle.slon_model.specs.Deeds.{Node, Deed, Emits, learned, knowledge, with_deeds}
+use Rattle.slon_model.specs.Config.{Config, live_set, leads_row, is_origin, era_of, set_row, set_of, change_by, change}
+use Rattle.slon_model.specs.Deeds.{Node, Deed, Doing, Emits, Knowledge, learned, met_by, knowledge, with_deeds}
 use Rattle.slon_model.specs.Logs.{named}
 use Rattle.slon_model.specs.Place.{Place, open_xids, standing_rows}
 use Rattle.slon_model.specs.Sessions.{writer_of}
@@ -23,7 +24,8 @@ use Rattle.slon_laws.specs.Sound.{Sound}
 use Rattle.slon_laws.proofs.Opens.{member_all}
 use Rattle.slon_laws.proofs.Played.{play_skips}
 use Rattle.stream_laws.proofs.Lists.{all_with}
-use Rattle.image_laws.specs.Fits.{IsListed, Adds, Fit, Keeps, CreatesSet, AddsTable}
+use Rattle.image_laws.specs.Fits.{IsListed, IsWhole, Comes, Adds, Follows, Fit, Keeps, CreatesSet, AddsTable}
+use Rattle.image_laws.specs.Fits.{FollowsTable}
 use Rattle.image_laws.specs.Facts.{FillsAt, HoldsStretch, IsHeldBy, HasStretch, StretchesHold, NodeHolds}
 use Rattle.image_laws.proofs.Found.{IsNew, find_mapped, find_past, find_alone, find_none, any_none, any_with, any_here}
 use Rattle.image_laws.proofs.Stretching.{Before, Stay, listed_member, behind, all_behind, there_behind, keeps_holds}
@@ -97,34 +99,16 @@ leads_live : (own : ℕ) (o : Option SetRow) → leads_row own o ≡ true → is
 leads_live own None leads = absurd (false≢true leads)
 leads_live own (Some row) leads = refl
 
--- A table that a node puts into one of its sets, by a deed.
-pub record Adding : Type 0 where
+-- A table that the node did not know, as it comes into a set.
+pub record Coming : Type 0 where
   was : Before
-  sound : Sound was.place
-  deed : Deed
   id : ℕ
   row : TableRow
-  live : row.live ≡ true
-  first : deed.first ≡ was.place.numbers.next
-  rows : deed.rows ≡ (row.name, standing_rows was.place row.name) ∷ []
-  leads : is_origin was.own row.set_id was.known ≡ true
   fresh : IsNew id was.known.tables
   unused : list_any (λ e. bytes_eq row.name e.1.name) was.known.tables ≡ false
-  free : writer_of (row.name ∷ []) was.place ≡ None
 
-abbrev now_known : Adding → Config
-now_known a = record a.was.known { tables = with_entry a.id a.row a.was.known.tables }
-
--- the stretch that begins
-abbrev pub new_stretch : Adding → Stretch
-new_stretch a = record {
-  set_id = a.row.set_id;
-  era = era_of a.row.set_id a.was.known;
-  table = a.row.name;
-  first = a.deed.first;
-  last = None;
-  before = standing_rows a.was.place a.row.name;
-}
+abbrev now_known : Coming → Config
+now_known k = record k.was.known { tables = with_entry k.id k.row k.was.known.tables }
 
 -- the test by which a table of this name is found
 abbrev is_member : Config → List ℕ → ℕ × TableRow → Bool
@@ -138,123 +122,229 @@ not_member c table e other = by e.1.live
     by true = ap (λ b. b && is_some (set_row e.1.set_id c)) other
     by false = refl
 
--- it is found in its set
-found_here : (a : Adding) → set_of a.row.name (now_known a) ≡ Some a.row.set_id
-found_here a =
+-- it is found in its set, if that is live
+found_alone : (k : Coming) → is_member k.was.known k.row.name (k.id, k.row) ≡ true →
+    set_of k.row.name (now_known k) ≡ Some k.row.set_id
+found_alone k passes =
     ap (option_map (λ e. e.1.set_id))
-    (find_alone (is_member a.was.known a.row.name) a.id a.row a.was.known.tables a.fresh
-    (ap (λ b. b && bytes_eq a.row.name a.row.name && is_some (set_row a.row.set_id a.was.known)) a.live
-    ∙ ap (λ b. b && is_some (set_row a.row.set_id a.was.known)) (bytes_itself a.row.name)
-    ∙ leads_live a.was.own (set_row a.row.set_id a.was.known) a.leads)
-    (all_map (λ e. bytes_eq a.row.name e.1.name ≡ false) (λ e. is_member a.was.known a.row.name e ≡ false)
-    (not_member a.was.known a.row.name) a.was.known.tables
-    (any_none (λ e. bytes_eq a.row.name e.1.name) a.was.known.tables a.unused)))
+    (find_alone (is_member k.was.known k.row.name) k.id k.row k.was.known.tables k.fresh passes
+    (all_map (λ e. bytes_eq k.row.name e.1.name ≡ false) (λ e. is_member k.was.known k.row.name e ≡ false)
+    (not_member k.was.known k.row.name) k.was.known.tables
+    (any_none (λ e. bytes_eq k.row.name e.1.name) k.was.known.tables k.unused)))
 
--- and another table where it was
-found_past : (a : Adding) (table : List ℕ) → bytes_eq table a.row.name ≡ false →
-    set_of table (now_known a) ≡ set_of table a.was.known
-found_past a table other =
-    ap (option_map (λ e. e.1.set_id)) (find_past (is_member a.was.known table) a.id a.row a.was.known.tables a.fresh
-    (not_member a.was.known table (a.id, a.row) other))
+-- and where it is not found, all are found as before
+found_past : (k : Coming) (table : List ℕ) → is_member k.was.known table (k.id, k.row) ≡ false →
+    set_of table (now_known k) ≡ set_of table k.was.known
+found_past k table other =
+    ap (option_map (λ e. e.1.set_id))
+    (find_past (is_member k.was.known table) k.id k.row k.was.known.tables k.fresh other)
 
-begins : (a : Adding) → begun a.was.own (now_known a) a.deed ≡ new_stretch a ∷ []
+-- a table that was known has another name
+another_name : (k : Coming) (table : List ℕ) → IsListed table k.was.known → bytes_eq table k.row.name ≡ false
+another_name k table listed =
+    false_from_ne_true (bytes_eq table k.row.name) (λ same. true≢false (sym listed
+    ∙ ap (λ name. list_any (λ e. bytes_eq name e.1.name) k.was.known.tables) (bytes_same table k.row.name same)
+    ∙ k.unused))
+
+-- the tables that were known stay in their sets
+still_there : (k : Coming) → Stay k.was.known (now_known k)
+still_there k = record {
+  listed = λ table listed. any_with (λ e. bytes_eq table e.1.name) k.id k.row k.was.known.tables k.fresh listed;
+  member = λ table set is. found_past k table (not_member k.was.known table (k.id, k.row)
+      (another_name k table (listed_member table k.was.known set is))) ∙ is;
+}
+
+whole_with : (k : Coming) → is_some (entry_at k.row.set_id k.was.known.sets) ≡ true → IsWhole k.was.own (now_known k)
+whole_with k known = record {
+  knows = k.was.holds.whole.knows;
+  sets = k.was.holds.whole.sets;
+  tables =
+      all_with (λ e. is_some (entry_at e.1.set_id k.was.known.sets) ≡ true) k.id k.row k.was.known.tables known
+      k.was.holds.whole.tables;
+}
+
+-- ---- into a set of the node
+
+-- A table that a node puts into one of its sets, by a deed.
+pub record Adding : Type 0 where
+  table : Coming
+  sound : Sound table.was.place
+  deed : Deed
+  live : table.row.live ≡ true
+  first : deed.first ≡ table.was.place.numbers.next
+  rows : deed.rows ≡ (table.row.name, standing_rows table.was.place table.row.name) ∷ []
+  leads : is_origin table.was.own table.row.set_id table.was.known ≡ true
+  free : writer_of (table.row.name ∷ []) table.was.place ≡ None
+
+-- the stretch that begins
+abbrev pub new_stretch : Adding → Stretch
+new_stretch a = record {
+  set_id = a.table.row.set_id;
+  era = era_of a.table.row.set_id a.table.was.known;
+  table = a.table.row.name;
+  first = a.deed.first;
+  last = None;
+  before = standing_rows a.table.was.place a.table.row.name;
+}
+
+found_here : (a : Adding) → set_of a.table.row.name (now_known a.table) ≡ Some a.table.row.set_id
+found_here a =
+    let k = a.table in
+    found_alone k
+    (ap (λ b. b && bytes_eq k.row.name k.row.name && is_some (set_row k.row.set_id k.was.known)) a.live
+    ∙ ap (λ b. b && is_some (set_row k.row.set_id k.was.known)) (bytes_itself k.row.name)
+    ∙ leads_live k.was.own (set_row k.row.set_id k.was.known) a.leads)
+
+begins : (a : Adding) → begun a.table.was.own (now_known a.table) a.deed ≡ new_stretch a ∷ []
 begins a =
-    ap (filter_map (λ given. stretch_in a.was.own a.deed.first (now_known a) given (set_of given.0 (now_known a))))
-    a.rows
+    ap (filter_map (λ given. stretch_in own a.deed.first c given (set_of given.0 c))) a.rows
     ∙ ap (λ o. by o) (found_here a)
     ∙ ap (λ b. if_leads b) a.leads
   where
+    own : ℕ
+    own = a.table.was.own
+
+    c : Config
+    c = now_known a.table
+
     by : Option ℕ → List Stretch
-    by o = filter_map (λ (given : List ℕ × Rows). stretch_in a.was.own a.deed.first (now_known a) given o)
-        ((a.row.name, standing_rows a.was.place a.row.name) ∷ [])
+    by o = filter_map (λ (given : List ℕ × Rows). stretch_in own a.deed.first c given o)
+        ((a.table.row.name, standing_rows a.table.was.place a.table.row.name) ∷ [])
 
     if_leads : Bool → List Stretch
     if_leads b = filter_map (λ (o : Option Stretch). o) (cond b (Some (new_stretch a)) None ∷ [])
 
--- the tables that were known stay in their sets
-still_there : (a : Adding) → Stay a.was.known (now_known a)
-still_there a = record {
-  listed = λ table listed. any_with (λ e. bytes_eq table e.1.name) a.id a.row a.was.known.tables a.fresh listed;
-  member = λ table set is. found_past a table (false_from_ne_true (bytes_eq table a.row.name) (λ same.
-      true≢false (sym (listed_member table a.was.known set is)
-      ∙ ap (λ name. list_any (λ e. bytes_eq name e.1.name) a.was.known.tables) (bytes_same table a.row.name same)
-      ∙ a.unused))) ∙ is;
-}
-
-new_holds : (a : Adding) → HoldsStretch a.was.place a.was.own (now_known a) (new_stretch a)
+new_holds : (a : Adding) → HoldsStretch a.table.was.place a.table.was.own (now_known a.table) (new_stretch a)
 new_holds a = record {
   listed =
-      any_here (λ e. bytes_eq a.row.name e.1.name) a.id a.row a.was.known.tables a.fresh (bytes_itself a.row.name);
+      any_here (λ e. bytes_eq k.row.name e.1.name) k.id k.row k.was.known.tables k.fresh (bytes_itself k.row.name);
   begun = let first = a.first in omega (arith, first);
   lasts = λ none. record {
-    stands = and_from (is_origin a.was.own a.row.set_id a.was.known) (era == era) a.leads (eq-eqb era era refl);
+    stands = and_from (is_origin k.was.own k.row.set_id k.was.known) (era == era) a.leads (eq-eqb era era refl);
     member = found_here a;
-    fills = fills_first a.was.place (new_stretch a) a.sound a.first refl a.free;
+    fills = fills_first k.was.place (new_stretch a) a.sound a.first refl a.free;
   };
 }
   where
-    era : ℕ
-    era = era_of a.row.set_id a.was.known
+    k : Coming
+    k = a.table
 
-there_now : (a : Adding) (set : ℕ) (table : List ℕ) → IsHeldBy a.was.own (now_known a) set table →
-    HasStretch (now_known a) (new_stretch a ∷ map (behind a.was.own (now_known a) a.deed) a.was.all) set table
-there_now a set table held = by (bytes_eq table a.row.name) refl
+    era : ℕ
+    era = era_of k.row.set_id k.was.known
+
+-- what became of the stretches that were there
+abbrev all_later : Coming → Deed → List Stretch
+all_later k d = map (behind k.was.own (now_known k) d) k.was.all
+
+there_now : (a : Adding) (set : ℕ) (table : List ℕ) → IsHeldBy a.table.was.own (now_known a.table) set table →
+    HasStretch (now_known a.table) (new_stretch a ∷ all_later a.table a.deed) set table
+there_now a set table held = by (bytes_eq table k.row.name) refl
   where
+    k : Coming
+    k = a.table
+
     rest : List Stretch
-    rest = map (behind a.was.own (now_known a) a.deed) a.was.all
+    rest = all_later k a.deed
 
     era : ℕ
-    era = era_of set a.was.known
+    era = era_of set k.was.known
 
     test : Stretch → Bool
     test = is_stretch set era table
 
-    by : (b : Bool) → bytes_eq table a.row.name ≡ b → HasStretch (now_known a) (new_stretch a ∷ rest) set table
+    by : (b : Bool) → bytes_eq table k.row.name ≡ b → HasStretch (now_known k) (new_stretch a ∷ rest) set table
     by true same =
-        let one : Some a.row.set_id ≡ Some set =
-        sym (found_here a) ∙ ap (λ name. set_of name (now_known a)) (sym (bytes_same table a.row.name same)) ∙ held.0 in
-        let here : a.row.set_id ≡ set = cc in
+        let one : Some k.row.set_id ≡ Some set =
+        sym (found_here a) ∙ ap (λ name. set_of name (now_known k)) (sym (bytes_same table k.row.name same)) ∙ held.0 in
+        let here : k.row.set_id ≡ set = cc in
         let passes : test (new_stretch a) ≡ true =
-        and_from (a.row.set_id == set) (era_of a.row.set_id a.was.known == era && bytes_eq table a.row.name)
-        (eq-eqb a.row.set_id set here)
-        (and_from (era_of a.row.set_id a.was.known == era) (bytes_eq table a.row.name)
-        (eq-eqb (era_of a.row.set_id a.was.known) era (ap (λ k. era_of k a.was.known) here)) same) in
+        and_from (k.row.set_id == set) (era_of k.row.set_id k.was.known == era && bytes_eq table k.row.name)
+        (eq-eqb k.row.set_id set here)
+        (and_from (era_of k.row.set_id k.was.known == era) (bytes_eq table k.row.name)
+        (eq-eqb (era_of k.row.set_id k.was.known) era (ap (λ i. era_of i k.was.known) here)) same) in
         record {
           stretch = new_stretch a;
           found = ap (λ b. cond b (Some (new_stretch a)) (find test rest)) passes;
           lasts = refl;
         }
     by false other =
+        let past = found_past k table (not_member k.was.known table (k.id, k.row) other) in
         let there =
-        there_behind a.was (now_known a) a.deed set table (sym (found_past a table other) ∙ held.0, held.1)
+        there_behind k.was (now_known k) a.deed set table (sym past ∙ held.0, held.1)
         (record { origin = held.1; era = refl }) in
         let misses : test (new_stretch a) ≡ false =
-        and_right (a.row.set_id == set) (era_of a.row.set_id a.was.known == era && bytes_eq table a.row.name)
-        (and_right (era_of a.row.set_id a.was.known == era) (bytes_eq table a.row.name) other) in
+        and_right (k.row.set_id == set) (era_of k.row.set_id k.was.known == era && bytes_eq table k.row.name)
+        (and_right (era_of k.row.set_id k.was.known == era) (bytes_eq table k.row.name) other) in
         record {
           stretch = there.stretch;
           found = ap (λ b. cond b (Some (new_stretch a)) (find test rest)) misses ∙ there.found;
           lasts = there.lasts;
         }
 
-adds_holds : (a : Adding) →
-    StretchesHold a.was.place a.was.own (now_known a) (stretches_by a.was.own (now_known a) a.deed a.was.all)
+-- the stretches behind a deed by which the table comes
+abbrev HoldsWith : Coming → Deed → Type 0
+HoldsWith k d = StretchesHold k.was.place k.was.own (now_known k) (stretches_by k.was.own (now_known k) d k.was.all)
+
+all_still : (k : Coming) (d : Deed) →
+    AllByRecursion (HoldsStretch k.was.place k.was.own (now_known k)) (all_later k d)
+all_still k d =
+    all_behind k.was.place k.was.own k.was.known (now_known k) d (still_there k) k.was.all k.was.holds.each
+
+adds_holds : (a : Adding) → HoldsWith a.table a.deed
 adds_holds a =
-    subst (StretchesHold a.was.place a.was.own (now_known a))
-    (ap (λ first. first ++ map (behind a.was.own (now_known a) a.deed) a.was.all) (sym (begins a))) (record {
-      whole = record {
-        knows = a.was.holds.whole.knows;
-        sets = a.was.holds.whole.sets;
-        tables =
-            all_with (λ e. is_some (entry_at e.1.set_id a.was.known.sets) ≡ true) a.id a.row a.was.known.tables
-            (leads_known a.was.own (entry_at a.row.set_id a.was.known.sets) a.leads) a.was.holds.whole.tables;
-      };
-      each = (
-        new_holds a,
-        all_behind a.was.place a.was.own a.was.known (now_known a) a.deed (still_there a) a.was.all a.was.holds.each,
-      );
+    subst (StretchesHold k.was.place k.was.own (now_known k))
+    (ap (λ first. first ++ all_later k a.deed) (sym (begins a))) (record {
+      whole = whole_with k (leads_known k.was.own (entry_at k.row.set_id k.was.known.sets) a.leads);
+      each = (new_holds a, all_still k a.deed);
       there = there_now a;
     })
+  where
+    k : Coming
+    k = a.table
+
+-- ---- into a set of another node
+
+-- A table that comes into a set of which the node is not the origin.
+record Following : Type 0 where
+  table : Coming
+  deed : Deed
+  rows : deed.rows ≡ []
+  known : is_some (entry_at table.row.set_id table.was.known.sets) ≡ true
+  other : is_origin table.was.own table.row.set_id table.was.known ≡ false
+
+-- what the node holds as an origin it held before
+held_before : (f : Following) (set : ℕ) (table : List ℕ) → IsHeldBy f.table.was.own (now_known f.table) set table →
+    set_of table f.table.was.known ≡ Some set
+held_before f set table held = by (is_member k.was.known table (k.id, k.row)) refl
+  where
+    k : Coming
+    k = f.table
+
+    by : (b : Bool) → is_member k.was.known table (k.id, k.row) ≡ b → set_of table k.was.known ≡ Some set
+    by true passes =
+        let parts = and_parts (k.row.live && bytes_eq table k.row.name) (is_some (set_row k.row.set_id k.was.known))
+        passes in
+        let name = bytes_same table k.row.name (and_parts k.row.live (bytes_eq table k.row.name) parts.0).1 in
+        let one : Some k.row.set_id ≡ Some set =
+        sym (found_alone k (ap (λ name. is_member k.was.known name (k.id, k.row)) (sym name) ∙ passes))
+        ∙ ap (λ name. set_of name (now_known k)) (sym name) ∙ held.0 in
+        let here : k.row.set_id ≡ set = cc in
+        absurd (true≢false (sym held.1 ∙ ap (λ i. is_origin k.was.own i k.was.known) (sym here) ∙ f.other))
+    by false other = sym (found_past k table other) ∙ held.0
+
+follows_holds : (f : Following) → HoldsWith f.table f.deed
+follows_holds f =
+    subst (StretchesHold k.was.place k.was.own (now_known k))
+    (sym (none_begin k.was.own (now_known k) f.deed k.was.all f.rows)) (record {
+      whole = whole_with k f.known;
+      each = all_still k f.deed;
+      there = λ set table held.
+          there_behind k.was (now_known k) f.deed set table (held_before f set table held, held.1)
+          (record { origin = held.1; era = refl });
+    })
+  where
+    k : Coming
+    k = f.table
 
 -- ---- any deed of a node
 
@@ -280,30 +370,29 @@ finds_rest n d set era table c none =
     ∙ find_mapped (is_stretch set era table) (behind n.id c d)
     (same_stretch n.id c d (is_stretch set era table) (λ s last. refl)) (stretches n)
 
-finds_added : (a : Adding) (set era : ℕ) (table : List ℕ) → IsListed table a.was.known →
-    find (is_stretch set era table) (stretches_by a.was.own (now_known a) a.deed a.was.all)
-    ≡ option_map (behind a.was.own (now_known a) a.deed) (find (is_stretch set era table) a.was.all)
+finds_added : (a : Adding) (set era : ℕ) (table : List ℕ) → IsListed table a.table.was.known →
+    find (is_stretch set era table) (stretches_by a.table.was.own (now_known a.table) a.deed a.table.was.all)
+    ≡ option_map (behind a.table.was.own (now_known a.table) a.deed)
+    (find (is_stretch set era table) a.table.was.all)
 finds_added a set era table listed =
     ap (λ first. find test (first ++ rest)) (begins a)
     ∙ ap (λ b. cond b (Some (new_stretch a)) (find test rest)) misses
-    ∙ find_mapped test (behind a.was.own (now_known a) a.deed)
-    (same_stretch a.was.own (now_known a) a.deed test (λ s last. refl)) a.was.all
+    ∙ find_mapped test (behind k.was.own (now_known k) a.deed)
+    (same_stretch k.was.own (now_known k) a.deed test (λ s last. refl)) k.was.all
   where
+    k : Coming
+    k = a.table
+
     test : Stretch → Bool
     test = is_stretch set era table
 
     rest : List Stretch
-    rest = map (behind a.was.own (now_known a) a.deed) a.was.all
-
-    other : bytes_eq table a.row.name ≡ false
-    other = false_from_ne_true (bytes_eq table a.row.name) (λ same. true≢false (sym listed
-        ∙ ap (λ name. list_any (λ e. bytes_eq name e.1.name) a.was.known.tables) (bytes_same table a.row.name same)
-        ∙ a.unused))
+    rest = all_later k a.deed
 
     misses : test (new_stretch a) ≡ false
     misses =
-        and_right (a.row.set_id == set) (era_of a.row.set_id a.was.known == era && bytes_eq table a.row.name)
-        (and_right (era_of a.row.set_id a.was.known == era) (bytes_eq table a.row.name) other)
+        and_right (k.row.set_id == set) (era_of k.row.set_id k.was.known == era && bytes_eq table k.row.name)
+        (and_right (era_of k.row.set_id k.was.known == era) (bytes_eq table k.row.name) (another_name k table listed))
 
 -- A deed of a node of a database.
 pub record OneDeed (p : Place) : Type 0 where
@@ -312,31 +401,50 @@ pub record OneDeed (p : Place) : Type 0 where
   pub first : deed.first ≡ p.numbers.next
   pub fit : Fit p node deed
 
+abbrev coming_of : (p : Place) (d : OneDeed p) → NodeHolds p d.node → Comes d.node d.deed → Coming
+coming_of p d h k = record {
+  was = before_deed p d.node h;
+  id = k.table_id;
+  row = record { set_id = k.set_id; name = k.name; live = true; comment = k.comment };
+  fresh = k.new;
+  unused = k.unused;
+}
+
 abbrev pub adding_of : (p : Place) (d : OneDeed p) → Sound p → NodeHolds p d.node → Adds p d.node d.deed → Adding
 adding_of p d sound h a = record {
-  was = before_deed p d.node h;
+  table = coming_of p d h a.table;
   sound = sound;
   deed = d.deed;
-  id = a.table_id;
-  row = record { set_id = a.set_id; name = a.name; live = true; comment = a.comment };
   live = refl;
   first = d.first;
   rows = a.rows;
   leads = a.leads;
-  fresh = a.new;
-  unused = a.unused;
   free = a.free;
 }
+
+abbrev following_of : (p : Place) (d : OneDeed p) → NodeHolds p d.node → Follows d.node d.deed → Following
+following_of p d h f =
+    record { table = coming_of p d h f.table; deed = d.deed; rows = f.rows; known = f.known; other = f.other }
 
 -- what the node knows behind it
 abbrev pub known_behind : (p : Place) → OneDeed p → Config
 known_behind p d = (learned d.node.id d.deed.doing (knowledge d.node)).config
 
--- the body of the event that a deed emits says what the node then knows
-told : (p : Place) (d : OneDeed p) (e : Event) (body : Body) → d.deed.doing ≡ Emits e → e.body ≡ body →
+-- the event that a node meets by a deed, if it meets one, says what it then knows
+abbrev changed_by : Option Event → Config → Config
+changed_by None c = c
+changed_by (Some e) c = change e c
+
+met_changes : (own : ℕ) (k : Knowledge) (doing : Doing) →
+    (learned own doing k).config ≡ changed_by (met_by doing) k.config
+met_changes own k (Emits e) = refl
+met_changes own k others = refl
+
+told : (p : Place) (d : OneDeed p) (e : Event) (body : Body) → met_by d.deed.doing ≡ Some e → e.body ≡ body →
     known_behind p d ≡ change_by e.origin e.number body (knowledge d.node).config
-told p d e body doing is =
-    ap (λ doing. (learned d.node.id doing (knowledge d.node)).config) doing
+told p d e body met is =
+    met_changes d.node.id (knowledge d.node) d.deed.doing
+    ∙ ap (λ o. changed_by o (knowledge d.node).config) met
     ∙ ap (λ body. change_by e.origin e.number body (knowledge d.node).config) is
 
 pub deed_holds : (p : Place) (d : OneDeed p) → Sound p → NodeHolds p d.node →
@@ -346,11 +454,14 @@ deed_holds p d sound h = by d.fit
     by : Fit p d.node d.deed → NodeHolds p (with_deeds (d.deed ∷ []) d.node)
     by (Keeps none kept) = keeps_holds (before_deed p d.node h) _ d.deed none kept
     by (CreatesSet a) =
-        subst (HoldsBy p d.node d.deed) (sym (told p d a.event _ a.doing a.body))
-        (creates_holds (before_deed p d.node h) a.set_id _ d.deed a.rows a.new refl)
+        subst (HoldsBy p d.node d.deed) (sym (told p d a.event _ a.met a.body))
+        (creates_holds (before_deed p d.node h) a.set_id _ d.deed a.rows a.new a.known)
     by (AddsTable a) =
-        subst (HoldsBy p d.node d.deed) (sym (told p d a.event _ a.doing a.body))
+        subst (HoldsBy p d.node d.deed) (sym (told p d a.table.event _ a.table.met a.table.body))
         (adds_holds (adding_of p d sound h a))
+    by (FollowsTable f) =
+        subst (HoldsBy p d.node d.deed) (sym (told p d f.table.event _ f.table.met f.table.body))
+        (follows_holds (following_of p d h f))
 
 pub finds_behind : (p : Place) (d : OneDeed p) (set era : ℕ) (table : List ℕ) → Sound p → NodeHolds p d.node →
     IsListed table (knowledge d.node).config →
@@ -361,8 +472,10 @@ finds_behind p d set era table sound h listed = by d.fit
     by (Keeps none kept) = finds_rest d.node d.deed set era table (known_behind p d) none
     by (CreatesSet a) = finds_rest d.node d.deed set era table (known_behind p d) a.rows
     by (AddsTable a) =
-        subst (FindsBy d.node d.deed (is_stretch set era table)) (sym (told p d a.event _ a.doing a.body))
+        subst (FindsBy d.node d.deed (is_stretch set era table))
+        (sym (told p d a.table.event _ a.table.met a.table.body))
         (finds_added (adding_of p d sound h a) set era table listed)
+    by (FollowsTable f) = finds_rest d.node d.deed set era table (known_behind p d) f.rows
 
 -- ---- tables behind a deed
 
@@ -371,14 +484,18 @@ pub stays_behind : (p : Place) (d : OneDeed p) → Sound p → NodeHolds p d.nod
     Stay (knowledge d.node).config (known_behind p d)
 stays_behind p d sound h = by d.fit
   where
+    comes : Comes d.node d.deed → Stay (knowledge d.node).config (known_behind p d)
+    comes k =
+        subst (Stay (knowledge d.node).config) (sym (told p d k.event _ k.met k.body))
+        (still_there (coming_of p d h k))
+
     by : Fit p d.node d.deed → Stay (knowledge d.node).config (known_behind p d)
     by (Keeps none kept) = kept_stay (knowledge d.node).config (known_behind p d) kept
     by (CreatesSet a) =
-        subst (Stay (knowledge d.node).config) (sym (told p d a.event _ a.doing a.body))
+        subst (Stay (knowledge d.node).config) (sym (told p d a.event _ a.met a.body))
         (created_stay d.node.id (knowledge d.node).config a.set_id _ h.whole a.new)
-    by (AddsTable a) =
-        subst (Stay (knowledge d.node).config) (sym (told p d a.event _ a.doing a.body))
-        (still_there (adding_of p d sound h a))
+    by (AddsTable a) = comes a.table
+    by (FollowsTable f) = comes f.table
 
 -- the stretch that begins with a table
 abbrev pub new_behind : (p : Place) (d : OneDeed p) → Sound p → NodeHolds p d.node → Adds p d.node d.deed → Stretch
@@ -387,4 +504,5 @@ new_behind p d sound h a = new_stretch (adding_of p d sound h a)
 pub begins_behind : (p : Place) (d : OneDeed p) (sound : Sound p) (h : NodeHolds p d.node) (a : Adds p d.node d.deed) →
     begun d.node.id (known_behind p d) d.deed ≡ new_behind p d sound h a ∷ []
 begins_behind p d sound h a =
-    ap (λ c. begun d.node.id c d.deed) (told p d a.event _ a.doing a.body) ∙ begins (adding_of p d sound h a)
+    ap (λ c. begun d.node.id c d.deed) (told p d a.table.event _ a.table.met a.table.body)
+    ∙ begins (adding_of p d sound h a)

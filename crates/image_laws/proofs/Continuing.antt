@@ -19,7 +19,8 @@ use Rattle.slon_laws.specs.Keeps.{KeepsTasks}
 use Rattle.slon_laws.specs.Turning.{Turned, Commits, Falls, Doubts}
 use Rattle.slon_laws.proofs.Covering.{Outlasts, outlasts_itself, keeps_outlasting}
 use Rattle.stream_laws.proofs.Steps.{Logs, prepared_node, done_logs}
-use Rattle.image_laws.specs.Fits.{IsListed, Fit, Keeps, CreatesSet, AddsTable, AllDone, IsFit, Does, Becomes}
+use Rattle.image_laws.specs.Fits.{IsListed, Fit, Keeps, CreatesSet, AddsTable, FollowsTable, AllDone, IsFit}
+use Rattle.image_laws.specs.Fits.{Does, Becomes}
 use Rattle.image_laws.specs.Facts.{HoldsStretch, Holds}
 use Rattle.image_laws.proofs.Adding.{OneDeed, known_behind, finds_behind}
 use Rattle.image_laws.proofs.Found.{find_has}
@@ -142,20 +143,9 @@ keeps_continuing s first = record {
 fit_beside : (p : Place) (o : Option Node) (n : Node) (d : Deed) → Fit p n d → Fit (record p { node = o }) n d
 fit_beside p o n d (Keeps none kept) = Keeps none kept
 fit_beside p o n d (CreatesSet a) = CreatesSet a
-fit_beside p o n d (AddsTable a) = AddsTable (record {
-  set_id = a.set_id;
-  table_id = a.table_id;
-  name = a.name;
-  comment = a.comment;
-  event = a.event;
-  doing = a.doing;
-  body = a.body;
-  rows = a.rows;
-  leads = a.leads;
-  new = a.new;
-  unused = a.unused;
-  free = a.free;
-})
+fit_beside p o n d (AddsTable a) =
+    AddsTable (record { table = a.table; rows = a.rows; leads = a.leads; free = a.free })
+fit_beside p o n d (FollowsTable f) = FollowsTable f
 
 -- the database with the node behind these deeds
 abbrev doing_so : Place → Node → List Deed → Place

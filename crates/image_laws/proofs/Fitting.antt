@@ -1,12 +1,12 @@
 -- The commits of every statement and every turn are such that stretches hold behind them.
 use Rattle.slon_model.specs.World.{outcome}
 use Rattle.slon_model.specs.Tasks.{Act}
-use Rattle.std.proofs.Common.{◌≡◌, ℕ, Bool, true, false, cond, List, [], ◌∷◌, Option, Some, None, Result, Ok, Err, refl}
-use Rattle.std.proofs.Common.{◌++◌, sym, ap, subst, ◌∙◌, is_some, is_none, not}
+use Rattle.std.proofs.Common.{◌≡◌, ◌≢◌, ℕ, Bool, true, false, cond, List, [], ◌∷◌, Option, Some, None, Result, refl}
+use Rattle.std.proofs.Common.{◌++◌, sym, ap, subst, ◌∙◌, is_some}
 use Rattle.std.specs.Prelude.{◌==◌, ◌+◌, option_map}
 use Rattle.std.specs.Str.{bytes_eq}
 use Rattle.std.specs.List.{list_any, AllByRecursion}
-use Rattle.std.proofs.lemmas.Bool.{true≢false, false_from_ne_true, eqb-true, eq-eqb, and_parts}
+use Rattle.std.proofs.lemmas.Bool.{true≢false, false_from_ne_true, eqb-true, eq-eqb}
 use Rattle.std.proofs.lemmas.List.{append_assoc}
 use Rattle.slonik_script.specs.declared.script.Command.{Command as Order}
 use Rattle.slonik_script.specs.declared.script.Command.TheVariants as order
@@ -17,37 +17,43 @@ use Rattle.slon_model.specs.declared.reply.Refusal.TheVariants as refused
 use Rattle.node_rows.specs.declared.rows.NodeRow.{NodeRow}
 use Rattle.node_rows.specs.declared.rows.SetRow.{SetRow}
 use Rattle.node_rows.specs.declared.body.Body.{Body}
-use Rattle.node_rows.specs.declared.body.Body.TheVariants.{Sync, StoreNode, StorePath, DropPath, StoreSet}
+use Rattle.node_rows.specs.declared.body.Body.TheVariants.{Sync, StoreNode, StorePath, DropPath, StoreSet, DropSet}
+use Rattle.node_rows.specs.declared.body.Body.TheVariants.{SetAddTable, MoveSet, FailoverSet}
 use Rattle.slon_model.specs.Names.{find_named}
 use Rattle.slon_model.specs.Maps.{entry_at}
 use Rattle.slon_model.specs.Events.{Event}
 use Rattle.slon_model.specs.Config.{Config, change_by, is_origin, era_of, live_set, leads_row}
-use Rattle.slon_model.specs.Deeds.{Hears, Node, Deed, Emits, knowledge, with_deeds}
+use Rattle.slon_model.specs.Deeds.{Node, Deed, Doing, Emits, Applies, Hears, knowledge, with_deeds}
 use Rattle.slon_model.specs.Place.{Place, deed, taken, node_id}
 use Rattle.slon_model.specs.Sessions.{World, Running, Commit, Stated, Seat, Emission, bind, tells, when}
-use Rattle.slon_model.specs.Sessions.{seat_of, writer_of, emissions, next_event, committing, stood_at, first_refusal}
+use Rattle.slon_model.specs.Sessions.{writer_of, emissions, next_event, committing, stood_at}
 use Rattle.slon_model.specs.Membership.{comment_of, already, first_node, init_cluster, store_node, store_path}
 use Rattle.slon_model.specs.Membership.{drop_path, becoming, first_of_cluster, joining, stored_by}
-use Rattle.slon_model.specs.Reaching.{database_of_line, reach, is_node_of, down_among, any_down, known_somewhere}
-use Rattle.slon_model.specs.Reaching.{origin_of, origin_checks, owner, commit_of, emitting, receiver_with}
+use Rattle.slon_model.specs.Reaching.{database_of_line, reach, down_among, any_down, known_somewhere}
+use Rattle.slon_model.specs.Reaching.{origin_of, owner, commit_of, emitting}
 use Rattle.slon_model.specs.Sets.{NewTable, adding, create_set, set_add_table}
 use Rattle.slon_model.specs.Subscribing.{NewFeed, subscribing, feed_bodies, all_tell, subscribe_set}
 use Rattle.slon_model.specs.Scripts.{ordered}
 use Rattle.slon_model.specs.Turns.{on_turn, sync_turn}
 use Rattle.slon_model.specs.Polls.{Poll, polled, stated_by, hearing}
-use Rattle.slon_model.proofs.Names.{put_other, all_found}
+use Rattle.slon_model.specs.Working.{worked, applied_by}
+use Rattle.slon_model.proofs.Names.{put_other, all_found, bytes_itself}
 use Rattle.slon_laws.specs.Turning.{HoldsAt, AllHold}
 use Rattle.slon_laws.specs.Worlds.{AllPlaces}
 use Rattle.stream_laws.specs.Nodes.{node_in}
+use Rattle.stream_laws.specs.Making.{OfSet, OfTable, OfName, tells_of}
 use Rattle.stream_laws.specs.Facts.{IsRegular}
 use Rattle.stream_laws.proofs.Lists.{there_here, there_with}
-use Rattle.stream_laws.proofs.Seats.{OnOk, IsSeat, IsFound, bind_ok, checked_ok, kept_ok, none_first, when_none}
-use Rattle.stream_laws.proofs.Seats.{turn_ok, owner_ok}
+use Rattle.stream_laws.proofs.Seats.{OnOk, ok_then, IsSeat, IsFound, IsReached, IsLeading, bind_ok, checked_ok, kept_ok}
+use Rattle.stream_laws.proofs.Seats.{all_none, when_none, turn_ok, owner_ok, origin_ok}
+use Rattle.stream_laws.proofs.Statements.{create_checks, table_checks}
 use Rattle.stream_laws.proofs.Seats.{already_none, line_ok, reach_ok, unknown, no_nodes, no_node_at, seat_node}
 use Rattle.stream_laws.proofs.Emits.{known_changed}
 use Rattle.stream_laws.proofs.Commits.{Newcomer, other_name}
 use Rattle.stream_laws.proofs.Waiting.{IsPoll, polled_ok}
-use Rattle.image_laws.specs.Fits.{IsWhole, IsKept, Fit, Keeps, CreatesSet, AddsTable, IsFirst, IsFit}
+use Rattle.stream_laws.proofs.Applies.{IsSetOf, MayCome}
+use Rattle.stream_laws.proofs.Works.{IsWork, worked_ok}
+use Rattle.image_laws.specs.Fits.{IsWhole, IsKept, Fit, Keeps, CreatesSet, AddsTable, FollowsTable, IsFirst, IsFit}
 use Rattle.image_laws.specs.Fits.{IsDoneNow, AllDone, Does, Becomes}
 use Rattle.image_laws.specs.Facts.{Holds, NodeHolds}
 use Rattle.stream_laws.proofs.Leaves.{Leaves, outcome_has}
@@ -142,42 +148,9 @@ all_kept c = record { sets = refl; tables = refl; nodes = λ id known. known }
 
 -- ---- reaching a node
 
-all_none : (checks : List (Option Refusal)) → first_refusal checks ≡ None → AllByRecursion (λ o. o ≡ None) checks
-all_none [] none = tt
-all_none (o ∷ more) none = let parts = none_first o more none in (parts.0, all_none more parts.1)
-
-on_any : {A : Type 0} (r : Result A Refusal) → OnOk (λ a. Unit {0}) r
-on_any (Ok a) = tt
-on_any (Err refusal) = tt
-
-on_both : {A : Type 0} (P Q : A → Type 0) (r : Result A Refusal) → OnOk P r → OnOk Q r → OnOk (λ a. P a × Q a) r
-on_both P Q (Ok a) one two = (one, two)
-on_both P Q (Err refusal) one two = tt
-
-not_false : (b : Bool) → not b ≡ false → b ≡ true
-not_false true is = refl
-not_false false is = absurd (true≢false is)
-
--- what is reached is the node of this id
-reach_id : (run : Running) (id : ℕ) (w : World) → OnOk (λ s. s.node.id ≡ id) (reach run id w)
-reach_id run id w =
-    bind_ok (λ e. Unit {0}) (λ (s : Seat). s.node.id ≡ id) (database_of_line run id w) _
-    (on_any (database_of_line run id w))
-    (λ e any. bind_ok (λ s. Unit {0}) (λ (s : Seat). s.node.id ≡ id)
-    (seat_of (refused.NotInitialised id) e e.1.node) _ (on_any (seat_of (refused.NotInitialised id) e e.1.node))
-    (λ s any. checked_ok (λ (s : Seat). s.node.id ≡ id)
-    (when (not (is_node_of run id s)) (refused.OtherNode id) ∷ []) s
-    (λ none. eqb-true s.node.id id (and_parts (s.node.id == id) (bytes_eq s.node.cluster run.cluster)
-    (not_false (is_node_of run id s)
-    (when_none (not (is_node_of run id s)) (refused.OtherNode id)
-    (all_none (when (not (is_node_of run id s)) (refused.OtherNode id) ∷ []) none).0))).0)))
-
 reached : (w : World) (id : ℕ) (run : Running) (f : Seat → Result Stated Refusal) →
-    ((s : Seat) → IsSeat w.places s × (s.node.id ≡ id) → OnOk (IsStated w) (f s)) →
-    OnOk (IsStated w) (bind (reach run id w) f)
-reached w id run f on =
-    bind_ok (λ s. IsSeat w.places s × (s.node.id ≡ id)) (IsStated w) (reach run id w) f
-    (on_both (IsSeat w.places) (λ s. s.node.id ≡ id) (reach run id w) (reach_ok run id w) (reach_id run id w)) on
+    ((s : Seat) → IsReached w.places id s → OnOk (IsStated w) (f s)) → OnOk (IsStated w) (bind (reach run id w) f)
+reached w id run f on = bind_ok (IsReached w.places id) (IsStated w) (reach run id w) f (reach_ok run id w) on
 
 -- ---- a database becomes a node
 
@@ -289,25 +262,24 @@ store_fit id event_node comment run w r =
 
 -- ---- sets
 
--- what is looked at before a set begins
-abbrev create_checks : ℕ → World → List (Option Refusal)
-create_checks id w =
-    any_down w ∷ when (known_somewhere (λ c. is_some (entry_at id c.sets)) w) (refused.IdUsed id) ∷ []
-
-create_fit : (id origin : ℕ) (comment : Option (List ℕ)) (run : Running) (w : World) →
+create_fit : (id origin : ℕ) (comment : Option (List ℕ)) (run : Running) (w : World) → Ready w →
     OnOk (IsStated w) (create_set id origin comment run w)
-create_fit id origin comment run w =
+create_fit id origin comment run w r =
     reached w origin run _
     (λ s is. checked_ok (IsStated w) (create_checks id w)
     (emitting s (tells (StoreSet id origin (comment_of comment)) ∷ []))
     (λ none. emits_fit w s (tells (StoreSet id origin (comment_of comment)) ∷ []) is.0 (
       CreatesSet (record {
         set_id = id;
+        origin = origin;
         comment = comment_of comment;
         event = event_of s (next_event s) (StoreSet id origin (comment_of comment));
-        doing = refl;
-        body = ap (λ by. StoreSet id by (comment_of comment)) (sym is.1);
+        met = refl;
+        body = refl;
         rows = refl;
+        known =
+            ap (λ k. is_some (entry_at k (knowledge s.node).config.nodes)) (sym is.1)
+            ∙ (node_holds w r s is.0).whole.knows;
         new =
             unknown (λ c. is_some (entry_at id c.sets)) w.places (when_none _ (refused.IdUsed id)
             (all_none (create_checks id w) none).1.0) s.name s.node (seat_node w.places s is.0);
@@ -319,41 +291,29 @@ none_busy : (o : Option ℕ) → option_map refused.Busy o ≡ None → o ≡ No
 none_busy None none = refl
 none_busy (Some xid) none = absurd cc
 
--- what is looked at before a table comes into a set
-abbrev table_checks : NewTable → World → Seat → List (Option Refusal)
-table_checks t w s =
-    option_map refused.HasReceivers (receiver_with (λ e. true) t.set_id s.known.config)
-    ∷ when (is_none (find_named t.name s.place.tables)) (refused.NoTable t.name)
-    ∷ any_down w
-    ∷ when (known_somewhere (λ c. is_some (entry_at t.id c.tables)) w) (refused.IdUsed t.id)
-    ∷ when (known_somewhere (λ c. list_any (λ e. bytes_eq t.name e.1.name) c.tables) w) (refused.TableUsed t.name)
-    ∷ option_map refused.Busy (writer_of (t.name ∷ []) s.place) ∷ []
-
--- the node is the origin of the set
-abbrev Leading : NewTable → World → Seat → Type 0
-Leading t w s = IsSeat w.places s × (is_origin s.node.id t.set_id (knowledge s.node).config ≡ true)
-
-adds_fit : (t : NewTable) (w : World) (s : Seat) → Leading t w s →
+adds_fit : (t : NewTable) (w : World) (s : Seat) → IsLeading w.places t.set_id s →
     AllByRecursion (λ o. o ≡ None) (table_checks t w s) → IsStated w (emitting s (adding s t ∷ []))
 adds_fit t w s is none =
     let node = seat_node w.places s is.0 in
     emits_fit w s (adding s t ∷ []) is.0 (
       AddsTable (record {
-        set_id = t.set_id;
-        table_id = t.id;
-        name = t.name;
-        comment = t.comment;
-        event = event_of s (next_event s) (adding s t).body;
-        doing = refl;
-        body = refl;
+        table = record {
+          set_id = t.set_id;
+          table_id = t.id;
+          name = t.name;
+          comment = t.comment;
+          event = event_of s (next_event s) (adding s t).body;
+          met = refl;
+          body = refl;
+          new =
+              unknown (λ c. is_some (entry_at t.id c.tables)) w.places
+              (when_none _ (refused.IdUsed t.id) none.1.1.1.0) s.name s.node node;
+          unused =
+              unknown (λ c. list_any (λ e. bytes_eq t.name e.1.name) c.tables) w.places
+              (when_none _ (refused.TableUsed t.name) none.1.1.1.1.0) s.name s.node node;
+        };
         rows = refl;
         leads = is.1;
-        new =
-            unknown (λ c. is_some (entry_at t.id c.tables)) w.places (when_none _ (refused.IdUsed t.id) none.1.1.1.0)
-            s.name s.node node;
-        unused =
-            unknown (λ c. list_any (λ e. bytes_eq t.name e.1.name) c.tables) w.places
-            (when_none _ (refused.TableUsed t.name) none.1.1.1.1.0) s.name s.node node;
         free = none_busy (writer_of (t.name ∷ []) s.place) none.1.1.1.1.1.0;
       }),
       tt,
@@ -361,15 +321,8 @@ adds_fit t w s is none =
 
 table_fit : (origin : ℕ) (t : NewTable) (run : Running) (w : World) → OnOk (IsStated w) (set_add_table origin t run w)
 table_fit origin t run w =
-    bind_ok (Leading t w) (IsStated w) (origin_of run origin t.set_id w) _
-    (bind_ok (IsSeat w.places) (Leading t w) (reach run origin w) _ (reach_ok run origin w)
-    (λ s is. checked_ok (Leading t w) (origin_checks s t.set_id) s
-    (λ none. (
-      is,
-      ap (λ k. is_origin s.node.id t.set_id k.config) (sym is.known)
-          ∙ not_false (is_origin s.node.id t.set_id s.known.config)
-          (when_none _ (refused.NotOrigin t.set_id) (all_none (origin_checks s t.set_id) none).1.0),
-    ))))
+    bind_ok (IsLeading w.places t.set_id) (IsStated w) (origin_of run origin t.set_id w) _
+    (origin_ok run origin t.set_id w)
     (λ s is. checked_ok (IsStated w) (table_checks t w s) (emitting s (adding s t ∷ []))
     (λ none. adds_fit t w s is (all_none (table_checks t w s) none)))
 
@@ -409,7 +362,7 @@ ordered_fit w r (order.InitCluster id comment) run = init_fit id comment run w
 ordered_fit w r (order.StoreNode id event_node comment) run = store_fit id event_node comment run w r
 ordered_fit w r (order.StorePath server client conninfo retry) run = path_fit server client conninfo run w
 ordered_fit w r (order.DropPath server client) run = no_path_fit server client run w
-ordered_fit w r (order.CreateSet id origin comment) run = create_fit id origin comment run w
+ordered_fit w r (order.CreateSet id origin comment) run = create_fit id origin comment run w r
 ordered_fit w r (order.SetAddTable set origin id name key comment) run =
     table_fit origin (record { set_id = set; id = id; name = name; comment = comment_of comment }) run w
 ordered_fit w r (order.SubscribeSet set provider receiver forward) run =
@@ -424,23 +377,85 @@ sync_fit w r node =
     (λ s is. let fit = quiet_fit w s (Sync ∷ []) is sync_is_quiet in
     search (kept_ok (IsStated w), fit))
 
+-- a node does one thing, and emits nothing
+does_fit : (w : World) (s : Seat) (doing : Doing) → IsSeat w.places s → ((e : Event) → doing ≡ Emits e → ⊥) →
+    Fit s.place s.node (deed s.place [] [] doing) →
+    AreFit w (record { name = s.name; becomes = None; deeds = deed s.place [] [] doing ∷ [] } ∷ [])
+does_fit w s doing is silent fit =
+    let now : IsDoneNow s.place (deed s.place [] [] doing) =
+    record { first = refl; taken = λ e emits. absurd (silent e emits); quiet = refl } in (
+      subst (HoldsAt IsFit _) (sym is.found) (Does s.node is.node refl (tt, now, fit)),
+      tt,
+    )
+
 hears_fit : (w : World) (s : Seat) (confirms : List (ℕ × ℕ × ℕ)) → IsSeat w.places s → AreFit w (hearing s confirms)
 hears_fit w s [] is = tt
 hears_fit w s (c ∷ cs) is =
-    let d = deed s.place [] [] (Hears (c ∷ cs)) in
-    let now : IsDoneNow s.place d = record { first = refl; taken = λ e doing. absurd cc; quiet = refl } in (
-      subst (HoldsAt IsFit _) (sym is.found)
-          (Does s.node is.node refl (tt, now, Keeps refl (all_kept (knowledge s.node).config))),
-      tt,
-    )
+    does_fit w s (Hears (c ∷ cs)) is (λ e emits. absurd cc) (Keeps refl (all_kept (knowledge s.node).config))
 
 poll_fit : (w : World) (delivery : Delivery) (b : Poll) → IsPoll w b → AreFit w (stated_by delivery b).commits
 poll_fit w Lost b is = tt
 poll_fit w others b is = hears_fit w b.seat b.confirms is.seat
 
-on_map : {A : Type 0} (P Q : A → Type 0) (r : Result A Refusal) → ((a : A) → P a → Q a) → OnOk P r → OnOk Q r
-on_map P Q (Ok a) f is = f a is
-on_map P Q (Err refusal) f is = tt
+-- ---- a node applies an event
+
+-- another node is the origin of the set
+other_leads : (own origin set : ℕ) (c : Config) → origin ≢ own → IsSetOf set origin c → is_origin own set c ≡ false
+other_leads own origin set c other (row, found, from) =
+    ap (λ o. leads_row own (live_set o)) found ∙ live row.live
+  where
+    live : (b : Bool) → leads_row own (cond b (Some row) None) ≡ false
+    live true =
+        false_from_ne_true (row.origin == own) (λ same. other (sym from ∙ eqb-true row.origin own same))
+    live false = refl
+
+applies_fit : (w : World) (by : ℕ) (s : Seat) (e : Event) → IsWork w by s e → (body : Body) → e.body ≡ body →
+    MayCome e.origin body (knowledge s.node).config → Fit s.place s.node (deed s.place [] [] (Applies e))
+applies_fit w by s e work (StoreSet set origin comment) is may =
+    CreatesSet (record {
+      set_id = set;
+      origin = origin;
+      comment = comment;
+      event = e;
+      met = refl;
+      body = is;
+      rows = refl;
+      known = ap (λ id. is_some (entry_at id (knowledge s.node).config.nodes)) may ∙ work.knows;
+      new = work.new (OfSet set) (ap (λ b. tells_of b (OfSet set)) is ∙ eq-eqb set set refl);
+    })
+applies_fit w by s e work (SetAddTable set table name comment) is may =
+    FollowsTable (record {
+      table = record {
+        set_id = set;
+        table_id = table;
+        name = name;
+        comment = comment;
+        event = e;
+        met = refl;
+        body = is;
+        new = work.new (OfTable table) (ap (λ b. tells_of b (OfTable table)) is ∙ eq-eqb table table refl);
+        unused = work.new (OfName name) (ap (λ b. tells_of b (OfName name)) is ∙ bytes_itself name);
+      };
+      rows = refl;
+      known = ap is_some may.1;
+      other = other_leads s.node.id e.origin set (knowledge s.node).config work.other may;
+    })
+applies_fit w by s e work (DropSet set) is may = absurd (true≢false (sym may))
+applies_fit w by s e work (MoveSet set old new era feeds) is may = absurd (true≢false (sym may))
+applies_fit w by s e work (FailoverSet failed limit sets) is may = absurd (true≢false (sym may))
+applies_fit w by s e work others is may =
+    let c = (knowledge s.node).config in
+    Keeps refl (subst (λ b. IsKept c (change_by e.origin e.number b c)) (sym is) (record {
+      sets = refl;
+      tables = refl;
+      nodes = λ id. known_changed id e.origin e.number others c;
+    }))
+
+work_fit : (w : World) (by : ℕ) (x : Seat × Event) → IsWork w by x.0 x.1 → AreFit w (applied_by x).commits
+work_fit w by (s, e) work =
+    does_fit w s (Applies e) work.seat (λ f emits. absurd cc) (applies_fit w by s e work e.body refl work.may)
+
+-- ---- each command
 
 leaves : (w : World) → Ready w → Leaves w (λ commits queues. AreFit w commits)
 leaves w r = record {
@@ -449,8 +464,11 @@ leaves w r = record {
   orders = ordered_fit w r;
   syncs = sync_fit w r;
   polls = λ node server delivery.
-      on_map (IsPoll w) (λ b. AreFit w (stated_by delivery b).commits) (polled node server w) (poll_fit w delivery)
-      (polled_ok node server w r.regular);
+      ok_then (IsPoll w) (λ b. AreFit w (stated_by delivery b).commits) (polled node server w)
+      (polled_ok node server w r.regular) (poll_fit w delivery);
+  works = λ node origin.
+      ok_then (λ x. IsWork w origin x.0 x.1) (λ x. AreFit w (applied_by x).commits) (worked node origin w)
+      (worked_ok node origin w r.regular) (work_fit w origin);
 }
 
 -- the commits of what a command does

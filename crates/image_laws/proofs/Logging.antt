@@ -17,7 +17,7 @@ use Rattle.slon_model.specs.Eras.{Stretch, stretches}
 use Rattle.slon_model.proofs.Names.{all_map, bytes_same}
 use Rattle.stream_laws.specs.Nodes.{IsAmong}
 use Rattle.stream_laws.proofs.Lists.{all_appended, all_among, among_all, all_mapped}
-use Rattle.image_laws.specs.Fits.{IsListed, Keeps, CreatesSet, AddsTable, Fit}
+use Rattle.image_laws.specs.Fits.{IsListed, Keeps, CreatesSet, AddsTable, FollowsTable, Fit}
 use Rattle.image_laws.specs.Facts.{Lasts, HoldsStretch, NodeHolds, IsOf, IsLogged, HasLogged, LogHolds}
 use Rattle.image_laws.proofs.Adding.{OneDeed, known_behind, stays_behind, new_behind, begins_behind}
 use Rattle.image_laws.proofs.Stretching.{listed_member, behind, behind_same, lasted, none_begin}
@@ -226,9 +226,10 @@ deed_logs p d sound h quiet k = record {
         subst Each (ap (λ first. first ++ map (behind d.node.id (known_behind p d) d.deed) (stretches d.node))
         (sym (begins_behind p d sound h a))) (
           (λ last. none_logged p d.node.id (logged d.node) (knowledge d.node).config (new_behind p d sound h a) sound
-              (record { first = d.first; unused = λ listed. true≢false (sym listed ∙ a.unused) }) k.listed),
+              (record { first = d.first; unused = λ listed. true≢false (sym listed ∙ a.table.unused) }) k.listed),
           rest,
         )
+    by (FollowsTable f) = none f.rows
 
 -- ---- a commit
 

@@ -269,7 +269,7 @@ created_stay own c id row w fresh = record {
 }
 
 pub creates_holds : (b : Before) (id : ℕ) (row : SetRow) (d : Deed) → d.rows ≡ [] → IsNew id b.known.sets →
-    row.origin ≡ b.own →
+    is_some (entry_at row.origin b.known.nodes) ≡ true →
     StretchesHold b.place b.own (record b.known { sets = with_entry id row b.known.sets })
     (stretches_by b.own (record b.known { sets = with_entry id row b.known.sets }) d b.all)
 creates_holds b id row d none fresh origin =
@@ -297,8 +297,7 @@ creates_holds b id row d none fresh origin =
         is_some (entry_at r.origin b.known.nodes) ≡ true
     by set r true is =
         let one : row ≡ r = cc in
-        ap (λ (k : SetRow). is_some (entry_at k.origin b.known.nodes)) (sym one)
-        ∙ ap (λ k. is_some (entry_at k b.known.nodes)) origin ∙ b.holds.whole.knows
+        ap (λ (k : SetRow). is_some (entry_at k.origin b.known.nodes)) (sym one) ∙ origin
     by set r false is = b.holds.whole.sets set r is
 
     stay : Stay b.known new

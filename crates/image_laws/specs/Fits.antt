@@ -7,7 +7,7 @@ use Rattle.node_rows.specs.declared.body.Body.TheVariants.{StoreSet, SetAddTable
 use Rattle.slon_model.specs.Maps.{entry_at}
 use Rattle.slon_model.specs.Events.{Event}
 use Rattle.slon_model.specs.Config.{Config, is_origin}
-use Rattle.slon_model.specs.Deeds.{Node, Deed, Emits, learned, knowledge, with_deeds}
+use Rattle.slon_model.specs.Deeds.{Node, Deed, Emits, learned, met_by, knowledge, with_deeds}
 use Rattle.slon_model.specs.Place.{Place, standing_rows, taken}
 use Rattle.slon_model.specs.Sessions.{Commit, writer_of}
 
@@ -27,37 +27,50 @@ pub record IsKept (old new : Config) : Type 0 where
   pub tables : new.tables ≡ old.tables
   pub nodes : (id : ℕ) → is_some (entry_at id old.nodes) ≡ true → is_some (entry_at id new.nodes) ≡ true
 
--- A set that the node did not know begins, and the node is its origin.
+-- A set that the node did not know begins, by an event of its own or of another node. It knows the origin of the set.
 pub record Creates (n : Node) (d : Deed) : Type 0 where
   pub set_id : ℕ
+  pub origin : ℕ
   pub comment : List ℕ
   pub event : Event
-  pub doing : d.doing ≡ Emits event
-  pub body : event.body ≡ StoreSet set_id n.id comment
+  pub met : met_by d.doing ≡ Some event
+  pub body : event.body ≡ StoreSet set_id origin comment
   pub rows : d.rows ≡ []
+  pub known : is_some (entry_at origin (knowledge n).config.nodes) ≡ true
   pub new : is_some (entry_at set_id (knowledge n).config.sets) ≡ false
 
--- A table comes into a set of which the node is the origin: it knew neither its id nor its name, and no open
--- transaction has written it.
-pub record Adds (p : Place) (n : Node) (d : Deed) : Type 0 where
+-- A table comes into a set, by an event of the node or of another one. The node knew neither its id nor its name.
+pub record Comes (n : Node) (d : Deed) : Type 0 where
   pub set_id : ℕ
   pub table_id : ℕ
   pub name : List ℕ
   pub comment : List ℕ
   pub event : Event
-  pub doing : d.doing ≡ Emits event
+  pub met : met_by d.doing ≡ Some event
   pub body : event.body ≡ SetAddTable set_id table_id name comment
-  pub rows : d.rows ≡ (name, standing_rows p name) ∷ []
-  pub leads : is_origin n.id set_id (knowledge n).config ≡ true
   pub new : is_some (entry_at table_id (knowledge n).config.tables) ≡ false
   pub unused : list_any (λ e. bytes_eq name e.1.name) (knowledge n).config.tables ≡ false
-  pub free : writer_of (name ∷ []) p ≡ None
+
+-- The node is the origin of the set, and no open transaction has written the table.
+pub record Adds (p : Place) (n : Node) (d : Deed) : Type 0 where
+  pub table : Comes n d
+  pub rows : d.rows ≡ (table.name, standing_rows p table.name) ∷ []
+  pub leads : is_origin n.id table.set_id (knowledge n).config ≡ true
+  pub free : writer_of (table.name ∷ []) p ≡ None
+
+-- The node knows the set, and is not its origin.
+pub record Follows (n : Node) (d : Deed) : Type 0 where
+  pub table : Comes n d
+  pub rows : d.rows ≡ []
+  pub known : is_some (entry_at table.set_id (knowledge n).config.sets) ≡ true
+  pub other : is_origin n.id table.set_id (knowledge n).config ≡ false
 
 -- what a node of a database does
 pub data Fit (p : Place) (n : Node) (d : Deed) : Type 0 where
   Keeps : d.rows ≡ [] → IsKept (knowledge n).config (learned n.id d.doing (knowledge n)).config → Fit p n d
   CreatesSet : Creates n d → Fit p n d
   AddsTable : Adds p n d → Fit p n d
+  FollowsTable : Follows n d → Fit p n d
 
 -- a new node has done nothing, knows its cluster, and is the origin of no set in it
 pub record IsFirst (n : Node) : Type 0 where

@@ -18,7 +18,7 @@ use Rattle.event_store.proofs.Holding.{moved}
 use Rattle.event_store.proofs.Regular.{regular_stays}
 use Rattle.log_switch.specs.Holds.{HoldsLog}
 use Rattle.node_state.specs.Held.{NodeHeld, items_of}
-use Rattle.node_change.specs.Confirming.{HasHeard}
+use Rattle.node_change.specs.Done.{HasHeard}
 use Rattle.node_change.proofs.Spaces.{IsElse, own_else, spare_else, no_stream}
 
 -- the streams of a node that heard these

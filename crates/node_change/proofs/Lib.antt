@@ -4,6 +4,7 @@ pub mod Emitting
 pub mod FirstNodes
 pub mod Hearing
 pub mod Lookups
+pub mod Meeting
 pub mod Naming
 pub mod NewNodes
 pub mod Orderly

@@ -1,22 +1,16 @@
 -- What becomes of a node that emits an event.
-use Rattle.std.specs.Prelude.{◌≡◌, ℕ, ◌≤◌, ◌^◌, true, [], ◌∷◌, Some, Result, Ok, Err}
+use Rattle.std.specs.Prelude.{◌≡◌, ℕ, ◌≤◌, ◌^◌, Result, Ok, Err}
 use Rattle.slon_base.specs.Keeper.{Store, Kept}
 use Rattle.store_rows.specs.Space.{IsPending}
 use Rattle.store_rows.specs.Steps.{IsOutside}
 use Rattle.store_rows.specs.declared.stop.Stop.{Stop}
 use Rattle.store_rows.specs.declared.stop.Stop.TheVariants.{TooBig}
 use Rattle.slon_model.specs.Events.{Event}
-use Rattle.slon_model.specs.Deeds.{Node, Deed, Emits, with_deeds}
+use Rattle.slon_model.specs.Deeds.{Node}
 use Rattle.event_store.specs.Emitting.{next_number}
 use Rattle.event_store.specs.Spellings.{IsStored}
 use Rattle.event_store.specs.Streams.{streams_of}
-use Rattle.node_state.specs.Held.{HoldsNode, is_own}
-
--- the store holds the node with one more deed, which emits the event and logs nothing, and the spaces of the database
--- are as before
-pub record HasEmitted (n : Node) (e : Event) (m new : Store) : Type 0 where
-  pub held : (d : Deed) → d.doing ≡ Emits e → d.logs ≡ [] → HoldsNode (Some (with_deeds (d ∷ []) n)) new
-  pub own : (space : ℕ) → is_own space ≡ true → new space ≡ m space
+use Rattle.node_change.specs.Done.{HasEmitted}
 
 -- The node emits its next event, which has its number. Or no number is left for it, and nothing is changed; or there
 -- was no memory, or the store failed.

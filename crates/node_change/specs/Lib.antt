@@ -1,7 +1,7 @@
 pub mod Announced
 pub mod Becoming
 pub mod Both
-pub mod Confirming
+pub mod Done
 pub mod Listening
 pub mod Pairs
 pub mod Receivers

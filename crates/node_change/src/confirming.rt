@@ -8,7 +8,7 @@ ghost use Rattle.store_rows.specs.Steps.{Safe, IsWithinLimit, IsOfSpace};
 ghost use Rattle.slon_model.specs.Deeds.{Node};
 ghost use Rattle.event_store.specs.Telling.{IsOfOther, named};
 ghost use Rattle.node_state.specs.Held.{HoldsNode};
-ghost use Rattle.node_change.specs.Confirming.{HasHeard};
+ghost use Rattle.node_change.specs.Done.{HasHeard};
 
 use event_store::{Confirmation, confirm_all};
 use slon_base::Keeper;

@@ -2,6 +2,7 @@
 #![tactic(auto)]
 
 mod announcing;
+mod applying;
 mod confirming;
 mod copying;
 mod founding;
@@ -12,6 +13,7 @@ mod lookup;
 mod side;
 
 pub use announcing::announce;
+pub use applying::apply;
 pub use confirming::hear;
 pub use founding::found_node;
 pub use joining::join_node;

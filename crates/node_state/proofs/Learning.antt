@@ -1,4 +1,4 @@
--- What a node learns of the tables of sets by an event that it emits.
+-- What a node learns of the tables of sets by an event that it emits or applies.
 use Rattle.std.proofs.Common.{◌≡◌, ℕ, Bool, true, false, cond, List, [], ◌∷◌, Option, Some, None, refl, sym, ap, subst}
 use Rattle.std.proofs.Common.{◌∙◌, is_some}
 use Rattle.std.specs.Prelude.{◌&&◌, ◌||◌, ◌==◌, nat_lt, find}
@@ -19,7 +19,7 @@ use Rattle.slon_model.specs.Deeds.{Node, knowledge}
 use Rattle.set_config.proofs.Entries.{entry-with}
 use Rattle.node_state.specs.declared.memory.Member.{Member}
 use Rattle.node_state.specs.Held.{AreHomed}
-use Rattle.node_state.specs.Known.{Learns, is_used, member_as}
+use Rattle.node_state.specs.Known.{LearnsAs, Learns, is_used, member_as}
 use Rattle.node_state.specs.Members.{config_of, member_in}
 use Rattle.node_state.proofs.Joining.{in_more}
 
@@ -38,17 +38,18 @@ is_plain others = true
 abbrev pub with_body : Event → Body → Event
 with_body e body = record e { body = body }
 
-plain_body : (n : Node) (e : Event) (body : Body) → is_plain body ≡ true → Learns n (with_body e body)
-plain_body n e (StoreSet set by comment) plain = absurd cc
-plain_body n e (DropSet set) plain = absurd cc
-plain_body n e (SetAddTable set table name comment) plain = absurd cc
-plain_body n e (MoveSet set old new era feeds) plain = absurd cc
-plain_body n e (FailoverSet failed limit sets) plain = absurd cc
-plain_body n e others plain = record { members = λ name. refl; names = λ name. refl; home = tt }
+plain_body : (leads : Bool) (n : Node) (e : Event) (body : Body) → is_plain body ≡ true →
+    LearnsAs leads n (with_body e body)
+plain_body leads n e (StoreSet set by comment) plain = absurd cc
+plain_body leads n e (DropSet set) plain = absurd cc
+plain_body leads n e (SetAddTable set table name comment) plain = absurd cc
+plain_body leads n e (MoveSet set old new era feeds) plain = absurd cc
+plain_body leads n e (FailoverSet failed limit sets) plain = absurd cc
+plain_body leads n e others plain = record { members = λ name. refl; names = λ name. refl; home = tt }
 
 -- and so the node learns nothing of them
-pub plain_learns : (n : Node) (e : Event) → is_plain e.body ≡ true → Learns n e
-plain_learns n e plain = plain_body n e e.body plain
+pub plain_learns : {leads : Bool} (n : Node) (e : Event) → is_plain e.body ≡ true → LearnsAs leads n e
+plain_learns {leads} n e plain = plain_body leads n e e.body plain
 
 -- ---- a new set
 
@@ -93,10 +94,10 @@ sets_alike set row sets (e ∷ es) free homes =
     step false is = refl
 
 -- an event that stores the set
-pub set_learns : {set by : ℕ} {comment : List ℕ} (n : Node) (e : Event) → e.body ≡ StoreSet set by comment →
-    IsNewSet n set → Learns n e
-set_learns {set} {by} {comment} n e is new =
-    subst (λ body. Learns n (with_body e body)) (sym is) (record {
+pub set_learns : {leads : Bool} {set by : ℕ} {comment : List ℕ} (n : Node) (e : Event) →
+    e.body ≡ StoreSet set by comment → IsNewSet n set → LearnsAs leads n e
+set_learns {leads} {set} {by} {comment} n e is new =
+    subst (λ body. LearnsAs leads n (with_body e body)) (sym is) (record {
       members = λ name. members_alike n.id c.sets (with_entry set row c.sets) c.tables name
           (sets_alike set row c.sets c.tables new.free new.homes);
       names = λ name. refl;
@@ -114,6 +115,13 @@ set_learns {set} {by} {comment} n e is new =
 -- The node is the origin of the set, which is live, and it has heard neither of the table nor of its name.
 pub record IsNewTable (n : Node) (set table : ℕ) (name : List ℕ) : Type 0 where
   pub leads : is_origin n.id set (knowledge n).config ≡ true
+  pub free : is_some (entry_at table (knowledge n).config.tables) ≡ false
+  pub unused : is_used name (knowledge n).config ≡ false
+
+-- The same, where the set is live and the node is its origin or not.
+pub record IsNewTableOf (leads : Bool) (n : Node) (set table : ℕ) (name : List ℕ) : Type 0 where
+  pub live : is_some (set_row set (knowledge n).config) ≡ true
+  pub leads_is : is_origin n.id set (knowledge n).config ≡ leads
   pub free : is_some (entry_at table (knowledge n).config.tables) ≡ false
   pub unused : is_used name (knowledge n).config ≡ false
 
@@ -196,13 +204,13 @@ is_there None live = cc
 is_there (Some row) live = refl
 
 -- an event that puts the table into the set
-pub table_learns : {set table : ℕ} {name comment : List ℕ} (n : Node) (e : Event) →
-    e.body ≡ SetAddTable set table name comment → IsNewTable n set table name → Learns n e
-table_learns {set} {table} {name} {comment} n e is new =
-    subst (λ body. Learns n (with_body e body)) (sym is) (record {
+pub table_known : {leads : Bool} {set table : ℕ} {name comment : List ℕ} (n : Node) (e : Event) →
+    e.body ≡ SetAddTable set table name comment → IsNewTableOf leads n set table name → LearnsAs leads n e
+table_known {leads} {set} {table} {name} {comment} n e is new =
+    subst (λ body. LearnsAs leads n (with_body e body)) (sym is) (record {
       members = λ q. at q (bytes_eq q name) refl;
       names = λ q. any_with (λ t. bytes_eq q t.1.name) table row c.tables new.free;
-      home = is_there (entry_at set c.sets) live;
+      home = is_there (entry_at set c.sets) new.live;
     })
   where
     c : Config
@@ -210,9 +218,6 @@ table_learns {set} {table} {name} {comment} n e is new =
 
     row : TableRow
     row = record { set_id = set; name = name; live = true; comment = comment }
-
-    live : is_some (set_row set c) ≡ true
-    live = is_live n.id (set_row set c) new.leads
 
     test : List ℕ → ℕ × TableRow → Bool
     test q t = t.1.live && bytes_eq q t.1.name && is_some (set_row t.1.set_id c)
@@ -228,12 +233,23 @@ table_learns {set} {table} {name} {comment} n e is new =
 
     at : (q : List ℕ) (b : Bool) → bytes_eq q name ≡ b →
         option_map (member_as n.id c) (find (test q) (with_entry table row c.tables))
-        ≡ cond b (Some (here true)) (option_map (member_as n.id c) (member_of q c))
+        ≡ cond b (Some (here leads)) (option_map (member_as n.id c) (member_of q c))
     at q true same =
         ap (option_map (member_as n.id c))
         (find_alone (test q) table row c.tables (others q ((bytes_eq-Decides q name).0 same))
-        (λ i. true && same i && live i))
-        ∙ ap (λ l. Some (here l)) new.leads
+        (λ i. true && same i && new.live i))
+        ∙ ap (λ l. Some (here l)) new.leads_is
     at q false other =
         ap (option_map (member_as n.id c))
         (find_other (test q) table row c.tables new.free (λ i. true && other i && is_some (set_row set c)))
+
+-- and so where the node is the origin of the set
+pub table_learns : {set table : ℕ} {name comment : List ℕ} (n : Node) (e : Event) →
+    e.body ≡ SetAddTable set table name comment → IsNewTable n set table name → Learns n e
+table_learns {set} n e is new =
+    table_known n e is (record {
+      live = is_live n.id (set_row set (knowledge n).config) new.leads;
+      leads_is = new.leads;
+      free = new.free;
+      unused = new.unused;
+    })

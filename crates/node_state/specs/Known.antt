@@ -52,12 +52,16 @@ pub record IsKnown (node : Option Node) (identity : Option Identity) (members : 
   pub members_are : (name : List ℕ) → get members.live name ≡ member_at node name
   pub names_are : (name : List ℕ) → is_some (get members.names name) ≡ is_named name node
 
--- what is kept of the table of a name, once the node emitted an event with this body: a table that it puts into a set
--- is one of a set of which it is the origin
+-- what is kept of the table of a name, once the node met an event with this body: whether it leads the set of a table
+-- that is put into one is told
+abbrev pub learned_as : Bool → Body → List ℕ → Option Member → Option Member
+learned_as leads (SetAddTable set table name comment) other before =
+    if bytes_eq other name then Some (record { table = table; set = set; leads = leads }) else before
+learned_as leads others other before = before
+
+-- a table that it puts into a set itself is one of a set of which it is the origin
 abbrev pub learned_member : Body → List ℕ → Option Member → Option Member
-learned_member (SetAddTable set table name comment) other before =
-    if bytes_eq other name then Some (record { table = table; set = set; leads = true }) else before
-learned_member others other before = before
+learned_member = learned_as true
 
 -- and whether a table of this name is or was in a set
 abbrev pub learned_name : Body → List ℕ → Bool → Bool
@@ -70,13 +74,20 @@ IsHomed (SetAddTable set table name comment) c = is_some (entry_at set c.sets) �
 IsHomed others c = Unit {0}
 
 -- An event changes the tables of sets and their names in no other way.
-pub record Learns (n : Node) (e : Event) : Type 0 where
+pub record LearnsAs (leads : Bool) (n : Node) (e : Event) : Type 0 where
   pub members : let c = change e (knowledge n).config in
       (name : List ℕ) → option_map (λ t. member_as n.id c t) (member_of name c)
-      ≡ learned_member e.body name (member_at (Some n) name)
+      ≡ learned_as leads e.body name (member_at (Some n) name)
   pub names : (name : List ℕ) →
       is_used name (change e (knowledge n).config) ≡ learned_name e.body name (is_used name (knowledge n).config)
   pub home : IsHomed e.body (knowledge n).config
+
+-- the node emits it, or it is one of another node
+abbrev pub Learns : Node → Event → Type 0
+Learns n e = LearnsAs true n e
+
+abbrev pub LearnsOfOther : Node → Event → Type 0
+LearnsOfOther n e = LearnsAs false n e
 
 -- ---- forms
 

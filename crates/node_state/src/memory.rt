@@ -50,7 +50,7 @@ impl NodeMemory {
     ghost use Rattle.node_rows.specs.Spellings.{CanBody};
     ghost use Rattle.std.specs.Option.{option_map};
     ghost use Rattle.store_rows.specs.Rows.{IsId};
-    ghost use Rattle.node_state.specs.Known.{IsKnown, learned_member, learned_name};
+    ghost use Rattle.node_state.specs.Known.{IsKnown, learned_as, learned_name};
 
     /// The memory of a database that is no node.
     pub fn none(alloc: Global) -> NodeMemory
@@ -65,11 +65,12 @@ impl NodeMemory {
         }
     }
 
-    /// Keeps what an event with this body, which the node emitted, changes of the tables of its sets.
-    pub fn learn(&mut self, alloc: Global, body: &Body) -> Result<(), AllocError>
+    /// Keeps what an event with this body changes of the tables of sets. A table that the event puts into a set is one
+    /// of a set of which the node is the origin, or of another one, as it is told.
+    pub fn learn(&mut self, alloc: Global, body: &Body, leads: bool) -> Result<(), AllocError>
         requires { CanBody body.now }
         ensures members { OnOk result ((name : List ℕ) →
-            get self.new.members.live name ≡ learned_member body.now name (get self.old.members.live name)) }
+            get self.new.members.live name ≡ learned_as leads body.now name (get self.old.members.live name)) }
         ensures names { OnOk result ((name : List ℕ) → is_some (get self.new.members.names name)
             ≡ learned_name body.now name (is_some (get self.old.members.names name))) }
         ensures identity { self.new.identity ≡ self.old.identity }
@@ -84,7 +85,7 @@ impl NodeMemory {
                 let member = Member {
                     table: *table,
                     set: *set,
-                    leads: true,
+                    leads,
                 };
                 let live = Vec::from_slice(alloc, name.as_slice())?;
                 let name = Vec::from_slice(alloc, name.as_slice())?;

@@ -263,10 +263,9 @@ becomes_as {new = new} at n name (Ok true) w becomes memory room =
 becomes_as at n name (Err fault) w becomes memory room = halted_short becomes memory
 
 -- what is kept of a node that is pending
-pub node_kept : (new : Kept) (n : Node) (m store : Store) (bytes : List ℕ) (stamp : ℕ)
-    (result : Result NodeMemory Stop) → bytes ≡ number_bytes stamp → IsNode n m store →
-    KeepsNode n store bytes result new →
-    WritesNode n m stamp result new
-node_kept new n m store bytes stamp (Ok kept) is has keeps =
+pub node_kept : (new : Kept) (n : Node) (m store : Store) {bytes : List ℕ} (stamp : ℕ)
+    (result : Result NodeMemory Stop) → (bytes ≡ number_bytes stamp) × IsNode n m store →
+    KeepsNode n store bytes result new → WritesNode n m stamp result new
+node_kept new n m store stamp (Ok kept) (is, has) keeps =
     (store, keeps.0 ∙ ap (λ v. Some (Some (put_at meta stamp_key v store))) is, has, keeps.1)
-node_kept new n m store bytes stamp (Err stop) is has keeps = keeps
+node_kept new n m store stamp (Err stop) (is, has) keeps = keeps

@@ -261,15 +261,15 @@ felled_fits {p} {b} at new went =
 
 -- a stop before the commit: a number would be too big, or the store failed
 pub emission_stops : {p : Place} {b : Base} (stamp : ℕ) (at : UpAt p b) (a : Announcement p) (stop : Stop)
-    (fault : DbFault) (new : Base) → is_last_stamp p ≡ false →
-    WritesEvents (emitter_in at a) stamp (Err stop) new.kept →
+    (fault : DbFault) (new : Base) →
+    (is_last_stamp p ≡ false) × WritesEvents (emitter_in at a) stamp (Err stop) new.kept →
     Halts stop fault b new × (b.kept.faults ≤ new.kept.faults) × (is_memory (halt_in fault) ≡ false) →
     ActsAs (commit_in a) (emitting (seat a.name p a.node) a.parts).answer p (Err fault) new
-emission_stops {p} stamp at a (TooBig space) fault new last stops (h, later, memory) =
+emission_stops {p} stamp at a (TooBig space) fault new (last, stops) (h, later, memory) =
     Burst space (ap (λ f. Err f) h.fault_is)
     (emission_beyond a.name p a.node a.parts last stops.1 ∙ ap (λ n. Some n) (sym stops.0))
     (felled_fits at new (record { down = h.down; looked = record { held = h.held; later = later } }))
-emission_stops stamp at a others fault new last stops (h, later, memory) =
+emission_stops stamp at a others fault new (last, stops) (h, later, memory) =
     Broke fault refl last (look_stops at h memory stops)
 
 -- What is written and pending before the commit of events of which the tables of sets learn nothing.

@@ -14,7 +14,8 @@ use Rattle.slon_model.specs.Snapshots.{Snapshot}
 use Rattle.node_rows.specs.declared.body.Body.{Body}
 use Rattle.node_state.specs.Held.{HoldsNode, is_own}
 use Rattle.node_state.specs.Known.{IsHomed}
-use Rattle.node_change.specs.Announced.{HasEmitted, Announces}
+use Rattle.node_change.specs.Announced.{Announces}
+use Rattle.node_change.specs.Done.{HasEmitted}
 use Rattle.node_store.specs.Acting.{Emitter, IsTold, EmitsEach, HasEmittedAll, LearnsAll, behind, are_late}
 use Rattle.node_store.specs.Acting.{bodies_in, next_event, emitting_deed}
 use Rattle.node_store.proofs.Several.{one_behind, next_is}

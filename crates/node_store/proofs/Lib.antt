@@ -12,4 +12,4 @@ pub mod Outcomes
 pub mod Pairs
 pub mod Several
 pub mod Synced
-mod Heard
+mod Doers

@@ -16,7 +16,7 @@ use Rattle.slon_model.specs.declared.reply.Answered.TheVariants.{Sure, InDoubt}
 use Rattle.node_rows.specs.declared.body.Body.{Body}
 use Rattle.slon_model.specs.Snapshots.{Snapshot}
 use Rattle.slon_model.specs.Events.{Event}
-use Rattle.slon_model.specs.Deeds.{Node, Deed, Emits, Hears, knowledge, progress, with_deeds}
+use Rattle.slon_model.specs.Deeds.{Node, Deed, Doing, Emits, Applies, Hears, knowledge, progress, with_deeds}
 use Rattle.slon_model.specs.Place.{Place, fallen, taken, deed}
 use Rattle.slon_model.specs.Moves.{is_last_stamp}
 use Rattle.slon_model.specs.Membership.{becoming, first_of_cluster}
@@ -29,13 +29,13 @@ use Rattle.store_rows.specs.Steps.{IsOutside}
 use Rattle.store_rows.specs.declared.stop.Stop.{Stop}
 use Rattle.store_rows.specs.declared.stop.Stop.TheVariants.{TooBig as StopTooBig}
 use Rattle.node_change.specs.Becoming.{IsNode}
-use Rattle.node_change.specs.Confirming.{HasHeard}
+use Rattle.node_change.specs.Done.{HasDone, CanApply}
 use Rattle.node_state.specs.declared.memory.NodeMemory.{NodeMemory}
 use Rattle.node_state.specs.declared.memory.Identity.{Identity}
 use Rattle.node_state.specs.Held.{HoldsNode, is_own}
 use Rattle.node_state.specs.declared.memory.Member.{Member}
 use Rattle.node_state.specs.declared.memory.Members.{Members}
-use Rattle.node_state.specs.Known.{IsKnown, Learns, learned_member, learned_name}
+use Rattle.node_state.specs.Known.{IsKnown, Learns, LearnsOfOther, learned_member, learned_name}
 use Rattle.app_store.specs.Base.{Base, Memory}
 use Rattle.app_store.specs.Fits.{Fits, Ready}
 use Rattle.app_store.specs.Parts.{FellTo}
@@ -230,21 +230,27 @@ WritesEvents e stamp (Ok number) new =
 WritesEvents e stamp (Err (StopTooBig space)) new = (space ≡ 10) × (are_late e.place e.node e.parts ≡ true)
 WritesEvents e stamp (Err stop) new = IsOutside stop
 
--- ---- confirmations
+-- ---- one thing that a node does, by which it gives tables no rows and logs nothing
 
--- what is pending behind the confirmations that a node hears, with the next stamp; or there was no memory, or the store
--- failed
-abbrev pub WritesHeard : Node → Store → List (ℕ × ℕ × ℕ) → ℕ → Result (Unit {0}) Stop → Kept → Type 0
-WritesHeard n m confirms stamp (Ok u) new =
+-- what is pending behind it, with the next stamp; or there was no memory, or the store failed
+abbrev pub WritesDone : Node → Store → Doing → ℕ → Result (Unit {0}) Stop → Kept → Type 0
+WritesDone n m doing stamp (Ok u) new =
     (store : Store) × (new.pending ≡ Some (Some (put_at meta stamp_key (number_bytes stamp) store)))
-    × HasHeard n confirms m store
-WritesHeard n m confirms stamp (Err stop) new = IsOutside stop
+    × HasDone n doing m store
+WritesDone n m doing stamp (Err stop) new = IsOutside stop
 
-abbrev pub hearing : List ℕ → Place → List (ℕ × ℕ × ℕ) → Commit
-hearing name p confirms = record { name = name; becomes = None; deeds = deed p [] [] (Hears confirms) ∷ [] }
+abbrev pub does : List ℕ → Place → Doing → Commit
+does name p doing = record { name = name; becomes = None; deeds = deed p [] [] doing ∷ [] }
 
 -- From every place that fits and is a node: it hears these confirmations, in one commit.
 abbrev pub HearsAll : List (ℕ × ℕ × ℕ) → Base → Result Answered DbFault → Base → Type 0
 HearsAll confirms old result new =
     (p : Place) (n : Node) → Ready p old → p.node ≡ Some n → is_memory (trouble result) ≡ false → (name : List ℕ) →
-    ActsAs (hearing name p confirms) Done p result new
+    ActsAs (does name p (Hears confirms)) Done p result new
+
+-- From every place that fits, whose node can apply this event of another one and learns no more of it than that: it
+-- applies the event, in one commit.
+abbrev pub AppliesOne : Event → Base → Result Answered DbFault → Base → Type 0
+AppliesOne e old result new =
+    (p : Place) (n : Node) → Ready p old → p.node ≡ Some n → is_memory (trouble result) ≡ false → CanApply n e →
+    LearnsOfOther n e → (name : List ℕ) → ActsAs (does name p (Applies e)) Done p result new

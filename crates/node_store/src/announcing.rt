@@ -80,7 +80,7 @@ fn learn_each(alloc: Global, node: &mut NodeMemory, bodies: &[Body]) -> Result<(
     ensures identity { node.new.identity ≡ node.old.identity }
 {
     for body in bodies {
-        node.learn(alloc, body)?;
+        node.learn(alloc, body, true)?;
     }
     Ok(())
 }

@@ -2,6 +2,7 @@
 #![tactic(auto)]
 
 mod announcing;
+mod applying;
 mod finishing;
 mod founding;
 mod hearing;
@@ -14,6 +15,7 @@ mod writing;
 
 pub use announcing::announce;
 pub use app_store::{Database, DbFault, Keeper};
+pub use applying::apply;
 pub use founding::found;
 pub use hearing::hear;
 pub use joining::{Fell, Joined, join};

@@ -13,19 +13,22 @@ ghost use Rattle.txn_core.specs.Snapshots.{seen_as};
 ghost use Rattle.node_rows.specs.declared.body.Body.TheVariants.{StoreNode};
 ghost use Rattle.node_change.specs.Becoming.{IsNode};
 ghost use Rattle.slon_model.specs.Maps.{entry_at};
-ghost use Rattle.slon_model.specs.Deeds.{Node, knowledge};
+ghost use Rattle.slon_model.specs.Deeds.{Node, Applies, Hears, knowledge};
 ghost use Rattle.event_store.specs.Keeping.{KeepsViews};
+ghost use Rattle.event_store.specs.Seen.{seen_event};
 ghost use Rattle.event_store.specs.Spellings.{CanSnapshot};
+ghost use Rattle.node_change.specs.Done.{CanApply};
 ghost use Rattle.node_state.specs.Held.{HoldsNode};
-ghost use Rattle.node_store.specs.Acting.{Emitter, IsTold, EmitsEach, WritesEvents, WritesHeard, WritesNode, KeepsNode};
+ghost use Rattle.node_state.specs.Known.{IsHomed};
+ghost use Rattle.node_store.specs.Acting.{Emitter, IsTold, EmitsEach, WritesEvents, WritesDone, WritesNode, KeepsNode};
 ghost use Rattle.node_change.specs.Both.{stopped};
 ghost use Rattle.node_store.specs.Midways.{Enters, EntersSecond, EntersBoth, of_event};
 ghost use Rattle.node_store.specs.Joining.{WritesBoth};
 
 use crate::layout::{EVENTS, META, STAMP};
 use app_store::begin;
-use event_store::Confirmation;
-use node_change::{Failed, Side, announce, found_node, hear, join_node, sided};
+use event_store::{Confirmation, Event};
+use node_change::{Failed, Side, announce, apply, found_node, hear, join_node, sided};
 use node_rows::Body;
 use node_state::{NodeMemory, find_node};
 use slon_base::{Keeper, Text};
@@ -34,8 +37,8 @@ use std::array;
 use store_rows::{Stop, put_pair, spelling};
 use txn_core::Snapshot;
 
-/// Why events were not emitted: a number that is too big is that of an event.
-fn unemitted(stop: Stop) -> Stop
+/// Why work on events stopped: a number that is too big is that of an event.
+fn event_stop(stop: Stop) -> Stop
     ensures told { result ≡ of_event stop }
 {
     match stop {
@@ -94,7 +97,7 @@ pub(crate) fn write_events<K: Keeper>(
             put_pair(keeper, META, &STAMP, stamp.as_slice())?;
             Ok(number)
         }
-        Err(stop) => Err(unemitted(stop)),
+        Err(stop) => Err(event_stop(stop)),
     }
 }
 
@@ -229,10 +232,35 @@ pub(crate) fn write_heard<K: Keeper>(
     requires room { stamp < 2 ^ 63 }
     ensures enters { Enters (K.kept keeper.old) (K.kept keeper.new) result }
     ensures writes { (n : Node) (m : Store) → n.id ≡ own → (K.kept keeper.old).held ≡ Some m → HoldsNode (Some n) m →
-        WritesHeard n m (map named rows.now) stamp result (K.kept keeper.new) }
+        WritesDone n m (Hears (map named rows.now)) stamp result (K.kept keeper.new) }
 {
     let stamp = spelling(alloc, &stamp)?;
     begin(keeper)?;
     hear(alloc, keeper, own, rows)?;
     put_pair(keeper, META, &STAMP, stamp.as_slice())
+}
+
+/// Begins a transaction, and has the node apply an event of another node, with the stamp of the transaction.
+pub(crate) fn write_applied<K: Keeper>(
+    alloc: Global,
+    keeper: &mut K,
+    own: u32,
+    event: &Event,
+    stamp: u64,
+) -> Result<(), Stop>
+    requires idle { is_some (K.kept keeper.old).pending ≡ false }
+    requires own { IsId own }
+    requires keeps { KeepsViews event.now.body }
+    requires room { stamp < 2 ^ 63 }
+    ensures enters { Enters (K.kept keeper.old) (K.kept keeper.new) result }
+    ensures writes { (n : Node) (m : Store) → n.id ≡ own → (K.kept keeper.old).held ≡ Some m → HoldsNode (Some n) m →
+        CanApply n (seen_event event.now) → IsHomed event.now.body (knowledge n).config →
+        WritesDone n m (Applies (seen_event event.now)) stamp result (K.kept keeper.new) }
+{
+    let stamp = spelling(alloc, &stamp)?;
+    begin(keeper)?;
+    match apply(alloc, keeper, own, event) {
+        Ok(()) => put_pair(keeper, META, &STAMP, stamp.as_slice()),
+        Err(stop) => Err(event_stop(stop)),
+    }
 }

@@ -26,4 +26,6 @@ mod stored_nodes;
 #[cfg(test)]
 mod stored_rows;
 #[cfg(test)]
+mod taking;
+#[cfg(test)]
 mod viewed;

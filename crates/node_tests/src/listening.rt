@@ -6,6 +6,7 @@ ghost use Rattle.store_rows.specs.Rows.{IsId};
 ghost use Rattle.node_rows.specs.Spellings.{CanBody};
 ghost use Rattle.event_store.specs.Giving.{IsConfirmation};
 ghost use Rattle.event_store.specs.Keeping.{KeepsViews};
+ghost use Rattle.event_store.specs.Spellings.{IsNumbered};
 ghost use Rattle.event_store.specs.Telling.{IsOfOther};
 ghost use Rattle.node_store.specs.Acting.{own_id};
 
@@ -35,7 +36,7 @@ fn path(alloc: Global, server: u32, client: u32) -> Result<Body, Fail>
 }
 
 /// The first database is node 1 and the second one node 2. Each has a path from the other one, and node 1 emits a SYNC.
-fn make_nodes(
+pub(crate) fn make_nodes(
     alloc: Global,
     first: &mut Database<MemKeeper>,
     second: &mut Database<MemKeeper>,
@@ -87,10 +88,10 @@ fn ask(linked: Listener<Linked>, server: &mut Database<MemKeeper>) -> Result<Lis
 
 /// How many events and confirmations a poll brings, and whether they are lost on the way.
 #[derive(Clone, Copy)]
-struct Brings {
-    events: usize,
-    confirms: usize,
-    are_lost: bool,
+pub(crate) struct Brings {
+    pub(crate) events: usize,
+    pub(crate) confirms: usize,
+    pub(crate) are_lost: bool,
 }
 
 /// What was polled is delivered or lost.
@@ -134,7 +135,7 @@ fn bring(
 }
 
 /// A poll of the server of this id brings this.
-fn poll(
+pub(crate) fn poll(
     own: &mut Database<MemKeeper>,
     id: u32,
     server: &mut Database<MemKeeper>,
@@ -234,7 +235,9 @@ fn nodes_poll_one_another(rt: HostRuntime) -> Result<(), Fail> {
 }
 
 /// An event of an origin.
-fn event(alloc: Global, origin: u32, number: u64) -> Event {
+fn event(alloc: Global, origin: u32, number: u64) -> Event
+    requires { IsNumbered (origin, number) }
+{
     let taken = Snapshot {
         xmin: 1,
         xmax: 1,
@@ -249,7 +252,9 @@ fn event(alloc: Global, origin: u32, number: u64) -> Event {
 }
 
 /// Puts an event, and tells whether it is news.
-fn put(alloc: Global, queue: &mut Queue, origin: u32, number: u64) -> Result<bool, Fail> {
+fn put(alloc: Global, queue: &mut Queue, origin: u32, number: u64) -> Result<bool, Fail>
+    requires { IsNumbered (origin, number) }
+{
     Ok(queue.put(event(alloc, origin, number))?)
 }
 

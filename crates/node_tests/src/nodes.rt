@@ -84,7 +84,7 @@ fn second(alloc: Global) -> Result<Body, Fail>
 }
 
 /// A set of the first node.
-fn some_set(alloc: Global) -> Result<Body, Fail>
+pub(crate) fn some_set(alloc: Global) -> Result<Body, Fail>
     ensures { IfOk result (λ b. CanBody b × KeepsViews b) }
 {
     Ok(Body::StoreSet {
@@ -95,7 +95,7 @@ fn some_set(alloc: Global) -> Result<Body, Fail>
 }
 
 /// A table of that set.
-fn some_table(alloc: Global) -> Result<Body, Fail>
+pub(crate) fn some_table(alloc: Global) -> Result<Body, Fail>
     ensures { IfOk result (λ b. CanBody b × KeepsViews b) }
 {
     Ok(Body::SetAddTable {

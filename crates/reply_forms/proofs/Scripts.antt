@@ -20,6 +20,8 @@ use Rattle.slon_model.specs.declared.reply.Reply.TheVariants.{Refused}
 use Rattle.slon_model.specs.Names.{Named, find_named, without}
 use Rattle.slon_model.specs.Spoken.{IsName, IsOrder, IsStatement, AreStatements, AreNodeLines, IsReading, IsAct}
 use Rattle.slon_model.specs.Tasks.{Act, ToRead, ToStep, ToForget, ToStart, ToStop, ToCut, ToJoin, ToSync, ToListen}
+use Rattle.slon_model.specs.Tasks.{ToWork}
+use Rattle.slon_model.specs.Events.{Event}
 use Rattle.slon_model.specs.Config.{is_known}
 use Rattle.slon_model.specs.Deeds.{Node}
 use Rattle.slon_model.specs.Place.{Place, is_running, node_id}
@@ -28,9 +30,10 @@ use Rattle.slon_model.specs.Sessions.{no_change, bind, when}
 use Rattle.slon_model.specs.Scripts.{Stepping, ending, done_by, single, order_step, statement_step, step_todo, step_of}
 use Rattle.slon_model.specs.Scripts.{ordered, quiet, read_as, kill_of}
 use Rattle.slon_model.specs.Turns.{is_id, at_node, switched, switched_at, is_cut, with_cuts, seat_at, on_turn}
-use Rattle.slon_model.specs.Turns.{turned, turned_by, turn_by, is_synced, sync_turn}
+use Rattle.slon_model.specs.Turns.{turned, turned_by, taken_turn, is_synced, sync_turn}
 use Rattle.slon_model.specs.Polls.{Poll, poll_of, hears_none, linked, server_for, brings_nothing, polled, hearing}
-use Rattle.slon_model.specs.Polls.{stated_by, left_by, listen_by}
+use Rattle.slon_model.specs.Polls.{stated_by, left_by}
+use Rattle.slon_model.specs.Working.{next_at, can_carry_out, taken_up, worked, applied_by, taken_from}
 use Rattle.slon_model.specs.Membership.{synced}
 use Rattle.slon_model.specs.Rows.{member}
 use Rattle.slon_model.specs.World.{outcome}
@@ -202,10 +205,13 @@ turned_ends w m stated same known reads = by (excess_of stated.commits w.places)
         record { reply = reads.0; commits = reads.1; scripts = subst AreRunning (sym same) known.scripts }
     by (Some e) = record { reply = tt; commits = tt; scripts = known.scripts }
 
-turn_ends : (w : World) (m : Memory) (due : Result Stated Refusal) → m.scripts ≡ w.memory.scripts → Known w →
-    Gives StatedReads due → Ends (turn_by w m due)
-turn_ends w m (Err refusal) same known reads = unchanged w (Refused refusal) known reads
-turn_ends w m (Ok stated) same known reads = turned_ends w m stated same known reads
+-- a turn that leaves the scripts
+taken_ends : {X : Type 0} (P : X → Type 0) (w : World) (left : X → Memory) (stated : X → Stated)
+    (due : Result X Refusal) → ((x : X) → (left x).scripts ≡ w.memory.scripts)
+    × ((x : X) → P x → StatedReads (stated x)) →
+    Known w × Gives P due → Ends (taken_turn w left stated due)
+taken_ends P w left stated (Err refusal) kept is = unchanged w (Refused refusal) is.0 is.1
+taken_ends P w left stated (Ok x) kept is = turned_ends w (left x) (stated x) (kept.0 x) is.0 (kept.1 x is.1)
 
 -- a SYNC
 sync_reads : (node : ℕ) (w : World) → Known w → Gives StatedReads (sync_turn node w)
@@ -258,12 +264,19 @@ left_scripts : (delivery : Delivery) (b : Poll) (m : Memory) → (left_by delive
 left_scripts Lost b m = refl
 left_scripts others b m = refl
 
-listen_ends : (delivery : Delivery) (w : World) (due : Result Poll Refusal) → Known w → Gives IsPoll due →
-    Ends (listen_by delivery w due)
-listen_ends delivery w (Err refusal) known reads = unchanged w (Refused refusal) known reads
-listen_ends delivery w (Ok b) known named =
-    turned_ends w (left_by delivery b w.memory) (stated_by delivery b) (left_scripts delivery b w.memory) known
-    (poll_reads delivery b named)
+-- ---- events that are applied
+
+taken_gives : (s : Seat) (o : Option Event) → IsSeat s → Gives (λ e. IsSeat s) (taken_up s o)
+taken_gives s None named = tt
+taken_gives s (Some e) named =
+    checked_gives (λ e. IsSeat s) (when (not (can_carry_out s.node.id e.body)) (refused.NotBuilt (codes "work")) ∷ []) e
+    (when_tells _ (refused.NotBuilt (codes "work")) refl, tt) named
+
+worked_gives : (node origin : ℕ) (w : World) → Known w → Gives (λ x. IsSeat x.0) (worked node origin w)
+worked_gives node origin w known =
+    bind_gives IsSeat (λ x. IsSeat x.0) (on_turn node w) _ (turn_reads node w known)
+    (λ s named. bind_gives (λ e. IsSeat s) (λ x. IsSeat x.0) (taken_up s (next_at w.memory s origin)) _
+    (taken_gives s (next_at w.memory s origin) named) (λ e is. is))
 
 -- ---- each command
 
@@ -283,6 +296,11 @@ outcome_ends (ToStop node) w act known = switched_ends node _ w (λ name. refl) 
 outcome_ends (ToCut node other) w act known = cuts_end _ w known
 outcome_ends (ToJoin node other) w act known = cuts_end _ w known
 outcome_ends (ToSync node) w act known =
-    turn_ends w w.memory (sync_turn node w) refl known (sync_reads node w known)
+    taken_ends StatedReads w (λ stated. w.memory) (λ stated. stated) (sync_turn node w)
+    (λ stated. refl, λ stated reads. reads) (known, sync_reads node w known)
 outcome_ends (ToListen node server delivery) w act known =
-    listen_ends delivery w (polled node server w) known (polled_gives node server w known)
+    taken_ends IsPoll w (λ b. left_by delivery b w.memory) (stated_by delivery) (polled node server w)
+    (λ b. left_scripts delivery b w.memory, poll_reads delivery) (known, polled_gives node server w known)
+outcome_ends (ToWork node origin) w act known =
+    taken_ends (λ x. IsSeat x.0) w (λ x. taken_from x w.memory) applied_by (worked node origin w)
+    (λ x. refl, λ x named. (tt, (named, tt))) (known, worked_gives node origin w known)

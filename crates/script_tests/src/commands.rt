@@ -36,6 +36,7 @@ fn verb(command: &Command) -> &'static str {
         Command::Join { .. } => "join",
         Command::Sync { .. } => "sync",
         Command::Listen { .. } => "listen",
+        Command::Work { .. } => "work",
     }
 }
 
@@ -98,6 +99,7 @@ fn push_rest(line: &mut String, command: &Command) -> Result<(), Fail> {
             write!(line, " {node} {server}")?;
             push_delivery(line, *delivery)
         }
+        Command::Work { node, origin } => Ok(write!(line, " {node} {origin}")?),
         _ => Ok(()),
     }
 }
@@ -188,6 +190,7 @@ const COMMANDS: &[(&str, &str)] = &[
     ("listen 1 2", "listen 1 2"),
     ("listen 2147483647 1 lost", "listen 2147483647 1 lost"),
     (" listen  2 2  again ", "listen 2 2 again"),
+    ("work 2147483647 1", "work 2147483647 1"),
     (
         "database abcdefghijklmnopqrstuvwxyz01234",
         "database abcdefghijklmnopqrstuvwxyz01234",
@@ -246,6 +249,10 @@ const BAD_LINES: &[&str] = &[
     "listen 1 2 lost again",
     "listen 1 2 Lost",
     "listen lost 1 2",
+    "work 1",
+    "work 1 2 3",
+    "work 1 0",
+    "work 1 2147483648",
     "slonik s <<",
     "begin a",
     "begin a t u",

@@ -1,7 +1,7 @@
 // Replies and their lines.
 use session_text::{print_line, print_reply};
 use slon_base::{Text, TextList};
-use slon_model::{Answer, KeptList, ProgressList, Refusal, Reply, TableRows};
+use slon_model::{Answer, EventKind, KeptList, ProgressList, Refusal, Reply, TableRows};
 use slonik_script::ScriptRefusal;
 use std::test::Fail;
 use test_words::{expect, require};
@@ -68,6 +68,38 @@ fn answers_of_scripts_are_printed(rt: HostRuntime) -> Result<(), Fail> {
     expect_answer(&rt, heard, "ok events 4 confirms 0")?;
     let lost = Answer::LostOnTheWay { events, confirms };
     expect_answer(&rt, lost, "ok lost events 4 confirms 0")
+}
+
+/// Each kind of events with its word.
+const KINDS: &[(EventKind, &str)] = &[
+    (EventKind::Sync, "SYNC"),
+    (EventKind::StoreNode, "STORE_NODE"),
+    (EventKind::DropNode, "DROP_NODE"),
+    (EventKind::StorePath, "STORE_PATH"),
+    (EventKind::DropPath, "DROP_PATH"),
+    (EventKind::StoreSet, "STORE_SET"),
+    (EventKind::DropSet, "DROP_SET"),
+    (EventKind::SetAddTable, "SET_ADD_TABLE"),
+    (EventKind::SubscribeSet, "SUBSCRIBE_SET"),
+    (EventKind::EnableSubscription, "ENABLE_SUBSCRIPTION"),
+    (EventKind::UnsubscribeSet, "UNSUBSCRIBE_SET"),
+    (EventKind::MoveSet, "MOVE_SET"),
+    (EventKind::AcceptSet, "ACCEPT_SET"),
+    (EventKind::FailoverSet, "FAILOVER_SET"),
+];
+
+#[test]
+fn applied_events_are_printed(rt: HostRuntime) -> Result<(), Fail> {
+    for (kind, word) in KINDS {
+        let applied = Answer::Applied {
+            kind: *kind,
+            number: 7,
+            rows: 3,
+        };
+        let wanted = format!(in rt.alloc(); "ok {word} 7 rows 3")?;
+        expect_answer(&rt, applied, wanted.as_str())?;
+    }
+    Ok(())
 }
 
 /// The refusal of this code, with the number 7 where it has one.

@@ -1,7 +1,7 @@
 -- An answer is read back from its text.
 use Rattle.std.proofs.Common.{◌≡◌, ◌<◌, ◌^◌, ℕ, eqb, if◌then◌else◌, true, List, [], ◌∷◌, ◌++◌, map, length, refl, ap}
 use Rattle.std.proofs.Common.{◌∙◌}
-use Rattle.std.proofs.Common.{append_assoc, codes}
+use Rattle.std.proofs.Common.{append_assoc, codes, find, unwrap_or}
 use Rattle.std.proofs.lemmas.List.{append-nil}
 use Rattle.std.specs.Fmt.{decimal}
 use Rattle.std.specs.List.{slice_split, AllByRecursion}
@@ -10,8 +10,10 @@ use Rattle.std.specs.Str.Parse.{digits_value}
 use Rattle.slon_model.specs.declared.reply.Answer.{Answer}
 use Rattle.slon_model.specs.declared.reply.Answer.TheVariants.{Done, Opened, Acted, Unchanged, Committed, Listed, Kept}
 use Rattle.slon_model.specs.declared.reply.Answer.TheVariants.{Lost, Status, Statements, Emitted, Echoed, Ended, Heard}
-use Rattle.slon_model.specs.declared.reply.Answer.TheVariants.{LostOnTheWay}
-use Rattle.slon_model.specs.Printed.{rows_text, progress_text, kept_text, answer_text}
+use Rattle.slon_model.specs.declared.reply.Answer.TheVariants.{LostOnTheWay, Applied}
+use Rattle.slon_model.specs.declared.reply.EventKind.{EventKind}
+use Rattle.slon_model.specs.declared.reply.EventKind.TheVariants as event
+use Rattle.slon_model.specs.Printed.{rows_text, progress_text, kept_text, kind_text, answer_text}
 use Rattle.session_text.specs.Replies.{ProgressFits, KeptFits, KeptHasForm, is_word_byte, AnswerHasForm}
 use Rattle.slon_lemmas.proofs.Splitting.{lacks, lacks_by, lacks-append, lacks-decimal, split_last}
 use Rattle.session_text.proofs.Parting.{number_back, number_of, number_text_back, text_of, text_back, split_word}
@@ -143,6 +145,21 @@ abbrev lost_of : List (List ℕ) → Answer
 lost_of [] = Lost
 lost_of (name ∷ rest) = counted_of LostOnTheWay rest
 
+-- the kind of events that a word names
+abbrev all_kinds : List EventKind
+all_kinds =
+    event.Sync ∷ event.StoreNode ∷ event.DropNode ∷ event.StorePath ∷ event.DropPath ∷ event.StoreSet ∷ event.DropSet
+    ∷ event.SetAddTable ∷ event.SubscribeSet ∷ event.EnableSubscription ∷ event.UnsubscribeSet ∷ event.MoveSet
+    ∷ event.AcceptSet ∷ event.FailoverSet ∷ []
+
+abbrev kind_in : List ℕ → EventKind
+kind_in word = unwrap_or (find (λ kind. bytes_eq word (kind_text kind)) all_kinds) event.Sync
+
+-- the event of the words behind its kind: a number, `rows` and a number
+abbrev applied_of : EventKind → List (List ℕ) → Answer
+applied_of kind (number ∷ name ∷ rows) = Applied kind (digits_value 10 number) (number_of rows)
+applied_of kind others = Done
+
 -- the answer of the words behind `ok`
 abbrev pub answer_of : List (List ℕ) → Answer
 answer_of [] = Done
@@ -159,7 +176,8 @@ answer_of (kind ∷ rest) =
     else (if bytes_eq kind (codes "event") then event_of rest
     else (if bytes_eq kind (codes "echo") then Echoed (text_of rest)
     else (if bytes_eq kind (codes "ended") then Ended (number_of rest)
-    else status_of rest)))))))))))
+    else (if bytes_eq kind (codes "node") then status_of rest
+    else applied_of (kind_in kind) rest))))))))))))
 
 -- The text of an answer begins with `ok`, and the words behind it are read back.
 pub record IsAnswered (answer : Answer) : Type 0 where
@@ -225,6 +243,37 @@ counted_back made events confirms h =
     ap (λ n. made n (number_of (slice_split (λ b. eqb b 32) (decimal confirms)))) (number_back events h.0)
     ∙ ap (made events) (number_text_back confirms h.1)
 
+-- the word of a kind of events
+kind_lacks : (kind : EventKind) → (lacks 32 (kind_text kind) ≡ true) × (lacks 10 (kind_text kind) ≡ true)
+kind_lacks event.Sync = (refl, refl)
+kind_lacks others = (refl, refl)
+
+kind_back : (kind : EventKind) (rest : List (List ℕ)) → answer_of (kind_text kind ∷ rest) ≡ applied_of kind rest
+kind_back event.Sync rest = refl
+kind_back others rest = refl
+
+applied_back : (kind : EventKind) (number rows : ℕ) → AnswerHasForm (Applied kind number rows) →
+    IsAnswered (Applied kind number rows)
+applied_back kind number rows h =
+    let word = kind_text kind in
+    let first = decimal number in
+    let second = decimal rows in
+    let digits = slice_split (λ b. eqb b 32) second in
+    let joined : (word ++ codes " " ++ first ++ codes " rows " ++ second)
+    ≡ word ++ (codes " " ++ (first ++ (codes " rows " ++ second))) = simp append_assoc in
+    record {
+      rest = word ∷ first ∷ codes "rows" ∷ digits;
+      words =
+          ap (λ t. codes "ok" ∷ slice_split (λ b. eqb b 32) t) joined
+          ∙ ap (λ l. codes "ok" ∷ l)
+          (split_word word _ _ (kind_lacks kind).0
+          (split_word first (codes "rows " ++ second) (codes "rows" ∷ digits) (lacks-decimal 32 number refl h.0) refl));
+      back =
+          kind_back kind (first ∷ codes "rows" ∷ digits)
+          ∙ ap (λ n. Applied kind n (number_of digits)) (number_back number h.0)
+          ∙ ap (Applied kind number) (number_text_back rows h.1);
+    }
+
 pub answer_back : (answer : Answer) → AnswerHasForm answer → IsAnswered answer
 answer_back Done h = record { rest = []; words = refl; back = refl }
 answer_back (Opened xid) h = record { rest = _; words = refl; back = ap Opened (number_text_back xid h) }
@@ -253,6 +302,7 @@ answer_back (LostOnTheWay events confirms) h = record {
   words = ap (λ l. codes "ok" ∷ codes "lost" ∷ codes "events" ∷ l) (counted_words events confirms h.0);
   back = counted_back LostOnTheWay events confirms h;
 }
+answer_back (Applied kind number rows) h = applied_back kind number rows h
 answer_back (Echoed text) h = record { rest = _; words = refl; back = ap Echoed (text_back text) }
 answer_back (Ended status) h =
     record { rest = _; words = refl; back = ap Ended (number_text_back status (below_word status h)) }
@@ -315,6 +365,14 @@ answer_lacks (Emitted node number) h =
     (lacks-decimal 10 number refl h.1)
 answer_lacks (Heard events confirms) h = counted_lacks events confirms h
 answer_lacks (LostOnTheWay events confirms) h = counted_lacks events confirms h
+answer_lacks (Applied kind number rows) h =
+    let word = kind_text kind in
+    let first = decimal number in
+    lacks-append 10 (word ++ codes " " ++ first ++ codes " rows ") (decimal rows)
+    (lacks-append 10 (word ++ codes " " ++ first) (codes " rows ")
+    (lacks-append 10 (word ++ codes " ") first (lacks-append 10 word (codes " ") (kind_lacks kind).1 refl)
+    (lacks-decimal 10 number refl h.0)) refl)
+    (lacks-decimal 10 rows refl h.1)
 answer_lacks (Echoed text) h = h
 answer_lacks (Ended status) h = lacks-decimal 10 status refl (below_word status h)
 answer_lacks others h = refl

@@ -75,6 +75,9 @@ fn answer_fits(answer: &Answer)
         Answer::Heard { events, confirms } | Answer::LostOnTheWay { events, confirms } => {
             let _numbers = (*events, *confirms);
         }
+        Answer::Applied { number, rows, .. } => {
+            let _numbers = (*number, *rows);
+        }
         Answer::Done | Answer::Unchanged | Answer::Kept | Answer::Lost | Answer::Echoed { .. } => {}
     }
 }

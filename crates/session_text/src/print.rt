@@ -1,13 +1,14 @@
 // The printed form of a reply.
 ghost use Rattle.std.specs.Prelude.{◌≡◌, ◌++◌, List, ℕ, IfOk, OnOk, string_bytes, codes};
+ghost use Rattle.slon_model.specs.declared.reply.Answer.TheVariants.{Applied};
 ghost use Rattle.slon_model.specs.declared.reply.Refusal.TheVariants.{Fault};
-ghost use Rattle.slon_model.specs.Printed.{joined, row_text, rows_text, progress_text, kept_text, answer_text};
-ghost use Rattle.slon_model.specs.Printed.{script_text, refusal_text, reply_text, reply_line};
+ghost use Rattle.slon_model.specs.Printed.{joined, row_text, rows_text, progress_text, kept_text, kind_text};
+ghost use Rattle.slon_model.specs.Printed.{answer_text, script_text, refusal_text, reply_text, reply_line};
 ghost use Rattle.std.specs.Fmt.{decimal};
 ghost use Rattle.session_text.specs.Joining.{behind_commas};
 
 use slon_base::{Text, TextList};
-use slon_model::{Answer, Refusal, Reply};
+use slon_model::{Answer, EventKind, Refusal, Reply};
 use slonik_script::ScriptRefusal;
 use std::alloc::{AllocError, Global};
 
@@ -87,6 +88,42 @@ fn push_named(line: &mut String, front: &str, name: &Text) -> Result<(), AllocEr
     line.push_str(name.as_str())
 }
 
+/// The word of a kind of events.
+fn kind_word(kind: EventKind) -> &'static str
+    ensures { result.now ≡ kind_text kind }
+{
+    match kind {
+        EventKind::Sync => "SYNC",
+        EventKind::StoreNode => "STORE_NODE",
+        EventKind::DropNode => "DROP_NODE",
+        EventKind::StorePath => "STORE_PATH",
+        EventKind::DropPath => "DROP_PATH",
+        EventKind::StoreSet => "STORE_SET",
+        EventKind::DropSet => "DROP_SET",
+        EventKind::SetAddTable => "SET_ADD_TABLE",
+        EventKind::SubscribeSet => "SUBSCRIBE_SET",
+        EventKind::EnableSubscription => "ENABLE_SUBSCRIPTION",
+        EventKind::UnsubscribeSet => "UNSUBSCRIBE_SET",
+        EventKind::MoveSet => "MOVE_SET",
+        EventKind::AcceptSet => "ACCEPT_SET",
+        EventKind::FailoverSet => "FAILOVER_SET",
+    }
+}
+
+/// Adds which event was applied, and how many rows came with it.
+fn push_applied(
+    line: &mut String,
+    kind: EventKind,
+    number: u64,
+    rows: u64,
+) -> Result<(), AllocError>
+    ensures { OnOk result (string_bytes line.new ≡ string_bytes line.old ++ answer_text (Applied kind number rows)) }
+{
+    line.push_str("ok ")?;
+    line.push_str(kind_word(kind))?;
+    write!(line, " {number} rows {rows}")
+}
+
 /// Adds what an accepted command answers.
 fn push_answer(line: &mut String, answer: &Answer) -> Result<(), AllocError>
     ensures { OnOk result (string_bytes line.new ≡ string_bytes line.old ++ answer_text answer.now) }
@@ -123,6 +160,7 @@ fn push_answer(line: &mut String, answer: &Answer) -> Result<(), AllocError>
         Answer::LostOnTheWay { events, confirms } => {
             write!(line, "ok lost events {events} confirms {confirms}")
         }
+        Answer::Applied { kind, number, rows } => push_applied(line, *kind, *number, *rows),
     }
 }
 

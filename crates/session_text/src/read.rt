@@ -254,6 +254,19 @@ fn listen_of(words: &[&[u8]]) -> Result<Command, Misread>
     }
 }
 
+/// `work N N`
+fn work_of(words: &[&[u8]]) -> Result<Command, Misread>
+    ensures { Gives (lines.work_of (map (λ word. word.now) words.now)) result }
+{
+    let [node, origin] = words else {
+        return Err(Misread::BadForm);
+    };
+    Ok(Command::Work {
+        node: node_of(node)?,
+        origin: node_of(origin)?,
+    })
+}
+
 /// The command that the first word names, of the words behind it.
 fn command_of(alloc: Global, verb: &[u8], rest: &[&[u8]]) -> Result<Command, Misread>
     ensures { Gives (lines.command_of verb.now (map (λ word. word.now) rest.now)) result }
@@ -298,6 +311,8 @@ fn command_of(alloc: Global, verb: &[u8], rest: &[&[u8]]) -> Result<Command, Mis
         sync_of(rest)
     } else if is_verb(verb, "listen") {
         listen_of(rest)
+    } else if is_verb(verb, "work") {
+        work_of(rest)
     } else {
         Err(Misread::BadForm)
     }

@@ -6,7 +6,6 @@ use Rattle.slonik_script.specs.declared.script.Command.{Command as Order}
 use Rattle.slonik_script.specs.declared.script.Command.TheVariants as order
 use Rattle.slonik_script.specs.declared.script.Statement.{Statement}
 use Rattle.slonik_script.specs.declared.script.Statement.TheVariants.{Single, Try as Tries}
-use Rattle.slon_model.specs.declared.command.Delivery.{Delivery}
 use Rattle.slon_model.specs.declared.reading.Reading.{Reading}
 use Rattle.slon_model.specs.declared.reading.Reading.TheVariants.{Read, Wrong}
 use Rattle.slon_model.specs.declared.reply.Refusal.{Refusal}
@@ -14,6 +13,7 @@ use Rattle.slon_model.specs.declared.reply.Refusal.TheVariants as refused
 use Rattle.slon_model.specs.declared.reply.Reply.TheVariants.{Refused}
 use Rattle.slon_model.specs.Names.{Named, find_named, put_named}
 use Rattle.slon_model.specs.Tasks.{Act, ToRead, ToStep, ToForget, ToStart, ToStop, ToCut, ToJoin, ToSync, ToListen}
+use Rattle.slon_model.specs.Tasks.{ToWork}
 use Rattle.slon_model.specs.Place.{Place, fallen}
 use Rattle.slon_model.specs.Moves.{is_last_stamp}
 use Rattle.slon_model.specs.Deciding.{Fate, AllStand, Breaks, DoubtsAt}
@@ -23,8 +23,9 @@ use Rattle.slon_model.specs.Sessions.{felled, felled_at, beyond_at, first_beyond
 use Rattle.slon_model.specs.Sessions.{excess_by, excess_of}
 use Rattle.slon_model.specs.Scripts.{Stepping, done_by, single, order_step, statement_step, step_todo, step_of, read_as}
 use Rattle.slon_model.specs.Scripts.{ordered, kill_of}
-use Rattle.slon_model.specs.Turns.{at_node, switched_at, turned, turned_by, turn_by, sync_turn}
-use Rattle.slon_model.specs.Polls.{Poll, polled, left_by, stated_by, listen_by}
+use Rattle.slon_model.specs.Turns.{at_node, switched_at, turned, turned_by, taken_turn, sync_turn}
+use Rattle.slon_model.specs.Polls.{polled}
+use Rattle.slon_model.specs.Working.{worked, applied_by, taken_from}
 use Rattle.slon_model.specs.World.{Happening, Acting, outcome, broken_at, wavering, wavering_at}
 use Rattle.slon_model.specs.World.{world_by}
 use Rattle.slon_laws.specs.Turning.{Commits, Falls, Doubts, Carries, HoldsAt, AllHold, IsWithin}
@@ -88,14 +89,10 @@ turned_within w m stated = by (excess_of stated.commits w.places) refl
     by None is = stamps_within (first_beyond stated.commits w.places) (first_late stated.commits) is
     by (Some e) is = refl
 
-turn_within : (w : World) (m : Memory) (due : Result Stated Refusal) → AreWithin (turn_by w m due).commits w.places
-turn_within w m (Err refusal) = refl
-turn_within w m (Ok stated) = turned_within w m stated
-
-listen_within : (delivery : Delivery) (w : World) (due : Result Poll Refusal) →
-    AreWithin (listen_by delivery w due).commits w.places
-listen_within delivery w (Err refusal) = refl
-listen_within delivery w (Ok b) = turned_within w (left_by delivery b w.memory) (stated_by delivery b)
+taken_within : {X : Type 0} (w : World) (left : X → Memory) (stated : X → Stated) (due : Result X Refusal) →
+    AreWithin (taken_turn w left stated due).commits w.places
+taken_within w left stated (Err refusal) = refl
+taken_within w left stated (Ok x) = turned_within w (left x) (stated x)
 
 outcome_within : (act : Act) (w : World) → AreWithin (outcome act w).commits w.places
 outcome_within (ToRead name reading) w = by (is_some (find_named name w.memory.scripts))
@@ -110,8 +107,9 @@ outcome_within (ToStart node) w = switched_within node _ (at_node node w) w
 outcome_within (ToStop node) w = switched_within node _ (at_node node w) w
 outcome_within (ToCut node other) w = refl
 outcome_within (ToJoin node other) w = refl
-outcome_within (ToSync node) w = turn_within w w.memory (sync_turn node w)
-outcome_within (ToListen node server delivery) w = listen_within delivery w (polled node server w)
+outcome_within (ToSync node) w = taken_within w _ _ (sync_turn node w)
+outcome_within (ToListen node server delivery) w = taken_within w _ _ (polled node server w)
+outcome_within (ToWork node origin) w = taken_within w (λ x. taken_from x w.memory) applied_by (worked node origin w)
 
 -- a commit within the limit, and the others
 within_parts : (c : Commit) (p : Place) (more : Option (List ℕ)) → beyond_at c (Some p) more ≡ None →

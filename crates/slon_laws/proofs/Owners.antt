@@ -30,7 +30,7 @@ place_is P e each = by e.1.node refl
 
 line_is : (P : Seat → Type 0) (run : Running) (e : List ℕ × Place) → OfNode P e → OnSome P (seat_on_line run e)
 line_is P run e each =
-    elim (is_on_line run e.0) as (λ b. OnSome P (cond b (seat_at_place e.0 e.1 e.1.node) None)) [
+    elim (is_on_line run.lines e.0) as (λ b. OnSome P (cond b (seat_at_place e.0 e.1 e.1.node) None)) [
       | true ↦ place_is P e each
       | false ↦ tt
     ]

@@ -13,6 +13,7 @@ use Rattle.slon_model.specs.Printed.{reply_line}
 use Rattle.slon_model.specs.Spoken.{IsSpoken}
 use Rattle.slon_model.specs.World.{World, start, commands_of, replies_of, lines_of}
 use Rattle.slon_laws.proofs.Worlds.{sound_world, spelled_world}
+use Rattle.stream_laws.proofs.Steps.{regular_world}
 use Rattle.session_text.specs.Reading.{session_limit}
 use Rattle.session_text.specs.Handing.{Comes}
 use Rattle.session_text.specs.Replies.{NumbersFit}
@@ -27,6 +28,7 @@ use Rattle.cluster_engine.specs.Agreed.{Clustered, Agrees, Follows}
 use Rattle.cluster_engine.specs.Calls.{arms_later, happened, AllCertain}
 use Rattle.cluster_engine.specs.Failing.{IsWithin}
 use Rattle.cluster_engine.specs.Telling.{AreTold}
+use Rattle.cluster_engine.proofs.Living.{live_world}
 use Rattle.cluster_engine.proofs.Stepping.{sure_step}
 use Rattle.slon_main.specs.declared.run.Stop.{Stop}
 use Rattle.slon_main.specs.declared.run.Stop.TheVariants.{BadLine, Read, Write, NoMemory, NoStore, TooLong}
@@ -176,6 +178,8 @@ follows b at running = record {
   agrees = running.agrees;
   sound = sound_world b.limit running.history running.world running.leads;
   spelled = spelled_world b.limit running.history running.world running.spoken running.leads;
+  regular = regular_world b.limit running.history running.world running.leads;
+  live = live_world b.limit running.history running.world running.leads;
 }
 
 -- the last command and those before it

@@ -10,6 +10,8 @@ use Rattle.slon_model.specs.Views.{View, Views, views_emitted}
 -- What a node does in one transaction of its store.
 pub data Doing : Type 0 where
   Emits : (event : Event) → Doing
+  -- an event of another node
+  Applies : (event : Event) → Doing
   -- a transaction of an application, with at least one action
   Commits : (xid : ℕ) → Doing
   -- confirmations: an origin, a node, and how far that node is
@@ -69,6 +71,12 @@ learned own (Emits e) k =
       progress = with_entry e.origin e.number k.progress;
       news = noticed e k.news;
     }
+learned own (Applies e) k =
+    record k {
+      config = change e k.config;
+      progress = with_entry e.origin e.number k.progress;
+      news = noticed e k.news;
+    }
 learned own (Commits xid) k = k
 learned own (Hears confirms) k = record k { told = heard confirms k.told }
 
@@ -98,13 +106,18 @@ abbrev pub emitted_by : Doing → Option Event
 emitted_by (Emits e) = Some e
 emitted_by others = None
 
+abbrev pub met_by : Doing → Option Event
+met_by (Emits e) = Some e
+met_by (Applies e) = Some e
+met_by others = None
+
 -- the events of the node, the newest first
 abbrev pub stream : Node → List Event
 stream n = filter_map (λ d. emitted_by d.doing) n.deeds
 
--- the events that it emitted or was given
+-- the events that it emitted, applied or was given
 abbrev pub met : Node → List Event
-met n = stream n ++ n.events
+met n = filter_map (λ d. met_by d.doing) n.deeds ++ n.events
 
 -- the events that it holds: those that it has not deleted
 abbrev pub held : Node → List Event

@@ -2,7 +2,11 @@
 use Rattle.std.specs.Prelude.{ℕ, zero, suc, ◌==◌, ◌&&◌, if◌then◌else◌, Bool, true, false, List, [], ◌∷◌}
 use Rattle.std.specs.Prelude.{Option, Some, None}
 use Rattle.node_rows.specs.declared.body.Body.{Body}
-use Rattle.node_rows.specs.declared.body.Body.TheVariants.{Sync}
+use Rattle.node_rows.specs.declared.body.Body.TheVariants.{Sync, StoreNode, DropNode, StorePath, DropPath, StoreSet}
+use Rattle.node_rows.specs.declared.body.Body.TheVariants.{DropSet, SetAddTable, SubscribeSet, EnableSubscription}
+use Rattle.node_rows.specs.declared.body.Body.TheVariants.{UnsubscribeSet, MoveSet, AcceptSet, FailoverSet}
+use Rattle.slon_model.specs.declared.reply.EventKind.{EventKind}
+use Rattle.slon_model.specs.declared.reply.EventKind.TheVariants as kind
 use Rattle.slon_model.specs.Snapshots.{Snapshot}
 
 -- a receiver of a set with its provider, and whether it forwards
@@ -19,6 +23,23 @@ pub record Event : Type 0 where
   pub number : ℕ
   pub taken : Snapshot
   pub body : Body
+
+-- the kind of an event, which an answer tells
+abbrev pub kind_of : Body → EventKind
+kind_of Sync = kind.Sync
+kind_of (StoreNode node comment) = kind.StoreNode
+kind_of (DropNode node) = kind.DropNode
+kind_of (StorePath server client conninfo) = kind.StorePath
+kind_of (DropPath server client) = kind.DropPath
+kind_of (StoreSet set origin comment) = kind.StoreSet
+kind_of (DropSet set) = kind.DropSet
+kind_of (SetAddTable set table name comment) = kind.SetAddTable
+kind_of (SubscribeSet set provider receiver forward) = kind.SubscribeSet
+kind_of (EnableSubscription set provider receiver forward era) = kind.EnableSubscription
+kind_of (UnsubscribeSet set receiver) = kind.UnsubscribeSet
+kind_of (MoveSet set old new era feeds) = kind.MoveSet
+kind_of (AcceptSet set old new era moved) = kind.AcceptSet
+kind_of (FailoverSet failed limit sets) = kind.FailoverSet
 
 abbrev pub is_sync : Body → Bool
 is_sync Sync = true

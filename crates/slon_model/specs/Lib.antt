@@ -24,4 +24,5 @@ pub mod Subscribing
 pub mod Tasks
 pub mod Turns
 pub mod Views
+pub mod Working
 pub mod World

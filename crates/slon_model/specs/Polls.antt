@@ -8,15 +8,14 @@ use Rattle.slon_model.specs.declared.command.Delivery.TheVariants.{Once, Lost, A
 use Rattle.slon_model.specs.declared.reply.Answer.TheVariants.{Heard, LostOnTheWay}
 use Rattle.slon_model.specs.declared.reply.Refusal.{Refusal}
 use Rattle.slon_model.specs.declared.reply.Refusal.TheVariants as refused
-use Rattle.slon_model.specs.declared.reply.Reply.TheVariants.{Refused}
 use Rattle.slon_model.specs.Names.{find_named, without}
 use Rattle.slon_model.specs.Maps.{Map, Map2, entry_at, with_entry, row_at, number_at}
 use Rattle.slon_model.specs.Events.{Event}
 use Rattle.slon_model.specs.Config.{heard_in, is_known}
 use Rattle.slon_model.specs.Deeds.{Hears, held, progress, told_progress}
 use Rattle.slon_model.specs.Place.{Place, deed}
-use Rattle.slon_model.specs.Sessions.{World, Memory, Commit, Stated, Outcome, Seat, no_change, bind, when, checked}
-use Rattle.slon_model.specs.Turns.{at_node, seat_at, on_turn, is_cut, turned}
+use Rattle.slon_model.specs.Sessions.{World, Memory, Commit, Stated, Outcome, Seat, bind, when, checked}
+use Rattle.slon_model.specs.Turns.{at_node, seat_at, on_turn, is_cut, taken_turn}
 
 -- ---- the events that wait
 
@@ -157,8 +156,7 @@ abbrev pub stated_of : Delivery → Result Poll Refusal → Result Stated Refusa
 stated_of delivery due = bind due (λ b. Ok (stated_by delivery b))
 
 abbrev pub listen_by : Delivery → World → Result Poll Refusal → Outcome
-listen_by delivery w (Err refusal) = no_change w (Refused refusal)
-listen_by delivery w (Ok b) = turned w (left_by delivery b w.memory) (stated_by delivery b)
+listen_by delivery w due = taken_turn w (λ b. left_by delivery b w.memory) (stated_by delivery) due
 
 -- `listen N P`
 abbrev pub listen_outcome : ℕ → ℕ → Delivery → World → Outcome

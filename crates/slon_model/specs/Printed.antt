@@ -8,7 +8,9 @@ use Rattle.slonik_script.specs.declared.refusal.ScriptRefusal.TheVariants.{NotIn
 use Rattle.slon_model.specs.declared.reply.Answer.{Answer}
 use Rattle.slon_model.specs.declared.reply.Answer.TheVariants.{Done, Opened, Acted, Unchanged, Committed, Listed, Kept}
 use Rattle.slon_model.specs.declared.reply.Answer.TheVariants.{Lost, Status, Statements, Emitted, Echoed, Ended, Heard}
-use Rattle.slon_model.specs.declared.reply.Answer.TheVariants.{LostOnTheWay}
+use Rattle.slon_model.specs.declared.reply.Answer.TheVariants.{LostOnTheWay, Applied}
+use Rattle.slon_model.specs.declared.reply.EventKind.{EventKind}
+use Rattle.slon_model.specs.declared.reply.EventKind.TheVariants as kind
 use Rattle.slon_model.specs.declared.reply.Refusal.{Refusal}
 use Rattle.slon_model.specs.declared.reply.Refusal.TheVariants.{Fault, Locked, Full, BadRow, NotEmpty, Down, NoDatabase}
 use Rattle.slon_model.specs.declared.reply.Refusal.TheVariants.{IdUsed, IsUp, TooBig, NotInitialised, OtherNode}
@@ -47,6 +49,23 @@ kept_text [] = []
 kept_text (k ∷ ks) =
     codes " set " ++ decimal k.0 ++ codes " era " ++ decimal k.1 ++ codes " at " ++ k.2 ++ kept_text ks
 
+-- the word of a kind of events
+abbrev pub kind_text : EventKind → List ℕ
+kind_text kind.Sync = codes "SYNC"
+kind_text kind.StoreNode = codes "STORE_NODE"
+kind_text kind.DropNode = codes "DROP_NODE"
+kind_text kind.StorePath = codes "STORE_PATH"
+kind_text kind.DropPath = codes "DROP_PATH"
+kind_text kind.StoreSet = codes "STORE_SET"
+kind_text kind.DropSet = codes "DROP_SET"
+kind_text kind.SetAddTable = codes "SET_ADD_TABLE"
+kind_text kind.SubscribeSet = codes "SUBSCRIBE_SET"
+kind_text kind.EnableSubscription = codes "ENABLE_SUBSCRIPTION"
+kind_text kind.UnsubscribeSet = codes "UNSUBSCRIBE_SET"
+kind_text kind.MoveSet = codes "MOVE_SET"
+kind_text kind.AcceptSet = codes "ACCEPT_SET"
+kind_text kind.FailoverSet = codes "FAILOVER_SET"
+
 abbrev pub answer_text : Answer → List ℕ
 answer_text Done = codes "ok"
 answer_text (Opened xid) = codes "ok xid " ++ decimal xid
@@ -65,6 +84,8 @@ answer_text (Ended status) = codes "ok ended " ++ decimal status
 answer_text (Heard events confirms) = codes "ok events " ++ decimal events ++ codes " confirms " ++ decimal confirms
 answer_text (LostOnTheWay events confirms) =
     codes "ok lost events " ++ decimal events ++ codes " confirms " ++ decimal confirms
+answer_text (Applied kind number rows) =
+    codes "ok " ++ kind_text kind ++ codes " " ++ decimal number ++ codes " rows " ++ decimal rows
 
 abbrev pub script_text : ScriptRefusal → List ℕ
 script_text (BadToken line) = codes "no 80 badtoken " ++ decimal line

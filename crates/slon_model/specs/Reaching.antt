@@ -9,7 +9,7 @@ use Rattle.slon_model.specs.declared.reply.Answer.TheVariants.{Emitted}
 use Rattle.slon_model.specs.declared.reply.Refusal.{Refusal}
 use Rattle.slon_model.specs.declared.reply.Refusal.TheVariants as refused
 use Rattle.slon_model.specs.Names.{Named, find_named}
-use Rattle.slon_model.specs.Maps.{entry_at}
+use Rattle.slon_model.specs.Maps.{Map, entry_at}
 use Rattle.node_rows.specs.declared.rows.Subscription.{Subscription}
 use Rattle.slon_model.specs.Config.{Config, set_row, is_origin, era_of, receivers}
 use Rattle.slon_model.specs.Deeds.{Node, Knowledge, knowledge}
@@ -102,8 +102,8 @@ origin_of run origin set w = bind (reach run origin w) (λ s. checked (origin_ch
 -- ---- the owner of a set
 
 -- some NODE line names this database
-abbrev pub is_on_line : Running → List ℕ → Bool
-is_on_line run name = list_any (λ line. bytes_eq name (database_in line.1)) run.lines
+abbrev pub is_on_line : Map (List ℕ) → List ℕ → Bool
+is_on_line lines name = list_any (λ line. bytes_eq name (database_in line.1)) lines
 
 -- a database that is up and a node
 abbrev pub seat_at_place : List ℕ → Place → Option Node → Option Seat
@@ -112,7 +112,7 @@ seat_at_place name p (Some n) = if is_running p.standing then Some (seat name p 
 
 -- of the NODE lines
 abbrev pub seat_on_line : Running → List ℕ × Place → Option Seat
-seat_on_line run e = if is_on_line run e.0 then seat_at_place e.0 e.1 e.1.node else None
+seat_on_line run e = if is_on_line run.lines e.0 then seat_at_place e.0 e.1 e.1.node else None
 
 -- its node says that it is the origin of the set, in this era
 abbrev pub claims : ℕ → Seat → Bool

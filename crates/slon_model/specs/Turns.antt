@@ -112,10 +112,14 @@ turned_by w m stated (Some e) =
 abbrev pub turned : World → Memory → Stated → Outcome
 turned w m stated = turned_by w m stated (excess_of stated.commits w.places)
 
--- what a turn comes to that leaves this in memory: it is refused, or done
+-- what a turn comes to: it is refused, or what it found says what it leaves in memory and what is stated
+abbrev pub taken_turn : {X : Type 0} → World → (X → Memory) → (X → Stated) → Result X Refusal → Outcome
+taken_turn w left stated (Err refusal) = no_change w (Refused refusal)
+taken_turn w left stated (Ok x) = turned w (left x) (stated x)
+
+-- a turn that leaves this in memory
 abbrev pub turn_by : World → Memory → Result Stated Refusal → Outcome
-turn_by w m (Err refusal) = no_change w (Refused refusal)
-turn_by w m (Ok stated) = turned w m stated
+turn_by w m due = taken_turn w (λ stated. m) (λ stated. stated) due
 
 -- ---- SYNC
 

@@ -20,7 +20,8 @@ use Rattle.slon_model.specs.declared.reply.Reply.TheVariants.{Accepted, Refused,
 use Rattle.std.specs.Str.{bytes_eq}
 use Rattle.slon_model.specs.Names.{find_named}
 use Rattle.slon_model.specs.Tasks.{Task, ToFound, Act, ToRead, ToStep, ToForget, ToStart, ToStop, ToCut}
-use Rattle.slon_model.specs.Tasks.{ToJoin, ToSync, ToListen, Subject, OnNew, OnOne, OnAll, subject_of, Words, words_of}
+use Rattle.slon_model.specs.Tasks.{ToJoin, ToSync, ToListen, ToWork, Subject, OnNew, OnOne, OnAll, subject_of}
+use Rattle.slon_model.specs.Tasks.{Words, words_of}
 use Rattle.slon_model.specs.Place.{Place, is_running, bare_place, fallen}
 use Rattle.slon_model.specs.Deciding.{Choice, AsDue, Among, Fate, AllStand, Breaks, DoubtsAt, decide, result_of, sure}
 use Rattle.slon_model.specs.Deciding.{place_by, Takes}
@@ -29,6 +30,7 @@ use Rattle.slon_model.specs.Sessions.{Memory, Running, Commit, in_doubt, stand, 
 use Rattle.slon_model.specs.Scripts.{slonik_outcome, step_outcome, kill_outcome, without_script}
 use Rattle.slon_model.specs.Turns.{at_node, start_outcome, stop_outcome, cut_outcome, join_outcome, sync_outcome}
 use Rattle.slon_model.specs.Polls.{listen_outcome}
+use Rattle.slon_model.specs.Working.{work_outcome}
 use Rattle.slon_model.specs.Printed.{reply_line}
 
 -- ---- replies
@@ -91,6 +93,7 @@ outcome (ToCut node other) = cut_outcome node other
 outcome (ToJoin node other) = join_outcome node other
 outcome (ToSync node) = sync_outcome node
 outcome (ToListen node server delivery) = listen_outcome node server delivery
+outcome (ToWork node origin) = work_outcome node origin
 
 abbrev pub due_on : Subject → World → Reply
 due_on (OnNew name) w = database_due name w
@@ -142,6 +145,7 @@ abbrev pub may_break : Act → List ℕ → World → Bool
 may_break (ToStep script) name w = has_todo (find_named script w.memory.scripts)
 may_break (ToSync node) name w = is_of name (at_node node w)
 may_break (ToListen node server delivery) name w = is_of name (at_node node w) || is_of name (at_node server w)
+may_break (ToWork node origin) name w = is_of name (at_node node w)
 may_break others name w = false
 
 -- the script ends

@@ -138,6 +138,11 @@ pub enum Command {
         server: u32,
         delivery: Delivery,
     },
+    /// Has a node apply the next event of another one.
+    Work {
+        node: u32,
+        origin: u32,
+    },
 }
 
 impl Command {
@@ -151,7 +156,8 @@ impl Command {
             | Command::Cut { .. }
             | Command::Join { .. }
             | Command::Sync { .. }
-            | Command::Listen { .. } => None,
+            | Command::Listen { .. }
+            | Command::Work { .. } => None,
             Command::Database { name } => Some(name),
             Command::Slonik { script, .. } | Command::Step { script } | Command::Kill { script } =>
                 Some(script),

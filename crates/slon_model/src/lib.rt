@@ -16,5 +16,5 @@ pub use fault::DbFault;
 pub use forms::is_part;
 pub use numbering::Numbering;
 pub use reading::Reading;
-pub use reply::{Answer, Answered, Refusal, Reply, TableRows};
+pub use reply::{Answer, Answered, EventKind, Refusal, Reply, TableRows};
 pub use standing::{KeptList, ProgressList};

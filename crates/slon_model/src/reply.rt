@@ -62,6 +62,25 @@ impl TableRows {
     }
 }
 
+/// The kind of an event.
+#[derive(Clone, Copy, Debug, Drop, PartialEq, Eq)]
+pub enum EventKind {
+    Sync,
+    StoreNode,
+    DropNode,
+    StorePath,
+    DropPath,
+    StoreSet,
+    DropSet,
+    SetAddTable,
+    SubscribeSet,
+    EnableSubscription,
+    UnsubscribeSet,
+    MoveSet,
+    AcceptSet,
+    FailoverSet,
+}
+
 /// What an accepted command answers.
 #[derive(Drop)]
 pub enum Answer {
@@ -123,6 +142,12 @@ pub enum Answer {
     LostOnTheWay {
         events: u64,
         confirms: u64,
+    },
+    /// The kind and the number of the event that was applied, and how many rows came with it.
+    Applied {
+        kind: EventKind,
+        number: u64,
+        rows: u64,
     },
 }
 

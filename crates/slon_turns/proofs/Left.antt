@@ -1,7 +1,6 @@
 -- What waits at the databases of a session behind a poll.
-use Rattle.std.proofs.Common.{◌≡◌, ◌∙◌, ℕ, Bool, true, false, cond, List, [], ◌∷◌, Option, Some, None, Result, Ok, Err}
-use Rattle.std.proofs.Common.{refl}
-use Rattle.std.proofs.Common.{sym, ap, subst}
+use Rattle.std.proofs.Common.{◌≡◌, ◌∙◌, ℕ, false, List, [], ◌∷◌, Option, Some, None, Result, Ok, Err, refl, sym, ap}
+use Rattle.std.proofs.Common.{subst}
 use Rattle.std.specs.FinMap.{get, insert, remove}
 use Rattle.std.specs.Str.{bytes_eq}
 use Rattle.slon_model.specs.declared.command.Delivery.{Delivery}
@@ -14,12 +13,11 @@ use Rattle.slon_model.specs.Place.{Place}
 use Rattle.slon_model.specs.Sessions.{Memory, Seat, bind, checked, unless_refused, first_refusal, when}
 use Rattle.slon_model.specs.Polls.{Poll, brings_nothing, served, poll_of, poll_at, queue_at, left_by, delivered}
 use Rattle.slon_model.specs.Polls.{all_queued}
-use Rattle.slon_model.proofs.Names.{bytes_same}
 use Rattle.event_store.specs.declared.queue.Queue.{Queue}
 use Rattle.slon_turns.specs.Polling.{Waits, left_when, Spot, ListensBetween, AtOwn, AtServer}
 use Rattle.slon_turns.specs.Turning.{Queues, WaitsIn}
 use Rattle.slon_turns.proofs.Listens.{left_refused}
-use Rattle.slon_turns.proofs.Waiting.{waits_at, queue_beside, put_back}
+use Rattle.slon_turns.proofs.Waiting.{queue_beside, waits_beside}
 use Rattle.node_store.specs.Joining.{Pair}
 
 -- ---- whose poll it is
@@ -76,17 +74,14 @@ pub waits_left : (delivery : Delivery) (name : List ℕ) (due : Result Poll Refu
     (queues : Queues) (queue : Queue) → OwnPoll name due × Waits name (left_when delivery due reply m) queue →
     (other : List ℕ) → WaitsIn other m (get queues other) →
     WaitsIn other (left_when delivery due reply m) (get (insert (remove queues name) name queue) other)
-waits_left delivery name due reply m queues queue (own, here) other waits =
-    subst (WaitsIn other (left_when delivery due reply m)) (sym (put_back other name queue queues))
-    (by (bytes_eq other name) refl)
-  where
-    by : (b : Bool) → bytes_eq other name ≡ b →
-        WaitsIn other (left_when delivery due reply m) (cond b (Some queue) (get queues other))
-    by true is =
-        subst (λ n. Waits n (left_when delivery due reply m) queue) (sym (bytes_same other name is)) here
-    by false is =
-        waits_at other m (left_when delivery due reply m) (get queues other)
-        (same_beside delivery other name due reply m own is) waits
+waits_left delivery name due reply m queues queue (own, here) =
+    waits_beside m queues (record {
+      name = name;
+      memory = left_when delivery due reply m;
+      queue = queue;
+      here = here;
+      beside = λ other apart. same_beside delivery other name due reply m own apart;
+    })
 
 -- what waits at the node by what the poll came to
 pub waits_between : {s : Spot} {server : List ℕ × Place} {due : Result Poll Refusal} {reply : Reply} {new : Pair}

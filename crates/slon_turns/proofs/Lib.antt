@@ -1,10 +1,13 @@
+pub mod Acted
 pub mod Answered
+pub mod Applying
 pub mod Between
 pub mod Brought
 pub mod Due
 pub mod Left
 pub mod Lifted
 pub mod Listens
+pub mod Taking
 pub mod Turned
 pub mod Twice
 pub mod Waiting

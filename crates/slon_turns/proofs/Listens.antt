@@ -6,17 +6,16 @@ use Rattle.std.proofs.lemmas.List.{length-map}
 use Rattle.std.specs.Prelude.{◌&&◌, is_err, IfOk, IfErr}
 use Rattle.slon_model.specs.declared.command.Delivery.{Delivery}
 use Rattle.slon_model.specs.declared.command.Delivery.TheVariants.{Once as IsOnce, Lost, Again}
-use Rattle.slon_base.specs.declared.fault.Halt.TheVariants.{Fault, TooBig}
+use Rattle.slon_base.specs.declared.fault.Halt.TheVariants.{Fault}
 use Rattle.slon_model.specs.declared.fault.DbFault.{DbFault}
 use Rattle.slon_model.specs.declared.fault.DbFault.TheVariants.{Halt}
-use Rattle.slon_model.specs.declared.reply.Answer.TheVariants.{Done, Heard, LostOnTheWay}
+use Rattle.slon_model.specs.declared.reply.Answer.TheVariants.{Heard, LostOnTheWay}
 use Rattle.slon_model.specs.declared.reply.Refusal.{Refusal}
 use Rattle.slon_model.specs.declared.reply.Refusal.TheVariants as refused
 use Rattle.slon_model.specs.declared.reply.Reply.{Reply}
 use Rattle.slon_model.specs.declared.reply.Reply.TheVariants as replied
 use Rattle.slon_model.specs.Deeds.{Node}
-use Rattle.slon_model.specs.Place.{Place}
-use Rattle.slon_model.specs.Sessions.{Memory, Seat, Commit, seat, when, checked}
+use Rattle.slon_model.specs.Sessions.{Memory, Seat, seat, when, checked}
 use Rattle.slon_model.specs.Polls.{Poll, is_empty, all_queued, queue_at, poll_of, brings_nothing, stated_of}
 use Rattle.slon_model.specs.Polls.{is_new}
 use Rattle.slon_model.specs.Polls as polls
@@ -31,7 +30,7 @@ use Rattle.app_store.specs.Base.{Base}
 use Rattle.app_store.specs.Fits.{Fits, Ready}
 use Rattle.app_store.specs.Parts.{FellTo, Fell}
 use Rattle.app_store.specs.Serves.{answered, is_memory, trouble}
-use Rattle.node_store.specs.Acting.{ActsAs, Stood, Wavered, Burst, Broke, joined}
+use Rattle.node_store.specs.Acting.{joined}
 use Rattle.remote_listener.specs.declared.reading.Handed.{Handed}
 use Rattle.remote_listener.specs.declared.listener.Polled.{Polled}
 use Rattle.remote_listener.specs.Delivering.{Delivers, QueuesUnless, StaysQueued}
@@ -43,6 +42,7 @@ use Rattle.slonik_exec.proofs.Works.{commits_due}
 use Rattle.slon_turns.specs.Polling.{Waits, left_when, GoesAt, Once, Never, Spot, ListensAt, SpotFits, IsPolled}
 use Rattle.slon_turns.specs.Polling.{IsHanded}
 use Rattle.slon_turns.specs.Polling.{DeliversAt, brought, heard_as}
+use Rattle.slon_turns.proofs.Acted.{acts_as}
 use Rattle.slon_turns.proofs.Twice.{twice_waits}
 use Rattle.slon_turns.proofs.Brought.{news_named}
 use Rattle.slon_turns.proofs.Waiting.{queue_here}
@@ -153,25 +153,6 @@ poll_same s n l b polled = λ i. record {
   confirms = polled.confirms i;
 }
 
--- a commit of confirmations, with what is answered to the delivery
-acts_as : {c : Commit} {p : Place} {new : Base} (events confirms : ℕ) (result : Result Bool DbFault) →
-    ActsAs c Done p (answered joined result) new →
-    ActsAs c (Heard events confirms) p (answered (heard_as events confirms) result) new
-acts_as events confirms (Ok false) (Stood is last fits) = Stood refl last fits
-acts_as events confirms (Ok false) (Wavered stands is last fits) = absurd cc
-acts_as events confirms (Ok false) (Burst space is last fits) = absurd cc
-acts_as events confirms (Ok false) (Broke fault is last fell) = absurd cc
-acts_as events confirms (Ok true) (Stood is last fits) = absurd cc
-acts_as events confirms (Ok true) (Wavered stands is last fits) = Wavered stands refl last fits
-acts_as events confirms (Ok true) (Burst space is last fits) = absurd cc
-acts_as events confirms (Ok true) (Broke fault is last fell) = absurd cc
-acts_as events confirms (Err e) (Stood is last fits) = absurd cc
-acts_as events confirms (Err e) (Wavered stands is last fits) = absurd cc
-acts_as events confirms (Err e) (Burst space is last fits) =
-    let same : e ≡ Halt (TooBig space) = cc in Burst space (ap (λ f. Err f) same) last fits
-acts_as events confirms (Err e) (Broke fault is last fell) =
-    let same : e ≡ fault = cc in Broke fault (ap (λ f. Err f) same) last fell
-
 -- A delivery of this many events and confirmations, with the reply to it.
 record Told (events confirms : ℕ) (name : List ℕ) (result : Result Bool DbFault) (reply : Reply) : Type 0 where
   is : reply ≡ reply_of (words_at name) (answered (heard_as events confirms) result)
@@ -191,7 +172,7 @@ goes_by {events} {confirms} s n [] (Ok doubt) told (ready, is) (sure, same) =
 goes_by s n [] (Err fault) told (ready, is) short = absurd (true≢false (sym short ∙ told.full))
 goes_by {events} {confirms} s n (x ∷ xs) result told (ready, is) hears =
     Once (commits_due told.is (record { is = refl; named = refl })
-    (acts_as events confirms result (hears s.place n ready is told.full s.name)))
+    (acts_as (record { sure = refl; doubt = refl }) result (hears s.place n ready is told.full s.name)))
 
 -- a fault of a database is told by no acceptance
 left_fault : (delivery : Delivery) (b : Poll) (words : Words) (fault : DbFault) (m : Memory) →

@@ -1,5 +1,5 @@
 -- A turn by which a node polls another one is one that the rules allow.
-use Rattle.std.proofs.Common.{◌≡◌, ◌∙◌, ◌<◌, ℕ, ◌==◌, ◌||◌, Bool, true, false, cond, List, [], ◌∷◌, map, Option, Some}
+use Rattle.std.proofs.Common.{◌≡◌, ◌∙◌, ◌<◌, ℕ, ◌==◌, ◌||◌, Bool, true, false, cond, List, [], ◌∷◌, Option, Some}
 use Rattle.std.proofs.Common.{None}
 use Rattle.std.proofs.Common.{Err, refl, sym, ap, subst, get_or, length}
 use Rattle.std.proofs.lemmas.Bool.{false≢true}
@@ -18,14 +18,13 @@ use Rattle.slon_model.specs.declared.reply.Reply.{Reply}
 use Rattle.slon_model.specs.declared.reply.Reply.TheVariants as replied
 use Rattle.slon_model.specs.Deeds.{Node, knowledge}
 use Rattle.slon_model.specs.Place.{Place, node_id}
-use Rattle.slon_model.specs.Sessions.{World, Memory, bind, seat}
+use Rattle.slon_model.specs.Sessions.{World, bind, seat}
 use Rattle.slon_model.specs.Turns.{is_id, at_node}
 use Rattle.slon_model.specs.Config.{heard_in}
 use Rattle.slon_model.specs.Polls.{is_empty, poll_at, polled, stated_of}
 use Rattle.slon_model.specs.World.{is_of}
 use Rattle.set_config.proofs.Entries.{eq_of, self_eq}
 use Rattle.event_store.specs.declared.queue.Queue.{Queue}
-use Rattle.event_store.specs.Seen.{seen_event}
 use Rattle.app_store.specs.Base.{base_of}
 use Rattle.slonik_exec.specs.declared.databases.Named.{Named as NamedDatabase}
 use Rattle.slonik_exec.specs.declared.membership.Spots.{Spots}
@@ -39,12 +38,13 @@ use Rattle.slonik_exec.proofs.Seated.{IsFoundAt, turning_at, alone_at, found_ins
 use Rattle.slonik_exec.proofs.Stores.{ChangedAt, Whole, whole_at, ready_here}
 use Rattle.slon_turns.specs.declared.polling.Listen.{Listen}
 use Rattle.slon_turns.specs.Pairing.{AreMeeting, PolledAt}
-use Rattle.slon_turns.specs.Polling.{Waits, left_when, Meeting, due_in}
+use Rattle.slon_turns.specs.Polling.{left_when, Meeting, due_in}
 use Rattle.slon_turns.specs.Turning.{Queues, WaitsIn, IsTaken, Kept, Polls}
 use Rattle.slon_turns.proofs.Due.{unlisted}
 use Rattle.slon_turns.proofs.Left.{own_poll, waits_left, waits_between}
 use Rattle.slon_turns.proofs.Lifted.{runs_between, told_of_two, comes_between}
 use Rattle.slon_turns.proofs.Listens.{left_refused}
+use Rattle.slon_turns.proofs.Waiting.{taken_waits}
 
 -- ---- refusals
 
@@ -227,12 +227,6 @@ runs_polled {kept = kept} {old = old} {reply = reply} p f =
     subst (Runs (bases_of kept old.0) reply) (sym all.is)
     (runs_between (bases_of kept old.0) (couple_of kept p.own_old p.server_old) reply
     (pair_of kept p.own_new p.server_new) all.two p.runs)
-
--- what was taken out is what waits
-taken_waits : (name : List ℕ) (m : Memory) (found : Option Queue) (queue : Queue) → IsTaken found queue →
-    WaitsIn name m found → Waits name m queue
-taken_waits name m None queue none waits = λ origin. ap (map seen_event) (none origin) ∙ sym (waits origin)
-taken_waits name m (Some other) queue same waits = subst (Waits name m) (sym same) waits
 
 -- what a poll came to at both places is what the turn comes to
 pub polls_polled : {K : Type 0} {g : Ghosts K} {kept : K → KeptStore} {l : Listen} {started : List ℕ} {at : Spots}

@@ -1,5 +1,6 @@
 -- What waits at the databases of a session, where it changes at one of them.
-use Rattle.std.proofs.Common.{◌≡◌, ◌∙◌, ℕ, Bool, true, false, cond, List, [], Option, Some, None, refl, sym, ap}
+use Rattle.std.proofs.Common.{◌≡◌, ◌∙◌, ℕ, Bool, true, false, cond, List, [], map, Option, Some, None, refl, sym, ap}
+use Rattle.std.proofs.Common.{subst}
 use Rattle.std.specs.Prelude.{unwrap_or}
 use Rattle.std.specs.Str.{bytes_eq}
 use Rattle.std.specs.Cmp.Lexicographic.{nat_list_cmp_total}
@@ -10,10 +11,12 @@ use Rattle.slon_model.specs.Maps.{Map}
 use Rattle.slon_model.specs.Events.{Event}
 use Rattle.slon_model.specs.Sessions.{Memory, forgotten}
 use Rattle.slon_model.specs.Polls.{queue_at, line_of, with_queue}
-use Rattle.slon_model.proofs.Names.{bytes_itself, find-without}
+use Rattle.slon_model.proofs.Names.{bytes_itself, bytes_same, find-without}
 use Rattle.slon_laws.proofs.Keys.{key_test}
 use Rattle.event_store.specs.declared.queue.Queue.{Queue}
-use Rattle.slon_turns.specs.Turning.{WaitsIn}
+use Rattle.event_store.specs.Seen.{seen_event}
+use Rattle.slon_turns.specs.Polling.{Waits}
+use Rattle.slon_turns.specs.Turning.{Queues, WaitsIn, IsTaken}
 
 -- what waits follows from the queue of the database alone
 pub waits_at : (name : List ℕ) (m n : Memory) (queue : Option Queue) → queue_at name n ≡ queue_at name m →
@@ -72,3 +75,30 @@ put_back {V} other name x m =
     by : (b : Bool) → cond b (Some x) (cond b None (get m other)) ≡ cond b (Some x) (get m other)
     by true = refl
     by false = refl
+
+-- ---- at all databases
+
+-- what was taken out is what waits
+pub taken_waits : (name : List ℕ) (m : Memory) (found : Option Queue) (queue : Queue) → IsTaken found queue →
+    WaitsIn name m found → Waits name m queue
+taken_waits name m None queue none waits = λ origin. ap (map seen_event) (none origin) ∙ sym (waits origin)
+taken_waits name m (Some other) queue same waits = subst (Waits name m) (sym same) waits
+
+-- At the database of one name other events may wait than before, and at the others the same ones wait.
+pub record Swapped (m : Memory) : Type 0 where
+  pub name : List ℕ
+  pub memory : Memory
+  pub queue : Queue
+  pub here : Waits name memory queue
+  pub beside : (other : List ℕ) → bytes_eq other name ≡ false → queue_at other memory ≡ queue_at other m
+
+pub waits_beside : (m : Memory) (queues : Queues) (s : Swapped m) (other : List ℕ) →
+    WaitsIn other m (get queues other) →
+    WaitsIn other s.memory (get (insert (remove queues s.name) s.name s.queue) other)
+waits_beside m queues s other waits =
+    subst (WaitsIn other s.memory) (sym (put_back other s.name s.queue queues)) (by (bytes_eq other s.name) refl)
+  where
+    by : (b : Bool) → bytes_eq other s.name ≡ b →
+        WaitsIn other s.memory (cond b (Some s.queue) (get queues other))
+    by true is = subst (λ n. Waits n s.memory s.queue) (sym (bytes_same other s.name is)) s.here
+    by false is = waits_at other m s.memory (get queues other) (s.beside other is) waits

@@ -1,3 +1,5 @@
+pub mod Applying
 pub mod Pairing
 pub mod Polling
 pub mod Turning
+pub mod Working

@@ -1,8 +1,10 @@
-//! The turns of slons that concern two databases of a session: a node polls another one.
+//! The turns of slons in which events are on their way: a node polls another one, and applies what waits there.
 #![tactic(auto)]
 
 mod polling;
 mod turn;
+mod working;
 
 pub use polling::Listen;
 pub use turn::take_poll;
+pub use working::{Work, take_work};

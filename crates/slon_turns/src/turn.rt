@@ -38,7 +38,7 @@ fn poll_both<K: Keeper>(
 }
 
 /// The bytes of a name.
-fn key_of(alloc: Global, name: &Text) -> Result<Vec<u8>, AllocError>
+pub(crate) fn key_of(alloc: Global, name: &Text) -> Result<Vec<u8>, AllocError>
     ensures { IfOk result (λ key. key.items ≡ name.now) }
 {
     let mut key = Vec::new(alloc);
@@ -47,7 +47,7 @@ fn key_of(alloc: Global, name: &Text) -> Result<Vec<u8>, AllocError>
 }
 
 /// Takes out what waits under a name; where there is no queue nothing does.
-fn take_queue(alloc: Global, queues: &mut ByteMap<Queue>, name: &[u8]) -> Queue
+pub(crate) fn take_queue(alloc: Global, queues: &mut ByteMap<Queue>, name: &[u8]) -> Queue
     ensures map { queues.new ≡ remove queues.old name.now }
     ensures is { IsTaken (get queues.old name.now) result }
 {

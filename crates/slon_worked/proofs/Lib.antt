@@ -6,3 +6,4 @@ pub mod Refusals
 pub mod Running
 pub mod Streams
 pub mod Subscribing
+pub mod Works

@@ -113,7 +113,7 @@ pub record Candidate (w : World) (i : ℕ) : Type 0 where
 seat_cases : (run : Running) (name : List ℕ) (place : Place) (P : Option Seat → Type 0) → P None →
     ((n : Node) → place.node ≡ Some n → is_running place.standing ≡ true → P (Some (seat name place n))) →
     P (seat_on_line run (name, place))
-seat_cases run name place P none some = by (is_on_line run name) place.node refl
+seat_cases run name place P none some = by (is_on_line run.lines name) place.node refl
   where
     at : (n : Node) → place.node ≡ Some n → (u : Bool) → is_running place.standing ≡ u →
         P (cond u (Some (seat name place n)) None)

@@ -13,7 +13,7 @@ use Rattle.slon_model.specs.declared.reply.Refusal.TheVariants as refused
 use Rattle.slon_model.specs.Names.{Named, put_named}
 use Rattle.slon_model.specs.Maps.{Map}
 use Rattle.slon_model.specs.Place.{Place}
-use Rattle.slon_model.specs.Reaching.{seat_on_line, seat_at_place, better, best_of, found_owner, owner}
+use Rattle.slon_model.specs.Reaching.{is_on_line, seat_on_line, seat_at_place, better, best_of, found_owner, owner}
 use Rattle.slon_model.specs.Sessions.{World, Running, Seat}
 use Rattle.node_store.specs.declared.looking.Reign.{Reign}
 use Rattle.app_store.specs.Base.{Base}
@@ -23,7 +23,7 @@ use Rattle.slonik_exec.specs.declared.owning.Claim.{Claim}
 use Rattle.slonik_exec.specs.declared.owning.Owner.TheVariants.{At, Nobody, Stopped}
 use Rattle.slonik_exec.specs.Databases.{FitsAll, AreReady, TriesAll, Runs, bases_of, named_base}
 use Rattle.slonik_exec.specs.Heard.{AreSame, AreDistinct, BreaksDown}
-use Rattle.slonik_exec.specs.Owned.{has_line, reign_at, HasSeat, IsLedOn, is_before, better_claim, OwnsAt, Owns}
+use Rattle.slonik_exec.specs.Owned.{reign_at, HasSeat, IsLedOn, is_before, better_claim, OwnsAt, Owns}
 use Rattle.slonik_exec.specs.Reached.{IsSeatAt}
 use Rattle.slonik_exec.proofs.Hearing.{distinct_same, same_itself, same_put}
 use Rattle.slonik_exec.proofs.Leading.{Leads, NoLeader, OneLeader, next_leads}
@@ -109,7 +109,7 @@ still_here kept olds news (Some c) same here = seat_still kept olds news c.at sa
 answer_is : {found : Option Reign} (q : Query) (run : Running) (name : List ℕ) (p : Place) → run.lines ≡ q.lines →
     IsLedOn q.lines q.set_id name p found → found ≡ reign_at q.set_id (seat_on_line run (name, p))
 answer_is q run name p lines is =
-    is ∙ ap (λ ls. reign_at q.set_id (cond (has_line ls name) (seat_at_place name p p.node) None)) (sym lines)
+    is ∙ ap (λ ls. reign_at q.set_id (cond (is_on_line ls name) (seat_at_place name p p.node) None)) (sym lines)
 
 pub next_sought : {K : Type 0} {g : Ghosts K} {kept : K → Kept} {q : Query} {d y : NamedDatabase K g}
     {items : List (NamedDatabase K g)} {best : Option Claim} (found : Option Reign) (made : Option Claim)

@@ -1,8 +1,6 @@
 -- The owner of a set, by the code and by the rules.
 use Rattle.std.specs.Prelude.{◌≡◌, ◌==◌, ◌&&◌, ◌||◌, ℕ, Bool, true, nat_lt, if◌then◌else◌, is_some, get_or}
 use Rattle.std.specs.Prelude.{List, Option, Some, None, Ok, Err}
-use Rattle.std.specs.List.{list_any}
-use Rattle.std.specs.Str.{bytes_eq}
 use Rattle.slon_base.specs.Keeper.{Kept}
 use Rattle.slon_base.specs.declared.keeper.Keeper.{Ghosts}
 use Rattle.store_rows.specs.Space.{AllOf}
@@ -11,7 +9,7 @@ use Rattle.slon_model.specs.Names.{Named, find_named}
 use Rattle.slon_model.specs.Maps.{Map}
 use Rattle.slon_model.specs.Deeds.{Node}
 use Rattle.slon_model.specs.Place.{Place, is_running}
-use Rattle.slon_model.specs.Reaching.{database_in, seat_at_place, claims, era_at, owner}
+use Rattle.slon_model.specs.Reaching.{is_on_line, seat_at_place, claims, era_at, owner}
 use Rattle.slon_model.specs.Sessions.{World, Running, Seat, seat}
 use Rattle.node_store.specs.declared.looking.Reign.{Reign}
 use Rattle.app_store.specs.Base.{Base}
@@ -24,10 +22,6 @@ use Rattle.slonik_exec.specs.Heard.{AreSame, BreaksDown}
 use Rattle.slonik_exec.specs.Reached.{IsSeatAt}
 
 -- ---- what a database claims
-
--- some NODE line names the database
-abbrev pub has_line : Map (List ℕ) → List ℕ → Bool
-has_line lines name = list_any (λ line. bytes_eq name (database_in line.1)) lines
 
 -- who leads a set, if it is this node
 abbrev pub reign_of_node : ℕ → Option Reign → Option Reign
@@ -49,7 +43,7 @@ IsLed set p found = (name : List ℕ) → found ≡ reign_at set (seat_at_place 
 -- where a NODE line names the database
 abbrev pub IsLedOn : Map (List ℕ) → ℕ → List ℕ → Place → Option Reign → Type 0
 IsLedOn lines set name p found =
-    found ≡ reign_at set (if has_line lines name then seat_at_place name p p.node else None)
+    found ≡ reign_at set (if is_on_line lines name then seat_at_place name p p.node else None)
 
 -- ---- the best claim
 

@@ -1,13 +1,14 @@
 // The owner of a set: of the databases of a script's NODE lines, the one whose node leads the set in the last era.
 ghost use Rattle.std.specs.Prelude.{◌≡◌, true, is_err, IfOk};
 ghost use Rattle.store_rows.specs.Rows.{IsId};
+ghost use Rattle.slon_model.specs.Reaching.{is_on_line};
 ghost use Rattle.app_store.specs.Base.{base_of};
 ghost use Rattle.app_store.specs.Parts.{Looks, Remembers};
 ghost use Rattle.app_store.specs.Serves.{halts};
 ghost use Rattle.node_store.specs.Acting.{Acts};
 ghost use Rattle.slonik_exec.specs.Databases.{bases_of};
 ghost use Rattle.slonik_exec.specs.Heard.{AreDistinct};
-ghost use Rattle.slonik_exec.specs.Owned.{has_line, reign_of_node, is_before, better_claim, HasSeat, IsLed, IsLedOn};
+ghost use Rattle.slonik_exec.specs.Owned.{reign_of_node, is_before, better_claim, HasSeat, IsLed, IsLedOn};
 ghost use Rattle.slonik_exec.specs.Owned.{RunsOwned, IsOwnerHere, Owns};
 
 use crate::databases::Named;
@@ -23,7 +24,7 @@ use std::alloc::Global;
 
 /// Whether a NODE line names this database.
 fn is_on_line(lines: &NodeLines, name: &Text) -> bool
-    ensures { result ≡ has_line lines.now name.now }
+    ensures { result ≡ is_on_line lines.now name.now }
 {
     lines.iter().any(|(_, conninfo)| name.as_slice() == database_in(conninfo.as_slice()))
 }

@@ -8,20 +8,24 @@ use Rattle.std.proofs.lemmas.Bool.{false≢true, false_from_ne_true}
 use Rattle.slon_model.specs.Names.{Named, find_named, put_named}
 use Rattle.slon_model.specs.Maps.{entry_at}
 use Rattle.node_rows.specs.declared.body.Body.TheVariants.{StoreNode}
-use Rattle.slon_model.specs.Deeds.{Node, Deed, Hears, knowledge, with_deeds, progress}
+use Rattle.slon_model.specs.Events.{Event}
+use Rattle.slon_model.specs.Deeds.{Node, Deed, Applies, Hears, knowledge, with_deeds, progress}
 use Rattle.slon_model.specs.Place.{Place, deed, fallen}
 use Rattle.slon_model.specs.Sessions.{World, Running, Commit, Seat, Emission, committing, in_doubt, stood_at, stood}
 use Rattle.slon_model.specs.Sessions.{tells, emissions, next_event, felled, felled_at}
 use Rattle.slon_model.specs.Membership.{becoming, first_of_cluster, joining, stored_by}
 use Rattle.slon_model.specs.Reaching.{commit_of}
 use Rattle.slon_model.specs.Polls.{hearing}
+use Rattle.slon_model.specs.Working.{applied_by}
 use Rattle.slon_model.specs.World.{broken_at, wavering, wavering_at}
 use Rattle.slon_model.proofs.Names.{find-put, put_other, bytes_same}
-use Rattle.stream_laws.specs.Nodes.{Nodes, nodes_in, node_in, HasConfirmed}
+use Rattle.stream_laws.specs.Nodes.{Nodes, nodes_in, node_in, IsEvent, HasConfirmed}
 use Rattle.stream_laws.specs.Facts.{AreRegular}
 use Rattle.stream_laws.proofs.Lists.{there_here}
 use Rattle.stream_laws.proofs.Growing.{GoOn, placed, go_nowhere, go_further, go_same, found_where}
-use Rattle.stream_laws.proofs.Emits.{Ready, emissions_on, placed_here}
+use Rattle.stream_laws.proofs.Emits.{Ready, AreAllowed, free_allowed, emissions_on, placed_here}
+use Rattle.stream_laws.proofs.Marks.{IsNext}
+use Rattle.stream_laws.proofs.Applies.{Applying, applied_on}
 use Rattle.stream_laws.proofs.Hears.{heard_on}
 use Rattle.stream_laws.proofs.Joins.{IsFree, joined_on, first_on}
 use Rattle.stream_laws.proofs.Seats.{IsSeat, IsFound, seat_node}
@@ -165,11 +169,11 @@ ready ps s is = record {
   next = let same = ap (progress s.node.id) is.known in omega (arith, same);
 }
 
-pub emits_all : (ps : Named Place) (s : Seat) (ms : List Emission) → IsSeat ps s → AreRegular (nodes_in ps) →
-    AllGoOn (nodes_in ps) (commit_of s ms ∷ []) ps
-emits_all ps s ms is regular =
+pub emits_all : (ps : Named Place) (s : Seat) (ms : List Emission) → IsSeat ps s →
+    AreAllowed (nodes_in ps) s.node ms → AreRegular (nodes_in ps) → AllGoOn (nodes_in ps) (commit_of s ms ∷ []) ps
+emits_all ps s ms is allowed regular =
     deeds_all ps s (emissions s (next_event s) ms) is regular
-    (emissions_on s ms (next_event s) (nodes_in ps) (ready ps s is) regular)
+    (emissions_on s ms (next_event s) (nodes_in ps) (ready ps s is) allowed regular)
 
 pub hears_all : (ps : Named Place) (s : Seat) (confirms : List (ℕ × ℕ × ℕ)) → IsSeat ps s → AreRegular (nodes_in ps) →
     AllByRecursion (HasConfirmed (nodes_in ps)) confirms → AllGoOn (nodes_in ps) (hearing s confirms) ps
@@ -183,6 +187,25 @@ hears_all ps s (c ∷ cs) is regular are =
       confirms = c ∷ cs;
       are = are;
     }) regular)
+
+abbrev pub applying_at : (ps : Named Place) (s : Seat) (e : Event) → IsSeat ps s → IsEvent (nodes_in ps) e →
+    IsNext (knowledge s.node).progress e → Applying (nodes_in ps)
+applying_at ps s e is one next = record {
+  name = s.name;
+  node = s.node;
+  is = seat_node ps s is;
+  deed = deed s.place [] [] (Applies e);
+  event = e;
+  one = one;
+  next = next;
+}
+
+pub applies_all : (ps : Named Place) (s : Seat) (e : Event) → IsSeat ps s → AreRegular (nodes_in ps) →
+    IsEvent (nodes_in ps) e → IsNext (knowledge s.node).progress e →
+    AllGoOn (nodes_in ps) (applied_by (s, e)).commits ps
+applies_all ps s e is regular one next =
+    deeds_all ps s (deed s.place [] [] (Applies e) ∷ []) is regular
+    (applied_on (nodes_in ps) (applying_at ps s e is one next) regular)
 
 -- ---- a database becomes a node
 
@@ -253,7 +276,7 @@ stores_all ps s c comment run is regular = (
     own = with_deeds first.deeds s.node
 
     one : GoOn (nodes_in ps) (nodes_in (standing first ps))
-    one = (emits_all ps s emits is regular).1
+    one = (emits_all ps s emits is (free_allowed (nodes_in ps) s.node emits (refl, tt)) regular).1
 
     stands : Standing ps first own
     stands = deeds_stand ps s first.deeds is

@@ -1,19 +1,18 @@
 -- What a node holds and can tell is so, and it is so at each node that hears it.
-use Rattle.std.proofs.Common.{◌≡◌, inl, inr, ℕ, true, false, cond, List, [], ◌∷◌, Option, Some, None, refl, sym, ap}
-use Rattle.std.proofs.Common.{subst, ◌∙◌, arith, unwrap_or}
+use Rattle.std.proofs.Common.{◌≡◌, ℕ, true, false, cond, List, [], ◌∷◌, Option, Some, None, refl, sym}
+use Rattle.std.proofs.Common.{subst, arith, unwrap_or}
 use Rattle.std.specs.Prelude.{nat_lt}
 use Rattle.std.specs.List.{AllByRecursion}
 use Rattle.slon_model.specs.Maps.{Map, Map2, entry_at, number_at, row_at, with_pair, with_entry}
-use Rattle.slon_model.specs.Events.{Event}
-use Rattle.slon_model.specs.Deeds.{Node, Deed, Hears, knowledge, with_deeds, stream, met, held, raised, heard}
+use Rattle.slon_model.specs.Deeds.{Node, Deed, Hears, knowledge, with_deeds, met, held, raised, heard}
 use Rattle.slon_model.specs.Deeds.{told_progress}
 use Rattle.slon_model.specs.Sessions.{Seat}
 use Rattle.slon_model.specs.Polls.{confirms_in, confirms_of}
 use Rattle.slon_model.proofs.Names.{all_map}
-use Rattle.stream_laws.specs.Nodes.{IsAmong, Nodes, IsEvent, HasConfirmed}
-use Rattle.stream_laws.specs.Facts.{Facts, AreRegular, AreNumbered, RowConfirmed, IsFirstOf}
-use Rattle.stream_laws.proofs.Lists.{all_appended, all_filtered, all_mapped, all_flat, among_all, all_with, all_entry}
-use Rattle.stream_laws.proofs.Growing.{GoOn, Grow, placed, turning, reached_grown, told_grown, events_grown}
+use Rattle.stream_laws.specs.Nodes.{Nodes, IsEvent, HasConfirmed}
+use Rattle.stream_laws.specs.Facts.{Facts, AreRegular, RowConfirmed, IsFirstOf}
+use Rattle.stream_laws.proofs.Lists.{all_filtered, all_mapped, all_flat, all_with, all_entry}
+use Rattle.stream_laws.proofs.Growing.{GoOn, Grow, placed, staying, marked_grown, told_grown, events_grown}
 use Rattle.stream_laws.proofs.Growing.{confirmed_grown}
 
 -- what all that a node was told says is so
@@ -22,27 +21,9 @@ AllConfirmed nodes told = AllByRecursion (RowConfirmed nodes) told
 
 -- ---- the events that it holds
 
-origin_of : (own : ℕ) (es : List Event) → AreNumbered own es → (e : Event) → IsAmong e es → e.origin ≡ own
-origin_of own [] numbered e among = absurd among
-origin_of own (f ∷ fs) numbered e (inl is) = ap (λ (g : Event). g.origin) is ∙ numbered.0
-origin_of own (f ∷ fs) numbered e (inr later) = origin_of own fs numbered.2 e later
-
-pub met_events : (nodes : Nodes) (name : List ℕ) (n : Node) → nodes name ≡ Some n → Facts nodes n →
-    AllByRecursion (IsEvent nodes) (met n)
-met_events nodes name n is f =
-    all_appended (IsEvent nodes) (stream n) n.events (among_all (IsEvent nodes) (stream n) (λ e among. record {
-      name = name;
-      node = n;
-      is = is;
-      own = sym (origin_of n.id (stream n) f.numbered e among);
-      among = among;
-    })) f.given
-
-pub held_events : (nodes : Nodes) (name : List ℕ) (n : Node) → nodes name ≡ Some n → Facts nodes n →
-    AllByRecursion (IsEvent nodes) (held n)
-held_events nodes name n is f =
-    all_filtered (IsEvent nodes) (λ e. nat_lt (number_at e.origin (knowledge n).low) e.number) (met n)
-    (met_events nodes name n is f)
+pub held_events : (nodes : Nodes) (n : Node) → Facts nodes n → AllByRecursion (IsEvent nodes) (held n)
+held_events nodes n f =
+    all_filtered (IsEvent nodes) (λ e. nat_lt (number_at e.origin (knowledge n).low) e.number) (met n) f.met
 
 -- ---- what it can tell
 
@@ -121,23 +102,27 @@ heard_facts : {old : Nodes} (h : Hearing old) → Facts old h.node → (new : No
     Facts new (having_heard h)
 heard_facts {old} h f new grow = record {
   knows = f.knows;
-  numbered = f.numbered;
+  emitted = f.emitted;
   whole = f.whole;
   low = f.low;
   first = f.first;
-  reached = reached_grown grow (knowledge h.node).progress f.reached;
+  marked = marked_grown grow (knowledge h.node).config (knowledge h.node).progress f.marked;
+  applied = f.applied;
   told =
       heard_confirmed new h.confirms (knowledge h.node).told
       (all_map (HasConfirmed old) (HasConfirmed new) (confirmed_grown grow) h.confirms h.are)
       (told_grown grow (knowledge h.node).told f.told);
-  given = events_grown grow h.node.events f.given;
+  met = events_grown grow (met h.node) f.met;
 }
 
 pub heard_on : (old : Nodes) (h : Hearing old) → AreRegular old →
     GoOn old (placed h.name (Some (having_heard h)) old)
 heard_on old h regular =
-    turning h.name h.node (having_heard h) old regular (record {
+    staying h.name h.node (having_heard h) old regular (record {
       is = h.is;
-      extends = record { id = refl; further = λ origin. omega arith; keeps = λ e among. among; longer = omega arith };
+      quiet = refl;
+      id = refl;
+      further = λ origin. omega arith;
+      knows = λ id is. is;
       facts = λ new grow is. heard_facts h (regular.each h.name h.node h.is) new grow;
     })

@@ -1,46 +1,54 @@
 -- The laws, for every session that a legal history leads to.
-use Rattle.std.proofs.Common.{◌≡◌, ◌≤◌, ℕ, suc, Bool, true, false, cond, List, [], ◌∷◌, ◌++◌, length, Option, Some}
-use Rattle.std.proofs.Common.{None, refl, sym, ap, subst, ◌∙◌, arith, unwrap_or}
-use Rattle.std.specs.Prelude.{◌==◌}
-use Rattle.std.specs.List.{AllByRecursion}
+use Rattle.std.proofs.Common.{◌≡◌, ◌≤◌, inr, ℕ, Bool, true, false, cond, List, [], ◌∷◌, ◌++◌, Option, Some, None, refl}
+use Rattle.std.proofs.Common.{sym, ap, subst, arith, unwrap_or}
+use Rattle.std.specs.Prelude.{◌==◌, filter_map}
+use Rattle.std.specs.List.{cons_option, AllByRecursion}
 use Rattle.std.proofs.lemmas.Bool.{eqb-true}
+use Rattle.node_rows.specs.declared.body.Body.{Body}
+use Rattle.node_rows.specs.declared.body.Body.TheVariants.{StoreSet, SetAddTable}
 use Rattle.slon_model.specs.Maps.{Map, entry_at, number_at, row_at}
 use Rattle.slon_model.specs.Events.{Event}
-use Rattle.slon_model.specs.Deeds.{Node, knowledge, stream, held, progress}
+use Rattle.slon_model.specs.Deeds.{Node, Deed, Doing, Emits, Applies, knowledge, stream, met_by, held, progress}
 use Rattle.slon_model.specs.World.{World}
-use Rattle.slon_model.proofs.Names.{one_found}
-use Rattle.stream_laws.specs.Nodes.{Nodes, IsEvent, HasEmitted, HasConfirmed}
-use Rattle.stream_laws.specs.Facts.{AreRegular, AreNumbered, IsRegular}
+use Rattle.stream_laws.specs.Nodes.{IsAmong, Nodes, IsEvent, HasConfirmed, WaitsAt}
+use Rattle.stream_laws.specs.Applied.{applied_in, applied_events}
+use Rattle.stream_laws.specs.Making.{HasStored, MayFollow, AreEmitted}
+use Rattle.stream_laws.specs.Facts.{AreRegular, WaitsIn, LinesAre, IsRegular}
 use Rattle.stream_laws.specs.Laws.{HoldsOfSessions, node_of, HaveOrigins, EventsAreTheStream, AreInOrder}
 use Rattle.stream_laws.specs.Laws.{StreamsAreNumbered, AreBehind, ConfirmationsAreBehind, NodesAreDistinct}
-use Rattle.stream_laws.proofs.Lists.{all_among, all_entry}
+use Rattle.stream_laws.specs.Laws.{AreApplied, EventsAreAppliedOnce, StoredBefore, IsProper, AreMadeOnce}
+use Rattle.stream_laws.specs.Laws.{MarksAreMadeOnce}
+use Rattle.stream_laws.proofs.Lists.{all_among, among_behind, all_entry}
 use Rattle.stream_laws.proofs.Hears.{held_events, row_confirmed}
+use Rattle.stream_laws.proofs.Seats.{OnOk}
 use Rattle.stream_laws.proofs.Steps.{regular_world}
+use Rattle.stream_laws.proofs.Streams.{number_within, emitted_before, Found, among_found, own_is, one_node, reached_of}
+use Rattle.stream_laws.proofs.Streams.{has_told}
+use Rattle.stream_laws.proofs.Waiting.{IsPoll, polled_ok}
 
 of_sessions : (P : World → Type 0) → ((w : World) → IsRegular w → P w) → HoldsOfSessions P
 of_sessions P from limit history w leads = from w (regular_world limit history w leads)
-
--- nodes of one id are one node
-one_node : (nodes : Nodes) → AreRegular nodes → (a b : List ℕ) (m n : Node) → nodes a ≡ Some m →
-    (nodes b ≡ Some n) × (m.id ≡ n.id) → m ≡ n
-one_node nodes regular a b m n is_m there =
-    one_found m n (sym is_m ∙ ap nodes (regular.apart a b m n is_m there.0 there.1) ∙ there.0)
 
 pub nodes_are_distinct : NodesAreDistinct
 nodes_are_distinct limit history w leads = (regular_world limit history w leads).nodes.apart
 
 -- ---- events
 
+waiting : (w : World) → IsRegular w → (queue : List ℕ × Map (List Event)) → IsAmong queue w.memory.queues →
+    (line : ℕ × List Event) → IsAmong line queue.1 → (e : Event) → IsAmong e line.1 → WaitsAt (node_of w) queue.0 e
+waiting w regular queue in_queues line in_queue e in_line =
+    (all_among (WaitsIn (node_of w) queue.0 line.0) e line.1
+    (all_among (λ line. AllByRecursion (WaitsIn (node_of w) queue.0 line.0) line.1) line queue.1
+    (all_among (λ queue. LinesAre (node_of w) queue.0 queue.1) queue w.memory.queues regular.waits in_queues)
+    in_queue) in_line).0
+
 have_origins : (w : World) → IsRegular w → HaveOrigins w
 have_origins w regular = record {
   holds = λ name n is e among.
       all_among (IsEvent (node_of w)) e (held n)
-      (held_events (node_of w) name n is (regular.nodes.each name n is)) among;
+      (held_events (node_of w) n (regular.nodes.each name n is)) among;
   waits = λ queue in_queues line in_queue e in_line.
-      all_among (IsEvent (node_of w)) e line.1
-      (all_among (λ line. AllByRecursion (IsEvent (node_of w)) line.1) line queue.1
-      (all_among (λ queue. AllByRecursion (λ line. AllByRecursion (IsEvent (node_of w)) line.1) queue.1) queue
-      w.memory.queues regular.waits in_queues) in_queue) in_line;
+      (waiting w regular queue in_queues line in_queue e in_line).event;
 }
 
 pub events_are_the_stream : EventsAreTheStream
@@ -48,38 +56,50 @@ events_are_the_stream = of_sessions HaveOrigins have_origins
 
 -- ---- numbers
 
--- the number of an event that has these behind it
-number_of : (own : ℕ) (later earlier : List Event) (e : Event) → AreNumbered own (later ++ e ∷ earlier) →
-    (e.number ≡ suc (length earlier)) × (e.origin ≡ own)
-number_of own [] earlier e numbered = (numbered.1, numbered.0)
-number_of own (f ∷ later) earlier e numbered = number_of own later earlier e numbered.2
-
--- no node has had more of a stream than there is
-reached_of : (nodes : Nodes) → AreRegular nodes → (name : List ℕ) (x : Node) → nodes name ≡ Some x →
-    (reached : Map ℕ) → AllByRecursion (HasEmitted nodes) reached → number_at x.id reached ≤ length (stream x)
-reached_of nodes regular name x is reached all = by (entry_at x.id reached) refl
-  where
-    by : (o : Option ℕ) → entry_at x.id reached ≡ o → unwrap_or o 0 ≤ length (stream x)
-    by None none = omega arith
-    by (Some number) some =
-        let one = all_entry (HasEmitted nodes) x.id number reached all some in
-        subst (λ (y : Node). number ≤ length (stream y))
-        (one_node nodes regular one.name name one.node x one.is (is, one.own)) one.within
-
 in_order : (w : World) → IsRegular w → AreInOrder w
 in_order w regular = record {
   numbers = λ name n is later earlier e all.
-      number_of n.id later earlier e (subst (AreNumbered n.id) all (regular.nodes.each name n is).numbered);
+      let parts =
+      emitted_before n.id later (e ∷ earlier)
+      (subst (AreEmitted n.id) all (regular.nodes.each name n is).emitted) in
+      (parts.1, parts.0);
   own = λ name n is. (regular.nodes.each name n is).whole;
   others = λ name n is other x there. (
     (regular.nodes.each name n is).low x.id,
-    reached_of (node_of w) regular.nodes other x there (knowledge n).progress
-        (regular.nodes.each name n is).reached,
+    reached_of (node_of w) regular.nodes other x there (knowledge n).config (knowledge n).progress
+        (regular.nodes.each name n is).marked.emitted,
   );
 }
 
 pub streams_are_numbered : StreamsAreNumbered
 streams_are_numbered = of_sessions AreInOrder in_order
+
+-- ---- events that are applied
+
+applied_met : (P : Event → Type 0) (ds : List Deed) (given : List Event) →
+    AllByRecursion P (filter_map (λ d. met_by d.doing) ds ++ given) →
+    AllByRecursion P (filter_map (λ d. applied_in d.doing) ds)
+applied_met P [] given all = tt
+applied_met P (d ∷ ds) given all = by (applied_met P ds given) d.doing all
+  where
+    by : (AllByRecursion P (filter_map (λ d. met_by d.doing) ds ++ given) →
+        AllByRecursion P (filter_map (λ d. applied_in d.doing) ds)) → (doing : Doing) →
+        AllByRecursion P (cons_option (met_by doing) (filter_map (λ d. met_by d.doing) ds) ++ given) →
+        AllByRecursion P (cons_option (applied_in doing) (filter_map (λ d. applied_in d.doing) ds))
+    by on (Emits e) all = on all.1
+    by on (Applies e) all = (all.0, on all.1)
+    by on others all = on all
+
+are_applied : (w : World) → IsRegular w → AreApplied w
+are_applied w regular = record {
+  once = λ name n is. (regular.nodes.each name n is).applied;
+  events = λ name n is e among.
+      all_among (IsEvent (node_of w)) e (applied_events n)
+      (applied_met (IsEvent (node_of w)) n.deeds n.events (regular.nodes.each name n is).met) among;
+}
+
+pub events_are_applied_once : EventsAreAppliedOnce
+events_are_applied_once = of_sessions AreApplied are_applied
 
 -- ---- confirmations
 
@@ -110,3 +130,44 @@ are_behind w regular name n is other r there x = by (r.id == n.id) refl
 
 pub confirmations_are_behind : ConfirmationsAreBehind
 confirmations_are_behind = of_sessions AreBehind are_behind
+
+-- ---- what events make known
+
+stored_before : (n : Node) (e : Event) (set : ℕ) (f : Found n.id (stream n) e) → HasStored set f.earlier →
+    StoredBefore n e.number set
+stored_before n e set f one =
+    let within = number_within n.id f.earlier one.0 f.are.3 one.1 in (
+      one.0,
+      subst (IsAmong one.0) (sym f.all) (among_behind one.0 f.later (e ∷ f.earlier) (inr one.1)),
+      omega (arith, within.1, f.are.1),
+      one.2,
+    )
+
+proper : (n : Node) (e : Event) (f : Found n.id (stream n) e) (body : Body) → MayFollow n.id f.earlier body →
+    IsProper n e.number body
+proper n e f (StoreSet set origin comment) may = may
+proper n e f (SetAddTable set table name comment) may = stored_before n e set f may
+proper n e f others may = may
+
+made_once : (w : World) → IsRegular w → AreMadeOnce w
+made_once w regular = record {
+  once = regular.nodes.once;
+  met = λ name n is. (regular.nodes.each name n is).marked.met;
+  known = λ name n is mark met.
+      let made = met.made in
+      let maker = regular.nodes.each made.name made.node made.is in
+      has_told (node_of w) regular.nodes (knowledge n).config (knowledge n).progress
+      (regular.nodes.each name n is).marked.emitted made.event
+      (own_is (node_of w) made.name made.node made.is maker made.event made.among) met.within mark made.makes;
+  origins = λ name n is. (regular.nodes.each name n is).marked.origins;
+  bodies = λ name n is e among.
+      let f = among_found n.id (stream n) e (regular.nodes.each name n is).emitted among in
+      proper n e f e.body f.are.2;
+  waits = waiting w regular;
+  polls = λ node server b is e among.
+      all_among (WaitsAt (node_of w) b.seat.name) e b.events
+      (subst (OnOk (IsPoll w)) is (polled_ok node server w regular)).events among;
+}
+
+pub marks_are_made_once : MarksAreMadeOnce
+marks_are_made_once = of_sessions AreMadeOnce made_once

@@ -14,14 +14,15 @@ use Rattle.slon_model.specs.declared.reply.Reply.TheVariants.{Refused}
 use Rattle.slon_model.specs.Names.{Named, find_named}
 use Rattle.slon_model.specs.Maps.{Map}
 use Rattle.slon_model.specs.Events.{Event}
-use Rattle.slon_model.specs.Tasks.{Act, ToRead, ToStep, ToForget, ToStart, ToStop, ToSync, ToListen}
+use Rattle.slon_model.specs.Tasks.{Act, ToRead, ToStep, ToForget, ToStart, ToStop, ToSync, ToListen, ToWork}
 use Rattle.slon_model.specs.Place.{Place}
 use Rattle.slon_model.specs.Sessions.{World, Memory, Running, Commit, Stated, Outcome, Excess, excess_of, no_change}
 use Rattle.slon_model.specs.Sessions.{forgotten}
 use Rattle.slon_model.specs.Scripts.{Stepping, done_by, single, order_step, statement_step, step_todo, step_of, read_as}
 use Rattle.slon_model.specs.Scripts.{ordered, kill_of, quiet}
-use Rattle.slon_model.specs.Turns.{at_node, switched_at, turned, turned_by, turn_by, sync_turn}
-use Rattle.slon_model.specs.Polls.{Poll, polled, left_by, stated_by, listen_by}
+use Rattle.slon_model.specs.Turns.{at_node, switched_at, turned, turned_by, taken_turn, sync_turn}
+use Rattle.slon_model.specs.Polls.{polled, left_by, stated_by}
+use Rattle.slon_model.specs.Working.{worked, applied_by, taken_from}
 use Rattle.slon_model.specs.World.{outcome}
 use Rattle.stream_laws.proofs.Seats.{OnOk}
 
@@ -37,6 +38,8 @@ pub record Leaves (w : World) (P : List Commit → Queues → Type 0) : Type 0 w
   pub syncs : (node : ℕ) → OnOk (λ stated. P stated.commits w.memory.queues) (sync_turn node w)
   pub polls : (node server : ℕ) (delivery : Delivery) →
       OnOk (λ b. P (stated_by delivery b).commits (left_by delivery b w.memory).queues) (polled node server w)
+  pub works : (node origin : ℕ) →
+      OnOk (λ x. P (applied_by x).commits (taken_from x w.memory).queues) (worked node origin w)
 
 abbrev Has : (List Commit → Queues → Type 0) → Outcome → Type 0
 Has P o = P o.commits o.memory.queues
@@ -82,17 +85,11 @@ turned_has w P nothing m stated is = by (excess_of stated.commits w.places)
     by None = is
     by (Some e) = nothing
 
-turn_has : (w : World) (P : List Commit → Queues → Type 0) → P [] w.memory.queues → (r : Result Stated Refusal) →
-    OnOk (λ stated. P stated.commits w.memory.queues) r → Has P (turn_by w w.memory r)
-turn_has w P nothing (Err refusal) is = nothing
-turn_has w P nothing (Ok stated) is = turned_has w P nothing w.memory stated is
-
-listen_has : (w : World) (P : List Commit → Queues → Type 0) → P [] w.memory.queues →
-    (delivery : Delivery) (r : Result Poll Refusal) →
-    OnOk (λ b. P (stated_by delivery b).commits (left_by delivery b w.memory).queues) r → Has P (listen_by delivery w r)
-listen_has w P nothing delivery (Err refusal) is = nothing
-listen_has w P nothing delivery (Ok b) is =
-    turned_has w P nothing (left_by delivery b w.memory) (stated_by delivery b) is
+taken_has : {X : Type 0} (w : World) (P : List Commit → Queues → Type 0) → P [] w.memory.queues →
+    (left : X → Memory) (stated : X → Stated) (r : Result X Refusal) →
+    OnOk (λ x. P (stated x).commits (left x).queues) r → Has P (taken_turn w left stated r)
+taken_has w P nothing left stated (Err refusal) is = nothing
+taken_has w P nothing left stated (Ok x) is = turned_has w P nothing (left x) (stated x) is
 
 switched_has : (w : World) (P : List Commit → Queues → Type 0) → P [] w.memory.queues → (node : ℕ)
     (m : List ℕ → Memory) → ((name : List ℕ) → P [] (m name).queues) → (o : Option (List ℕ × Place)) →
@@ -118,7 +115,11 @@ outcome_has w P l (ToForget name) = by (find_named name w.memory.scripts)
     by (Some run) = l.nothing
 outcome_has w P l (ToStart node) = switched_has w P l.nothing node _ (λ name. l.nothing) (at_node node w)
 outcome_has w P l (ToStop node) = switched_has w P l.nothing node _ l.stops (at_node node w)
-outcome_has w P l (ToSync node) = turn_has w P l.nothing (sync_turn node w) (l.syncs node)
+outcome_has w P l (ToSync node) =
+    taken_has w P l.nothing (λ stated. w.memory) (λ stated. stated) (sync_turn node w) (l.syncs node)
 outcome_has w P l (ToListen node server delivery) =
-    listen_has w P l.nothing delivery (polled node server w) (l.polls node server delivery)
+    taken_has w P l.nothing (λ b. left_by delivery b w.memory) (stated_by delivery) (polled node server w)
+    (l.polls node server delivery)
+outcome_has w P l (ToWork node origin) =
+    taken_has w P l.nothing (λ x. taken_from x w.memory) applied_by (worked node origin w) (l.works node origin)
 outcome_has w P l others = l.nothing

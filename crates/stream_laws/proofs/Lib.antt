@@ -1,3 +1,4 @@
+pub mod Applies
 pub mod Commits
 pub mod Emits
 pub mod Growing
@@ -6,8 +7,11 @@ pub mod Joins
 pub mod Leaves
 pub mod Laws
 pub mod Lists
+pub mod Marks
 pub mod Outcomes
 pub mod Seats
 pub mod Statements
 pub mod Steps
+pub mod Streams
 pub mod Waiting
+pub mod Works

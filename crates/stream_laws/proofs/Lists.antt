@@ -1,12 +1,15 @@
 -- What holds of all elements of a list, and what is found in a map.
-use Rattle.std.proofs.Common.{◌≡◌, inl, inr, ℕ, Bool, true, false, cond, List, [], ◌∷◌, ◌++◌, map, filter, reverse}
-use Rattle.std.proofs.Common.{flat_map, Some, refl, sym, ap, subst, ◌∙◌, is_some, unwrap_or, arith, eq-eqb}
-use Rattle.std.specs.Prelude.{◌==◌, nat_lt}
-use Rattle.std.specs.List.{AllByRecursion}
-use Rattle.std.proofs.lemmas.Bool.{eqb-true}
+use Rattle.std.proofs.Common.{◌≡◌, ◌≢◌, inl, inr, ℕ, Bool, true, false, cond, List, [], ◌∷◌, ◌++◌, map, filter, reverse}
+use Rattle.std.proofs.Common.{flat_map, find, Some, refl, sym, ap, subst, ◌∙◌, is_some, unwrap_or, arith, eq-eqb}
+use Rattle.std.specs.Prelude.{◌==◌, ◌||◌, nat_lt}
+use Rattle.std.specs.List.{AllByRecursion, list_any}
+use Rattle.std.specs.Str.{bytes_eq}
+use Rattle.std.proofs.lemmas.Bool.{eqb-true, false_from_ne_true, or_right, true≢false}
 use Rattle.std.proofs.lemmas.Grind.{common_steps}
 use Rattle.std.proofs.lemmas.List.{reverse-append}
+use Rattle.slon_model.specs.Names.{Named, find_named}
 use Rattle.slon_model.specs.Maps.{Map, entry_at, with_entry, number_at}
+use Rattle.slon_model.proofs.Names.{bytes_same}
 use Rattle.stream_laws.specs.Nodes.{IsAmong}
 
 -- ---- all elements
@@ -16,14 +19,19 @@ pub all_appended : {X : Type 0} (P : X → Type 0) (xs ys : List X) → AllByRec
 all_appended P [] ys one two = two
 all_appended P (x ∷ xs) ys one two = (one.0, all_appended P xs ys one.1 two)
 
+-- those that pass a test
+pub all_passed : {X : Type 0} (P Q : X → Type 0) (test : X → Bool) → ((x : X) → P x → test x ≡ true → Q x) →
+    (xs : List X) → AllByRecursion P xs → AllByRecursion Q (filter test xs)
+all_passed P Q test each [] all = tt
+all_passed P Q test each (x ∷ xs) all =
+    elim (test x) as (λ b. test x ≡ b → AllByRecursion Q (cond b (x ∷ filter test xs) (filter test xs))) [
+      | true ↦ λ passes. (each x all.0 passes, all_passed P Q test each xs all.1)
+      | false ↦ λ fails. all_passed P Q test each xs all.1
+    ] refl
+
 pub all_filtered : {X : Type 0} (P : X → Type 0) (test : X → Bool) (xs : List X) → AllByRecursion P xs →
     AllByRecursion P (filter test xs)
-all_filtered P test [] all = tt
-all_filtered P test (x ∷ xs) all =
-    elim (test x) as (λ b. AllByRecursion P (cond b (x ∷ filter test xs) (filter test xs))) [
-      | true ↦ (all.0, all_filtered P test xs all.1)
-      | false ↦ all_filtered P test xs all.1
-    ]
+all_filtered P test xs all = all_passed P P test (λ x is passes. is) xs all
 
 pub all_reversed : {X : Type 0} (P : X → Type 0) (xs : List X) → AllByRecursion P xs → AllByRecursion P (reverse xs)
 all_reversed P [] all = tt
@@ -54,6 +62,34 @@ all_among P x (y ∷ ys) all (inr later) = all_among P x ys all.1 later
 pub among_all : {X : Type 0} (P : X → Type 0) (xs : List X) → ((x : X) → IsAmong x xs → P x) → AllByRecursion P xs
 among_all P [] each = tt
 among_all P (x ∷ xs) each = (each x (inl refl), among_all P xs (λ y later. each y (inr later)))
+
+-- one that is found by a test has what all have, and passes
+pub found_all : {X : Type 0} (P : X → Type 0) (test : X → Bool) (xs : List X) (x : X) → AllByRecursion P xs →
+    find test xs ≡ Some x → P x × (test x ≡ true)
+found_all P test [] x all found = absurd cc
+found_all P test (y ∷ ys) x all found =
+    elim (test y) as (λ b. test y ≡ b → cond b (Some y) (find test ys) ≡ Some x → P x × (test x ≡ true)) [
+      | true ↦ λ passes here. let same : y ≡ x = cc in (subst P same all.0, ap test (sym same) ∙ passes)
+      | false ↦ λ fails later. found_all P test ys x all.1 later
+    ] refl found
+
+pub among_behind : {X : Type 0} (x : X) (more xs : List X) → IsAmong x xs → IsAmong x (more ++ xs)
+among_behind x [] xs among = among
+among_behind x (y ∷ ys) xs among = inr (among_behind x ys xs among)
+
+-- ---- maps from names
+
+-- what all entries have, the one that is found has
+pub all_named : {X : Type 0} (P : List ℕ × X → Type 0) (name : List ℕ) (x : X) (es : Named X) → AllByRecursion P es →
+    find_named name es ≡ Some x → P (name, x)
+all_named P name x [] all found = absurd cc
+all_named P name x (e ∷ es) all found =
+    elim (bytes_eq name e.0)
+    as (λ b. bytes_eq name e.0 ≡ b → cond b (Some e.1) (find_named name es) ≡ Some x → P (name, x)) [
+      | true ↦ λ same here. let is : e.1 ≡ x = cc in
+          subst (λ k. P (k, x)) (sym (bytes_same name e.0 same)) (subst (λ y. P (e.0, y)) is all.0)
+      | false ↦ λ other later. all_named P name x es all.1 later
+    ] refl found
 
 -- ---- maps from ids
 
@@ -95,18 +131,47 @@ number_with q id x es = ap (λ o. unwrap_or o 0) (entry-with q id x es) ∙ by (
     by true = refl
     by false = refl
 
+pub number_beside : (q id x : ℕ) (es : Map ℕ) → q ≢ id → number_at q (with_entry id x es) ≡ number_at q es
+number_beside q id x es apart =
+    number_with q id x es
+    ∙ ap (λ b. cond b x (number_at q es)) (false_from_ne_true (q == id) (λ same. apart (eqb-true q id same)))
+
 pub number_here : (id x : ℕ) (es : Map ℕ) → number_at id (with_entry id x es) ≡ x
 number_here id x es = number_with id id x es ∙ ap (λ b. cond b x (number_at id es)) (eq-eqb id id refl)
+
+-- the ids that are there, with one more
+pub there-with : {X : Type 0} (q id : ℕ) (x : X) (es : Map X) →
+    is_some (entry_at q (with_entry id x es)) ≡ (q == id || is_some (entry_at q es))
+there-with q id x es = ap is_some (entry-with q id x es) ∙ by (q == id)
+  where
+    by : (b : Bool) → is_some (cond b (Some x) (entry_at q es)) ≡ (b || is_some (entry_at q es))
+    by true = refl
+    by false = refl
+
+-- an entry at a new id is one more that passes a test, or does not
+pub any-with : {X : Type 0} (test : ℕ × X → Bool) (id : ℕ) (x : X) (es : Map X) → is_some (entry_at id es) ≡ false →
+    list_any test (with_entry id x es) ≡ (test (id, x) || list_any test es)
+any-with test id x [] new = refl
+any-with test id x (e ∷ es) new =
+    by (any-with test id x es) (nat_lt id e.0) (id == e.0) new
+  where
+    swap : (a b c d : Bool) → d ≡ (a || c) → (b || d) ≡ (a || (b || c))
+    swap true true c d is = refl
+    swap true false c d is = is
+    swap false b c d is = ap (λ t. b || t) is
+
+    by : (is_some (entry_at id es) ≡ false → list_any test (with_entry id x es) ≡ (test (id, x) || list_any test es)) →
+        (less same : Bool) → is_some (cond same (Some e.1) (entry_at id es)) ≡ false →
+        list_any test (cond less ((id, x) ∷ e ∷ es) (cond same ((id, x) ∷ es) (e ∷ with_entry id x es)))
+        ≡ (test (id, x) || list_any test (e ∷ es))
+    by later true same new = refl
+    by later false true new = absurd (true≢false new)
+    by later false false new = swap (test (id, x)) (test e) (list_any test es) _ (later new)
 
 -- an id that is there is there still
 pub there_with : {X : Type 0} (q id : ℕ) (x : X) (es : Map X) → is_some (entry_at q es) ≡ true →
     is_some (entry_at q (with_entry id x es)) ≡ true
-there_with q id x es is = ap is_some (entry-with q id x es) ∙ by (q == id)
-  where
-    by : (b : Bool) → is_some (cond b (Some x) (entry_at q es)) ≡ true
-    by true = refl
-    by false = is
+there_with q id x es is = there-with q id x es ∙ or_right (q == id) (is_some (entry_at q es)) is
 
 pub there_here : {X : Type 0} (id : ℕ) (x : X) (es : Map X) → is_some (entry_at id (with_entry id x es)) ≡ true
-there_here id x es =
-    ap is_some (entry-with id id x es) ∙ ap (λ b. is_some (cond b (Some x) (entry_at id es))) (eq-eqb id id refl)
+there_here id x es = there-with id id x es ∙ ap (λ b. b || is_some (entry_at id es)) (eq-eqb id id refl)

@@ -1,21 +1,22 @@
 -- What a script or a turn reaches is a node of the session, and what it was not refused for is not so.
 use Rattle.std.proofs.Common.{◌≡◌, ℕ, Bool, true, false, cond, List, [], ◌∷◌, Option, Some, None, Result, Ok, Err, refl}
 use Rattle.std.proofs.Common.{sym, ap, subst, ◌∙◌, not}
-use Rattle.std.specs.Prelude.{◌||◌, filter_map, option_map, find}
+use Rattle.std.specs.Prelude.{◌==◌, ◌||◌, filter_map, option_map, find}
 use Rattle.std.specs.Option.{option_or}
 use Rattle.std.specs.List.{list_any, cons_option, AllByRecursion}
 use Rattle.std.specs.Str.{bytes_eq}
-use Rattle.std.proofs.lemmas.Bool.{false≢true}
+use Rattle.std.proofs.lemmas.Bool.{false≢true, eqb-true, not-false, and_parts}
 use Rattle.slon_model.specs.declared.reply.Refusal.{Refusal}
 use Rattle.slon_model.specs.declared.reply.Refusal.TheVariants as refused
 use Rattle.slon_model.specs.Names.{Named, find_named}
 use Rattle.slon_model.specs.Rows.{member}
 use Rattle.slon_model.specs.Maps.{entry_at}
-use Rattle.slon_model.specs.Config.{Config}
+use Rattle.slon_model.specs.Config.{Config, is_origin}
 use Rattle.slon_model.specs.Deeds.{Node, knowledge}
 use Rattle.slon_model.specs.Place.{Place, is_running, node_id}
 use Rattle.slon_model.specs.Sessions.{World, Running, Seat, bind, when, first_refusal, unless_refused, checked, seat_of}
-use Rattle.slon_model.specs.Reaching.{database_up, database_by, database_of_line, reach, best_of, found_owner, owner}
+use Rattle.slon_model.specs.Reaching.{database_up, database_by, database_of_line, is_node_of, reach, origin_checks}
+use Rattle.slon_model.specs.Reaching.{origin_of, best_of, found_owner, owner}
 use Rattle.slon_model.specs.Membership.{already, first_id}
 use Rattle.slon_model.specs.Turns.{at_node, seat_at, on_turn}
 use Rattle.slon_model.proofs.Names.{all_map, bytes_itself, bytes_same, one_found}
@@ -35,6 +36,10 @@ pub bind_ok : {A B : Type 0} (P : A → Type 0) (Q : B → Type 0) (r : Result A
 bind_ok P Q (Ok a) f is on = on a is
 bind_ok P Q (Err refusal) f is on = tt
 
+pub ok_then : {A : Type 0} (P Q : A → Type 0) (r : Result A Refusal) → OnOk P r → ((a : A) → P a → Q a) → OnOk Q r
+ok_then P Q (Ok a) is on = on a is
+ok_then P Q (Err refusal) is on = tt
+
 -- where none of these looks at something that refuses
 pub checked_ok : {A : Type 0} (P : A → Type 0) (checks : List (Option Refusal)) (a : A) →
     (first_refusal checks ≡ None → P a) → OnOk P (checked checks a)
@@ -51,6 +56,10 @@ pub none_first : (o : Option Refusal) (more : List (Option Refusal)) → first_r
     (o ≡ None) × (first_refusal more ≡ None)
 none_first None more none = (refl, none)
 none_first (Some refusal) more none = absurd cc
+
+pub all_none : (checks : List (Option Refusal)) → first_refusal checks ≡ None → AllByRecursion (λ o. o ≡ None) checks
+all_none [] none = tt
+all_none (o ∷ more) none = let parts = none_first o more none in (parts.0, all_none more parts.1)
 
 pub when_none : (b : Bool) (refusal : Refusal) → when b refusal ≡ None → b ≡ false
 when_none true refusal none = absurd cc
@@ -103,12 +112,34 @@ line_ok run id w = by (entry_at id run.lines)
     by None = tt
     by (Some conninfo) = up_ok w _
 
-pub reach_ok : (run : Running) (id : ℕ) (w : World) → OnOk (IsSeat w.places) (reach run id w)
+-- the seat is that of the node of this id
+abbrev pub IsReached : Named Place → ℕ → Seat → Type 0
+IsReached ps id s = IsSeat ps s × (s.node.id ≡ id)
+
+pub reach_ok : (run : Running) (id : ℕ) (w : World) → OnOk (IsReached w.places id) (reach run id w)
 reach_ok run id w =
-    bind_ok (IsFound w.places) (IsSeat w.places) (database_of_line run id w) _ (line_ok run id w)
-    (λ e found. bind_ok (IsSeat w.places) (IsSeat w.places) _ _
+    bind_ok (IsFound w.places) (IsReached w.places id) (database_of_line run id w) _ (line_ok run id w)
+    (λ e found. bind_ok (IsSeat w.places) (IsReached w.places id) _ _
     (seat_of_ok w.places (refused.NotInitialised id) e found)
-    (λ s is. search (kept_ok (IsSeat w.places), is)))
+    (λ s is. checked_ok (IsReached w.places id) (when (not (is_node_of run id s)) (refused.OtherNode id) ∷ []) s
+    (λ none. let same = not-false (is_node_of run id s) (when_none _ (refused.OtherNode id) (none_first _ [] none).0) in
+    (is, eqb-true s.node.id id (and_parts (s.node.id == id) (bytes_eq s.node.cluster run.cluster) same).0))))
+
+-- the node is the origin of this set
+abbrev pub IsLeading : Named Place → ℕ → Seat → Type 0
+IsLeading ps set s = IsSeat ps s × (is_origin s.node.id set (knowledge s.node).config ≡ true)
+
+pub origin_ok : (run : Running) (origin set : ℕ) (w : World) →
+    OnOk (IsLeading w.places set) (origin_of run origin set w)
+origin_ok run origin set w =
+    bind_ok (IsReached w.places origin) (IsLeading w.places set) (reach run origin w) _ (reach_ok run origin w)
+    (λ s is. checked_ok (IsLeading w.places set) (origin_checks s set) s
+    (λ none. (
+      is.0,
+      ap (λ k. is_origin s.node.id set k.config) (sym is.0.known)
+          ∙ not-false (is_origin s.node.id set s.known.config)
+          (when_none _ (refused.NotOrigin set) (all_none (origin_checks s set) none).1.0),
+    )))
 
 -- ---- what is found by its name
 

@@ -1,32 +1,53 @@
 -- Each statement of a script goes on by commits behind which the nodes of the session went on.
-use Rattle.std.proofs.Common.{ℕ, List, [], ◌∷◌, Option, Result, is_some}
+use Rattle.std.proofs.Common.{◌≡◌, ℕ, Bool, true, false, cond, List, [], ◌∷◌, Option, Some, None, Result, refl}
+use Rattle.std.proofs.Common.{subst, ◌∙◌, is_some, is_none}
+use Rattle.std.specs.Prelude.{option_map}
+use Rattle.std.specs.List.{list_any}
+use Rattle.std.specs.Str.{bytes_eq}
+use Rattle.std.proofs.lemmas.Bool.{false≢true, eqb-true}
 use Rattle.slonik_script.specs.declared.script.Command.{Command as Order}
 use Rattle.slonik_script.specs.declared.script.Command.TheVariants as order
-use Rattle.node_rows.specs.declared.body.Body.TheVariants.{Sync}
+use Rattle.node_rows.specs.declared.rows.SetRow.{SetRow}
+use Rattle.node_rows.specs.declared.body.Body.{Body}
+use Rattle.node_rows.specs.declared.body.Body.TheVariants.{Sync, StorePath, DropPath, StoreSet}
 use Rattle.slon_model.specs.declared.reply.Refusal.{Refusal}
 use Rattle.slon_model.specs.declared.reply.Refusal.TheVariants as refused
+use Rattle.slon_model.specs.Names.{find_named}
 use Rattle.slon_model.specs.Maps.{entry_at}
+use Rattle.slon_model.specs.Config.{Config, live_set, leads_row, is_origin, era_of}
+use Rattle.slon_model.specs.Deeds.{Node, knowledge, stream}
 use Rattle.slon_model.specs.Place.{node_id}
-use Rattle.slon_model.specs.Sessions.{World, Running, Stated, Seat, Emission, bind, tells, when}
+use Rattle.slon_model.specs.Sessions.{World, Running, Stated, Seat, Emission, bind, tells, when, writer_of}
 use Rattle.slon_model.specs.Membership.{comment_of, already, first_node, init_cluster, store_node, store_path}
 use Rattle.slon_model.specs.Membership.{drop_path}
 use Rattle.slon_model.specs.Reaching.{database_of_line, reach, down_among, any_down, known_somewhere, origin_of}
-use Rattle.slon_model.specs.Reaching.{origin_checks, owner, emitting}
-use Rattle.slon_model.specs.Sets.{NewTable, create_set, set_add_table}
-use Rattle.slon_model.specs.Subscribing.{NewFeed, subscribing, subscribe_set}
+use Rattle.slon_model.specs.Reaching.{owner, emitting, receiver_with}
+use Rattle.slon_model.specs.Sets.{NewTable, adding, create_set, set_add_table}
+use Rattle.slon_model.specs.Subscribing.{NewFeed, subscribing, feed_bodies, all_tell, subscribe_set}
 use Rattle.slon_model.specs.Scripts.{ordered}
-use Rattle.stream_laws.specs.Nodes.{nodes_in}
-use Rattle.stream_laws.specs.Facts.{IsRegular}
-use Rattle.stream_laws.proofs.Seats.{OnOk, IsSeat, IsFound, bind_ok, checked_ok, kept_ok, none_first, when_none}
-use Rattle.stream_laws.proofs.Seats.{already_none, line_ok, reach_ok, owner_ok, unknown, no_nodes, no_node_at}
+use Rattle.slon_model.proofs.Names.{bytes_same}
+use Rattle.stream_laws.specs.Nodes.{IsAmong, Nodes, nodes_in}
+use Rattle.stream_laws.specs.Making.{Mark, OfSet, OfTable, OfName, tells_of, has_mark, IsMade, HasStored}
+use Rattle.stream_laws.specs.Facts.{AreRegular, IsRegular}
+use Rattle.stream_laws.proofs.Seats.{OnOk, IsSeat, IsFound, bind_ok, checked_ok, kept_ok, none_first, all_none}
+use Rattle.stream_laws.proofs.Seats.{when_none, already_none, line_ok, IsReached, reach_ok, IsLeading, origin_ok}
+use Rattle.stream_laws.proofs.Seats.{owner_ok, unknown, no_nodes, no_node_at, seat_node}
+use Rattle.stream_laws.proofs.Streams.{one_node, IsUnknown, none_made}
+use Rattle.stream_laws.proofs.Emits.{MayEmit, AreFree, AreAllowed, free_allowed}
 use Rattle.stream_laws.proofs.Commits.{AllGoOn, emits_all, inits_all, stores_all}
 
 abbrev pub IsStated : World → Stated → Type 0
 IsStated w stated = AllGoOn (nodes_in w.places) stated.commits w.places
 
 pub emits_stated : (w : World) → IsRegular w → (s : Seat) → IsSeat w.places s → (ms : List Emission) →
+    AreAllowed (nodes_in w.places) s.node ms → IsStated w (emitting s ms)
+emits_stated w regular s is ms allowed = emits_all w.places s ms is allowed regular.nodes
+
+-- events that make nothing known for good
+pub free_stated : (w : World) → IsRegular w → (s : Seat) → IsSeat w.places s → (ms : List Emission) → AreFree ms →
     IsStated w (emitting s ms)
-emits_stated w regular s is ms = emits_all w.places s ms is regular.nodes
+free_stated w regular s is ms free =
+    emits_stated w regular s is ms (free_allowed (nodes_in w.places) s.node ms free)
 
 init_stated : (id : ℕ) (comment : Option (List ℕ)) (run : Running) (w : World) → IsRegular w →
     OnOk (IsStated w) (init_cluster id comment run w)
@@ -39,8 +60,8 @@ init_stated id comment run w regular =
 
 -- a statement of the node that a script reaches
 reached_stated : (w : World) (id : ℕ) (run : Running) (f : Seat → Result Stated Refusal) →
-    ((s : Seat) → IsSeat w.places s → OnOk (IsStated w) (f s)) → OnOk (IsStated w) (bind (reach run id w) f)
-reached_stated w id run f on = bind_ok (IsSeat w.places) (IsStated w) (reach run id w) f (reach_ok run id w) on
+    ((s : Seat) → IsReached w.places id s → OnOk (IsStated w) (f s)) → OnOk (IsStated w) (bind (reach run id w) f)
+reached_stated w id run f on = bind_ok (IsReached w.places id) (IsStated w) (reach run id w) f (reach_ok run id w) on
 
 store_stated : (id event_node : ℕ) (comment : Option (List ℕ)) (run : Running) (w : World) → IsRegular w →
     OnOk (IsStated w) (store_node id event_node comment run w)
@@ -59,35 +80,137 @@ store_stated id event_node comment run w regular =
       none = no_node_at w.places e found (already_none (node_id e.1) parts.0);
       id = id;
       unknown = unknown (λ c. is_some (entry_at id c.nodes)) w.places (when_none _ (refused.IdUsed id) last.0);
-    }) (comment_of comment) run is regular.nodes)))
+    }) (comment_of comment) run is.0 regular.nodes)))
 
 path_stated : (server client : ℕ) (conninfo : List ℕ) (run : Running) (w : World) → IsRegular w →
     OnOk (IsStated w) (store_path server client conninfo run w)
 path_stated server client conninfo run w regular =
-    reached_stated w client run _ (λ s is. search (kept_ok (IsStated w), emits_stated w regular s is))
+    reached_stated w client run _
+    (λ s is. let done = free_stated w regular s is.0 (tells (StorePath server client conninfo) ∷ []) (refl, tt) in
+    search (kept_ok (IsStated w), done))
 
 no_path_stated : (server client : ℕ) (run : Running) (w : World) → IsRegular w →
     OnOk (IsStated w) (drop_path server client run w)
 no_path_stated server client run w regular =
-    reached_stated w client run _ (λ s is. search (kept_ok (IsStated w), emits_stated w regular s is))
-
-set_stated : (id origin : ℕ) (comment : Option (List ℕ)) (run : Running) (w : World) → IsRegular w →
-    OnOk (IsStated w) (create_set id origin comment run w)
-set_stated id origin comment run w regular =
-    reached_stated w origin run _ (λ s is. search (kept_ok (IsStated w), emits_stated w regular s is))
-
-table_stated : (origin : ℕ) (t : NewTable) (run : Running) (w : World) → IsRegular w →
-    OnOk (IsStated w) (set_add_table origin t run w)
-table_stated origin t run w regular =
-    bind_ok (IsSeat w.places) (IsStated w) (origin_of run origin t.set_id w) _
-    (bind_ok (IsSeat w.places) (IsSeat w.places) (reach run origin w) _ (reach_ok run origin w)
-    (λ s is. kept_ok (IsSeat w.places) (origin_checks s t.set_id) s is))
-    (λ s is. search (kept_ok (IsStated w), emits_stated w regular s is))
+    reached_stated w client run _
+    (λ s is. let done = free_stated w regular s is.0 (tells (DropPath server client) ∷ []) (refl, tt) in
+    search (kept_ok (IsStated w), done))
 
 feed_stated : (f : NewFeed) (run : Running) (w : World) → IsRegular w → OnOk (IsStated w) (subscribe_set f run w)
 feed_stated f run w regular =
     bind_ok (IsSeat w.places) (IsStated w) (owner run f.set_id w) _ (owner_ok run f.set_id w regular.once)
-    (λ s is. search (kept_ok (IsStated w), emits_stated w regular s is))
+    (λ s is. let bodies = all_tell (feed_bodies (era_of f.set_id s.known.config) f) in
+    let done = free_stated w regular s is bodies (refl, (refl, (refl, tt))) in
+    search (kept_ok (IsStated w), done))
+
+-- ---- sets
+
+-- what is looked at before a set begins
+abbrev pub create_checks : ℕ → World → List (Option Refusal)
+create_checks id w =
+    any_down w ∷ when (known_somewhere (λ c. is_some (entry_at id c.sets)) w) (refused.IdUsed id) ∷ []
+
+-- a set that no node knows may begin at each node
+set_may : (nodes : Nodes) → AreRegular nodes → (n : Node) (id : ℕ) (comment : List ℕ) → IsUnknown nodes (OfSet id) →
+    MayEmit nodes n (StoreSet id n.id comment)
+set_may nodes regular n id comment unknown = record { may = refl; unmade = by }
+  where
+    by : (mark : Mark) → tells_of (StoreSet id n.id comment) mark ≡ true → IsMade nodes mark → ⊥
+    by (OfSet set) same made =
+        none_made nodes regular (OfSet id) unknown (subst (λ k. IsMade nodes (OfSet k)) (eqb-true set id same) made)
+    by others makes made = absurd (false≢true makes)
+
+set_stated : (id origin : ℕ) (comment : Option (List ℕ)) (run : Running) (w : World) → IsRegular w →
+    OnOk (IsStated w) (create_set id origin comment run w)
+set_stated id origin comment run w regular =
+    reached_stated w origin run _
+    (λ s is. checked_ok (IsStated w) (create_checks id w) (emitting s (tells (new_set origin) ∷ []))
+    (λ none. emits_stated w regular s is.0 (tells (new_set origin) ∷ []) (
+      subst (λ by. MayEmit (nodes_in w.places) s.node (new_set by)) is.1
+          (set_may (nodes_in w.places) regular.nodes s.node id (comment_of comment)
+          (unknown (has_mark (OfSet id)) w.places
+          (when_none _ (refused.IdUsed id) (all_none (create_checks id w) none).1.0))),
+      tt,
+    )))
+  where
+    new_set : ℕ → Body
+    new_set by = StoreSet id by (comment_of comment)
+
+-- what is looked at before a table comes into a set
+abbrev pub table_checks : NewTable → World → Seat → List (Option Refusal)
+table_checks t w s =
+    option_map refused.HasReceivers (receiver_with (λ e. true) t.set_id s.known.config)
+    ∷ when (is_none (find_named t.name s.place.tables)) (refused.NoTable t.name)
+    ∷ any_down w
+    ∷ when (known_somewhere (λ c. is_some (entry_at t.id c.tables)) w) (refused.IdUsed t.id)
+    ∷ when (known_somewhere (λ c. list_any (λ e. bytes_eq t.name e.1.name) c.tables) w) (refused.TableUsed t.name)
+    ∷ option_map refused.Busy (writer_of (t.name ∷ []) s.place) ∷ []
+
+-- the origin of a live set
+origin_row : (own set : ℕ) (c : Config) → is_origin own set c ≡ true →
+    (row : SetRow) × (entry_at set c.sets ≡ Some row) × (row.origin ≡ own)
+origin_row own set c leads = by (entry_at set c.sets) refl leads
+  where
+    live : (row : SetRow) (b : Bool) → leads_row own (cond b (Some row) None) ≡ true → row.origin ≡ own
+    live row true same = eqb-true row.origin own same
+    live row false none = absurd (false≢true none)
+
+    by : (o : Option SetRow) → entry_at set c.sets ≡ o → leads_row own (live_set o) ≡ true →
+        (row : SetRow) × (entry_at set c.sets ≡ Some row) × (row.origin ≡ own)
+    by None is none = absurd (false≢true none)
+    by (Some row) is leads = (row, is, live row row.live leads)
+
+-- the node that is the origin of a set has stored it
+has_stored : (nodes : Nodes) → AreRegular nodes → (name : List ℕ) (n : Node) → nodes name ≡ Some n → (set : ℕ) →
+    is_origin n.id set (knowledge n).config ≡ true → HasStored set (stream n)
+has_stored nodes regular name n is set leads =
+    let row = origin_row n.id set (knowledge n).config leads in
+    let made = (regular.each name n is).marked.origins set row.0 row.1 in
+    let same = one_node nodes regular made.0.name name made.0.node n made.0.is (is, made.1 ∙ row.2) in
+    (made.0.event, subst (λ x. IsAmong made.0.event (stream x)) same made.0.among, made.0.makes)
+
+-- A table comes into a set of which the node is the origin, where no node knows the table or its name.
+pub record NewIn (nodes : Nodes) (t : NewTable) (s : Seat) : Type 0 where
+  pub regular : AreRegular nodes
+  pub is : nodes s.name ≡ Some s.node
+  pub leads : is_origin s.node.id t.set_id (knowledge s.node).config ≡ true
+  pub table : IsUnknown nodes (OfTable t.id)
+  pub named : IsUnknown nodes (OfName t.name)
+
+table_may : (nodes : Nodes) (t : NewTable) (s : Seat) → NewIn nodes t s → MayEmit nodes s.node (adding s t).body
+table_may nodes t s new = record {
+  may = has_stored nodes new.regular s.name s.node new.is t.set_id new.leads;
+  unmade = by;
+}
+  where
+    by : (mark : Mark) → tells_of (adding s t).body mark ≡ true → IsMade nodes mark → ⊥
+    by (OfTable table) same made =
+        none_made nodes new.regular (OfTable t.id) new.table
+        (subst (λ k. IsMade nodes (OfTable k)) (eqb-true table t.id same) made)
+    by (OfName name) same made =
+        none_made nodes new.regular (OfName t.name) new.named
+        (subst (λ k. IsMade nodes (OfName k)) (bytes_same name t.name same) made)
+    by others makes made = absurd (false≢true makes)
+
+table_stated : (origin : ℕ) (t : NewTable) (run : Running) (w : World) → IsRegular w →
+    OnOk (IsStated w) (set_add_table origin t run w)
+table_stated origin t run w regular =
+    bind_ok (IsLeading w.places t.set_id) (IsStated w) (origin_of run origin t.set_id w) _
+    (origin_ok run origin t.set_id w)
+    (λ s is. checked_ok (IsStated w) (table_checks t w s) (emitting s (adding s t ∷ []))
+    (λ none. let checks = all_none (table_checks t w s) none in
+    emits_stated w regular s is.0 (adding s t ∷ []) (
+      table_may (nodes_in w.places) t s (record {
+        regular = regular.nodes;
+        is = seat_node w.places s is.0;
+        leads = is.1;
+        table = unknown (has_mark (OfTable t.id)) w.places (when_none _ (refused.IdUsed t.id) checks.1.1.1.0);
+        named = unknown (has_mark (OfName t.name)) w.places (when_none _ (refused.TableUsed t.name) checks.1.1.1.1.0);
+      }),
+      tt,
+    )))
+
+-- ---- all of them
 
 pub ordered_stated : (o : Order) (run : Running) (w : World) → IsRegular w → OnOk (IsStated w) (ordered o run w)
 ordered_stated (order.InitCluster id comment) run w regular = init_stated id comment run w regular
@@ -101,5 +224,5 @@ ordered_stated (order.SetAddTable set origin id name key comment) run w regular 
 ordered_stated (order.SubscribeSet set provider receiver forward) run w regular =
     feed_stated (subscribing set provider receiver forward) run w regular
 ordered_stated (order.Sync id) run w regular =
-    reached_stated w id run _ (λ s is. emits_stated w regular s is (tells Sync ∷ []))
+    reached_stated w id run _ (λ s is. free_stated w regular s is.0 (tells Sync ∷ []) (refl, tt))
 ordered_stated others run w regular = tt

@@ -26,7 +26,7 @@ use Rattle.slon_laws.specs.Turning.{Carries, IsWithin}
 use Rattle.slon_laws.proofs.Acting.{acting_carries}
 use Rattle.stream_laws.specs.Nodes.{Nodes, nodes_in, node_in}
 use Rattle.stream_laws.specs.Facts.{Facts, AreRegular, AreNamedOnce, AllWait, IsRegular}
-use Rattle.stream_laws.proofs.Growing.{GoOn, placed, turning, go_nowhere, go_same, facts_grown, waits_grown}
+use Rattle.stream_laws.proofs.Growing.{GoOn, placed, staying, go_nowhere, go_same, facts_grown, waits_grown}
 use Rattle.stream_laws.proofs.Commits.{nodes_put, put_same, all_stand, wavers_on, felled_on, broken_on}
 use Rattle.stream_laws.proofs.Waiting.{changed_waits, felled_waits, broken_waits, wavers_waits}
 use Rattle.stream_laws.proofs.Outcomes.{IsOutcome, act_outcome}
@@ -136,21 +136,25 @@ place_logs task p others = done_logs (move_of (decide task p)) p
 logged_facts : (nodes : Nodes) (n : Node) (xid : ℕ) (p : Place) → Facts nodes n → Facts nodes (with_commit xid p n)
 logged_facts nodes n xid p f = record {
   knows = f.knows;
-  numbered = f.numbered;
+  emitted = f.emitted;
   whole = f.whole;
   low = f.low;
   first = f.first;
-  reached = f.reached;
+  marked = f.marked;
+  applied = f.applied;
   told = f.told;
-  given = f.given;
+  met = f.met;
 }
 
 logs_on : (nodes : Nodes) (name : List ℕ) (n : Node) (xid : ℕ) (p : Place) → nodes name ≡ Some n → AreRegular nodes →
     GoOn nodes (placed name (Some (with_commit xid p n)) nodes)
 logs_on nodes name n xid p is regular =
-    turning name n (with_commit xid p n) nodes regular (record {
+    staying name n (with_commit xid p n) nodes regular (record {
       is = is;
-      extends = record { id = refl; further = λ origin. omega arith; keeps = λ e among. among; longer = omega arith };
+      quiet = refl;
+      id = refl;
+      further = λ origin. omega arith;
+      knows = λ id is. is;
       facts = λ new grow there. logged_facts new n xid p (facts_grown grow n (regular.each name n is));
     })
 
@@ -262,7 +266,11 @@ step_regular w v h (Acts t) regular = acting_regular w v h t regular
 start_regular : (limit : ℕ) → IsRegular (start limit)
 start_regular limit = record {
   once = tt;
-  nodes = record { each = λ name n is. absurd cc; apart = λ a b m n is_m is_n one. absurd cc };
+  nodes = record {
+    each = λ name n is. absurd cc;
+    apart = λ a b m n is_m is_n one. absurd cc;
+    once = λ mark x y. let none = x.is in absurd cc;
+  };
   waits = tt;
 }
 

@@ -3,7 +3,7 @@
 #![tactic(auto)]
 
 ghost use Rattle.stream_laws.specs.Laws.{EventsAreTheStream, StreamsAreNumbered, ConfirmationsAreBehind};
-ghost use Rattle.stream_laws.specs.Laws.{NodesAreDistinct};
+ghost use Rattle.stream_laws.specs.Laws.{NodesAreDistinct, MarksAreMadeOnce, EventsAreAppliedOnce};
 
 /// Each event that a node holds, and each that waits at a node, is one of the stream of the node that is its origin.
 pub fn events_are_the_stream()
@@ -17,6 +17,13 @@ pub fn streams_are_numbered()
     ensures { StreamsAreNumbered }
 {}
 
+/// The events of another stream that a node applied have, in the order in which it did, the numbers from behind what it
+/// was given of that stream as it became a node up to where it is: none is applied twice, and none is left out. Each is
+/// one of the stream of its origin. Of its own stream a node applies none.
+pub fn events_are_applied_once()
+    ensures { EventsAreAppliedOnce }
+{}
+
 /// A node is told no more of another one than that one has done.
 pub fn confirmations_are_behind()
     ensures { ConfirmationsAreBehind }
@@ -25,4 +32,10 @@ pub fn confirmations_are_behind()
 /// No two databases of a session are nodes of one id.
 pub fn nodes_are_distinct()
     ensures { NodesAreDistinct }
+{}
+
+/// A set, a table, and that a table has a name, is made known by one event of one node. The nodes that are as far as
+/// that event know it, and no others. Each event that waits at a node is of an origin that the node knows.
+pub fn marks_are_made_once()
+    ensures { MarksAreMadeOnce }
 {}

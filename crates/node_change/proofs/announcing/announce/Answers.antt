@@ -3,7 +3,8 @@ use Rattle.std.proofs.lemmas.Result.{err_from_is_err_and}
 use Rattle.store_rows.proofs.Spaces.{pending_as}
 use Rattle.slon_model.specs.Deeds.{knowledge}
 use Rattle.event_store.specs.Streams.{streams_of}
-use Rattle.node_change.proofs.Emitting.{emission, emit_stops, change_stops, shows_streams, shows_config}
+use Rattle.node_change.proofs.Emitting.{emission, emit_stops, change_stops}
+use Rattle.node_change.proofs.Meeting.{shows_streams, shows_config}
 use Rattle.node_change.proofs.announcing.announce.Goals as goal
 
 pub returns-in_err-number-clause-turns : goal.returns-in_err-number-clause-turns

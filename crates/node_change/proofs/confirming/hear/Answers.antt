@@ -4,7 +4,7 @@ use Rattle.event_store.specs.Streams.{streams_of}
 use Rattle.event_store.specs.Telling.{named}
 use Rattle.slon_model.specs.Deeds.{Hears}
 use Rattle.node_change.proofs.Confirmed.{becomes_as, has_heard, goes_named}
-use Rattle.node_change.proofs.Emitting.{shows_streams}
+use Rattle.node_change.proofs.Meeting.{shows_streams}
 use Rattle.node_change.proofs.confirming.hear.Goals as goal
 
 pub returns-clause-turns : goal.returns-clause-turns

@@ -98,9 +98,10 @@ returns-in-Err-clause-announces g c p n ready is memory seen name ms bodies lear
       some = c.requires.some;
       learns = learns;
     } in
-    emission_stops (c.args.database.now.state.stamp + 1) at a c.in-Err.stop c.fall-in-Err.result _
-    (small_stamp p c.args.database.now.state.stamp (running at).1.stamp c.requires.room)
-    (c.in-Err.ensures.writes (emitter_in at a) (told_in at a said) ready.fits.held.1) (
+    emission_stops (c.args.database.now.state.stamp + 1) at a c.in-Err.stop c.fall-in-Err.result _ (
+      small_stamp p c.args.database.now.state.stamp (running at).1.stamp c.requires.room,
+      c.in-Err.ensures.writes (emitter_in at a) (told_in at a said) ready.fits.held.1,
+    ) (
       record {
         held = c.in-Err.ensures.enters.held;
         down = c.fall-in-Err.ensures.down;

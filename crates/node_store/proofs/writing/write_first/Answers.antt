@@ -23,6 +23,6 @@ returns-clause-writes g c run m cluster held none =
     let n = first_of_cluster c.args.id c.args.comment.now run in
     let turns = c.in_ok-found_node.ensures.turns run m cluster
     (c.in_ok-begin.ensures.opened ∙ ap (λ h. Some h) held) none in
-    node_kept (g.K.Keeper.kept c.keep_node.new.keeper) n m turns.store _ c.args.stamp c.keep_node.result
-    (c.as_slice.ensures ∙ c.in_ok-stamp.ensures) turns.has
+    node_kept (g.K.Keeper.kept c.keep_node.new.keeper) n m turns.store c.args.stamp c.keep_node.result
+    (c.as_slice.ensures ∙ c.in_ok-stamp.ensures, turns.has)
     (c.keep_node.ensures.keeps n m turns.store turns.is turns.has)

@@ -1,7 +1,8 @@
 use Rattle.std.proofs.Common.{◌∙◌, map, Some, ap, refl}
 use Rattle.std.proofs.lemmas.Result.{err_from_is_err_and}
 use Rattle.event_store.specs.Telling.{named}
-use Rattle.node_store.proofs.Heard.{stamped_heard}
+use Rattle.slon_model.specs.Deeds.{Hears}
+use Rattle.node_store.proofs.Doers.{stamped_done}
 use Rattle.node_store.proofs.Midways.{midway_begun, midway_on, breaks_on, enters_as, enters_on}
 use Rattle.node_store.proofs.writing.write_heard.Goals as goal
 
@@ -18,7 +19,13 @@ returns-clause-enters g c =
 
 pub returns-clause-writes : goal.returns-clause-writes
 returns-clause-writes g c n m own held holds =
-    stamped_heard n m (map named c.args.rows.now) c.args.stamp (g.K.Keeper.kept c.put_pair.new.keeper)
-    c.as_slice.result.now c.put_pair.result
+    stamped_done (record {
+      node = n;
+      held = m;
+      doing = Hears (map named c.args.rows.now);
+      stamp = c.args.stamp;
+      bytes = c.as_slice.result.now;
+      spelled = c.as_slice.ensures ∙ c.in_ok-stamp.ensures;
+    }) (g.K.Keeper.kept c.put_pair.new.keeper) c.put_pair.result
     (c.in_ok-hear.ensures.turns n m own (c.in_ok-begin.ensures.opened ∙ ap (λ h. Some h) held) holds)
-    (c.put_pair.ensures.put, c.as_slice.ensures ∙ c.in_ok-stamp.ensures, c.put_pair.ensures.only)
+    (c.put_pair.ensures.put, c.put_pair.ensures.only)

@@ -67,6 +67,6 @@ returns-clause-writes g c n run m t own cluster seen held known is none =
     (starts.opened ∙ ap (λ h. Some h) is) none in
     subst (λ r. WritesNode joined t c.args.joining.node_stamp r (g.K.Keeper.kept c.keep_node.new.keeper))
     c.sided-2.ensures.same
-    (node_kept (g.K.Keeper.kept c.keep_node.new.keeper) joined t turns.store _ c.args.joining.node_stamp
-    c.keep_node.result (c.as_slice.ensures ∙ c.in-Ok.ensures) turns.has
+    (node_kept (g.K.Keeper.kept c.keep_node.new.keeper) joined t turns.store c.args.joining.node_stamp
+    c.keep_node.result (c.as_slice.ensures ∙ c.in-Ok.ensures, turns.has)
     (c.keep_node.ensures.keeps joined t turns.store turns.is turns.has))

@@ -7,7 +7,7 @@ use Rattle.slon_turns.specs.declared.polling.Listen.{Listen}
 use Rattle.slon_turns.specs.Turning.{Polls}
 use Rattle.cluster_engine.specs.Calls.{IsActed}
 use Rattle.cluster_engine.specs.Clustered.{cluster_of}
-use Rattle.cluster_engine.proofs.Taking.{with_queues, poll_if}
+use Rattle.cluster_engine.proofs.Taking.{with_queues, kept_as, poll_if}
 use Rattle.cluster_engine.proofs.cluster.Cluster.listen.Goals as goal
 
 pub returns : goal.returns
@@ -27,9 +27,9 @@ returns g c =
       subst (λ xs. IfOk c.take_poll.result (λ reply. Runs (bases_of {g = g.K.Keeper} kept xs) reply news))
           c.deref_mut.ensures.value c.take_poll.ensures.runs,
       subst (λ xs. IfOk c.take_poll.result (λ reply. Polls l old.memory.switches.started
-          (record { bases = bases_of {g = g.K.Keeper} kept xs; queues = old.memory.queues }) reply
-          (record { bases = news; queues = queues }))) c.deref_mut.ensures.value
+          (kept_as (bases_of {g = g.K.Keeper} kept xs) old.memory.queues) reply (kept_as news queues)))
+          c.deref_mut.ensures.value
           (subst (λ started. IfOk c.take_poll.result (λ reply. Polls l started
-          (record { bases = bases_of kept c.deref_mut.result.now; queues = old.memory.queues }) reply
-          (record { bases = news; queues = queues }))) c.deref.ensures.value c.take_poll.ensures.polls),
+          (kept_as (bases_of kept c.deref_mut.result.now) old.memory.queues) reply (kept_as news queues)))
+          c.deref.ensures.value c.take_poll.ensures.polls),
     ) (sym (c.are_cut-cut.ensures ∙ ap (are_cut l.node l.server) c.as_slice.ensures.value)))

@@ -2,6 +2,7 @@ use Rattle.std.proofs.Common.{Bool, ap, subst, arith}
 use Rattle.slon_model.specs.declared.command.Command.{Command}
 use Rattle.slon_model.specs.Spoken.{IsSpoken}
 use Rattle.slon_model.specs.Tasks.{subject_of, ToStep, ToForget, ToStart, ToStop, ToCut, ToJoin, ToSync, ToListen}
+use Rattle.slon_model.specs.Tasks.{ToWork}
 use Rattle.cluster_engine.specs.Calls.{Acts, takes_none}
 use Rattle.cluster_engine.specs.Clustered.{cluster_of}
 use Rattle.cluster_engine.proofs.Moving.{granted_moves, acts_moves, one_left, none_left, spared}
@@ -56,10 +57,21 @@ returns-in-Listen-clause-moves g c =
     (cluster_of g.K.Keeper.kept c.args.self.now) (cluster_of g.K.Keeper.kept c.listen.new.self)
     (ap subject_of c.in-Listen.is) c.listen.ensures
 
+pub returns-in-Work-clause-moves : goal.returns-in-Work-clause-moves
+returns-in-Work-clause-moves g c =
+    acts_moves c.work.result c.args.command.now (ToWork c.in-Work.node c.in-Work.origin)
+    (cluster_of g.K.Keeper.kept c.args.self.now) (cluster_of g.K.Keeper.kept c.work.new.self)
+    (ap subject_of c.in-Work.is) c.work.ensures
+
 pub listen-requires-clause-id : goal.listen-requires-clause-id
 listen-requires-clause-id g c =
     let server = (subst IsSpoken c.in-Listen.is c.requires.spoken).1.1 in
     (server.0, omega (arith, server.1))
+
+pub work-requires-clause-id : goal.work-requires-clause-id
+work-requires-clause-id g c =
+    let origin = (subst IsSpoken c.in-Work.is c.requires.spoken).1.1 in
+    (origin.0, omega (arith, origin.1))
 
 pub ask-requires-clause-one : goal.ask-requires-clause-one
 ask-requires-clause-one g c = one_left c.args.command.now (record {
@@ -73,6 +85,7 @@ ask-requires-clause-one g c = one_left c.args.command.now (record {
   join = c.in_default.not-Join;
   sync = c.in_default.not-Sync;
   listen = c.in_default.not-Listen;
+  work = c.in_default.not-Work;
 })
 
 abbrev takes : Command → Bool
@@ -99,6 +112,9 @@ returns-in-Sync-clause-spares g c = spared c.args.command.now _ (ap takes c.in-S
 pub returns-in-Listen-clause-spares : goal.returns-in-Listen-clause-spares
 returns-in-Listen-clause-spares g c = spared c.args.command.now _ (ap takes c.in-Listen.is)
 
+pub returns-in-Work-clause-spares : goal.returns-in-Work-clause-spares
+returns-in-Work-clause-spares g c = spared c.args.command.now _ (ap takes c.in-Work.is)
+
 pub returns-in_default-clause-spares : goal.returns-in_default-clause-spares
 returns-in_default-clause-spares g c = spared c.args.command.now _ (none_left c.args.command.now (record {
   database = c.in_default.not-Database;
@@ -111,4 +127,5 @@ returns-in_default-clause-spares g c = spared c.args.command.now _ (none_left c.
   join = c.in_default.not-Join;
   sync = c.in_default.not-Sync;
   listen = c.in_default.not-Listen;
+  work = c.in_default.not-Work;
 }))

@@ -3,7 +3,7 @@ use Rattle.std.specs.Prelude.{◌||◌}
 use Rattle.std.specs.FinMap.{get}
 use Rattle.std.specs.Str.{bytes_eq}
 use Rattle.node_state.specs.declared.memory.Member.{Member}
-use Rattle.node_state.specs.Known.{learned_member, learned_name}
+use Rattle.node_state.specs.Known.{learned_as, learned_name}
 use Rattle.node_state.specs.Members.{MemberMap, NameMap}
 use Rattle.node_state.proofs.Formed.{on_ok, on_any}
 use Rattle.node_state.proofs.Joining.{name_learned}
@@ -22,13 +22,13 @@ invariant_of-self-in-SetAddTable c =
 pub returns-in_ok-insert-in-SetAddTable-clause-members : goal.returns-in_ok-insert-in-SetAddTable-clause-members
 returns-in_ok-insert-in-SetAddTable-clause-members c =
     let old = c.args.self.now.members.live in
-    let member : Member = record { table = c.in-SetAddTable.table; set = c.in-SetAddTable.set; leads = true } in
+    let member : Member = record { table = c.in-SetAddTable.table; set = c.in-SetAddTable.set; leads = c.args.leads } in
     let named = c.in_ok-live-in-SetAddTable.ensures.items ∙ c.as_slice.ensures.value in
     on_any c.insert-in-SetAddTable.result
     (λ q. ap (λ (ms : MemberMap). get ms q) c.in_ok-insert-in-SetAddTable.ensures.ok
     ∙ put_member old c.in_ok-live-in-SetAddTable.live.items member q
     ∙ ap (λ k. cond (bytes_eq q k) (Some member) (get old q)) named
-    ∙ ap (λ b. learned_member b q (get old q)) (sym c.in-SetAddTable.is))
+    ∙ ap (λ b. learned_as c.args.leads b q (get old q)) (sym c.in-SetAddTable.is))
 
 pub returns-in_ok-insert-in-SetAddTable-clause-names : goal.returns-in_ok-insert-in-SetAddTable-clause-names
 returns-in_ok-insert-in-SetAddTable-clause-names c =

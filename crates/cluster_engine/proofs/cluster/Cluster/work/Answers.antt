@@ -1,0 +1,32 @@
+use Rattle.std.proofs.Common.{◌∙◌, IfOk, sym, subst}
+use Rattle.std.proofs.lemmas.List.{with_items_is}
+use Rattle.slon_model.specs.Tasks.{ToWork}
+use Rattle.slonik_exec.specs.Databases.{bases_of, Runs}
+use Rattle.slon_turns.specs.Working.{Works}
+use Rattle.cluster_engine.specs.Calls.{IsActed}
+use Rattle.cluster_engine.specs.Clustered.{cluster_of}
+use Rattle.cluster_engine.proofs.Taking.{with_queues, kept_as, work_if}
+use Rattle.cluster_engine.proofs.cluster.Cluster.work.Goals as goal
+
+pub returns : goal.returns
+returns g c =
+    let kept = g.K.Keeper.kept in
+    let old = cluster_of kept c.args.self.now in
+    let node = c.args.node in
+    let origin = c.args.origin in
+    let news = bases_of kept c.take_work.new.databases in
+    let queues = c.take_work.new.queues in
+    let items =
+    with_items_is c.args.self.now.databases c.take_work.new.databases
+    (c.take_work.auto.databases ∙ c.deref_mut.ensures.len) in
+    subst (λ xs. IfOk c.take_work.result (λ reply. IsActed (ToWork node origin) old reply
+    (with_queues (bases_of {g = g.K.Keeper} kept xs) queues old))) (sym items)
+    (work_if node origin old news queues c.take_work.result
+    (subst (λ xs. IfOk c.take_work.result (λ reply. Runs (bases_of {g = g.K.Keeper} kept xs) reply news))
+    c.deref_mut.ensures.value c.take_work.ensures.runs)
+    (subst (λ xs. IfOk c.take_work.result (λ reply. Works node origin old.memory.switches.started
+    (kept_as (bases_of {g = g.K.Keeper} kept xs) old.memory.queues) reply (kept_as news queues)))
+    c.deref_mut.ensures.value
+    (subst (λ started. IfOk c.take_work.result (λ reply. Works node origin started
+    (kept_as (bases_of kept c.deref_mut.result.now) old.memory.queues) reply (kept_as news queues)))
+    c.deref.ensures.value c.take_work.ensures.works)))

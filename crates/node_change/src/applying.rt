@@ -1,0 +1,38 @@
+// Events of other nodes, which a node takes over and carries out.
+ghost use Rattle.std.specs.Prelude.{◌≡◌, Some, true, is_some};
+ghost use Rattle.slon_base.specs.Keeper.{Store};
+ghost use Rattle.store_rows.specs.Rows.{IsId};
+ghost use Rattle.store_rows.specs.Space.{Becomes};
+ghost use Rattle.store_rows.specs.Steps.{Safe};
+ghost use Rattle.slon_model.specs.Deeds.{Node, knowledge};
+ghost use Rattle.event_store.specs.Keeping.{KeepsViews};
+ghost use Rattle.event_store.specs.Seen.{seen_event};
+ghost use Rattle.node_state.specs.Held.{HoldsNode};
+ghost use Rattle.node_state.specs.Known.{IsHomed};
+ghost use Rattle.node_change.specs.Done.{CanApply, HasApplied};
+
+use event_store::{Event, store};
+use set_config::change;
+use slon_base::Keeper;
+use std::alloc::Global;
+use store_rows::Stop;
+
+/// The node applies an event of another node, in what is pending: it holds the event, is as far as that in the stream
+/// of its origin, and makes the change that the body names. The event is to be behind all events of its origin that
+/// the node has met, and a table may be put only into a set that the node knows.
+///
+/// # Errors
+///
+/// `BadRow` where a row that is read is not in its form; what stopped the store, and `NoMemory`.
+pub fn apply<K: Keeper>(alloc: Global, keeper: &mut K, own: u32, event: &Event) -> Result<(), Stop>
+    requires opened { is_some (K.kept keeper.old).pending ≡ true }
+    requires own { IsId own }
+    requires keeps { KeepsViews event.now.body }
+    ensures safe { Safe (K.kept keeper.old) (K.kept keeper.new) result }
+    ensures turns { (n : Node) (m : Store) → n.id ≡ own → (K.kept keeper.old).pending ≡ Some (Some m) →
+        HoldsNode (Some n) m → CanApply n (seen_event event.now) → IsHomed event.now.body (knowledge n).config →
+        Becomes (HasApplied n (seen_event event.now) m) (K.kept keeper.new) result }
+{
+    store(alloc, keeper, own, event)?;
+    change(alloc, keeper, event.origin, event.number, &event.body)
+}

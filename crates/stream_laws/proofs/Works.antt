@@ -1,0 +1,88 @@
+-- The event that a turn finds to be applied: the next one of its stream for the node, of an origin that it knows.
+use Rattle.std.proofs.Common.{◌≡◌, ◌≢◌, ℕ, suc, true, [], ◌∷◌, Option, Some, None, Ok, is_some, refl, sym, ap}
+use Rattle.std.proofs.Common.{subst, ◌∙◌, not, arith}
+use Rattle.std.specs.Prelude.{codes, ◌==◌, ◌+◌}
+use Rattle.std.proofs.lemmas.Bool.{eqb-true, not-false}
+use Rattle.slon_model.specs.declared.reply.Refusal.TheVariants as refused
+use Rattle.slon_model.specs.Maps.{entry_at}
+use Rattle.slon_model.specs.Events.{Event}
+use Rattle.slon_model.specs.Deeds.{knowledge, progress}
+use Rattle.slon_model.specs.Sessions.{World, Seat, when}
+use Rattle.slon_model.specs.Turns.{on_turn}
+use Rattle.slon_model.specs.Polls.{queue_at, line_of}
+use Rattle.slon_model.specs.Working.{next_at, can_carry_out, taken_up, worked}
+use Rattle.slon_model.proofs.Names.{one_found}
+use Rattle.stream_laws.specs.Nodes.{nodes_in, IsEvent}
+use Rattle.stream_laws.specs.Facts.{WaitsIn, IsRegular}
+use Rattle.stream_laws.proofs.Lists.{found_all}
+use Rattle.stream_laws.proofs.Seats.{OnOk, IsSeat, bind_ok, checked_ok, all_none, when_none, seat_node, turn_ok}
+use Rattle.stream_laws.proofs.Marks.{AreNew}
+use Rattle.stream_laws.proofs.Applies.{MayCome, Applying, not_own, meeting, may_come}
+use Rattle.stream_laws.proofs.Commits.{applying_at}
+use Rattle.stream_laws.proofs.Waiting.{waiting_in}
+
+-- The seat is that of a node of the session, which can carry out what the event says. It is an event of this origin, of
+-- a stream of the session, of another node that this one knows, and the next one of that stream.
+pub record IsWork (w : World) (origin : ℕ) (s : Seat) (e : Event) : Type 0 where
+  pub seat : IsSeat w.places s
+  pub able : can_carry_out s.node.id e.body ≡ true
+  pub event : IsEvent (nodes_in w.places) e
+  pub own : e.origin ≡ origin
+  pub knows : is_some (entry_at e.origin (knowledge s.node).config.nodes) ≡ true
+  pub next : e.number ≡ suc (progress e.origin (knowledge s.node))
+  pub other : e.origin ≢ s.node.id
+  -- what it makes known is new at the node, which knows the set of a table that comes into one
+  pub new : AreNew e.body (knowledge s.node).config
+  pub may : MayCome e.origin e.body (knowledge s.node).config
+
+next_work : (w : World) → IsRegular w → (s : Seat) (origin : ℕ) → IsSeat w.places s → (e : Event) →
+    next_at w.memory s origin ≡ Some e → can_carry_out s.node.id e.body ≡ true → IsWork w origin s e
+next_work w regular s origin is e found able = record {
+  seat = is;
+  able = able;
+  event = waits.0.event;
+  own = waits.1;
+  knows =
+      subst (λ n. is_some (entry_at e.origin (knowledge n).config.nodes) ≡ true)
+      (one_found _ _ (sym waits.0.is ∙ seat_node w.places s is)) waits.0.knows;
+  next = next;
+  other = not_own work regular.nodes;
+  new = (meeting work regular.nodes).new;
+  may = may_come work regular.nodes;
+}
+  where
+    both : WaitsIn (nodes_in w.places) s.name origin e × ((e.number == progress origin s.known + 1) ≡ true)
+    both = found_all (WaitsIn (nodes_in w.places) s.name origin) _ (line_of origin (queue_at s.name w.memory)) e
+        (waiting_in (nodes_in w.places) s.name origin w.memory regular.waits) found
+
+    waits : WaitsIn (nodes_in w.places) s.name origin e
+    waits = both.0
+
+    next : e.number ≡ suc (progress e.origin (knowledge s.node))
+    next =
+        let number = eqb-true e.number (progress origin s.known + 1) both.1 in
+        let known = ap (progress origin) is.known in
+        let at = ap (λ k. progress k (knowledge s.node)) waits.1 in
+        omega (arith, number, known, at)
+
+    work : Applying (nodes_in w.places)
+    work = applying_at w.places s e is waits.0.event next
+
+taken_ok : (P : Event → Type 0) (s : Seat) (o : Option Event) →
+    ((e : Event) → o ≡ Some e → can_carry_out s.node.id e.body ≡ true → P e) → OnOk P (taken_up s o)
+taken_ok P s None from = tt
+taken_ok P s (Some e) from =
+    let checks = when (not (can_carry_out s.node.id e.body)) (refused.NotBuilt (codes "work")) ∷ [] in
+    checked_ok P checks e
+    (λ none. from e refl (not-false _ (when_none _ (refused.NotBuilt (codes "work")) (all_none checks none).0)))
+
+pub worked_ok : (node origin : ℕ) (w : World) → IsRegular w → OnOk (λ x. IsWork w origin x.0 x.1) (worked node origin w)
+worked_ok node origin w regular =
+    bind_ok (IsSeat w.places) (λ x. IsWork w origin x.0 x.1) (on_turn node w) _ (turn_ok node w regular.once)
+    (λ s is. bind_ok (IsWork w origin s) (λ x. IsWork w origin x.0 x.1) (taken_up s (next_at w.memory s origin)) _
+    (taken_ok (IsWork w origin s) s (next_at w.memory s origin) (next_work w regular s origin is)) (λ e work. work))
+
+-- what is known of the event that a turn applies
+pub work_is : (node origin : ℕ) (w : World) (s : Seat) (e : Event) → IsRegular w → worked node origin w ≡ Ok (s, e) →
+    IsWork w origin s e
+work_is node origin w s e regular is = subst (OnOk (λ x. IsWork w origin x.0 x.1)) is (worked_ok node origin w regular)
