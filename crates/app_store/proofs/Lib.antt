@@ -9,7 +9,6 @@ pub mod MetaNumbers
 pub mod Openings
 pub mod Pending
 pub mod Places
-pub mod Reading
 pub mod Rising
 pub mod Scanning
 pub mod Serving

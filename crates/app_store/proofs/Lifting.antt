@@ -55,7 +55,7 @@ lifted_runs Xids p m d stamp runs is same = record {
   numbers = runs.numbers;
   opened =
       λ name. opens_same p (lifted_place Xids p) (find_named name p.opens)
-      (Rattle.std.specs.FinMap.get m.opens name) refl refl (runs.opened name);
+      (Rattle.std.specs.FinMap.get m.opens name) (refl, refl, refl) (runs.opened name);
   locked = runs.locked;
   known = runs.known;
   unpromised = runs.unpromised;
@@ -69,7 +69,7 @@ lifted_runs Actions p m d stamp runs is same = record {
   numbers = is;
   opened =
       λ name. opens_same p (lifted_place Actions p) (find_named name p.opens)
-      (Rattle.std.specs.FinMap.get m.opens name) refl refl (runs.opened name);
+      (Rattle.std.specs.FinMap.get m.opens name) (refl, refl, refl) (runs.opened name);
   locked = runs.locked;
   known = runs.known;
   unpromised = runs.unpromised;

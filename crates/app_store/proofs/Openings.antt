@@ -1,7 +1,7 @@
 -- Open transactions in the code and by the rules, after each change of a place.
 use Rattle.std.proofs.Common.{◌≡◌, ℕ, Bool, true, false, cond, List, [], ◌∷◌, ◌++◌, length, Option}
 use Rattle.std.proofs.Common.{Some, None, refl, sym, ap, subst, ◌∙◌, arith, is_some}
-use Rattle.std.specs.Prelude.{◌==◌, ◌&&◌, ◌||◌, filter}
+use Rattle.std.specs.Prelude.{◌==◌, ◌&&◌, ◌||◌, nat_le, filter}
 use Rattle.std.specs.List.{AllByRecursion}
 use Rattle.std.specs.Option.{option_map}
 use Rattle.std.specs.Str.{bytes_eq}
@@ -13,13 +13,14 @@ use Rattle.std.proofs.lemmas.Slice.Eq.{bytes_eq-Decides}
 use Rattle.slon_base.specs.Keeper.{key_cmp}
 use Rattle.slon_base.specs.Codec.{list_bytes, IsText}
 use Rattle.slon_base.proofs.Spelled.{text_front, text_bytes-same}
-use Rattle.slon_model.specs.Rows.{Rows, Action, Change, change_key, touches, is_on, member, apply, rows_by}
-use Rattle.slon_model.specs.Place.{Place, open_xids, seen_rows, standing_rows, own_actions}
+use Rattle.slon_model.specs.Rows.{Rows, Action, Change, change_key, touches, is_on, member, apply}
+use Rattle.slon_model.specs.Place.{Place, Filling, filling_of, open_xids, rows_since, seen_rows, standing_rows}
+use Rattle.slon_model.specs.Place.{own_actions}
 use Rattle.slon_model.specs.Moves.{written, committed}
 use Rattle.slon_model.proofs.Names.{bytes_same}
 use Rattle.slon_laws.specs.Sound.{Sound}
 use Rattle.slon_laws.specs.Keys.{change_at}
-use Rattle.slon_laws.proofs.Keys.{get-played, key_test}
+use Rattle.slon_laws.proofs.Keys.{agree_at, get-played}
 use Rattle.change_capture.specs.declared.action.Action.{Action as CapturedAction}
 use Rattle.node_state.specs.Held.{action_as, captured_all}
 use Rattle.app_store.specs.declared.opens.Transaction.{Transaction}
@@ -29,7 +30,7 @@ use Rattle.app_store.specs.Targets.{Spot}
 use Rattle.app_store.specs.Written.{with_write}
 use Rattle.slon_base.proofs.Order.{same_keys, equal_of, apart, tied}
 use Rattle.app_store.proofs.Places.{NoneOf, none_written, none_counted, none_later, unwritten}
-use Rattle.app_store.proofs.Places.{seen_unwritten, TwoOpen, written_by_one}
+use Rattle.app_store.proofs.Places.{is_behind, seen_unwritten, TwoOpen, written_by_one}
 
 -- ---- keys of rows
 
@@ -56,30 +57,32 @@ row_key-test t u k l a b =
 
 -- ---- a transaction that begins
 
--- nothing of an open transaction changes where actions and commits stay
-pub opened_same : (p q : Place) (x : ℕ) (t : Transaction) → q.actions ≡ p.actions → q.commits ≡ p.commits →
-    IsOpened p x t → IsOpened q x t
-opened_same p q x t actions commits o =
+-- nothing of an open transaction changes where actions, commits and fillings stay
+pub opened_same : (p q : Place) (x : ℕ) (t : Transaction) →
+    (q.actions ≡ p.actions) × (q.commits ≡ p.commits) × (q.fillings ≡ p.fillings) → IsOpened p x t → IsOpened q x t
+opened_same p q x t (actions, commits, fillings) o =
     subst (λ c. IsOpened (record q { commits = c }) x t) (sym commits)
     (subst (λ a. IsOpened (record q { commits = p.commits; actions = a }) x t) (sym actions)
-    (record { xid_is = o.xid_is; actions = o.actions; sees = o.sees; wrote = o.wrote; keys = o.keys }))
+    (subst (λ f. IsOpened (record q { commits = p.commits; actions = p.actions; fillings = f }) x t) (sym fillings)
+    (record { xid_is = o.xid_is; actions = o.actions; sees = o.sees; wrote = o.wrote; keys = o.keys })))
 
 nothing : (actions : List Action) → length actions ≡ 0 → actions ≡ []
 nothing [] none = refl
 nothing (a ∷ rest) none = absurd (omega (arith, none))
 
 -- the transaction that takes the next id
-pub opened_new : (p q : Place) (y : ℕ) → Sound p → q.actions ≡ p.actions → q.commits ≡ p.commits → y ≡ p.xids.next →
+pub opened_new : (p q : Place) (y : ℕ) → Sound p →
+    (q.actions ≡ p.actions) × (q.commits ≡ p.commits) × (q.fillings ≡ p.fillings) → y ≡ p.xids.next →
     IsOpened q p.xids.next (record { xid = y; actions = []; writes = empty })
-opened_new p q y sound actions commits is =
+opened_new p q y sound same is =
     let x = p.xids.next in
     let none : NoneOf x p.actions = none_later x x p.actions sound.known (omega arith) in
-    opened_same p q x _ actions commits (record {
+    opened_same p q x _ same (record {
       xid_is = is;
       actions = sym (ap captured_all (nothing (own_actions x p) (none_counted x p.actions none)));
       sees =
           λ table key text. ap (option_map list_bytes)
-          (seen_unwritten x p.commits table key p.actions
+          (seen_unwritten x p.commits table key p.actions (filling_of table p.fillings)
           (unwritten x table key p.actions (none_written x table key p.actions none)))
           ∙ ap (λ o. over o (option_map list_bytes (get (standing_rows p table) key)))
           (sym (get-empty key_cmp (row_key table key)));
@@ -103,6 +106,7 @@ pub opened_other : {p : Place} {y : ℕ} {t : Transaction} (x : ℕ) (table : Li
     (x == y) ≡ false → member x p.commits ≡ false → IsOpened p y t → IsOpened (written x table change p) y t
 opened_other {p} {y} {t} x table change differ open_still o =
     let a : Action = record { number = p.numbers.next; xid = x; table = table; change = change } in
+    let behind : List ℕ → Bool = λ other. nat_le (filling_of other p.fillings).first p.numbers.next in
     record {
       xid_is = o.xid_is;
       actions =
@@ -110,11 +114,13 @@ opened_other {p} {y} {t} x table change differ open_still o =
           ∙ ap (λ b. captured_all (cond b (a ∷ filter (λ a. a.xid == y) p.actions)
           (filter (λ a. a.xid == y) p.actions))) (sym differ);
       sees =
-          λ other key text. skipped ((x == y) || member x p.commits) other a key (seen_rows y p other)
-          (ap (λ b. b || member x p.commits) differ ∙ open_still)
+          λ other key text. skipped (((x == y) || member x p.commits) && behind other) other a key
+          (seen_rows y p other)
+          (ap (λ b. (b || member x p.commits) && behind other) differ ∙ ap (λ b. b && behind other) open_still)
           ∙ o.sees other key text
           ∙ ap (over (get t.writes (row_key other key)))
-          (sym (skipped (member x p.commits) other a key (standing_rows p other) open_still));
+          (sym (skipped (member x p.commits && behind other) other a key (standing_rows p other)
+          (ap (λ b. b && behind other) open_still)));
       wrote =
           λ other key text. o.wrote other key text
           ∙ ap (λ b. (b && is_on other key a) || has_written y other key p.actions) (sym differ);
@@ -134,6 +140,8 @@ pub record IsWrite (s : Spot) (change : Change) (value : Option (List ℕ)) (p :
   pub key_text : IsText s.key
   pub is_key : change_key change ≡ s.key
   pub value_is : value ≡ option_map list_bytes (change_at change (get (seen_rows s.xid p s.table) s.key))
+  -- tables were filled before it
+  pub behind : (table : List ℕ) → nat_le (filling_of table p.fillings).first p.numbers.next ≡ true
 
 -- the action of a write, as it is captured
 abbrev pub action_of : Spot → Change → Place → CapturedAction
@@ -162,10 +170,12 @@ opened_own {s} {change} {value} {p} t is o =
           let rows = seen_rows x p other in
           let standing_same : option_map list_bytes (get (standing_rows (written x table change p) other) k)
           ≡ option_map list_bytes (get (standing_rows p other) k) =
-          skipped (member x p.commits) other a k (standing_rows p other) open_still in
-          let step = get-played (λ b. member b.xid (x ∷ p.commits)) other k a p.actions empty in
-          let first : (((x == x) || member x p.commits) && bytes_eq other table) ≡ bytes_eq other table =
-          ap (λ b. (b || member x p.commits) && bytes_eq other table) own in
+          skipped (member x p.commits && nat_le (filling_of other p.fillings).first a.number) other a k
+          (standing_rows p other) (ap (λ b. b && nat_le (filling_of other p.fillings).first a.number) open_still) in
+          let f = filling_of other p.fillings in
+          let step = get-played (is_behind f (x ∷ p.commits)) other k a p.actions f.rows in
+          let first : (is_behind f (x ∷ p.commits) a && bytes_eq other table) ≡ bytes_eq other table =
+          λ i. ((own i || member x p.commits) && is.behind other i) && bytes_eq other table in
           let seen : option_map list_bytes (get (seen_rows x (written x table change p) other) k)
           ≡ option_map list_bytes (cond (bytes_eq other table && touches k change) (change_at change (get rows k))
           (get rows k)) =
@@ -238,25 +248,32 @@ opened_committed p name two t sound o = record {
     none_over None one has = refl
     none_over (Some v) one has = absurd (false≢true (sym has))
 
-    swap : (as_is : List Action) (table key : List ℕ) →
+    swap : (f : Filling) (as_is : List Action) (table key : List ℕ) →
         AllByRecursion (λ a. is_on table key a ≡ true → (a.xid == x) ≡ false) as_is →
         AllByRecursion (λ a. is_on table key a ≡ true →
-        member a.xid (y ∷ x ∷ p.commits) ≡ member a.xid (y ∷ p.commits)) as_is
-    swap [] table key all = tt
-    swap (a ∷ rest) table key all =
-        ((λ on. ap (λ b. (a.xid == y) || (b || member a.xid p.commits)) (all.0 on)), swap rest table key all.1)
+        is_behind f (y ∷ x ∷ p.commits) a ≡ is_behind f (y ∷ p.commits) a) as_is
+    swap f [] table key all = tt
+    swap f (a ∷ rest) table key all = (
+      (λ on. ap (λ b. ((a.xid == y) || (b || member a.xid p.commits)) && nat_le f.first a.number) (all.0 on)),
+      swap f rest table key all.1,
+    )
+
+    -- what the actions of these transactions make of a table
+    rows_of : List ℕ → List ℕ → Rows
+    rows_of xs table = rows_since (λ a. member a.xid xs) table p.actions (filling_of table p.fillings)
 
     by_row : (table key : List ℕ) → IsText table → (b : Bool) → has_written y table key p.actions ≡ b →
-        option_map list_bytes (get (rows_by (λ a. member a.xid (y ∷ x ∷ p.commits)) table p.actions) key)
-        ≡ over (get t.writes (row_key table key))
-        (option_map list_bytes (get (rows_by (λ a. member a.xid (x ∷ p.commits)) table p.actions) key))
+        option_map list_bytes (get (rows_of (y ∷ x ∷ p.commits) table) key)
+        ≡ over (get t.writes (row_key table key)) (option_map list_bytes (get (rows_of (x ∷ p.commits) table) key))
     by_row table key text true wrote =
         let others = written_by_one two table key p.actions sound.locked wrote in
+        let f = filling_of table p.fillings in
         ap (option_map list_bytes)
-        (Rattle.slon_laws.proofs.Keys.agree_at (λ a. member a.xid (y ∷ x ∷ p.commits))
-        (λ a. member a.xid (y ∷ p.commits)) table key p.actions (swap p.actions table key others))
+        (agree_at (is_behind f (y ∷ x ∷ p.commits)) (is_behind f (y ∷ p.commits)) table key p.actions f.rows
+        (swap f p.actions table key others))
         ∙ o.sees table key text ∙ some_over (get t.writes (row_key table key)) _ _ (o.wrote table key text ∙ wrote)
     by_row table key text false wrote =
         ap (option_map list_bytes)
-        (seen_unwritten y (x ∷ p.commits) table key p.actions (unwritten y table key p.actions wrote))
+        (seen_unwritten y (x ∷ p.commits) table key p.actions (filling_of table p.fillings)
+        (unwritten y table key p.actions wrote))
         ∙ none_over (get t.writes (row_key table key)) _ (o.wrote table key text ∙ wrote)

@@ -1,17 +1,19 @@
 -- What the rules say of open transactions and of locks after each change of a place.
 use Rattle.std.proofs.Common.{◌≡◌, ℕ, ◌<◌, ◌≤◌, Bool, true, false, cond, List, [], ◌∷◌, ◌++◌, length, Option, Some}
 use Rattle.std.proofs.Common.{None, refl, sym, ap, ◌∙◌, arith}
-use Rattle.std.specs.Prelude.{◌==◌, ◌&&◌, ◌||◌, not, filter}
+use Rattle.std.specs.Prelude.{◌==◌, ◌&&◌, ◌||◌, nat_le, not, filter}
 use Rattle.std.specs.List.{AllByRecursion}
 use Rattle.std.specs.Str.{bytes_eq}
 use Rattle.std.specs.FinMap.{get}
 use Rattle.std.proofs.lemmas.Bool.{false≢true, true≢false, false_from_ne_true, eqb-true, and_parts}
 use Rattle.std.proofs.lemmas.Slice.Eq.{bytes_eq-Decides}
 use Rattle.slon_model.specs.Names.{Named, find_named, without}
-use Rattle.slon_model.specs.Rows.{Rows, Action, Change, change_key, touches, is_on, member, play, rows_by, holder_in}
+use Rattle.slon_model.specs.Rows.{Action, change_key, touches, is_on, member, holder_in}
+use Rattle.slon_model.specs.Place.{Filling, rows_since}
 use Rattle.slon_laws.specs.Sound.{Pairs, IsLocked, conflicts, AreNamedOnce, ids_of}
 use Rattle.slon_model.specs.Snapshots.{Rising}
 use Rattle.slon_laws.proofs.Keys.{agree_at}
+use Rattle.slon_laws.proofs.Played.{play_agrees}
 use Rattle.slon_model.proofs.Names.{bytes_same}
 use Rattle.slon_laws.proofs.Locks.{from_one_row}
 use Rattle.slon_laws.proofs.Opens.{member_without, member_taken}
@@ -138,32 +140,34 @@ none_later n x (a ∷ rest) known le = (
 
 -- ---- rows by tests that agree
 
-pub rows_agree : (p r : Action → Bool) (table : List ℕ) (actions : List Action) →
-    AllByRecursion (λ a. p a ≡ r a) actions → rows_by p table actions ≡ rows_by r table actions
-rows_agree p r table [] agree = refl
-rows_agree p r table (a ∷ rest) agree =
-    ap (λ b. cond (b && bytes_eq table a.table) (Rattle.slon_model.specs.Rows.apply a.change (rows_by p table rest))
-    (rows_by p table rest)) agree.0
-    ∙ ap (λ (s : Rows). cond (r a && bytes_eq table a.table) (Rattle.slon_model.specs.Rows.apply a.change s) s)
-    (rows_agree p r table rest agree.1)
+-- the action is of one of these transactions, and behind a filling
+abbrev pub is_behind : Filling → List ℕ → Action → Bool
+is_behind f xs a = member a.xid xs && nat_le f.first a.number
 
-pub all_or : (x : ℕ) (xs : List ℕ) (actions : List Action) → NoneOf x actions →
-    AllByRecursion (λ a. member a.xid (x ∷ xs) ≡ member a.xid xs) actions
-all_or x xs [] none = tt
-all_or x xs (a ∷ rest) none = (ap (λ b. b || member a.xid xs) none.0, all_or x xs rest none.1)
+-- a transaction without actions sees what the others see
+pub rows_unwritten : (x : ℕ) (xs : List ℕ) (table : List ℕ) (actions : List Action) (f : Filling) → NoneOf x actions →
+    rows_since (λ a. member a.xid (x ∷ xs)) table actions f ≡ rows_since (λ a. member a.xid xs) table actions f
+rows_unwritten x xs table actions f none =
+    play_agrees (is_behind f (x ∷ xs)) (is_behind f xs) table actions f.rows (each actions none)
+  where
+    each : (es : List Action) → NoneOf x es → AllByRecursion (λ a. is_behind f (x ∷ xs) a ≡ is_behind f xs a) es
+    each [] none = tt
+    each (a ∷ rest) none =
+        (ap (λ b. (b || member a.xid xs) && nat_le f.first a.number) none.0, each rest none.1)
 
 -- a transaction that did not write a row sees what the others see
-pub seen_unwritten : (x : ℕ) (xs : List ℕ) (table key : List ℕ) (actions : List Action) →
+pub seen_unwritten : (x : ℕ) (xs : List ℕ) (table key : List ℕ) (actions : List Action) (f : Filling) →
     AllByRecursion (λ a. is_on table key a ≡ true → (a.xid == x) ≡ false) actions →
-    get (rows_by (λ a. member a.xid (x ∷ xs)) table actions) key
-    ≡ get (rows_by (λ a. member a.xid xs) table actions) key
-seen_unwritten x xs table key actions none =
-    agree_at (λ a. member a.xid (x ∷ xs)) (λ a. member a.xid xs) table key actions (each actions none)
+    get (rows_since (λ a. member a.xid (x ∷ xs)) table actions f) key
+    ≡ get (rows_since (λ a. member a.xid xs) table actions f) key
+seen_unwritten x xs table key actions f none =
+    agree_at (is_behind f (x ∷ xs)) (is_behind f xs) table key actions f.rows (each actions none)
   where
     each : (es : List Action) → AllByRecursion (λ a. is_on table key a ≡ true → (a.xid == x) ≡ false) es →
-        AllByRecursion (λ a. is_on table key a ≡ true → member a.xid (x ∷ xs) ≡ member a.xid xs) es
+        AllByRecursion (λ a. is_on table key a ≡ true → is_behind f (x ∷ xs) a ≡ is_behind f xs a) es
     each [] all = tt
-    each (a ∷ rest) all = ((λ on. ap (λ b. b || member a.xid xs) (all.0 on)), each rest all.1)
+    each (a ∷ rest) all =
+        ((λ on. ap (λ b. (b || member a.xid xs) && nat_le f.first a.number) (all.0 on)), each rest all.1)
 
 -- ---- rows of one transaction
 

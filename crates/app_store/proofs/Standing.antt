@@ -278,13 +278,13 @@ looked p b kept fits held later =
       held = (fits.held.0, held ∙ fits.held.1, fits.held.2);
     }
 
--- what is open stays so where actions and commits stay
-pub opens_same : (p q : Place) (x : Option ℕ) (t : Option Transaction) → q.actions ≡ p.actions → q.commits ≡ p.commits →
-    OpensAs p x t → OpensAs q x t
-opens_same p q None None actions commits o = tt
-opens_same p q None (Some t) actions commits o = o
-opens_same p q (Some x) None actions commits o = o
-opens_same p q (Some x) (Some t) actions commits o = opened_same p q x t actions commits o
+-- what is open stays so where actions, commits and fillings stay
+pub opens_same : (p q : Place) (x : Option ℕ) (t : Option Transaction) →
+    (q.actions ≡ p.actions) × (q.commits ≡ p.commits) × (q.fillings ≡ p.fillings) → OpensAs p x t → OpensAs q x t
+opens_same p q None None same o = tt
+opens_same p q None (Some t) same o = o
+opens_same p q (Some x) None same o = o
+opens_same p q (Some x) (Some t) same o = opened_same p q x t same o
 
 -- a database went down, and its store holds what it held
 pub record HasCrashed (old new : Base) : Type 0 where

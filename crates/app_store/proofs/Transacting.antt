@@ -22,7 +22,7 @@ use Rattle.slon_model.specs.Names.{find_named, without as without_name}
 use Rattle.slon_model.specs.Rows.{Action, member, holder_in}
 use Rattle.slon_model.specs.Tasks.{Task, ToMake, ToOpen, ToCommit, ToAbort, ToList}
 use Rattle.slon_model.specs.Place.{Place, open_xids, holder, standing_rows, own_actions, own_count, raised, node_id}
-use Rattle.slon_model.specs.Place.{drawn}
+use Rattle.slon_model.specs.Place.{drawn, filling_of}
 use Rattle.slon_model.specs.Deeds.{Node, knowledge}
 use Rattle.slon_model.specs.Logs.{own_logs, logged}
 use Rattle.log_switch.specs.Holds.{logged_more}
@@ -52,7 +52,7 @@ use Rattle.app_store.specs.Spelled.{Holds, AreRows, row_key, over, new_table, ne
 use Rattle.store_rows.proofs.Spaces.{any_of}
 use Rattle.app_store.proofs.Holding.{holds_same, holds_table, holds_rows, get-written, stored_of}
 use Rattle.app_store.proofs.Openings.{opened_same, opened_new, opened_committed}
-use Rattle.app_store.proofs.Places.{member_snoc, holders_agree, counted_none, rows_agree, all_or, released, freed}
+use Rattle.app_store.proofs.Places.{member_snoc, holders_agree, counted_none, rows_unwritten, released, freed}
 use Rattle.app_store.proofs.Places.{ended_names}
 use Rattle.app_store.proofs.Standing.{up_running, fits_running, carried, fell, wavers, looked, opens_same}
 use Rattle.app_store.proofs.Standing.{named_as, named_up}
@@ -114,7 +114,8 @@ table_runs table columns stamp p m runs is = record {
   founded = omega arith;
   xids = runs.xids;
   numbers = runs.numbers;
-  opened = λ q. opens_same p (tabled table columns p) (find_named q p.opens) (get m.opens q) refl refl (runs.opened q);
+  opened = λ q. opens_same p (tabled table columns p) (find_named q p.opens) (get m.opens q) (refl, refl, refl)
+      (runs.opened q);
   locked = runs.locked;
   known = runs.known;
   unpromised = runs.unpromised;
@@ -299,8 +300,8 @@ begun_runs {p} {m} name xid sound runs none xid_is = record {
         OpensAs (begun name p) (behind q o) t
     stays q None t other opens =
         subst (λ b. OpensAs (begun name p) (cond b (Some p.xids.next) None) t) (sym other)
-        (opens_same p (begun name p) None t refl refl opens)
-    stays q (Some x) t other opens = opens_same p (begun name p) (Some x) t refl refl opens
+        (opens_same p (begun name p) None t (refl, refl, refl) opens)
+    stays q (Some x) t other opens = opens_same p (begun name p) (Some x) t (refl, refl, refl) opens
 
     by_name : (q : List ℕ) (t : Bool) → bytes_eq q name ≡ t →
         OpensAs (begun name p) (behind q (find_named q p.opens)) (cond t (Some new) (get m.opens q))
@@ -308,7 +309,7 @@ begun_runs {p} {m} name xid sound runs none xid_is = record {
         subst (λ o. OpensAs (begun name p) (behind q o) (Some new))
         (sym (ap (λ k. find_named k p.opens) (bytes_same q name same) ∙ none))
         (subst (λ b. OpensAs (begun name p) (cond b (Some p.xids.next) None) (Some new)) (sym same)
-        (opened_new p (begun name p) xid sound refl refl (xid_is ∙ ap (λ c. c.next) runs.xids)))
+        (opened_new p (begun name p) xid sound (refl, refl, refl) (xid_is ∙ ap (λ c. c.next) runs.xids)))
     by_name q false other = stays q (find_named q p.opens) (get m.opens q) other (runs.opened q)
 
     or_false : (t : Bool) → (t || false) ≡ t
@@ -531,7 +532,7 @@ aborts {p} {b} name new at ends new_is =
       xids = refl;
       numbers = refl;
       founded = runs.1.founded;
-      keep = λ y u opened differ o. opened_same p q y u refl refl o;
+      keep = λ y u opened differ o. opened_same p q y u (refl, refl, refl) o;
       promised = refl;
       known = λ identity members known. known;
     }) runs.1.stamp)
@@ -621,8 +622,8 @@ commits_none {p} {b} name told new at ends (told_is, zero) new_is =
       stamp = stamp_same i;
       node = same_node name e.xid p none i;
       standing =
-          λ u. rows_agree _ _ u p.actions
-          (all_or e.xid p.commits p.actions (counted_none e.xid p.actions none)) i;
+          λ u. rows_unwritten e.xid p.commits u p.actions (filling_of u p.fillings)
+          (counted_none e.xid p.actions none) i;
     }) ready.fits.held.2))))
 
 -- a commit with actions

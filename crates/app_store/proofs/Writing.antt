@@ -30,7 +30,7 @@ use Rattle.change_capture.specs.declared.action.Change.TheVariants as captured
 use Rattle.node_state.specs.Known.{is_change}
 use Rattle.std.specs.List.{AllByRecursion, list_all}
 use Rattle.slon_model.proofs.Spoken.{value_text, value_texts}
-use Rattle.slon_model.specs.Place.{Place, holder, seen_rows, standing_rows, raised, drawn}
+use Rattle.slon_model.specs.Place.{Place, filling_of, holder, seen_rows, standing_rows, raised, drawn}
 use Rattle.slon_model.specs.Deeds.{Node}
 use Rattle.slon_model.specs.Moves.{Stays, Writes, written, done, is_last}
 use Rattle.slon_model.specs.Deciding.{Decision, Refuses, Accepts, Overflows, refused_if, with_found, limited}
@@ -40,10 +40,10 @@ use Rattle.slon_model.proofs.Names.{bytes_same, all_found}
 use Rattle.slon_laws.specs.Sound.{Sound}
 use Rattle.slon_laws.specs.Keys.{change_at}
 use Rattle.slon_laws.specs.Allowed.{IsFree}
-use Rattle.slon_laws.proofs.Decides.{raised_same}
+use Rattle.slon_laws.proofs.Decides.{either_raised, raised_same}
 use Rattle.slon_laws.proofs.Keys.{key_test}
 use Rattle.slon_laws.proofs.Opens.{found_member}
-use Rattle.slon_laws.proofs.Sounds.{sound_raised}
+use Rattle.slon_laws.proofs.Sounds.{filled_below, sound_raised}
 use Rattle.txn_core.specs.Locks.{holder_of, Locks, without}
 use Rattle.app_store.specs.declared.opens.Transaction.{Transaction}
 use Rattle.app_store.specs.declared.writes.Addition.{Addition}
@@ -309,13 +309,9 @@ added {s} {change} {d} {p} {b} {mid} {new} number ready (Raises is less fits) ma
     let opened = named_opened q mid.memory s.name s.xid runs.1 named in
     let sound = sound_raised Actions p ready.sound in
     let value_is : d.value ≡ option_map list_bytes (change_at change (get (seen_rows s.xid q s.table) s.key)) =
-    subst
-    (λ cs. d.value ≡ option_map list_bytes
-    (change_at change (get (seen_rows s.xid (record q { commits = cs }) s.table) s.key))) (sym same.commits)
-    (subst
-    (λ as_are. d.value ≡ option_map list_bytes
-    (change_at change (get (seen_rows s.xid (record q { commits = p.commits; actions = as_are }) s.table) s.key)))
-    (sym same.actions) may.value_is) in
+    either_raised
+    (λ r. d.value ≡ option_map list_bytes (change_at change (get (seen_rows s.xid r s.table) s.key))) Actions p
+    may.value_is may.value_is in
     let still : member s.xid q.commits ≡ false =
     false_from_ne_true _ (λ committed. sound.apart s.xid (found_member s.name s.xid q.opens named) committed) in
     let a : Adding s change d.value opened.0 q mid.memory = record {
@@ -329,11 +325,14 @@ added {s} {change} {d} {p} {b} {mid} {new} number ready (Raises is less fits) ma
         key_text = more.key_text;
         is_key = may.key_is;
         value_is = value_is;
+        behind = λ table. le-leb (filling_of table q.fillings).first q.numbers.next
+            (filled_below table q.numbers.next q.fillings sound.filled);
       };
     } in
     let after = written s.xid s.table change q in
     let rows_stay : (u : List ℕ) → standing_rows after u ≡ standing_rows q u =
-    λ u. ap (λ b. cond (b && bytes_eq u s.table) (apply change (standing_rows q u)) (standing_rows q u)) still in
+    λ u. ap (λ b. cond ((b && nat_le (filling_of u q.fillings).first q.numbers.next) && bytes_eq u s.table)
+    (apply change (standing_rows q u)) (standing_rows q u)) still in
     Adds number refl (more.number_is ∙ ap (λ c. c.next) runs.1.numbers ∙ same.number) less
     (subst (Fits after)
     (sym

@@ -27,7 +27,7 @@ use Rattle.slon_model.specs.Reaching.{database_of_line, reach, origin_of, owner,
 use Rattle.slon_model.specs.Scripts.{ordered}
 use Rattle.slon_model.specs.Turns.{on_turn}
 use Rattle.slon_model.specs.Polls.{Poll, polled, hearing, stated_by}
-use Rattle.slon_model.specs.Working.{worked, applied_by}
+use Rattle.slon_model.specs.Working.{Carried, worked, applied_by}
 use Rattle.slon_model.specs.World.{Happening, Step, Grants, Denies, Misses, Asks, Acts, Leads, start, outcome}
 use Rattle.slon_model.proofs.Names.{all_put, all_behind, all_found}
 use Rattle.slon_laws.specs.Keeps.{KeepsTasks}
@@ -39,7 +39,7 @@ use Rattle.stream_laws.specs.Nodes.{Nodes, nodes_in, node_in, IsEvent}
 use Rattle.stream_laws.specs.Making.{MayFollow}
 use Rattle.stream_laws.specs.Facts.{AreRegular, IsRegular}
 use Rattle.stream_laws.proofs.Lists.{all_with}
-use Rattle.stream_laws.proofs.Leaves.{Leaves, outcome_has}
+use Rattle.slon_laws.proofs.Leaves.{Leaves, outcome_has}
 use Rattle.stream_laws.proofs.Seats.{OnOk, IsReached, bind_ok, kept_ok, reach_ok}
 use Rattle.stream_laws.proofs.Steps.{Logs, prepared_node, done_logs, regular_world}
 use Rattle.stream_laws.proofs.Streams.{among_found}
@@ -77,7 +77,7 @@ live_learned nodes regular n live (d ∷ ds) met = by (live_learned nodes regula
         (doing : Doing) → AllByRecursion (IsEvent nodes) (cons_option (met_by doing) events ++ n.events) →
         AreLive (learned n.id doing (learned_all n.id n.given ds)).config
     by on (Emits e) met = live_met nodes regular e met.0 _ (on met.1)
-    by on (Applies e) met = live_met nodes regular e met.0 _ (on met.1)
+    by on (Applies e b) met = live_met nodes regular e met.0 _ (on met.1)
     by on others met = on met
 
 -- the sets that the node of a database knows
@@ -151,8 +151,8 @@ poll_gives : (delivery : Delivery) (b : Poll) → Gives (stated_by delivery b)
 poll_gives Lost b = tt
 poll_gives others b = hearing_gives b.seat b.confirms
 
-work_gives : (x : Seat × Event) → Gives (applied_by x)
-work_gives (s, e) = (tt, tt)
+work_gives : (x : Carried) → Gives (applied_by x)
+work_gives x = (tt, tt)
 
 leaves : (w : World) → IsRegular w → AllPlaces BeganLive w → Leaves w (λ commits queues. AllGive commits)
 leaves w regular live = record {

@@ -14,12 +14,11 @@ use Rattle.slon_model.specs.declared.reply.Reply.TheVariants.{Accepted, Refused}
 use Rattle.slon_model.specs.Names.{Named, find_named}
 use Rattle.slon_model.specs.Tasks.{Act, ToSync, ToListen, ToWork}
 use Rattle.slon_model.specs.Deciding.{AllStand, Breaks, DoubtsAt}
-use Rattle.slon_model.specs.Events.{Event}
-use Rattle.slon_model.specs.Sessions.{World, Memory, Seat, Stated, Outcome, Excess, bind, excess_of, no_change, stand}
+use Rattle.slon_model.specs.Sessions.{World, Memory, Stated, Outcome, Excess, bind, excess_of, no_change, stand}
 use Rattle.slon_model.specs.Sessions.{after_outcome}
 use Rattle.slon_model.specs.Turns.{Switches, turned_by, taken_turn, turn_by, sync_turn, switches_of, are_cut}
 use Rattle.slon_model.specs.Polls.{Poll, polled, stated_by, left_by}
-use Rattle.slon_model.specs.Working.{worked, applied_by, taken_from}
+use Rattle.slon_model.specs.Working.{Carried, worked, applied_by, taken_from}
 use Rattle.slon_model.specs.World.{outcome, may_break, memory_after, is_accepted, wavering, doubt_reply}
 use Rattle.app_store.specs.Base.{Base}
 use Rattle.slonik_exec.specs.Databases.{FitsAll, Runs, told_by}
@@ -316,11 +315,11 @@ poll_if l old news queues (Err e) both cut = tt
 
 -- ---- work
 
-worked_same : (x : Seat × Event) (m : Memory) →
+worked_same : (x : Carried) (m : Memory) →
     ((taken_from x m).scripts ≡ m.scripts) × (switches_of (taken_from x m) ≡ switches_of m)
-worked_same (s, e) m = (refl, refl)
+worked_same x m = (refl, refl)
 
-worked_left : (due : Result (Seat × Event) Refusal) (reply : Reply) (m : Memory) →
+worked_left : (due : Result Carried Refusal) (reply : Reply) (m : Memory) →
     left_by_work due reply m ≡ left_with (λ x. taken_from x m) due reply m
 worked_left (Ok x) (Accepted answer) m = refl
 worked_left (Ok x) others m = refl

@@ -87,13 +87,14 @@ learns s e work k (FailoverSet failed limit sets) is may = absurd (true≢false 
 learns s e work k others is may = plain_learns s.node e (ap is_plain is)
 
 pub takes_up : (node origin : ℕ) (w : World) (c : Clustered) → Follows w c → TakesUp node origin w
-takes_up node origin w c follows s e is = record {
+takes_up node origin w c follows x is = record {
   can = record { known = work.knows; later = let next = work.next in omega (arith, next) };
-  learns = learns s e work (record {
-    homes = homes w c (ready_of w c follows) s work.seat;
-    live = live_at w follows.regular follows.live s.name s.place s.node work.seat.found work.seat.node;
-  }) e.body refl work.may;
+  learns = learns x.seat x.event work (record {
+    homes = homes w c (ready_of w c follows) x.seat work.seat;
+    live =
+        live_at w follows.regular follows.live x.seat.name x.seat.place x.seat.node work.seat.found work.seat.node;
+  }) x.event.body refl work.may;
 }
   where
-    work : IsWork w origin s e
-    work = work_is node origin w s e follows.regular is
+    work : IsWork w origin x.seat x.event
+    work = (work_is node origin w x follows.regular is).work

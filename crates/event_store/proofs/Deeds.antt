@@ -8,7 +8,7 @@ use Rattle.node_rows.specs.declared.body.Body.TheVariants.{MoveSet, FailoverSet}
 use Rattle.slon_model.specs.Maps.{number_at}
 use Rattle.slon_model.specs.Events.{Event}
 use Rattle.slon_model.specs.Deeds.{knowledge, with_deeds, met}
-use Rattle.slon_model.specs.Views.{Views, views_emitted}
+use Rattle.slon_model.specs.Views.{Views, views_emitted, with_views}
 use Rattle.event_store.specs.Keeping.{KeepsViews}
 use Rattle.event_store.specs.Streams.{streams_of, emitted, given}
 use Rattle.event_store.specs.Following.{EmittingAdds, KeepingAdds, ApplyingAdds, CommittingStays, HearingAdds}
@@ -24,7 +24,7 @@ adds n d e is behind =
     ∙ ap (λ b. record (emitted e s) { views = views; events = cond b (e ∷ s.events) s.events })
     (lt-ltb (number_at e.origin low) e.number behind)
 
-kept_views : (e : Event) (body : Body) (views : Views) → KeepsViews body → views_emitted e body views ≡ views
+pub kept_views : (e : Event) (body : Body) (views : Views) → KeepsViews body → views_emitted e body views ≡ views
 kept_views e (MoveSet set old new era feeds) views keeps = absurd keeps
 kept_views e (FailoverSet failed limit sets) views keeps = absurd keeps
 kept_views e others views keeps = refl
@@ -35,11 +35,12 @@ keeping_adds n d e is behind keeps =
     adds n d e is behind ∙ ap (λ views. record (emitted e s) { views = views }) (kept_views e e.body s.views keeps)
 
 pub applying_adds : ApplyingAdds
-applying_adds n d e is behind =
+applying_adds n d e b is behind =
     let low = (knowledge n).low in
     let s = streams_of n in
+    let views = with_views b.views s.views in
     ap (λ doing. streams_of (with_deeds (record d { doing = doing } ∷ []) n)) is
-    ∙ ap (λ b. record (emitted e s) { events = cond b (e ∷ s.events) s.events })
+    ∙ ap (λ b. record (emitted e s) { views = views; events = cond b (e ∷ s.events) s.events })
     (lt-ltb (number_at e.origin low) e.number behind)
 
 pub stays : CommittingStays

@@ -8,9 +8,10 @@ use Rattle.slon_base.specs.Codec.{AllAre}
 use Rattle.store_rows.specs.Rows.{IsId}
 use Rattle.slon_model.specs.Events.{Event}
 use Rattle.slon_model.specs.Maps.{Map, Map2, entry_at, number_at, row_at, pair_at, with_entry, with_pair}
-use Rattle.slon_model.specs.Deeds.{Doing, Deed, Node, Emits, Applies, Commits, Hears, raised, heard, knowledge, held}
+use Rattle.slon_model.specs.Deeds.{Doing, Node, Emits, Applies, Commits, Hears, raised, heard, knowledge, held}
 use Rattle.slon_model.specs.Deeds.{with_deeds, noticed, told_to, told_progress}
-use Rattle.slon_model.specs.Views.{Views, views_emitted}
+use Rattle.slon_model.specs.Views.{Views, views_emitted, with_views}
+use Rattle.event_store.proofs.Deeds.{kept_views}
 use Rattle.set_config.specs.Holds.{AreIds}
 use Rattle.set_config.proofs.Entries.{entry-with}
 use Rattle.set_config.proofs.Ranges.{are_map}
@@ -81,13 +82,14 @@ meeting n e views =
       told = k.told;
     }
 
-meets_regular : (n : Node) (e : Event) (views : Views) → IsNewAt n e → IsRegular (streams_of n) →
+meets_regular : (n : Node) (e : Event) (views : Views) → IsNewAt n e → IsOrdered views → IsRegular (streams_of n) →
     IsRegular (meeting n e views)
-meets_regular n e views (can, more) regular =
+meets_regular n e views (can, more) ordered regular =
     let k = knowledge n in
     let next : Next e k.progress (held n) = record { next = more; met = regular.met } in
     record {
       others = regular.others;
+      views = ordered;
       progress = ordered_with e.origin e.number k.progress can.0 regular.progress;
       told = regular.told;
       falling = elim (nat_lt (number_at e.origin k.low) e.number)
@@ -139,14 +141,26 @@ heard_ordered own [] told others ordered = ordered
 heard_ordered own (c ∷ cs) told others ordered =
     heard_ordered own cs (raised c told) others.1 (raised_ordered c told others.0.1 ordered)
 
+-- views of sets that are put among others
+views_ordered : (new views : Views) → AllByRecursion (λ v. IsId v.0) new → IsOrdered views →
+    IsOrdered (with_views new views)
+views_ordered [] views ids ordered = ordered
+views_ordered (v ∷ more) views ids ordered =
+    ordered_with v.0 v.1 (with_views more views) ids.0 (views_ordered more views ids.1 ordered)
+
 pub regular_stays : RegularStays
 regular_stays n d goes regular = of d.doing goes
   where
     of : (doing : Doing) → GoesOn n doing → IsRegular (streams_of (with_deeds (record d { doing = doing } ∷ []) n))
-    of (Emits e) goes = meets_regular n e (views_emitted e e.body (knowledge n).views) goes regular
-    of (Applies e) goes = meets_regular n e (knowledge n).views goes regular
+    of (Emits e) goes =
+        meets_regular n e (views_emitted e e.body (knowledge n).views) goes.0
+        (subst IsOrdered (sym (kept_views e e.body (knowledge n).views goes.1)) regular.views) regular
+    of (Applies e b) goes =
+        meets_regular n e (with_views b.views (knowledge n).views) goes.0
+        (views_ordered b.views (knowledge n).views goes.1 regular.views) regular
     of (Commits xid) goes = record {
       others = regular.others;
+      views = regular.views;
       progress = regular.progress;
       told = regular.told;
       falling = regular.falling;
@@ -154,6 +168,7 @@ regular_stays n d goes regular = of d.doing goes
     }
     of (Hears confirms) goes = record {
       others = λ origin. heard_other n.id origin confirms (streams_of n).told goes ∙ regular.others origin;
+      views = regular.views;
       progress = regular.progress;
       told = heard_ordered n.id confirms (streams_of n).told goes regular.told;
       falling = regular.falling;
@@ -168,6 +183,7 @@ none_ordered = record { ids_are = tt; rising = tt }
 pub first_regular : FirstRegular
 first_regular id comment run = record {
   others = λ origin. refl;
+  views = none_ordered;
   progress = none_ordered;
   told = record { firsts = none_ordered; seconds = tt };
   falling = tt;
@@ -202,6 +218,7 @@ given_regular id s one own regular =
     let all = told_ordered s.own s.progress s.told own regular.progress regular.told in
     record {
       others = given_hears id s;
+      views = none_ordered;
       progress = regular.progress;
       told = record {
         firsts = ordered_mapped (told_to id) _ (λ e. refl) all.firsts;

@@ -7,8 +7,9 @@ use Rattle.store_rows.specs.Rows.{IsId}
 use Rattle.set_config.specs.Holds.{AreIds}
 use Rattle.slon_model.specs.Maps.{number_at}
 use Rattle.slon_model.specs.Events.{Event}
-use Rattle.slon_model.specs.Deeds.{Node, Deed, Doing, Emits, Applies, Commits, Hears, heard, knowledge, with_deeds}
-use Rattle.slon_model.specs.Views.{views_emitted}
+use Rattle.slon_model.specs.Deeds.{Node, Deed, Doing, Brought, Emits, Applies, Commits, Hears, heard, knowledge}
+use Rattle.slon_model.specs.Deeds.{with_deeds}
+use Rattle.slon_model.specs.Views.{views_emitted, with_views}
 use Rattle.slon_model.specs.Sessions.{Running}
 use Rattle.slon_model.specs.Membership.{first_of_cluster, joining}
 use Rattle.event_store.specs.Keeping.{KeepsViews}
@@ -32,10 +33,11 @@ abbrev pub KeepingAdds : Type 0
 KeepingAdds = (n : Node) (d : Deed) (e : Event) → d.doing ≡ Emits e → IsBehindLow e n → KeepsViews e.body →
     streams_of (with_deeds (d ∷ []) n) ≡ emitted e (streams_of n)
 
--- Applying an event of another node adds it to what the node has.
+-- Applying an event of another node adds it to what the node has, and it keeps of sets what it brings of them.
 abbrev pub ApplyingAdds : Type 0
-ApplyingAdds = (n : Node) (d : Deed) (e : Event) → d.doing ≡ Applies e → IsBehindLow e n →
-    streams_of (with_deeds (d ∷ []) n) ≡ emitted e (streams_of n)
+ApplyingAdds = (n : Node) (d : Deed) (e : Event) (b : Brought) → d.doing ≡ Applies e b → IsBehindLow e n →
+    streams_of (with_deeds (d ∷ []) n)
+    ≡ record (emitted e (streams_of n)) { views = with_views b.views (streams_of n).views }
 
 -- What an application commits changes nothing of the streams.
 abbrev pub CommittingStays : Type 0
@@ -52,10 +54,11 @@ HearingAdds = (n : Node) (d : Deed) (confirms : List (ℕ × ℕ × ℕ)) → d.
 abbrev pub IsNewAt : Node → Event → Type 0
 IsNewAt n e = IsNumbered (e.origin, e.number) × (number_at e.origin (knowledge n).progress < e.number)
 
--- what it emits or applies is new there, and what it hears is no confirmation of its own
+-- what it emits or applies is new there, the sets of which it brings something have a name in a store, and what it
+-- hears is no confirmation of its own
 abbrev pub GoesOn : Node → Doing → Type 0
-GoesOn n (Emits e) = IsNewAt n e
-GoesOn n (Applies e) = IsNewAt n e
+GoesOn n (Emits e) = IsNewAt n e × KeepsViews e.body
+GoesOn n (Applies e b) = IsNewAt n e × AllByRecursion (λ v. IsId v.0) b.views
 GoesOn n (Hears confirms) = AllByRecursion (λ c. (c.1 ≡ n.id → ⊥) × AreIds (c.0, c.1)) confirms
 GoesOn n others = Unit {0}
 

@@ -1,5 +1,5 @@
 -- An event of its parts, and that it is known in one way at most that it can be spelled.
-use Rattle.std.specs.Prelude.{◌≡◌, ℕ, ◌<◌, List, [], ◌∷◌, length}
+use Rattle.std.specs.Prelude.{ℕ, ◌<◌, List, [], ◌∷◌}
 use Rattle.std.specs.Coded.{Coded-set, coded_ℕ, coded_bool, coded_list, le_prop, ×_prop, Unit-prop}
 use Rattle.std.specs.List.{AllByRecursion-prop}
 use Rattle.std.specs.Str.{IsUtf8}

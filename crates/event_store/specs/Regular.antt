@@ -18,6 +18,7 @@ AreFalling (e ∷ es) =
 -- holds fall in number, and are none beyond how far it is.
 pub record IsRegular (s : Streams) : Type 0 where
   pub others : HearsOfOthers s
+  pub views : IsOrdered s.views
   pub progress : IsOrdered s.progress
   pub told : AreOrdered s.told
   pub falling : AreFalling s.events

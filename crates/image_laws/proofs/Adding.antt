@@ -152,6 +152,9 @@ still_there k = record {
   listed = λ table listed. any_with (λ e. bytes_eq table e.1.name) k.id k.row k.was.known.tables k.fresh listed;
   member = λ table set is. found_past k table (not_member k.was.known table (k.id, k.row)
       (another_name k table (listed_member table k.was.known set is))) ∙ is;
+  only = λ table set listed only.
+      all_with (λ e. bytes_eq table e.1.name ≡ true → e.1.set_id ≡ set) k.id k.row k.was.known.tables
+      (λ same. absurd (true≢false (sym same ∙ another_name k table listed))) only;
 }
 
 whole_with : (k : Coming) → is_some (entry_at k.row.set_id k.was.known.sets) ≡ true → IsWhole k.was.own (now_known k)
@@ -222,6 +225,12 @@ new_holds a = record {
   lasts = λ none. record {
     stands = and_from (is_origin k.was.own k.row.set_id k.was.known) (era == era) a.leads (eq-eqb era era refl);
     member = found_here a;
+    only =
+        all_with (λ e. bytes_eq k.row.name e.1.name ≡ true → e.1.set_id ≡ k.row.set_id) k.id k.row k.was.known.tables
+        (λ same. refl) (all_map (λ e. bytes_eq k.row.name e.1.name ≡ false)
+        (λ e. bytes_eq k.row.name e.1.name ≡ true → e.1.set_id ≡ k.row.set_id)
+        (λ e other same. absurd (true≢false (sym same ∙ other))) k.was.known.tables
+        (any_none (λ e. bytes_eq k.row.name e.1.name) k.was.known.tables k.unused));
     fills = fills_first k.was.place (new_stretch a) a.sound a.first refl a.free;
   };
 }

@@ -19,7 +19,7 @@ use Rattle.slon_laws.specs.Keeps.{KeepsTasks}
 use Rattle.slon_laws.specs.Turning.{Turned, Commits, Falls, Doubts}
 use Rattle.slon_laws.proofs.Covering.{Outlasts, outlasts_itself, keeps_outlasting}
 use Rattle.stream_laws.proofs.Steps.{Logs, prepared_node, done_logs}
-use Rattle.image_laws.specs.Fits.{IsListed, Fit, Keeps, CreatesSet, AddsTable, FollowsTable, AllDone, IsFit}
+use Rattle.image_laws.specs.Fits.{IsListed, Fit, Keeps, CreatesSet, AddsTable, FollowsTable, AllDone, IsFit, MayStand}
 use Rattle.image_laws.specs.Fits.{Does, Becomes}
 use Rattle.image_laws.specs.Facts.{HoldsStretch, Holds}
 use Rattle.image_laws.proofs.Adding.{OneDeed, known_behind, finds_behind}
@@ -164,7 +164,7 @@ deeds_continue s first q n (d ∷ ds) is done on =
 
 commit_continues : (s : Stretch) (first : ℕ) (commit : Commit) (q : Place) → IsFit commit q → Holds q →
     Continues s first q → Continues s first (committing commit q)
-commit_continues s first commit q (Does n is none done) h c =
+commit_continues s first commit q (Does n is none done others) h c =
     stays s first (doing_so q n commit.deeds) (committing commit q)
     (ap (λ o. option_map (with_deeds commit.deeds) (option_or o q.node)) none
     ∙ ap (option_map (with_deeds commit.deeds)) is) (omega arith)
@@ -172,15 +172,15 @@ commit_continues s first commit q (Does n is none done) h c =
 commit_continues s first commit q (Becomes n none is deeds new) h c =
     let never : None ≡ Some c.node = sym none ∙ c.is in absurd cc
 
-pub turned_continues : (s : Stretch) (first : ℕ) (p q : Place) → Turned IsFit p q → Holds p → Continues s first p →
+pub turned_continues : (s : Stretch) (first : ℕ) (p q : Place) → Turned MayStand p q → Holds p → Continues s first p →
     Continues s first q
 turned_continues s first p q (Commits commit fit is) h c =
-    subst (Continues s first) (sym is) (commit_continues s first commit p fit h c)
+    subst (Continues s first) (sym is) (commit_continues s first commit p fit.1 h c)
 turned_continues s first p q (Falls count is) h c =
     subst (Continues s first) (sym is) (stays s first p _ refl (omega arith) c)
 turned_continues s first p q (Doubts commit stands fit is) h c =
     subst (Continues s first) (sym is) (by stands)
   where
     by : (b : Bool) → Continues s first (in_doubt commit b p)
-    by true = stays s first (committing commit p) _ refl (omega arith) (commit_continues s first commit p fit h c)
+    by true = stays s first (committing commit p) _ refl (omega arith) (commit_continues s first commit p fit.1 h c)
     by false = stays s first p _ refl (omega arith) c

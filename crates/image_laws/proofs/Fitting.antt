@@ -6,7 +6,7 @@ use Rattle.std.proofs.Common.{◌++◌, sym, ap, subst, ◌∙◌, is_some}
 use Rattle.std.specs.Prelude.{◌==◌, ◌+◌, option_map}
 use Rattle.std.specs.Str.{bytes_eq}
 use Rattle.std.specs.List.{list_any, AllByRecursion}
-use Rattle.std.proofs.lemmas.Bool.{true≢false, false_from_ne_true, eqb-true, eq-eqb}
+use Rattle.std.proofs.lemmas.Bool.{true≢false, false_from_ne_true, eqb-true, eq-eqb, and_parts}
 use Rattle.std.proofs.lemmas.List.{append_assoc}
 use Rattle.slonik_script.specs.declared.script.Command.{Command as Order}
 use Rattle.slonik_script.specs.declared.script.Command.TheVariants as order
@@ -18,13 +18,14 @@ use Rattle.node_rows.specs.declared.rows.NodeRow.{NodeRow}
 use Rattle.node_rows.specs.declared.rows.SetRow.{SetRow}
 use Rattle.node_rows.specs.declared.body.Body.{Body}
 use Rattle.node_rows.specs.declared.body.Body.TheVariants.{Sync, StoreNode, StorePath, DropPath, StoreSet, DropSet}
-use Rattle.node_rows.specs.declared.body.Body.TheVariants.{SetAddTable, MoveSet, FailoverSet}
-use Rattle.slon_model.specs.Names.{find_named}
+use Rattle.node_rows.specs.declared.body.Body.TheVariants.{SetAddTable, EnableSubscription, MoveSet, FailoverSet}
+use Rattle.slon_model.specs.Names.{Named, find_named}
 use Rattle.slon_model.specs.Maps.{entry_at}
 use Rattle.slon_model.specs.Events.{Event}
-use Rattle.slon_model.specs.Config.{Config, change_by, is_origin, era_of, live_set, leads_row}
-use Rattle.slon_model.specs.Deeds.{Node, Deed, Doing, Emits, Applies, Hears, knowledge, with_deeds}
-use Rattle.slon_model.specs.Place.{Place, deed, taken, node_id}
+use Rattle.slon_model.specs.Config.{Config, change_by, is_origin, era_of, live_set, leads_row, names_of}
+use Rattle.slon_model.specs.Deeds.{Node, Deed, Doing, Emits, Applies, Hears, Brought, Knowledge, brought_in, knowledge}
+use Rattle.slon_model.specs.Deeds.{learned, with_deeds}
+use Rattle.slon_model.specs.Place.{Place, deed, standing_rows, taken, node_id}
 use Rattle.slon_model.specs.Sessions.{World, Running, Commit, Stated, Seat, Emission, bind, tells, when}
 use Rattle.slon_model.specs.Sessions.{writer_of, emissions, next_event, committing, stood_at}
 use Rattle.slon_model.specs.Membership.{comment_of, already, first_node, init_cluster, store_node, store_path}
@@ -36,14 +37,15 @@ use Rattle.slon_model.specs.Subscribing.{NewFeed, subscribing, feed_bodies, all_
 use Rattle.slon_model.specs.Scripts.{ordered}
 use Rattle.slon_model.specs.Turns.{on_turn, sync_turn}
 use Rattle.slon_model.specs.Polls.{Poll, polled, stated_by, hearing}
-use Rattle.slon_model.specs.Working.{worked, applied_by}
-use Rattle.slon_model.proofs.Names.{put_other, all_found, bytes_itself}
-use Rattle.slon_laws.specs.Turning.{HoldsAt, AllHold}
+use Rattle.slon_model.specs.Working.{Carried, copying_in, worked, applied_by}
+use Rattle.slon_model.proofs.Names.{put_other, all_found, all_map, bytes_itself}
+use Rattle.slon_laws.specs.Turning.{IsWithin, HoldsAt, AllHold}
+use Rattle.slon_laws.proofs.Acting.{outcome_all}
 use Rattle.slon_laws.specs.Worlds.{AllPlaces}
 use Rattle.stream_laws.specs.Nodes.{node_in}
 use Rattle.stream_laws.specs.Making.{OfSet, OfTable, OfName, tells_of}
 use Rattle.stream_laws.specs.Facts.{IsRegular}
-use Rattle.stream_laws.proofs.Lists.{there_here, there_with}
+use Rattle.stream_laws.proofs.Lists.{all_appended, all_mapped, there_here, there_with}
 use Rattle.stream_laws.proofs.Seats.{OnOk, ok_then, IsSeat, IsFound, IsReached, IsLeading, bind_ok, checked_ok, kept_ok}
 use Rattle.stream_laws.proofs.Seats.{all_none, when_none, turn_ok, owner_ok, origin_ok}
 use Rattle.stream_laws.proofs.Statements.{create_checks, table_checks}
@@ -52,11 +54,12 @@ use Rattle.stream_laws.proofs.Emits.{known_changed}
 use Rattle.stream_laws.proofs.Commits.{Newcomer, other_name}
 use Rattle.stream_laws.proofs.Waiting.{IsPoll, polled_ok}
 use Rattle.stream_laws.proofs.Applies.{IsSetOf, MayCome}
-use Rattle.stream_laws.proofs.Works.{IsWork, worked_ok}
+use Rattle.stream_laws.proofs.Copies.{IsBrought, Nothing, Copies, IsCopy, each_name}
+use Rattle.stream_laws.proofs.Works.{IsWork, IsCarried, worked_ok}
 use Rattle.image_laws.specs.Fits.{IsWhole, IsKept, Fit, Keeps, CreatesSet, AddsTable, FollowsTable, IsFirst, IsFit}
-use Rattle.image_laws.specs.Fits.{IsDoneNow, AllDone, Does, Becomes}
+use Rattle.image_laws.specs.Fits.{IsDoneNow, AllDone, IsOfOther, AreOfOthers, BringOthers, MayStand, Does, Becomes}
 use Rattle.image_laws.specs.Facts.{Holds, NodeHolds}
-use Rattle.stream_laws.proofs.Leaves.{Leaves, outcome_has}
+use Rattle.slon_laws.proofs.Leaves.{Leaves, outcome_has}
 
 -- ---- a session
 
@@ -112,10 +115,19 @@ all_done s (m ∷ ms) number n fit =
     done_behind s.place n (emissions s (number + 1) ms) (deed_of s number m ∷ []) (tt, done_now s number m, fit.0)
     (all_done s ms (number + 1) (with_deeds (deed_of s number m ∷ []) n) fit.1)
 
+-- what is emitted brings nothing
+none_brought : (s : Seat) (number : ℕ) (ms : List Emission) (c : Config) →
+    BringOthers s.node.id c (emissions s number ms)
+none_brought s number [] c = tt
+none_brought s number (m ∷ ms) c =
+    all_appended (λ d. AreOfOthers s.node.id c (brought_in d.doing).rows) (emissions s (number + 1) ms)
+    (deed_of s number m ∷ []) (none_brought s (number + 1) ms c) (tt, tt)
+
 emits_fit : (w : World) (s : Seat) (ms : List Emission) → IsSeat w.places s → AllFit s (next_event s) ms s.node →
     IsStated w (emitting s ms)
 emits_fit w s ms is fit =
-    let does = Does s.node is.node refl (all_done s ms (next_event s) s.node fit) in
+    let does = Does s.node is.node refl (all_done s ms (next_event s) s.node fit)
+    (none_brought s (next_event s) ms _) in
     (subst (HoldsAt IsFit (commit_of s ms)) (sym is.found) does, tt)
 
 -- behind an event of this body the sets and tables are as they were
@@ -377,21 +389,25 @@ sync_fit w r node =
     (λ s is. let fit = quiet_fit w s (Sync ∷ []) is sync_is_quiet in
     search (kept_ok (IsStated w), fit))
 
+-- what the node of a seat knows behind one more deed
+abbrev known_then : Seat → Doing → Config
+known_then s doing = (learned s.node.id doing (knowledge s.node)).config
+
 -- a node does one thing, and emits nothing
 does_fit : (w : World) (s : Seat) (doing : Doing) → IsSeat w.places s → ((e : Event) → doing ≡ Emits e → ⊥) →
-    Fit s.place s.node (deed s.place [] [] doing) →
+    Fit s.place s.node (deed s.place [] [] doing) → AreOfOthers s.node.id (known_then s doing) (brought_in doing).rows →
     AreFit w (record { name = s.name; becomes = None; deeds = deed s.place [] [] doing ∷ [] } ∷ [])
-does_fit w s doing is silent fit =
+does_fit w s doing is silent fit others =
     let now : IsDoneNow s.place (deed s.place [] [] doing) =
     record { first = refl; taken = λ e emits. absurd (silent e emits); quiet = refl } in (
-      subst (HoldsAt IsFit _) (sym is.found) (Does s.node is.node refl (tt, now, fit)),
+      subst (HoldsAt IsFit _) (sym is.found) (Does s.node is.node refl (tt, now, fit) (others, tt)),
       tt,
     )
 
 hears_fit : (w : World) (s : Seat) (confirms : List (ℕ × ℕ × ℕ)) → IsSeat w.places s → AreFit w (hearing s confirms)
 hears_fit w s [] is = tt
 hears_fit w s (c ∷ cs) is =
-    does_fit w s (Hears (c ∷ cs)) is (λ e emits. absurd cc) (Keeps refl (all_kept (knowledge s.node).config))
+    does_fit w s (Hears (c ∷ cs)) is (λ e emits. absurd cc) (Keeps refl (all_kept (knowledge s.node).config)) tt
 
 poll_fit : (w : World) (delivery : Delivery) (b : Poll) → IsPoll w b → AreFit w (stated_by delivery b).commits
 poll_fit w Lost b is = tt
@@ -409,9 +425,12 @@ other_leads own origin set c other (row, found, from) =
         false_from_ne_true (row.origin == own) (λ same. other (sym from ∙ eqb-true row.origin own same))
     live false = refl
 
-applies_fit : (w : World) (by : ℕ) (s : Seat) (e : Event) → IsWork w by s e → (body : Body) → e.body ≡ body →
-    MayCome e.origin body (knowledge s.node).config → Fit s.place s.node (deed s.place [] [] (Applies e))
-applies_fit w by s e work (StoreSet set origin comment) is may =
+abbrev DoesFit : Seat → Event → Brought → Type 0
+DoesFit s e b = Fit s.place s.node (deed s.place [] [] (Applies e b))
+
+applies_fit : (w : World) (by : ℕ) (s : Seat) (e : Event) (b : Brought) → IsWork w by s e → (body : Body) →
+    (e.body ≡ body) × MayCome e.origin body (knowledge s.node).config → DoesFit s e b
+applies_fit w by s e b work (StoreSet set origin comment) (is, may) =
     CreatesSet (record {
       set_id = set;
       origin = origin;
@@ -423,7 +442,7 @@ applies_fit w by s e work (StoreSet set origin comment) is may =
       known = ap (λ id. is_some (entry_at id (knowledge s.node).config.nodes)) may ∙ work.knows;
       new = work.new (OfSet set) (ap (λ b. tells_of b (OfSet set)) is ∙ eq-eqb set set refl);
     })
-applies_fit w by s e work (SetAddTable set table name comment) is may =
+applies_fit w by s e b work (SetAddTable set table name comment) (is, may) =
     FollowsTable (record {
       table = record {
         set_id = set;
@@ -440,10 +459,10 @@ applies_fit w by s e work (SetAddTable set table name comment) is may =
       known = ap is_some may.1;
       other = other_leads s.node.id e.origin set (knowledge s.node).config work.other may;
     })
-applies_fit w by s e work (DropSet set) is may = absurd (true≢false (sym may))
-applies_fit w by s e work (MoveSet set old new era feeds) is may = absurd (true≢false (sym may))
-applies_fit w by s e work (FailoverSet failed limit sets) is may = absurd (true≢false (sym may))
-applies_fit w by s e work others is may =
+applies_fit w by s e b work (DropSet set) (is, may) = absurd (true≢false (sym may))
+applies_fit w by s e b work (MoveSet set old new era feeds) (is, may) = absurd (true≢false (sym may))
+applies_fit w by s e b work (FailoverSet failed limit sets) (is, may) = absurd (true≢false (sym may))
+applies_fit w by s e b work others (is, may) =
     let c = (knowledge s.node).config in
     Keeps refl (subst (λ b. IsKept c (change_by e.origin e.number b c)) (sym is) (record {
       sets = refl;
@@ -451,9 +470,50 @@ applies_fit w by s e work others is may =
       nodes = λ id. known_changed id e.origin e.number others c;
     }))
 
-work_fit : (w : World) (by : ℕ) (x : Seat × Event) → IsWork w by x.0 x.1 → AreFit w (applied_by x).commits
-work_fit w by (s, e) work =
-    does_fit w s (Applies e) work.seat (λ f emits. absurd cc) (applies_fit w by s e work e.body refl work.may)
+-- the tables that are copied are of a set of another node
+copied_others : (w : World) (s : Seat) (e : Event) (b : Brought) → IsSeat w.places s → IsCopy w s e b →
+    AreOfOthers s.node.id (knowledge s.node).config b.rows
+copied_others w s e b is k =
+    subst (λ (c : Brought). AreOfOthers s.node.id known c.rows) (sym k.is)
+    (all_mapped (IsOfOther s.node.id known) (λ r. IsOfOther s.node.id known r.0)
+    (λ name. (name, standing_rows k.provider.place name)) (λ name of. of) (names_of set s.known.config)
+    (subst (λ (m : Knowledge). AllByRecursion (IsOfOther s.node.id known) (names_of set m.config)) (sym is.known)
+    (each_name (IsOfOther s.node.id known) set known.tables (λ entry among on. record {
+      entry = entry;
+      among = among;
+      named = refl;
+      other =
+          ap (λ id. is_origin s.node.id id known)
+          (eqb-true entry.1.set_id set (and_parts entry.1.live (entry.1.set_id == set) on).1) ∙ k.other;
+    }))))
+  where
+    set : ℕ
+    set = k.copying.set_id
+
+    known : Config
+    known = (knowledge s.node).config
+
+-- so they are behind the event, which is that of a new subscription
+brings_others : (w : World) (s : Seat) (e : Event) (b : Brought) → IsSeat w.places s → IsBrought w s e b →
+    (body : Body) → e.body ≡ body → AreOfOthers s.node.id (known_then s (Applies e b)) b.rows
+brings_others w s e b is (Nothing none) body same =
+    subst (λ (c : Brought). AreOfOthers s.node.id (known_then s (Applies e b)) c.rows) (sym none) tt
+brings_others w s e b is (Copies k) (EnableSubscription set provider receiver forward era) same =
+    let c = (knowledge s.node).config in
+    subst (λ body. AreOfOthers s.node.id (change_by e.origin e.number body c) b.rows) (sym same)
+    (all_map (λ r. IsOfOther s.node.id c r.0) _
+    (λ r of. record { entry = of.entry; among = of.among; named = of.named; other = of.other }) b.rows
+    (copied_others w s e b is k))
+brings_others w s e b is (Copies k) others same =
+    let never : None ≡ Some k.copying = ap (copying_in s.node.id) (sym same) ∙ k.asked in absurd cc
+
+work_fit : (w : World) (by : ℕ) (c : Carried) → IsCarried w by c → AreFit w (applied_by c).commits
+work_fit w by c is =
+    let s = c.seat in
+    let e = c.event in
+    does_fit w s (Applies e c.brought) is.work.seat (λ f emits. absurd cc)
+    (applies_fit w by s e c.brought is.work e.body (refl, is.work.may))
+    (brings_others w s e c.brought is.work.seat is.brings e.body refl)
 
 -- ---- each command
 
@@ -467,10 +527,22 @@ leaves w r = record {
       ok_then (IsPoll w) (λ b. AreFit w (stated_by delivery b).commits) (polled node server w)
       (polled_ok node server w r.regular) (poll_fit w delivery);
   works = λ node origin.
-      ok_then (λ x. IsWork w origin x.0 x.1) (λ x. AreFit w (applied_by x).commits) (worked node origin w)
+      ok_then (IsCarried w origin) (λ c. AreFit w (applied_by c).commits) (worked node origin w)
       (worked_ok node origin w r.regular) (work_fit w origin);
 }
 
+all_stand : (cs : List Commit) (ps : Named Place) → AllHold IsWithin cs ps → AllHold IsFit cs ps →
+    AllHold MayStand cs ps
+all_stand [] ps within fit = tt
+all_stand (c ∷ cs) ps within fit =
+    (by (find_named c.name ps) within.0 fit.0, all_stand cs (stood_at c (find_named c.name ps) ps) within.1 fit.1)
+  where
+    by : (o : Option Place) → HoldsAt IsWithin c o → HoldsAt IsFit c o → HoldsAt MayStand c o
+    by None one other = tt
+    by (Some p) one other = (one, other)
+
 -- the commits of what a command does
-pub outcome_fit : (w : World) → Ready w → (act : Act) → AreFit w (outcome act w).commits
-outcome_fit w r act = outcome_has w (λ commits queues. AreFit w commits) (leaves w r) act
+pub outcome_fit : (w : World) → Ready w → (act : Act) → AllHold MayStand (outcome act w).commits w.places
+outcome_fit w r act =
+    all_stand (outcome act w).commits w.places (outcome_all act w)
+    (outcome_has w (λ commits queues. AreFit w commits) (leaves w r) act)

@@ -1,5 +1,5 @@
 -- An image is the committed rows, in every session that a legal history leads to.
-use Rattle.image_laws.specs.Fits.{IsFit}
+use Rattle.image_laws.specs.Fits.{MayStand}
 use Rattle.slon_laws.specs.Turning.{Turned}
 use Rattle.slon_laws.specs.Keeps.{KeepsTasks}
 use Rattle.image_laws.proofs.Deltas.{delta_leads}
@@ -51,7 +51,7 @@ use Rattle.image_laws.proofs.Ticking.{Ticking, keeps_ticking, bare_ticks, turned
 record LivesOn (R : Place → Type 0) : Type 0 where
   tasks : KeepsTasks (λ task. Unit {0}) R R
   bare : R bare_place
-  turns : (p q : Place) → Turned IsFit p q → R p → R q
+  turns : (p q : Place) → Turned MayStand p q → R p → R q
 
 each_step : {R : Place → Type 0} → LivesOn R → (w v : World) (h : Happening) → Step w h v → Ready w → AllPlaces R w →
     AllPlaces R v

@@ -20,7 +20,7 @@ use Rattle.slon_laws.proofs.Opens.{found_member}
 use Rattle.stream_laws.specs.Nodes.{IsAmong}
 use Rattle.stream_laws.proofs.Lists.{all_among}
 use Rattle.stream_laws.proofs.Steps.{prepared_node, first_rows_node}
-use Rattle.image_laws.specs.Fits.{AllDone, IsFit, Does, Becomes}
+use Rattle.image_laws.specs.Fits.{AllDone, IsFit, MayStand, Does, Becomes}
 use Rattle.image_laws.specs.Facts.{NodeHolds, Holds, LogHolds, HoldsAll}
 use Rattle.image_laws.proofs.Logging.{Alike, log_alike, further_alike, deed_logs, committed_logs}
 use Rattle.image_laws.proofs.Logging.{none_counted}
@@ -152,7 +152,7 @@ deeds_log p n (d ∷ ds) sound done h k =
     (deeds_hold p n ds sound done.0 h) done.1.quiet (deeds_log p n ds sound done.0 h k)
 
 commit_logs : (c : Commit) (p : Place) → IsFit c p → HoldsAll p → LogsHold (committing c p)
-commit_logs c p (Does n is none done) h m at =
+commit_logs c p (Does n is none done others) h m at =
     subst (LogHolds (committing c p)) (one_found (with_deeds c.deeds n) m (sym node ∙ at))
     (log_alike p (committing c p) (with_deeds c.deeds n) (same_alike p (committing c p) (refl, refl))
     (deeds_log p n c.deeds h.0.0 done (h.0.1 n is) (h.1 n is)))
@@ -170,8 +170,9 @@ commit_logs c p (Becomes n none is deeds first) h m at =
     node =
         ap (λ o. option_map (with_deeds c.deeds) (option_or o p.node)) is ∙ ap (λ ds. Some (with_deeds ds n)) deeds
 
-pub turned_all : (p q : Place) → Turned IsFit p q → HoldsAll p → HoldsAll q
-turned_all p q (CommitsOne c fit is) h = subst HoldsAll (sym is) (commit_holds c p fit h.0, commit_logs c p fit h)
+pub turned_all : (p q : Place) → Turned MayStand p q → HoldsAll p → HoldsAll q
+turned_all p q (CommitsOne c fit is) h =
+    subst HoldsAll (sym is) (commit_holds c p fit.0 fit.1 h.0, commit_logs c p fit.1 h)
 turned_all p q (GoesDown count is) h = (
   turned_holds p q (GoesDown count is) h.0,
   alike_logs p q (ap (λ (r : Place). r.node) is)
@@ -183,5 +184,5 @@ turned_all p q (Doubts c stands fit is) h =
     by : (b : Bool) → LogsHold (in_doubt c b p)
     by true =
         alike_logs (committing c p) (in_doubt c true p) refl
-        (same_alike (committing c p) (in_doubt c true p) (refl, refl)) (commit_logs c p fit h)
+        (same_alike (committing c p) (in_doubt c true p) (refl, refl)) (commit_logs c p fit.1 h)
     by false = alike_logs p (in_doubt c false p) refl (same_alike p (in_doubt c false p) (refl, refl)) h.1

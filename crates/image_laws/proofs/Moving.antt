@@ -18,17 +18,17 @@ use Rattle.slon_model.proofs.Names.{all_map, one_found}
 use Rattle.slon_laws.specs.Sound.{Sound, ids_of}
 use Rattle.slon_laws.specs.Allowed.{MayMove}
 use Rattle.slon_laws.specs.Keeps.{KeepsTasks}
-use Rattle.slon_laws.specs.Turning.{Turned, Commits as CommitsOne, Falls as GoesDown, Doubts}
+use Rattle.slon_laws.specs.Turning.{IsWithin, Turned, Commits as CommitsOne, Falls as GoesDown, Doubts}
 use Rattle.slon_laws.proofs.Decides.{IsSame}
 use Rattle.slon_laws.proofs.Opens.{found_member, member_behind, member_without}
 use Rattle.slon_laws.proofs.Sounds.{keeps_sound, sound_prepared, sound_closed}
 use Rattle.stream_laws.proofs.Lists.{all_each}
 use Rattle.stream_laws.proofs.Steps.{prepared_node, first_rows_node}
-use Rattle.image_laws.specs.Fits.{Keeps, AllDone, IsFit, Does, Becomes, IsFirst}
-use Rattle.image_laws.specs.Facts.{FillsAt, HoldsStretch, StretchesHold, NodeHolds, Holds}
+use Rattle.image_laws.specs.Fits.{Keeps, AllDone, IsFit, MayStand, Does, Becomes, IsFirst}
+use Rattle.image_laws.specs.Facts.{FillsAt, Lasts, HoldsStretch, StretchesHold, NodeHolds, Holds}
 use Rattle.image_laws.proofs.Adding.{deed_holds}
-use Rattle.image_laws.proofs.Filling.{fills_left, fills_written, fills_committed}
-use Rattle.image_laws.proofs.Since.{prepared_same, first_same}
+use Rattle.image_laws.proofs.Filling.{fills_beside, fills_left, fills_written, fills_committed}
+use Rattle.image_laws.proofs.Since.{first_fillings, prepared_fillings, prepared_same, first_same}
 
 -- ---- the same node
 
@@ -37,29 +37,40 @@ pub record GoesOn (p q : Place) : Type 0 where
   pub numbers : p.numbers.next ≤ q.numbers.next
   pub fills : (s : Stretch) → s.first ≤ p.numbers.next → FillsAt p s → FillsAt q s
 
-pub goes_on : (p q : Place) → GoesOn p q → (own : ℕ) (c : Config) (all : List Stretch) → StretchesHold p own c all →
+-- each stretch that lasts makes the rows still
+fills_on : (p q : Place) (own : ℕ) (c : Config) (all : List Stretch) → p.numbers.next ≤ q.numbers.next →
+    ((s : Stretch) → s.first ≤ p.numbers.next → Lasts p own c s → FillsAt q s) → StretchesHold p own c all →
     StretchesHold q own c all
-goes_on p q g own c all h = record {
+fills_on p q own c all later fills h = record {
   whole = h.whole;
   each =
       all_map (HoldsStretch p own c) (HoldsStretch q own c) (λ s is. record {
         listed = is.listed;
-        begun = let first = is.begun in let later = g.numbers in omega (arith, first, later);
+        begun = let first = is.begun in omega (arith, first, later);
         lasts = λ none. record {
           stands = (is.lasts none).stands;
           member = (is.lasts none).member;
-          fills = g.fills s is.begun (is.lasts none).fills;
+          only = (is.lasts none).only;
+          fills = fills s is.begun (is.lasts none);
         };
       }) all h.each;
   there = h.there;
 }
 
+pub goes_on : (p q : Place) → GoesOn p q → (own : ℕ) (c : Config) (all : List Stretch) → StretchesHold p own c all →
+    StretchesHold q own c all
+goes_on p q g own c all h = fills_on p q own c all g.numbers (λ s first lasts. g.fills s first lasts.fills) h
+
 same_node : (p q : Place) → Sound q → q.node ≡ p.node → GoesOn p q → Holds p → Holds q
 same_node p q sound same g h =
     (sound, λ n is. goes_on p q g n.id (knowledge n).config (stretches n) (h.1 n (sym same ∙ is)))
 
--- the actions and commits stay, and no action is of a transaction that was not open
-left_on : (p q : Place) → (q.actions ≡ p.actions) × (q.commits ≡ p.commits) → p.numbers.next ≤ q.numbers.next →
+-- the actions and commits stay, and what tables were filled with
+abbrev RowsStay : Place → Place → Type 0
+RowsStay p q = (q.actions ≡ p.actions) × (q.commits ≡ p.commits) × (q.fillings ≡ p.fillings)
+
+-- and no action is of a transaction that was not open
+left_on : (p q : Place) → RowsStay p q → p.numbers.next ≤ q.numbers.next →
     AllByRecursion (λ a. member a.xid (open_xids q) ≡ true → member a.xid (open_xids p) ≡ true) p.actions → GoesOn p q
 left_on p q same numbers fewer =
     record { numbers = numbers; fills = λ s first f. fills_left p q s same fewer f }
@@ -69,12 +80,12 @@ fewer_each : (p q : Place) → ((x : ℕ) → member x (open_xids q) ≡ true �
 fewer_each p q fewer =
     all_each (λ a. member a.xid (open_xids q) ≡ true → member a.xid (open_xids p) ≡ true) (λ a. fewer a.xid) p.actions
 
-is_same_on : (p q : Place) → IsSame p q → GoesOn p q
-is_same_on p q same =
-    left_on p q (same.actions, same.commits) (let number = same.number in omega (arith, number))
+is_same_on : (p q : Place) → IsSame p q → q.fillings ≡ p.fillings → GoesOn p q
+is_same_on p q same fillings =
+    left_on p q (same.actions, same.commits, fillings) (let number = same.number in omega (arith, number))
     (fewer_each p q (λ x is. ap (λ os. member x (ids_of os)) (sym same.opens) ∙ is))
 
-none_open : (p q : Place) → (q.actions ≡ p.actions) × (q.commits ≡ p.commits) → p.numbers.next ≤ q.numbers.next →
+none_open : (p q : Place) → RowsStay p q → p.numbers.next ≤ q.numbers.next →
     open_xids q ≡ [] → GoesOn p q
 none_open p q same numbers none =
     left_on p q same numbers
@@ -85,12 +96,12 @@ none_open p q same numbers none =
 prepared_holds : (move : Move) (p : Place) → Holds p → Holds (prepared move p)
 prepared_holds move p h =
     same_node p (prepared move p) (sound_prepared move p h.0) (prepared_node move p)
-    (is_same_on p (prepared move p) (prepared_same move p)) h
+    (is_same_on p (prepared move p) (prepared_same move p) (prepared_fillings move p)) h
 
 -- a transaction begins, which has written nothing
 begun_on : (name : List ℕ) (p : Place) → Sound p → GoesOn p (begun name p)
 begun_on name p s =
-    left_on p (begun name p) (refl, refl) (omega arith)
+    left_on p (begun name p) (refl, refl, refl) (omega arith)
     (all_map (λ a. a.xid < p.xids.next)
     (λ a. member a.xid (open_xids (begun name p)) ≡ true → member a.xid (open_xids p) ≡ true)
     (λ a known is. elim (member_behind a.xid p.xids.next name p.opens is) [
@@ -102,7 +113,7 @@ written_on : (xid : ℕ) (table : List ℕ) (change : Change) (p : Place) → me
     GoesOn p (written xid table change p)
 written_on xid table change p apart = record {
   numbers = omega arith;
-  fills = λ s first f. fills_written p.actions p.commits (open_xids p) (record {
+  fills = λ s first f. fills_written p (record {
     number = p.numbers.next;
     xid = xid;
     table = table;
@@ -163,31 +174,32 @@ done_holds task (Writes xid table change) p may sound h =
 done_holds task (Commits name xid) p may sound h =
     committed_holds name xid p (found_member name xid p.opens may.allows) sound h
 done_holds task (Aborts name) p may sound h =
-    same_node p (done (Aborts name) p) sound refl (left_on p (done (Aborts name) p) (refl, refl) (omega arith)
+    same_node p (done (Aborts name) p) sound refl (left_on p (done (Aborts name) p) (refl, refl, refl) (omega arith)
     (fewer_each p (done (Aborts name) p) (λ x. member_without x name p.opens))) h
 done_holds task Falls p may sound h =
-    same_node p (done Falls p) sound refl (none_open p (done Falls p) (refl, refl) (omega arith) refl) h
+    same_node p (done Falls p) sound refl (none_open p (done Falls p) (refl, refl, refl) (omega arith) refl) h
 done_holds task Rises p may sound h =
     let r = prepared_holds Rises p h in
     same_node (prepared Rises p) (done Rises p) sound refl
-    (none_open (prepared Rises p) (done Rises p) (refl, refl) (let below = r.0.numbers_below in omega (arith, below))
-    refl) r
+    (none_open (prepared Rises p) (done Rises p) (refl, refl, refl)
+    (let below = r.0.numbers_below in omega (arith, below)) refl) r
 done_holds task Founds p may sound h =
     let same = first_same p in
     same_node p (done Founds p) sound (first_rows_node p)
-    (left_on p (done Founds p) (same.actions, same.commits) (let number = same.number in omega (arith, number))
+    (left_on p (done Founds p) (same.actions, same.commits, first_fillings p)
+    (let number = same.number in omega (arith, number))
     (fewer_each p (done Founds p) (λ x is. ap (λ os. member x (ids_of os)) (sym same.opens) ∙ is))) h
 done_holds task others p may sound h =
     same_node p (done others p) sound refl
-    (left_on p (done others p) (refl, refl) (omega arith) (fewer_each p (done others p) (λ x is. is))) h
+    (left_on p (done others p) (refl, refl, refl) (omega arith) (fewer_each p (done others p) (λ x is. is))) h
 
 pub keeps_holding : KeepsTasks (λ task. Unit {0}) Holds Holds
 keeps_holding = record {
   stays = λ p h. h;
   prepares = λ task move p may h. prepared_holds move p h;
   moves = λ task move p one may h. done_holds task move p may (keeps_sound.tasks.moves task move p one may h.0) h;
-  falls = λ count p h. same_node p _ (sound_closed h.0) refl (none_open p _ (refl, refl) (omega arith) refl) h;
-  wavers = λ stands p h. same_node p _ (sound_closed h.0) refl (none_open p _ (refl, refl) (omega arith) refl) h;
+  falls = λ count p h. same_node p _ (sound_closed h.0) refl (none_open p _ (refl, refl, refl) (omega arith) refl) h;
+  wavers = λ stands p h. same_node p _ (sound_closed h.0) refl (none_open p _ (refl, refl, refl) (omega arith) refl) h;
 }
 
 pub bare_holds : Sound bare_place → Holds bare_place
@@ -227,11 +239,15 @@ doing_holds p n ds is done h = (
     q : Place
     q = record p { node = Some (with_deeds ds n) }
 
-pub commit_holds : (c : Commit) (p : Place) → IsFit c p → Holds p → Holds (committing c p)
-commit_holds c p (Does n is none done) h = (h.0, λ m at. by m (sym node ∙ at))
+pub commit_holds : (c : Commit) (p : Place) → IsWithin c p → IsFit c p → Holds p → Holds (committing c p)
+commit_holds c p within (Does n is none done others) h =
+    (keeps_sound.commits c p within h.0, λ m at. by m (sym node ∙ at))
   where
     q : Place
     q = committing c p
+
+    behind : Node
+    behind = with_deeds c.deeds n
 
     node : q.node ≡ Some (with_deeds c.deeds n)
     node =
@@ -241,9 +257,11 @@ commit_holds c p (Does n is none done) h = (h.0, λ m at. by m (sym node ∙ at)
     by : (m : Node) → Some (with_deeds c.deeds n) ≡ Some m → NodeHolds q m
     by m one =
         subst (NodeHolds q) (one_found _ m one)
-        (goes_on p q (record { numbers = omega arith; fills = λ s first f. f }) n.id _ _
+        (fills_on p q n.id (knowledge behind).config (stretches behind) (omega arith)
+        (λ s first lasts. fills_beside p n.id (knowledge behind).config c.deeds s others lasts)
         (deeds_hold p n c.deeds h.0 done (h.1 n is)))
-commit_holds c p (Becomes n none is deeds first) h = (h.0, λ m at. by m (sym node ∙ at))
+commit_holds c p within (Becomes n none is deeds first) h =
+    (keeps_sound.commits c p within h.0, λ m at. by m (sym node ∙ at))
   where
     q : Place
     q = committing c p
@@ -256,24 +274,25 @@ commit_holds c p (Becomes n none is deeds first) h = (h.0, λ m at. by m (sym no
     by m one = subst (NodeHolds q) (one_found n m one) (first_holds q n first)
 
 -- a database with a commit in doubt
-doubt_holds : (c : Commit) (stands : Bool) (p : Place) → IsFit c p → Holds p → Holds (in_doubt c stands p)
+doubt_holds : (c : Commit) (stands : Bool) (p : Place) → MayStand c p → Holds p → Holds (in_doubt c stands p)
 doubt_holds c stands p fit h =
-    same_node r (in_doubt c stands p) (sound_closed held.0) refl (none_open r _ (refl, refl) (omega arith) refl) held
+    same_node r (in_doubt c stands p) (sound_closed held.0) refl
+    (none_open r _ (refl, refl, refl) (omega arith) refl) held
   where
     r : Place
     r = cond stands (committing c p) p
 
     either : (b : Bool) → Holds (cond b (committing c p) p)
-    either true = commit_holds c p fit h
+    either true = commit_holds c p fit.0 fit.1 h
     either false = h
 
     held : Holds r
     held = either stands
 
 -- whichever way a step changes a database
-pub turned_holds : (p q : Place) → Turned IsFit p q → Holds p → Holds q
-turned_holds p q (CommitsOne c fit is) h = subst Holds (sym is) (commit_holds c p fit h)
+pub turned_holds : (p q : Place) → Turned MayStand p q → Holds p → Holds q
+turned_holds p q (CommitsOne c fit is) h = subst Holds (sym is) (commit_holds c p fit.0 fit.1 h)
 turned_holds p q (GoesDown count is) h =
     subst Holds (sym is)
-    (same_node p _ (sound_closed h.0) refl (none_open p (fallen count p) (refl, refl) (omega arith) refl) h)
+    (same_node p _ (sound_closed h.0) refl (none_open p (fallen count p) (refl, refl, refl) (omega arith) refl) h)
 turned_holds p q (Doubts c stands fit is) h = subst Holds (sym is) (doubt_holds c stands p fit h)

@@ -1,17 +1,19 @@
 -- What a database does after a snapshot is taken there, which the snapshot does not see.
-use Rattle.std.proofs.Common.{◌≡◌, ℕ, ◌<◌, true, false, cond, List, [], ◌∷◌, ◌++◌, refl, sym, ap, ◌∙◌}
+use Rattle.std.proofs.Common.{◌≡◌, ℕ, ◌<◌, Bool, true, false, cond, List, [], ◌∷◌, ◌++◌, refl, sym, ap, ◌∙◌}
 use Rattle.std.specs.Prelude.{◌==◌, ◌||◌}
 use Rattle.std.specs.List.{AllByRecursion}
 use Rattle.std.proofs.lemmas.Bool.{false≢true, false_from_ne_true, eqb-true}
+use Rattle.slon_model.specs.declared.numbering.Numbering.{Numbering}
 use Rattle.slon_model.specs.declared.numbering.Numbering.TheVariants.{Xids, Actions}
 use Rattle.slon_model.specs.Rows.{Action, member}
 use Rattle.slon_model.specs.Snapshots.{sees}
 use Rattle.slon_model.specs.Tasks.{Task}
-use Rattle.slon_model.specs.Place.{Place, open_xids, taken, founded}
+use Rattle.slon_model.specs.Place.{Place, lifted, open_xids, raised, stamped, taken, founded, with_counter}
 use Rattle.slon_model.specs.Moves.{Move, Founds, Begins, Writes, Commits, Rises, first_rows, prepared}
 use Rattle.slon_model.specs.Moves.{done}
 use Rattle.slon_laws.specs.Sound.{Sound}
 use Rattle.slon_laws.specs.Allowed.{MayMove}
+use Rattle.slon_laws.specs.Turning.{IsWithin}
 use Rattle.slon_laws.specs.Keeps.{Keeps}
 use Rattle.slon_laws.proofs.Covering.{Outlasts, outlasts_itself, keeps_outlasting, past, ended}
 use Rattle.slon_laws.proofs.Decides.{IsSame, raised_same}
@@ -78,6 +80,29 @@ prepared_same Rises p = first_same p
 prepared_same others p =
     record { xid = refl; number = refl; tables = refl; actions = refl; commits = refl; opens = refl }
 
+raised_fillings : (kind : Numbering) (p : Place) → (raised kind p).fillings ≡ p.fillings
+raised_fillings Xids p = by (p.xids.next == p.xids.ceiling)
+  where
+    by : (b : Bool) → (cond b (stamped (with_counter Xids (lifted p.xids) p)) p).fillings ≡ p.fillings
+    by true = refl
+    by false = refl
+raised_fillings Actions p = by (p.numbers.next == p.numbers.ceiling)
+  where
+    by : (b : Bool) → (cond b (stamped (with_counter Actions (lifted p.numbers) p)) p).fillings ≡ p.fillings
+    by true = refl
+    by false = refl
+
+pub first_fillings : (p : Place) → (first_rows p).fillings ≡ p.fillings
+first_fillings p =
+    elim (p.stamp == 0) as (λ b. (cond b (founded p) p).fillings ≡ p.fillings) [ true ↦ refl | false ↦ refl ]
+
+-- nor what tables were filled with
+pub prepared_fillings : (move : Move) (p : Place) → (prepared move p).fillings ≡ p.fillings
+prepared_fillings (Begins name) p = raised_fillings Xids p
+prepared_fillings (Writes xid table change) p = raised_fillings Actions p
+prepared_fillings Rises p = first_fillings p
+prepared_fillings others p = refl
+
 -- a write of a transaction that is open now
 written_since : (p q r : Place) (a : Action) → Sound p → Since p q → Outlasts p r →
     (r.actions ≡ a ∷ q.actions) × (r.commits ≡ q.commits) × (member a.xid (open_xids q) ≡ true) → Since p r
@@ -142,5 +167,5 @@ keeps_since p sound = record {
   promises = λ node q s. stays_since p q _ s (lasts.promises node q s.lasts) refl refl;
 }
   where
-    lasts : Keeps (λ task. Unit {0}) (λ q. Sound q × Outlasts p q) (Outlasts p)
+    lasts : Keeps IsWithin (λ task. Unit {0}) (λ q. Sound q × Outlasts p q) (Outlasts p)
     lasts = keeps_outlasting p

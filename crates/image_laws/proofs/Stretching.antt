@@ -15,7 +15,7 @@ use Rattle.slon_model.specs.Eras.{Stretch, reigns, stretch_in, ended, stretches_
 use Rattle.slon_model.proofs.Names.{all_map}
 use Rattle.stream_laws.proofs.Lists.{all_mapped, entry-with, there_with}
 use Rattle.image_laws.specs.Fits.{IsListed, IsWhole, IsKept}
-use Rattle.image_laws.specs.Facts.{HoldsStretch, IsHeldBy, HasStretch, StretchesHold}
+use Rattle.image_laws.specs.Facts.{HoldsStretch, IsHeldBy, IsOnlyIn, HasStretch, StretchesHold}
 use Rattle.image_laws.proofs.Found.{find_any, IsNew, find_agrees, find_mapped, find_has}
 
 -- ---- each stretch
@@ -86,6 +86,7 @@ listed_member table c set is = by (member_of table c) refl is
 pub record Stay (old new : Config) : Type 0 where
   pub listed : (table : List ℕ) → IsListed table old → IsListed table new
   pub member : (table : List ℕ) (set : ℕ) → set_of table old ≡ Some set → set_of table new ≡ Some set
+  pub only : (table : List ℕ) (set : ℕ) → IsListed table old → IsOnlyIn set table old → IsOnlyIn set table new
 
 each_behind : (p : Place) (own : ℕ) (old new : Config) (d : Deed) → Stay old new → (s : Stretch) →
     HoldsStretch p own old s →
@@ -107,6 +108,7 @@ each_behind p own old new d stay s h = by s.last refl
             lasts = λ none. record {
               stands = stands;
               member = stay.member s.table s.set_id (h.lasts none).member;
+              only = stay.only s.table s.set_id h.listed (h.lasts none).only;
               fills = (h.lasts none).fills;
             };
           }
@@ -212,6 +214,8 @@ pub kept_stay : (old new : Config) → IsKept old new → Stay old new
 kept_stay old new kept = record {
   listed = λ table listed. subst (λ tables. IsListed table (record new { tables = tables })) (sym kept.tables) listed;
   member = λ table set is. same_set old new kept table ∙ is;
+  only = λ table set listed only.
+      subst (λ tables. IsOnlyIn set table (record new { tables = tables })) (sym kept.tables) only;
 }
 
 pub keeps_holds : (b : Before) (new : Config) (d : Deed) → d.rows ≡ [] → IsKept b.known new →
@@ -266,6 +270,7 @@ pub created_stay : (own : ℕ) (c : Config) (id : ℕ) (row : SetRow) → IsWhol
 created_stay own c id row w fresh = record {
   listed = λ table listed. listed;
   member = λ table set is. created_set own c id row w fresh table ∙ is;
+  only = λ table set listed only. only;
 }
 
 pub creates_holds : (b : Before) (id : ℕ) (row : SetRow) (d : Deed) → d.rows ≡ [] → IsNew id b.known.sets →

@@ -22,13 +22,13 @@ use Rattle.slon_model.proofs.Names.{all_map, one_found}
 use Rattle.slon_laws.specs.Sound.{Sound, ids_of}
 use Rattle.slon_laws.specs.Allowed.{MayMove}
 use Rattle.slon_laws.specs.Keeps.{KeepsTasks}
-use Rattle.slon_laws.specs.Turning.{Turned, Commits as CommitsOne, Falls as GoesDown, Doubts}
+use Rattle.slon_laws.specs.Turning.{IsWithin, Turned, Commits as CommitsOne, Falls as GoesDown, Doubts}
 use Rattle.slon_laws.proofs.Covering.{past}
 use Rattle.slon_laws.proofs.Decides.{IsSame}
 use Rattle.slon_laws.proofs.Opens.{all_member, found_member}
 use Rattle.slon_laws.proofs.Sounds.{keeps_sound, sound_prepared, sound_closed}
 use Rattle.stream_laws.proofs.Steps.{Logs, prepared_node, done_logs}
-use Rattle.image_laws.specs.Fits.{AllDone, IsFit, Does, Becomes}
+use Rattle.image_laws.specs.Fits.{AllDone, IsFit, MayStand, Does, Becomes}
 use Rattle.image_laws.specs.Laws.{CountsTell}
 use Rattle.image_laws.specs.Moments.{count_of, is_ended, IsTaken, IsOrder, HasMoments}
 use Rattle.image_laws.proofs.Clocks.{Clock, Ticked, no_more, ticked_on, clock_begins, clock_ends, name_out}
@@ -256,9 +256,9 @@ deeds_tick p n (d ∷ ds) ended now done all =
     emitted_all (λ e. TakenIn ended e.taken) d.doing (stream (with_deeds ds n))
     (λ e doing. subst (TakenIn ended) (sym (done.1.taken e doing)) now) (deeds_tick p n ds ended now done.0 all)
 
-commit_ticks : (c : Commit) (p : Place) → IsFit c p → Ticking p → Ticking (committing c p)
-commit_ticks c p (Does n is none done) t = (
-  t.0,
+commit_ticks : (c : Commit) (p : Place) → IsWithin c p → IsFit c p → Ticking p → Ticking (committing c p)
+commit_ticks c p within (Does n is none done others) t = (
+  keeps_sound.commits c p within t.0,
   record {
     ended = t.1.ended;
     clock = t.1.clock;
@@ -276,8 +276,8 @@ commit_ticks c p (Does n is none done) t = (
     by m one =
         subst (λ (k : Node). AllByRecursion (λ e. TakenIn t.1.ended e.taken) (stream k)) (one_found _ m one)
         (deeds_tick p n c.deeds t.1.ended (taken_now p t.1.ended t.0 t.1.clock) done (t.1.events n is))
-commit_ticks c p (Becomes n none is deeds first) t = (
-  t.0,
+commit_ticks c p within (Becomes n none is deeds first) t = (
+  keeps_sound.commits c p within t.0,
   record {
     ended = t.1.ended;
     clock = t.1.clock;
@@ -295,21 +295,21 @@ commit_ticks c p (Becomes n none is deeds first) t = (
         (subst (λ ds. AllByRecursion (λ e. TakenIn t.1.ended e.taken) (filter_map (λ d. emitted_by d.doing) ds))
         (sym first.deeds) tt)
 
-doubt_ticks : (c : Commit) (stands : Bool) (p : Place) → IsFit c p → Ticking p → Ticking (in_doubt c stands p)
+doubt_ticks : (c : Commit) (stands : Bool) (p : Place) → MayStand c p → Ticking p → Ticking (in_doubt c stands p)
 doubt_ticks c stands p fit t = (sound_closed held.0, closed_on r (in_doubt c stands p) (refl, refl) refl held)
   where
     r : Place
     r = cond stands (committing c p) p
 
     either : (b : Bool) → Ticking (cond b (committing c p) p)
-    either true = commit_ticks c p fit t
+    either true = commit_ticks c p fit.0 fit.1 t
     either false = t
 
     held : Ticking r
     held = either stands
 
-pub turned_ticks : (p q : Place) → Turned IsFit p q → Ticking p → Ticking q
-turned_ticks p q (CommitsOne c fit is) t = subst Ticking (sym is) (commit_ticks c p fit t)
+pub turned_ticks : (p q : Place) → Turned MayStand p q → Ticking p → Ticking q
+turned_ticks p q (CommitsOne c fit is) t = subst Ticking (sym is) (commit_ticks c p fit.0 fit.1 t)
 turned_ticks p q (GoesDown count is) t =
     subst Ticking (sym is) (sound_closed t.0, closed_on p _ (refl, refl) refl t)
 turned_ticks p q (Doubts c stands fit is) t = subst Ticking (sym is) (doubt_ticks c stands p fit t)

@@ -2,31 +2,36 @@
 use Rattle.std.specs.Prelude.{◌≡◌, ℕ, ◌≤◌, ◌&&◌, nat_le, true, List, find, Some, None}
 use Rattle.std.specs.Str.{bytes_eq}
 use Rattle.std.specs.List.{AllByRecursion}
-use Rattle.slon_model.specs.Rows.{Action, member, play_rows, rows_by}
+use Rattle.slon_model.specs.Rows.{Action, member, play_rows}
 use Rattle.slon_model.specs.Config.{Config, is_origin, era_of, set_of}
 use Rattle.slon_model.specs.Deeds.{Node, Logged, knowledge}
 use Rattle.slon_model.specs.Logs.{logged}
-use Rattle.slon_model.specs.Place.{Place, open_xids}
+use Rattle.slon_model.specs.Place.{Filling, Place, filling_of, open_xids, rows_since}
 use Rattle.slon_model.specs.Eras.{Stretch, reigns, stretches, is_stretch}
 use Rattle.slon_laws.specs.Sound.{Sound}
 use Rattle.stream_laws.specs.Nodes.{IsAmong}
 use Rattle.image_laws.specs.Fits.{IsListed, IsWhole}
 
--- The committed rows of a table are what it held before the stretch, and the committed actions since. Open transactions
--- wrote it only since then.
-pub record Fills (actions : List Action) (commits xids : List ℕ) (s : Stretch) : Type 0 where
-  pub rows : rows_by (λ a. member a.xid commits) s.table actions
+-- The committed rows of a table, which was last filled so, are what it held before the stretch, and the committed
+-- actions since. Open transactions wrote it only since then.
+pub record Fills (actions : List Action) (commits xids : List ℕ) (filling : Filling) (s : Stretch) : Type 0 where
+  pub rows : rows_since (λ a. member a.xid commits) s.table actions filling
       ≡ play_rows (λ a. member a.xid commits && nat_le s.first a.number) s.table actions s.before
   pub inside : AllByRecursion (λ a. bytes_eq s.table a.table ≡ true → member a.xid xids ≡ true →
       nat_le s.first a.number ≡ true) actions
 
 abbrev pub FillsAt : Place → Stretch → Type 0
-FillsAt p s = Fills p.actions p.commits (open_xids p) s
+FillsAt p s = Fills p.actions p.commits (open_xids p) (filling_of s.table p.fillings) s
 
--- While a stretch lasts the era stands, the table is in the set, and the stretch makes its rows.
+-- each known table of this name is in the set
+abbrev pub IsOnlyIn : ℕ → List ℕ → Config → Type 0
+IsOnlyIn set table c = AllByRecursion (λ e. bytes_eq table e.1.name ≡ true → e.1.set_id ≡ set) c.tables
+
+-- While a stretch lasts the era stands, the table is in the set and in no other, and the stretch makes its rows.
 pub record Lasts (p : Place) (own : ℕ) (c : Config) (s : Stretch) : Type 0 where
   pub stands : reigns own c s ≡ true
   pub member : set_of s.table c ≡ Some s.set_id
+  pub only : IsOnlyIn s.set_id s.table c
   pub fills : FillsAt p s
 
 -- A stretch is of a table that is known.

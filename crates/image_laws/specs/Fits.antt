@@ -4,12 +4,17 @@ use Rattle.std.specs.Str.{bytes_eq}
 use Rattle.std.specs.List.{list_any, AllByRecursion}
 use Rattle.node_rows.specs.declared.rows.SetRow.{SetRow}
 use Rattle.node_rows.specs.declared.body.Body.TheVariants.{StoreSet, SetAddTable}
+use Rattle.node_rows.specs.declared.rows.TableRow.{TableRow}
+use Rattle.slon_model.specs.Names.{Named}
 use Rattle.slon_model.specs.Maps.{entry_at}
+use Rattle.slon_model.specs.Rows.{Rows}
 use Rattle.slon_model.specs.Events.{Event}
 use Rattle.slon_model.specs.Config.{Config, is_origin}
-use Rattle.slon_model.specs.Deeds.{Node, Deed, Emits, learned, met_by, knowledge, with_deeds}
+use Rattle.slon_model.specs.Deeds.{Node, Deed, Emits, brought_in, learned, met_by, knowledge, with_deeds}
 use Rattle.slon_model.specs.Place.{Place, standing_rows, taken}
 use Rattle.slon_model.specs.Sessions.{Commit, writer_of}
+use Rattle.slon_laws.specs.Turning.{IsWithin}
+use Rattle.stream_laws.specs.Nodes.{IsAmong}
 
 -- some table that is known has this name
 abbrev pub IsListed : List ℕ → Config → Type 0
@@ -89,7 +94,28 @@ abbrev pub AllDone : Place → Node → List Deed → Type 0
 AllDone p n [] = Unit {0}
 AllDone p n (d ∷ ds) = AllDone p n ds × IsDoneNow p d × Fit p (with_deeds ds n) d
 
--- A commit of a database: its node does these things, or it becomes a node.
+-- The table is in a set of which the node of this id is not the origin.
+pub record IsOfOther (own : ℕ) (c : Config) (table : List ℕ) : Type 0 where
+  pub entry : ℕ × TableRow
+  pub among : IsAmong entry c.tables
+  pub named : entry.1.name ≡ table
+  pub other : is_origin own entry.1.set_id c ≡ false
+
+-- rows that are brought are of such tables
+abbrev pub AreOfOthers : ℕ → Config → Named Rows → Type 0
+AreOfOthers own c rows = AllByRecursion (λ r. IsOfOther own c r.0) rows
+
+-- so are all that these deeds bring to a node which then knows this
+abbrev pub BringOthers : ℕ → Config → List Deed → Type 0
+BringOthers own c ds = AllByRecursion (λ d. AreOfOthers own c (brought_in d.doing).rows) ds
+
+-- A commit of a database: its node does these things, and fills only tables of sets of other nodes; or it becomes a
+-- node.
 pub data IsFit (c : Commit) (p : Place) : Type 0 where
-  Does : (n : Node) → p.node ≡ Some n → c.becomes ≡ None → AllDone p n c.deeds → IsFit c p
+  Does : (n : Node) → p.node ≡ Some n → c.becomes ≡ None → AllDone p n c.deeds →
+      BringOthers n.id (knowledge (with_deeds c.deeds n)).config c.deeds → IsFit c p
   Becomes : (n : Node) → p.node ≡ None → c.becomes ≡ Some n → c.deeds ≡ [] → IsFirst n → IsFit c p
+
+-- and what it stores is within the limit
+abbrev pub MayStand : Commit → Place → Type 0
+MayStand c p = IsWithin c p × IsFit c p

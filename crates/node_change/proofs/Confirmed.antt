@@ -57,7 +57,6 @@ hears_held {n} {confirms} {m} {new} h d is none =
       log = subst (λ (logs : List Logged). HoldsLog (items_of (logs ++ logged n)) new) (sym none)
           (moved (sym (h.streams.others 15 refl)) h.held.log);
       status = h.held.status;
-      still = h.held.still;
       behind = h.held.behind;
       regular = regular_stays n done h.goes h.held.regular;
       spare = λ space other spare. stays h space (spare_else space spare) ∙ h.held.spare space other spare;

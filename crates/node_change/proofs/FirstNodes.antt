@@ -88,7 +88,6 @@ first_made id comment run m can none = record { held = held; own = λ space own.
           ∙ none space (not_own space is));
       log = moved (sym (none 15 refl)) (empty_space (λ i. refl));
       status = omega arith;
-      still = refl;
       behind = λ origin. omega arith;
       regular = first_regular id comment run;
       spare = λ space other spare. stays space (not_eq space 4 (λ same. false≢true (sym spare ∙ ap is_of_node same)))

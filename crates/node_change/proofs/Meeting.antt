@@ -4,14 +4,18 @@ use Rattle.std.proofs.Common.{◌∙◌, arith, unwrap_or}
 use Rattle.std.specs.Prelude.{◌==◌}
 use Rattle.std.proofs.lemmas.Bool.{eqb-true}
 use Rattle.slon_base.specs.Keeper.{Store, Kept}
+use Rattle.store_rows.specs.Rows.{IsId}
 use Rattle.store_rows.specs.Space.{IsPending}
 use Rattle.node_rows.specs.Spellings.{CanBody}
 use Rattle.node_rows.specs.declared.body.Body.{Body}
 use Rattle.node_rows.specs.declared.body.Body.TheVariants.{DropSet, MoveSet, FailoverSet}
 use Rattle.slon_model.specs.Maps.{entry_at, with_entry, number_at}
+use Rattle.slon_model.specs.Names.{Named}
+use Rattle.slon_model.specs.Rows.{Rows}
+use Rattle.slon_model.specs.Views.{View}
 use Rattle.slon_model.specs.Events.{Event}
 use Rattle.slon_model.specs.Config.{change}
-use Rattle.slon_model.specs.Deeds.{Node, Deed, Doing, Emits, Applies, Logged, knowledge, with_deeds}
+use Rattle.slon_model.specs.Deeds.{Node, Deed, Doing, Emits, Applies, Logged, knowledge, nothing_brought, with_deeds}
 use Rattle.slon_model.specs.Logs.{logged}
 use Rattle.event_store.specs.Keeping.{KeepsViews}
 use Rattle.set_config.specs.Holds.{Shows}
@@ -20,14 +24,15 @@ use Rattle.log_switch.specs.Holds.{HoldsLog}
 use Rattle.event_store.specs.Following.{IsBehindLow}
 use Rattle.event_store.specs.Holds.{HoldsStreams, ShowsStreams}
 use Rattle.event_store.specs.Spellings.{IsNumbered}
-use Rattle.event_store.specs.Streams.{streams_of, emitted}
+use Rattle.event_store.specs.Streams.{Streams, streams_of, emitted}
+use Rattle.event_store.proofs.Ordered.{ordered_with}
 use Rattle.event_store.proofs.Apart.{config_stays, streams_stay}
 use Rattle.event_store.proofs.Deeds.{applying_adds}
 use Rattle.event_store.proofs.Regular.{regular_stays}
 use Rattle.event_store.proofs.Holding.{moved}
 use Rattle.node_state.specs.Held.{NodeHeld, items_of, IsMet}
 use Rattle.node_state.specs.Known.{IsHomed}
-use Rattle.node_change.specs.Done.{HasEmitted, HasApplied, CanApply}
+use Rattle.node_change.specs.Done.{HasEmitted, HasApplied, HasKept, CanApply}
 use Rattle.node_change.proofs.Orderly.{change_orderly, change_homed, change_known, change_met}
 use Rattle.node_change.proofs.Spaces.{IsElse, own_else, spare_else, no_config, no_stream}
 
@@ -68,7 +73,7 @@ behind_more {n} {e} em origin =
 
 -- the node with one more deed, which applies the event and logs nothing
 applies_held : {n : Node} {e : Event} {m mid new : Store} → Meeting n e m mid new → (d : Deed) → d.logs ≡ [] →
-    NodeHeld (with_deeds (record d { doing = Applies e } ∷ []) n) new
+    NodeHeld (with_deeds (record d { doing = Applies e nothing_brought } ∷ []) n) new
 applies_held {n} {e} {m} {mid} {new} em d none = record {
   id = em.held.id;
   cluster = em.held.cluster;
@@ -82,24 +87,23 @@ applies_held {n} {e} {m} {mid} {new} em d none = record {
   log = subst (λ (logs : List Logged). HoldsLog (items_of (logs ++ logged n)) new) (sym none)
       (moved (sym (em.config.others 15 refl ∙ em.streams.others 15 refl)) em.held.log);
   status = em.held.status;
-  still = em.held.still;
   behind = behind_more em;
-  regular = regular_stays n done (em.named, em.takes.later) em.held.regular;
+  regular = regular_stays n done ((em.named, em.takes.later), tt) em.held.regular;
   spare = λ space other spare. stays em space (spare_else space spare) ∙ em.held.spare space other spare;
 }
   where
     done : Deed
-    done = record d { doing = Applies e }
+    done = record d { doing = Applies e nothing_brought }
 
     known : (id : ℕ) → IsMet id (knowledge n).config → IsMet id (change e (knowledge n).config)
     known id = change_known e.origin e.number id e.body (knowledge n).config em.keeps
 
     adds : streams_of (with_deeds (done ∷ []) n) ≡ emitted e (streams_of n)
-    adds = applying_adds n done e refl (behind_low em)
+    adds = applying_adds n done e nothing_brought refl (behind_low em)
 
 -- an event that keeps the views makes of a node that emits it what it makes of one that applies it
 emits_alike : (n : Node) (d : Deed) (e : Event) (body : Body) (new : Store) → KeepsViews body →
-    NodeHeld (with_deeds (record d { doing = Applies (record e { body = body }) } ∷ []) n) new →
+    NodeHeld (with_deeds (record d { doing = Applies (record e { body = body }) nothing_brought } ∷ []) n) new →
     NodeHeld (with_deeds (record d { doing = Emits (record e { body = body }) } ∷ []) n) new
 emits_alike n d e (DropSet set) new keeps held = absurd keeps
 emits_alike n d e (MoveSet set old to era feeds) new keeps held = absurd keeps
@@ -115,7 +119,6 @@ emits_alike n d e others new keeps held = record {
   streams = held.streams;
   log = held.log;
   status = held.status;
-  still = held.still;
   behind = held.behind;
   regular = held.regular;
   spare = held.spare;
@@ -133,6 +136,69 @@ has_emitted {n} {e} {new = new} em = record {
   held = λ d is none. subst (λ (doing : Doing). NodeHeld (with_deeds (record d { doing = doing } ∷ []) n) new) (sym is)
       (emits_alike n d e e.body new em.keeps (applies_held em d none));
   own = λ space own. stays em space (own_else space own);
+}
+
+-- ---- a set that is kept
+
+-- the node behind an event that brings nothing
+abbrev pub applied : Node → Event → Node
+applied n e = with_deeds (record { first = 0; rows = []; logs = []; doing = Applies e nothing_brought } ∷ []) n
+
+-- what it has of the streams, with this of one set
+abbrev pub with_kept : ℕ × View → Streams → Streams
+with_kept kept s = record s { views = with_entry kept.0 kept.1 s.views }
+
+kept_held : {n : Node} {e : Event} {m mid new : Store} (kept : ℕ × View) → HasApplied n e m mid →
+    ShowsStreams mid (with_kept kept (streams_of (applied n e))) new → IsId kept.0 → (rows : Named Rows) (d : Deed) →
+    d.logs ≡ [] →
+    NodeHeld (with_deeds (record d { doing = Applies e (record { views = kept ∷ []; rows = rows }) } ∷ []) n) new
+kept_held {n} {e} {m} {mid} {new} kept has shows id rows d none = record {
+  id = h.id;
+  cluster = h.cluster;
+  config = config_stays mid new (with_kept kept (streams_of (applied n e))) (change e (knowledge n).config) shows
+      h.config;
+  orderly = h.orderly;
+  homes = h.homes;
+  self = h.self;
+  met = h.met;
+  streams = shows.streams;
+  log = moved (sym (shows.others 15 refl)) h.log;
+  status = h.status;
+  behind = h.behind;
+  regular = record {
+    others = h.regular.others;
+    views = ordered_with kept.0 kept.1 (knowledge n).views id h.regular.views;
+    progress = h.regular.progress;
+    told = h.regular.told;
+    falling = h.regular.falling;
+    met = h.regular.met;
+  };
+  spare = λ space other spare. shows.others space (no_stream space (spare_else space spare))
+      ∙ h.spare space other spare;
+}
+  where
+    h : NodeHeld (with_deeds (record d { doing = Applies e nothing_brought } ∷ []) n) mid
+    h = has.held (record d { doing = Applies e nothing_brought }) refl none
+
+pub has_kept : {n : Node} {e : Event} {m mid new : Store} (kept : ℕ × View) → HasApplied n e m mid →
+    ShowsStreams mid (with_kept kept (streams_of (applied n e))) new → IsId kept.0 → HasKept n e kept m new
+has_kept {n} {e} {new = new} kept has shows id rows = record {
+  held = λ d is none. subst (λ (doing : Doing). NodeHeld (with_deeds (record d { doing = doing } ∷ []) n) new) (sym is)
+      (kept_held kept has shows id rows d none);
+  own = λ space own. shows.others space (no_stream space (own_else space own)) ∙ has.own space own;
+}
+
+-- what is pending behind the event
+pub shows_applied : {n : Node} {e : Event} {m : Store} {k : Kept} → (p : IsPending (HasApplied n e m) k) →
+    IsPending (ShowsStreams p.store (streams_of (applied n e))) k
+shows_applied {n} {e} p = record {
+  store = p.store;
+  is = p.is;
+  has = record {
+    streams =
+        (p.has.held (record { first = 0; rows = []; logs = []; doing = Applies e nothing_brought }) refl refl).streams;
+    others = λ space other. refl;
+  };
 }
 
 -- ---- what a pending store shows

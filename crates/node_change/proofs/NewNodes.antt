@@ -14,7 +14,6 @@ use Rattle.store_rows.specs.Scan.{ranged}
 use Rattle.store_rows.specs.Space.{IsPending}
 use Rattle.store_rows.specs.Steps.{IsOutside}
 use Rattle.store_rows.proofs.Spaces.{empty_space}
-use Rattle.slon_model.specs.Maps.{entry_at}
 use Rattle.slon_model.specs.Deeds.{Node, knowledge}
 use Rattle.slon_model.specs.Membership.{joining}
 use Rattle.slon_model.specs.Sessions.{Running}
@@ -22,7 +21,7 @@ use Rattle.set_config.specs.Holds.{HoldsConfig, pair_key}
 use Rattle.event_store.specs.Formed.{Lacks, StopsAt, Reads}
 use Rattle.event_store.specs.Giving.{AreConfirmations}
 use Rattle.event_store.specs.Holds.{HoldsStreams, ShowsStreams}
-use Rattle.event_store.specs.Streams.{streams_of, given}
+use Rattle.event_store.specs.Streams.{Streams, streams_of, given}
 use Rattle.event_store.proofs.Apart.{config_stays}
 use Rattle.event_store.proofs.Deeds.{joining_gives}
 use Rattle.event_store.proofs.Regular.{given_regular}
@@ -89,10 +88,14 @@ config_copied {m = m} {t = t} held none = record {
   fences = space_copied (m 14) (t 14) id_some (none 14 refl) held.config.fences;
 }
 
+-- what a node has of the streams, without what it keeps of sets
+abbrev pub bare_streams : Node → Streams
+bare_streams n = record (streams_of n) { views = [] }
+
 streams_copied : {n : Node} {m t : Store} → NodeHeld n m → HoldsNode None t →
-    HoldsStreams (streams_of n) (given_copy m t)
+    HoldsStreams (bare_streams n) (given_copy m t)
 streams_copied {n} {m} {t} held none = record {
-  views = moved (sym (none 9 refl)) (empty_space (λ set. ap (entry_at set) held.still));
+  views = moved (sym (none 9 refl)) (empty_space (λ set. refl));
   events = space_copied (m 10) (t 10) pair_some (none 10 refl) held.streams.events;
   confirmations = space_copied (m 11) (t 11) pair_some (none 11 refl) held.streams.confirmations;
   cleaned = space_copied (m 12) (t 12) id_some (none 12 refl) held.streams.cleaned;
@@ -101,7 +104,7 @@ streams_copied {n} {m} {t} held none = record {
 
 -- what is pending once the spaces were copied
 pub copy_pending : {n : Node} (m t : Store) (k : Kept) → k.pending ≡ Some (Some (given_copy m t)) → NodeHeld n m →
-    HoldsNode None t → IsPending (ShowsStreams (given_copy m t) (streams_of n)) k
+    HoldsNode None t → IsPending (ShowsStreams (given_copy m t) (bare_streams n)) k
 copy_pending m t k is held none = record {
   store = given_copy m t;
   is = is;
@@ -140,7 +143,6 @@ joined_made {n} {new} {run} {m} {t} {mid} j =
       streams = subst (λ s. HoldsStreams s mid) (sym (joining_gives new n run)) j.shows.streams;
       log = moved (sym (j.shows.others 15 refl ∙ j.none 15 refl)) (empty_space (λ i. refl));
       status = omega arith;
-      still = refl;
       behind = j.held.behind;
       regular = subst IsRegular (sym (joining_gives new n run))
           (given_regular new (streams_of n) j.can.0 j.held.id j.held.regular);

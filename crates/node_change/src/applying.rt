@@ -6,12 +6,14 @@ ghost use Rattle.store_rows.specs.Space.{Becomes};
 ghost use Rattle.store_rows.specs.Steps.{Safe};
 ghost use Rattle.slon_model.specs.Deeds.{Node, knowledge};
 ghost use Rattle.event_store.specs.Keeping.{KeepsViews};
+ghost use Rattle.event_store.specs.Kept.{seen_view};
+ghost use Rattle.event_store.specs.Spellings.{CanView};
 ghost use Rattle.event_store.specs.Seen.{seen_event};
 ghost use Rattle.node_state.specs.Held.{HoldsNode};
 ghost use Rattle.node_state.specs.Known.{IsHomed};
-ghost use Rattle.node_change.specs.Done.{CanApply, HasApplied};
+ghost use Rattle.node_change.specs.Done.{CanApply, HasApplied, HasKept};
 
-use event_store::{Event, store};
+use event_store::{Event, View, keep_view, store};
 use set_config::change;
 use slon_base::Keeper;
 use std::alloc::Global;
@@ -35,4 +37,30 @@ pub fn apply<K: Keeper>(alloc: Global, keeper: &mut K, own: u32, event: &Event) 
 {
     store(alloc, keeper, own, event)?;
     change(alloc, keeper, event.origin, event.number, &event.body)
+}
+
+/// The same, and the node keeps this of a set from then on.
+///
+/// # Errors
+///
+/// `BadRow` where a row that is read is not in its form; what stopped the store, and `NoMemory`.
+pub fn apply_keeping<K: Keeper>(
+    alloc: Global,
+    keeper: &mut K,
+    own: u32,
+    event: &Event,
+    set: u32,
+    view: &View,
+) -> Result<(), Stop>
+    requires opened { is_some (K.kept keeper.old).pending ≡ true }
+    requires own { IsId own }
+    requires keeps { KeepsViews event.now.body }
+    requires kept { IsId set × CanView (seen_view view.now) }
+    ensures safe { Safe (K.kept keeper.old) (K.kept keeper.new) result }
+    ensures turns { (n : Node) (m : Store) → n.id ≡ own → (K.kept keeper.old).pending ≡ Some (Some m) →
+        HoldsNode (Some n) m → CanApply n (seen_event event.now) → IsHomed event.now.body (knowledge n).config →
+        Becomes (HasKept n (seen_event event.now) (set, seen_view view.now) m) (K.kept keeper.new) result }
+{
+    apply(alloc, keeper, own, event)?;
+    keep_view(alloc, keeper, set, view)
 }

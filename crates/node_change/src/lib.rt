@@ -13,7 +13,7 @@ mod lookup;
 mod side;
 
 pub use announcing::announce;
-pub use applying::apply;
+pub use applying::{apply, apply_keeping};
 pub use confirming::hear;
 pub use founding::found_node;
 pub use joining::join_node;

@@ -20,7 +20,7 @@ use Rattle.slon_model.specs.Place.{progress_of}
 use Rattle.event_store.specs.Spellings.{IsStored}
 use Rattle.event_store.specs.Streams.{streams_of, confirmed_at}
 use Rattle.event_store.specs.Formed.{Lacks, Reads}
-use Rattle.node_state.specs.Handed.{AreRowsOf, IsLogByte, IsLiveIn, HasCount, HandedCounts, HandedProgress}
+use Rattle.node_state.specs.Handed.{AreRowsOf, AreViews, IsLogByte, IsLiveIn, HasCount, HandedCounts, HandedProgress}
 use Rattle.node_state.specs.Handed.{HandedStatus}
 use Rattle.node_state.specs.Held.{NodeHeld}
 use Rattle.node_state.specs.Progress.{counted, AreCounts}
@@ -109,9 +109,11 @@ progress_formed own m rows result (read, is) only reads =
 
 -- the status of the log was read, and then the rest
 pub status_formed : (own : ℕ) (m : Store) → IsLogByte (get (m 1) (6 ∷ [])) →
-    ((space : ℕ) → HandedProgress own m space → ⊥) → (space : ℕ) → HandedStatus own m space → ⊥
-status_formed own m byte none space (inl lacks) = lacks.1 byte
-status_formed own m byte none space (inr (is, handed)) = none space handed
+    ((space : ℕ) → Lacks 9 (AreViews m) space → ⊥) → ((space : ℕ) → HandedProgress own m space → ⊥) → (space : ℕ) →
+    HandedStatus own m space → ⊥
+status_formed own m byte views none space (inl lacks) = lacks.1 byte
+status_formed own m byte views none space (inr (is, inl lacks)) = views space lacks
+status_formed own m byte views none space (inr (is, inr (are, handed))) = none space handed
 
 -- ---- the counts of a node that is held
 

@@ -112,7 +112,6 @@ node_grows {n} {xid} {p} {m} {new} g held =
           (g.logs ∙ sym (map-append item_of (own_logs n.id (knowledge n) (own_actions xid p)) (logged n)))
           (holds_more n.id g.rows (items_of (logged n)) m held.id g.can held.log);
       status = held.status;
-      still = held.still;
       behind = held.behind;
       regular = held.regular;
       spare = λ space other spare. others_stay n.id g.rows m space (not_log space spare)

@@ -10,3 +10,4 @@ pub mod Meeting
 pub mod Naming
 pub mod Nobody
 pub mod Staying
+pub mod Views

@@ -56,7 +56,6 @@ node_stays (Some n) m new same held = record {
   streams = streams_stay _ m new (λ space other near. same space other) held.streams;
   log = moved (same 15 refl) held.log;
   status = held.status;
-  still = held.still;
   behind = held.behind;
   regular = held.regular;
   spare = λ space other spare. same space other ∙ held.spare space other spare;

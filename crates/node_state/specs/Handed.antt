@@ -17,6 +17,8 @@ use Rattle.node_state.specs.declared.memory.Identity.{Identity}
 use Rattle.node_state.specs.declared.memory.Member.{Member}
 use Rattle.node_state.specs.declared.memory.Members.{Members}
 use Rattle.event_store.specs.Formed.{Lacks}
+use Rattle.event_store.specs.Kept.{seen_view}
+use Rattle.event_store.specs.Spellings.{view_bytes, CanView}
 use Rattle.node_state.specs.Known.{CanIdentity}
 
 -- ---- as a database comes up
@@ -117,8 +119,16 @@ HandedProgress own m space =
     Lacks 4 (AreRowsOf node_bytes CanNode 4 m) space
     ⊎ ((rows : AreRowsOf node_bytes CanNode 4 m) × HandedCounts own rows.found m space)
 
+-- what the node keeps of sets
+abbrev pub AreViews : Store → Type 0
+AreViews m = AreRowsOf (λ v. view_bytes (seen_view v)) (λ v. CanView (seen_view v)) 9 m
+
+-- that is read, and then how far the node is
+abbrev pub HandedKept : ℕ → Store → ℕ → Type 0
+HandedKept own m space = Lacks 9 (AreViews m) space ⊎ (AreViews m × HandedProgress own m space)
+
 -- the status of the log is read, and then the rest
 abbrev pub HandedStatus : ℕ → Store → ℕ → Type 0
 HandedStatus own m space =
     Lacks 1 (IsLogByte (get (m 1) (6 ∷ []))) space
-    ⊎ (IsLogByte (get (m 1) (6 ∷ [])) × HandedProgress own m space)
+    ⊎ (IsLogByte (get (m 1) (6 ∷ [])) × HandedKept own m space)

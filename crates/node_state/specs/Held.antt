@@ -16,6 +16,9 @@ use Rattle.slon_model.specs.Config.{Config}
 use Rattle.slon_model.specs.Deeds.{Node, knowledge, Logged}
 use Rattle.slon_model.specs.Logs.{logged}
 use Rattle.set_config.specs.Holds.{HoldsConfig}
+use Rattle.slon_model.specs.Views.{Views}
+use Rattle.event_store.specs.declared.view.View.{View}
+use Rattle.event_store.specs.Kept.{seen_view}
 use Rattle.event_store.specs.Streams.{streams_of}
 use Rattle.event_store.specs.Holds.{HoldsStreams}
 use Rattle.event_store.specs.Ordered.{IsOrdered, AreOrdered}
@@ -92,8 +95,6 @@ pub record NodeHeld (n : Node) (m : Store) : Type 0 where
   pub streams : HoldsStreams (streams_of n) m
   pub log : HoldsLog (items_of (logged n)) m
   pub status : (knowledge n).log < 4
-  -- no node receives a set yet
-  pub still : (knowledge n).views ≡ []
   -- it has deleted no event that it has not met
   pub behind : (origin : ℕ) → number_at origin (knowledge n).low ≤ number_at origin (knowledge n).progress
   pub regular : IsRegular (streams_of n)
@@ -103,6 +104,10 @@ pub record NodeHeld (n : Node) (m : Store) : Type 0 where
 abbrev pub HoldsNode : Option Node → Store → Type 0
 HoldsNode None m = (space : ℕ) → is_own space ≡ false → m space ≡ empty
 HoldsNode (Some n) m = NodeHeld n m
+
+-- what was read of the sets that a node keeps
+abbrev pub seen_views : List (ℕ × View) → Views
+seen_views rows = map (λ e. (e.0, seen_view e.1)) rows
 
 -- ---- its numbers
 

@@ -3,6 +3,7 @@
 
 mod closing;
 mod entries;
+mod keeping;
 mod layout;
 mod logging;
 mod members;
@@ -12,6 +13,7 @@ mod telling;
 
 pub use closing::find_closed;
 pub use entries::all_rows;
+pub use keeping::kept_views;
 pub use logging::log_rows;
 pub use memory::{Identity, Member, Members, NodeMemory};
 pub use reading::find_node;

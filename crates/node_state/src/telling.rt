@@ -17,11 +17,12 @@ ghost use Rattle.node_state.specs.Held.{NodeHeld, HoldsNode, log_of};
 ghost use Rattle.node_state.specs.Progress.{counted, AreCounts};
 
 use crate::entries::all_rows;
+use crate::keeping::{kept_list, kept_views};
 use crate::layout::{CONFIRMATIONS, NODES};
 use log_switch::status;
 use node_rows::NodeRow;
 use slon_base::Keeper;
-use slon_model::{Answer, KeptList, ProgressList};
+use slon_model::{Answer, ProgressList};
 use std::alloc::Global;
 use store_rows::{Stop, get_row};
 
@@ -86,8 +87,8 @@ fn find_progress<K: Keeper>(alloc: Global, keeper: &mut K, own: u32) -> Result<P
     read_progress(alloc, keeper, own, nodes.as_slice())
 }
 
-/// The status of the node of this id: the status of its log, and how far it is in the stream of each live node,
-/// ascending by node. It receives no set yet.
+/// The status of the node of this id: the status of its log, how far it is in the stream of each live node, and the
+/// sets that it keeps, ascending.
 ///
 /// # Errors
 ///
@@ -102,11 +103,13 @@ pub fn tell<K: Keeper>(alloc: Global, keeper: &mut K, own: u32) -> Result<Answer
     ensures form { (m : Store) → sight (K.kept keeper.old) ≡ Some m → Reads (HandedStatus own m) result }
 {
     let log = status(keeper)?;
+    let views = kept_views(alloc, keeper)?;
+    let kept = kept_list(alloc, views.as_slice())?;
     let progress = find_progress(alloc, keeper, own)?;
     Ok(Answer::Status {
         node: own,
         log,
         progress,
-        kept: KeptList::new(alloc),
+        kept,
     })
 }

@@ -140,7 +140,8 @@ becoming_stands {p} {b} at n name new none fresh s =
       founded = omega arith;
       xids = runs.1.xids;
       numbers = runs.1.numbers;
-      opened = λ key. opens_same p q (find_named key p.opens) (get b.memory.opens key) refl refl (runs.1.opened key);
+      opened = λ key. opens_same p q (find_named key p.opens) (get b.memory.opens key) (refl, refl, refl)
+          (runs.1.opened key);
       locked = runs.1.locked;
       known = s.known;
       unpromised = runs.1.unpromised;

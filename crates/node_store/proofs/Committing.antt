@@ -1,16 +1,17 @@
 -- A commit in doubt of a database that does something as a node.
 use Rattle.std.proofs.Common.{◌≡◌, ℕ, ◌+◌, ◌≤◌, Bool, true, false, List, Option, Some, None, refl, ◌⊎◌, inl, inr}
-use Rattle.std.proofs.Common.{arith}
+use Rattle.std.proofs.Common.{sym, subst, arith}
 use Rattle.std.specs.Option.{option_map, option_or}
 use Rattle.std.proofs.lemmas.Bool.{false≢true}
 use Rattle.slon_base.specs.Codec.{number_bytes}
-use Rattle.slon_base.specs.Keeper.{Store, put_at}
+use Rattle.slon_base.specs.Keeper.{Space, Store, put_at}
 use Rattle.slon_model.specs.Deeds.{Node, Deed, with_deeds}
-use Rattle.slon_model.specs.Place.{Place}
+use Rattle.slon_model.specs.Rows.{member}
+use Rattle.slon_model.specs.Place.{Place, filled_by, filling_of, rows_since, standing_rows}
 use Rattle.slon_model.specs.Sessions.{Commit, committing, in_doubt}
 use Rattle.app_store.specs.Base.{Base}
 use Rattle.app_store.specs.Fits.{Fits, IsNamed}
-use Rattle.app_store.specs.Spelled.{Holds, meta, stamp_key}
+use Rattle.app_store.specs.Spelled.{AreRows, Holds, meta, stamp_key}
 use Rattle.app_store.proofs.Holding.{holds_same}
 use Rattle.app_store.proofs.Upright.{UpAt}
 
@@ -58,6 +59,13 @@ commit_wavers {p} {b} {store} {new} at c w =
         },
       )
     ]
+
+-- a commit that fills no table leaves the rows that stand
+pub rows_stay : (c : Commit) (p : Place) (space : Space) → filled_by p c.deeds p.fillings ≡ p.fillings →
+    AreRows (standing_rows p) space → AreRows (standing_rows (committing c p)) space
+rows_stay c p space same rows =
+    subst (λ f. AreRows (λ table. rows_since (λ a. member a.xid p.commits) table p.actions (filling_of table f)) space)
+    (sym same) rows
 
 -- deeds leave a node its id
 pub same_id : (ds : List Deed) (own : Option Node) (promised : Option ℕ) →

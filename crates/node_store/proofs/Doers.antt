@@ -14,8 +14,8 @@ use Rattle.store_rows.specs.declared.stop.Stop.{Stop}
 use Rattle.store_rows.proofs.Spaces.{same_space}
 use Rattle.slon_model.specs.Names.{find_named}
 use Rattle.slon_model.specs.Events.{Event}
-use Rattle.slon_model.specs.Deeds.{Node, Deed, Doing, Applies, Commits, Hears, with_deeds}
-use Rattle.slon_model.specs.Place.{Place, deed, standing_rows}
+use Rattle.slon_model.specs.Deeds.{Node, Deed, Doing, Applies, Commits, Hears, brought_in, nothing_brought, with_deeds}
+use Rattle.slon_model.specs.Place.{Place, deed, filled, filled_by, standing_rows}
 use Rattle.slon_model.specs.Sessions.{Commit, committing, in_doubt}
 use Rattle.node_state.specs.declared.memory.Members.{Members}
 use Rattle.node_state.specs.Held.{HoldsNode}
@@ -29,7 +29,7 @@ use Rattle.app_store.specs.Spelled.{Holds, AreTables, AreRows, IsMeta, meta, sta
 use Rattle.app_store.proofs.Holding.{stored_of, restamped, put_other, never_bare}
 use Rattle.app_store.proofs.Standing.{fits_running, named_up, named_as, opens_same}
 use Rattle.app_store.proofs.Upright.{UpAt, running, IsChanged, LeftInDoubt}
-use Rattle.node_store.proofs.Committing.{stamped_store, commit_wavers, same_id}
+use Rattle.node_store.proofs.Committing.{stamped_store, commit_wavers, rows_stay, same_id}
 
 -- The node of a place, which does this, with a name on which nothing in the place depends.
 pub record Doer (p : Place) : Type 0 where
@@ -37,6 +37,7 @@ pub record Doer (p : Place) : Type 0 where
   pub is : p.node ≡ Some node
   pub doing : Doing
   pub name : List ℕ
+  pub brings : (brought_in doing).rows ≡ []
 
 abbrev pub done_in : {p : Place} → Doer p → Commit
 done_in {p} d = does d.name p d.doing
@@ -50,6 +51,10 @@ node_after d = with_deeds (deed_in d ∷ []) d.node
 
 after_is : {p : Place} (d : Doer p) → (committing (done_in d) p).node ≡ Some (node_after d)
 after_is d = ap (option_map (with_deeds (deed_in d ∷ []))) d.is
+
+-- it fills no table
+fillings_stay : {p : Place} (d : Doer p) → filled_by p (deed_in d ∷ []) p.fillings ≡ p.fillings
+fillings_stay {p} d = ap (λ rs. filled p rs p.fillings) d.brings
 
 -- whatever a node does, its id, its cluster and the status of its log stay
 meta_done : (stamp xids numbers : ℕ) (p : Place) (n : Node) (doing : Doing) (key : ℕ) →
@@ -67,7 +72,8 @@ holds_done {p} {m} {store} d founded has holds = record {
       ∙ meta_done (p.stamp + 1) p.xids.ceiling p.numbers.ceiling p d.node d.doing key
       ∙ sym (ap (λ own. meta_at (p.stamp + 1) p.xids.ceiling p.numbers.ceiling own key) d.is));
   table_rows = subst (AreTables p.tables) (sym (has.own 2 refl)) holds.table_rows;
-  rows_held = subst (AreRows (standing_rows p)) (sym (has.own 3 refl)) holds.rows_held;
+  rows_held = rows_stay (done_in d) p (store 3) (fillings_stay d)
+      (subst (AreRows (standing_rows p)) (sym (has.own 3 refl)) holds.rows_held);
   node_held = subst (λ own. HoldsNode own (stamped_store p store)) (sym (after_is d))
       (node_stays (Some (node_after d)) store _
       (λ space other. put_other meta stamp_key (number_bytes (p.stamp + 1)) store space refl other)
@@ -91,8 +97,8 @@ runs_done {p} {m} d members known runs = record {
   founded = omega arith;
   xids = runs.xids;
   numbers = runs.numbers;
-  opened = λ name. opens_same p (committing (done_in d) p) (find_named name p.opens) (get m.opens name) refl refl
-      (runs.opened name);
+  opened = λ name. opens_same p (committing (done_in d) p) (find_named name p.opens) (get m.opens name)
+      (refl, refl, fillings_stay d) (runs.opened name);
   locked = runs.locked;
   known = subst (λ own. IsKnown own m.identity members) (sym (after_is d)) known;
   unpromised = runs.unpromised;
@@ -114,7 +120,7 @@ pub record HasTaken (e : Event) (old new : Members) : Type 0 where
 
 pub known_applying : {p : Place} {m : Memory} {members : Members} (n : Node) (e : Event) → p.node ≡ Some n →
     LearnsOfOther n e → HasTaken e m.members members → Runs p m →
-    IsKnown (Some (with_deeds (deed p [] [] (Applies e) ∷ []) n)) m.identity members
+    IsKnown (Some (with_deeds (deed p [] [] (Applies e nothing_brought) ∷ []) n)) m.identity members
 known_applying n e is learns taken runs = record {
   identity_is = runs.known.identity_is ∙ ap identity_of is;
   members_are = λ name. taken.members name

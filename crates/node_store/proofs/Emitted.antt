@@ -14,7 +14,7 @@ use Rattle.slon_model.specs.declared.reply.Answer.TheVariants.{Emitted}
 use Rattle.slon_model.specs.Names.{find_named}
 use Rattle.slon_model.specs.Snapshots.{Snapshot}
 use Rattle.slon_model.specs.Deeds.{Node, knowledge, progress, with_deeds}
-use Rattle.slon_model.specs.Place.{Place, downed, fallen, standing_rows, taken}
+use Rattle.slon_model.specs.Place.{Place, downed, fallen, filled_by, standing_rows, taken}
 use Rattle.slon_model.specs.Moves.{is_last_stamp}
 use Rattle.slon_model.specs.Reaching.{emitting}
 use Rattle.slon_model.specs.Sessions.{Commit, Emission, committing, in_doubt, seat}
@@ -28,12 +28,12 @@ use Rattle.node_store.specs.Midways.{Midway}
 use Rattle.node_store.specs.Acting.{HasEmittedAll, HasLearned, Emitter, IsTold, WritesEvents, LearnsAll, emission}
 use Rattle.node_store.specs.Acting.{behind, bodies_in, learned_member_all, learned_name_all, ActsAs, Burst, Broke}
 use Rattle.node_store.proofs.Several.{emissions_behind, meta_behind, identity_behind, members_behind, names_behind}
-use Rattle.node_store.proofs.Several.{last_is, emission_beyond}
+use Rattle.node_store.proofs.Several.{last_is, emission_beyond, emissions_fill}
 use Rattle.node_store.proofs.Lookups.{Halts, look_stops}
 use Rattle.app_store.specs.Base.{Memory, Base}
 use Rattle.app_store.specs.Fits.{Fits, Runs, StandsAs, IsNamed}
 use Rattle.app_store.specs.Serves.{is_memory}
-use Rattle.node_store.proofs.Committing.{stamped_store, commit_wavers, same_id}
+use Rattle.node_store.proofs.Committing.{stamped_store, commit_wavers, rows_stay, same_id}
 use Rattle.app_store.specs.Spelled.{Holds, AreTables, AreRows, IsMeta, meta, stamp_key, meta_at}
 use Rattle.app_store.proofs.Holding.{stored_of, restamped, put_other, never_bare, holds_same}
 use Rattle.app_store.proofs.Standing.{fits_running, named_up, named_as, opens_same}
@@ -61,6 +61,11 @@ after_is {p} a =
     ∙ ap (λ n. Some n) (emissions_behind (seat a.name p a.node) a.node (progress a.node.id (knowledge a.node) + 1)
     a.parts refl refl)
 
+-- events of a node fill no table
+fillings_stay : {p : Place} (a : Announcement p) → filled_by p (commit_in a).deeds p.fillings ≡ p.fillings
+fillings_stay {p} a =
+    emissions_fill (seat a.name p a.node) (progress a.node.id (knowledge a.node) + 1) a.parts p p.fillings
+
 pub holds_emitted : {p : Place} {m store : Store} {number : ℕ} (a : Announcement p) → 0 < p.stamp →
     HasEmittedAll p a.node a.parts number m store → Holds p m →
     Holds (committing (commit_in a) p) (stamped_store p store)
@@ -71,7 +76,8 @@ holds_emitted {p} {m} {store} a founded has holds = record {
       ∙ meta_behind (p.stamp + 1) p.xids.ceiling p.numbers.ceiling p a.node a.parts key
       ∙ sym (ap (λ own. meta_at (p.stamp + 1) p.xids.ceiling p.numbers.ceiling own key) a.is));
   table_rows = subst (AreTables p.tables) (sym (has.own 2 refl)) holds.table_rows;
-  rows_held = subst (AreRows (standing_rows p)) (sym (has.own 3 refl)) holds.rows_held;
+  rows_held = rows_stay (commit_in a) p (store 3) (fillings_stay a)
+      (subst (AreRows (standing_rows p)) (sym (has.own 3 refl)) holds.rows_held);
   node_held = subst (λ own. HoldsNode own (stamped_store p store)) (sym (after_is a))
       (node_stays (Some (node_after a)) store _
       (λ space other. put_other meta stamp_key (number_bytes (p.stamp + 1)) store space refl other) has.held);
@@ -94,8 +100,8 @@ runs_emitted {p} {m} a members runs learned learns = record {
   founded = omega arith;
   xids = runs.xids;
   numbers = runs.numbers;
-  opened = λ name. opens_same p (committing (commit_in a) p) (find_named name p.opens) (get m.opens name) refl refl
-      (runs.opened name);
+  opened = λ name. opens_same p (committing (commit_in a) p) (find_named name p.opens) (get m.opens name)
+      (refl, refl, fillings_stay a) (runs.opened name);
   locked = runs.locked;
   known = subst (λ own. IsKnown own m.identity members) (sym (after_is a)) (record {
     identity_is = runs.known.identity_is ∙ ap identity_of a.is ∙ sym (identity_behind p a.node a.parts);

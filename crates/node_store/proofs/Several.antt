@@ -1,13 +1,14 @@
 -- Events that a node emits one after the other: what the node is behind them, by the rules and by each step.
-use Rattle.std.proofs.Common.{◌≡◌, ℕ, suc, ◌+◌, ◌<◌, ◌^◌, Bool, true, false, cond, List, [], ◌∷◌, length, Some, None}
-use Rattle.std.proofs.Common.{refl, sym, ap, ◌∙◌, append_assoc, arith}
+use Rattle.std.proofs.Common.{◌≡◌, ℕ, suc, ◌+◌, ◌<◌, ◌^◌, Bool, true, false, cond, List, [], ◌∷◌, ◌++◌, length, Some}
+use Rattle.std.proofs.Common.{None, refl, sym, ap, ◌∙◌, append_assoc, arith}
 use Rattle.std.specs.Prelude.{◌||◌, nat_le, unwrap_or}
 use Rattle.std.proofs.lemmas.Bool.{eq-eqb}
 use Rattle.std.proofs.lemmas.List.Folds.{list_any-append}
 use Rattle.set_config.proofs.Entries.{entry-with}
 use Rattle.slon_model.specs.Maps.{Map, entry_at, with_entry, number_at}
-use Rattle.slon_model.specs.Deeds.{Node, Deed, Emits, knowledge, progress, with_deeds, emitted_by}
-use Rattle.slon_model.specs.Place.{Place, deed, taken as taken_at}
+use Rattle.slon_model.specs.Names.{Named}
+use Rattle.slon_model.specs.Deeds.{Node, Deed, Emits, brought_in, knowledge, progress, with_deeds, emitted_by}
+use Rattle.slon_model.specs.Place.{Place, Filling, deed, filled, filled_by, taken as taken_at}
 use Rattle.slon_model.specs.Moves.{is_last_stamp}
 use Rattle.slon_model.specs.Reaching.{last_number}
 use Rattle.slon_model.specs.Sessions.{Seat, Emission, Commit, emissions, is_late, has_late, seat}
@@ -50,6 +51,19 @@ emissions_behind s n number (m ∷ ms) own is =
     ap (λ (ds : List Deed). record n { deeds = ds }) (append_assoc more (_ ∷ []) n.deeds)
     ∙ ap (λ d. with_deeds more (with_deeds (d ∷ []) n)) (event_is s n number m own is)
     ∙ emissions_behind s (one_behind s.place n m) (number + 1) ms own next
+
+-- ---- they fill no table
+
+filled_append : (p : Place) (ds es : List Deed) (fillings : Named Filling) →
+    filled_by p (ds ++ es) fillings ≡ filled_by p ds (filled_by p es fillings)
+filled_append p [] es fillings = refl
+filled_append p (d ∷ ds) es fillings = ap (filled p (brought_in d.doing).rows) (filled_append p ds es fillings)
+
+pub emissions_fill : (s : Seat) (number : ℕ) (ms : List Emission) (p : Place) (fillings : Named Filling) →
+    filled_by p (emissions s number ms) fillings ≡ fillings
+emissions_fill s number [] p fillings = refl
+emissions_fill s number (m ∷ ms) p fillings =
+    filled_append p (emissions s (number + 1) ms) (_ ∷ []) fillings ∙ emissions_fill s (number + 1) ms p fillings
 
 -- ---- whether a number is too big
 

@@ -16,7 +16,8 @@ use Rattle.slon_model.specs.declared.reply.Answered.TheVariants.{Sure, InDoubt}
 use Rattle.node_rows.specs.declared.body.Body.{Body}
 use Rattle.slon_model.specs.Snapshots.{Snapshot}
 use Rattle.slon_model.specs.Events.{Event}
-use Rattle.slon_model.specs.Deeds.{Node, Deed, Doing, Emits, Applies, Hears, knowledge, progress, with_deeds}
+use Rattle.slon_model.specs.Deeds.{Node, Deed, Doing, Emits, Applies, Hears, knowledge, nothing_brought, progress}
+use Rattle.slon_model.specs.Deeds.{with_deeds}
 use Rattle.slon_model.specs.Place.{Place, fallen, taken, deed}
 use Rattle.slon_model.specs.Moves.{is_last_stamp}
 use Rattle.slon_model.specs.Membership.{becoming, first_of_cluster}
@@ -253,4 +254,4 @@ HearsAll confirms old result new =
 abbrev pub AppliesOne : Event → Base → Result Answered DbFault → Base → Type 0
 AppliesOne e old result new =
     (p : Place) (n : Node) → Ready p old → p.node ≡ Some n → is_memory (trouble result) ≡ false → CanApply n e →
-    LearnsOfOther n e → (name : List ℕ) → ActsAs (does name p (Applies e)) Done p result new
+    LearnsOfOther n e → (name : List ℕ) → ActsAs (does name p (Applies e nothing_brought)) Done p result new

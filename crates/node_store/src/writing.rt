@@ -13,7 +13,7 @@ ghost use Rattle.txn_core.specs.Snapshots.{seen_as};
 ghost use Rattle.node_rows.specs.declared.body.Body.TheVariants.{StoreNode};
 ghost use Rattle.node_change.specs.Becoming.{IsNode};
 ghost use Rattle.slon_model.specs.Maps.{entry_at};
-ghost use Rattle.slon_model.specs.Deeds.{Node, Applies, Hears, knowledge};
+ghost use Rattle.slon_model.specs.Deeds.{Node, Applies, Hears, knowledge, nothing_brought};
 ghost use Rattle.event_store.specs.Keeping.{KeepsViews};
 ghost use Rattle.event_store.specs.Seen.{seen_event};
 ghost use Rattle.event_store.specs.Spellings.{CanSnapshot};
@@ -255,7 +255,7 @@ pub(crate) fn write_applied<K: Keeper>(
     ensures enters { Enters (K.kept keeper.old) (K.kept keeper.new) result }
     ensures writes { (n : Node) (m : Store) → n.id ≡ own → (K.kept keeper.old).held ≡ Some m → HoldsNode (Some n) m →
         CanApply n (seen_event event.now) → IsHomed event.now.body (knowledge n).config →
-        WritesDone n m (Applies (seen_event event.now)) stamp result (K.kept keeper.new) }
+        WritesDone n m (Applies (seen_event event.now) nothing_brought) stamp result (K.kept keeper.new) }
 {
     let stamp = spelling(alloc, &stamp)?;
     begin(keeper)?;

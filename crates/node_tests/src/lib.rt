@@ -12,6 +12,8 @@ mod handing;
 #[cfg(test)]
 mod joining;
 #[cfg(test)]
+mod keeping;
+#[cfg(test)]
 mod listening;
 #[cfg(test)]
 mod logged;

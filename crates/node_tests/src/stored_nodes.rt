@@ -34,7 +34,7 @@ const LOGGED: &[(u64, &[u8], &[u8])] = &[
 ];
 
 /// The store holds the first node of a cluster.
-fn found_first<K: Keeper>(alloc: Global, keeper: &mut K) -> Result<(), Fail>
+pub(crate) fn found_first<K: Keeper>(alloc: Global, keeper: &mut K) -> Result<(), Fail>
     requires { is_some (K.kept keeper.old).pending ≡ false }
 {
     let cluster = Text::from_str(alloc, "c")?;
@@ -45,7 +45,11 @@ fn found_first<K: Keeper>(alloc: Global, keeper: &mut K) -> Result<(), Fail>
 }
 
 /// The store `to` holds a further node.
-fn join_second<F: Keeper, T: Keeper>(alloc: Global, from: &mut F, to: &mut T) -> Result<(), Fail>
+pub(crate) fn join_second<F: Keeper, T: Keeper>(
+    alloc: Global,
+    from: &mut F,
+    to: &mut T,
+) -> Result<(), Fail>
     requires { is_some (T.kept to.old).pending ≡ false }
 {
     let cluster = Text::from_str(alloc, "c")?;

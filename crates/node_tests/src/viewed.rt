@@ -18,7 +18,7 @@ const FIRST: &[u8] = b"\0\0\0\0\0\0\0\x01";
 const SECOND: &[u8] = b"\0\0\0\0\0\0\0\x02";
 
 /// Of era 3 at node 4, up to its event 5 with the snapshot 7:9:8, on the base 6:6: of era 2.
-const VIEW: &[u8] = b"\0\0\0\0\0\0\0\x03\0\0\0\0\0\0\0\x04\0\0\0\0\0\0\0\x05\
+pub(crate) const VIEW: &[u8] = b"\0\0\0\0\0\0\0\x03\0\0\0\0\0\0\0\x04\0\0\0\0\0\0\0\x05\
     \0\0\0\0\0\0\0\x07\0\0\0\0\0\0\0\x09\0\0\0\x02\0\0\0\0\0\0\0\x07\0\0\0\0\0\0\0\x08\
     \0\0\0\0\0\0\0\x02\0\0\0\0\0\0\0\x06\0\0\0\0\0\0\0\x06\0\0\0\0";
 
@@ -34,7 +34,7 @@ const BAD: &[&[u8]] = &[
 ];
 
 /// The store has this row for set 1.
-fn put_first<K: Keeper>(keeper: &mut K, row: &[u8]) -> Result<(), Fail>
+pub(crate) fn put_first<K: Keeper>(keeper: &mut K, row: &[u8]) -> Result<(), Fail>
     requires { is_some (K.kept keeper.old).pending ≡ false }
     ensures { OnOk result (is_some (K.kept keeper.new).pending ≡ false) }
 {

@@ -2,6 +2,7 @@ pub mod Conninfo
 pub mod Deciding
 pub mod Forms
 pub mod Rows
+pub mod Said
 pub mod Scripts
 pub mod Snapshots
 pub mod Statements

@@ -1,7 +1,7 @@
 -- What a command about a script comes to is told in words that have their forms, and the scripts that run say lines.
 use Rattle.std.proofs.Common.{◌≡◌, ℕ, true, false, cond, not, List, [], ◌∷◌, Option, Some, None, refl, sym}
 use Rattle.std.proofs.Common.{subst}
-use Rattle.std.specs.Prelude.{Bool, find, is_some, codes, Result, Ok, Err}
+use Rattle.std.specs.Prelude.{◌==◌, ◌++◌, Bool, find, is_some, codes, option_map, Result, Ok, Err}
 use Rattle.std.specs.List.{AllByRecursion}
 use Rattle.std.specs.Str.{bytes_eq}
 use Rattle.slonik_script.specs.declared.script.Command.{Command as Order}
@@ -18,30 +18,38 @@ use Rattle.slon_model.specs.declared.reply.Refusal.TheVariants as refused
 use Rattle.slon_model.specs.declared.reply.Reply.{Reply}
 use Rattle.slon_model.specs.declared.reply.Reply.TheVariants.{Refused}
 use Rattle.slon_model.specs.Names.{Named, find_named, without}
-use Rattle.slon_model.specs.Spoken.{IsName, IsOrder, IsStatement, AreStatements, AreNodeLines, IsReading, IsAct}
+use Rattle.slon_model.specs.Spoken.{IsLine, IsName, IsOrder, IsStatement, AreStatements, AreNodeLines, IsReading, IsAct}
 use Rattle.slon_model.specs.Tasks.{Act, ToRead, ToStep, ToForget, ToStart, ToStop, ToCut, ToJoin, ToSync, ToListen}
 use Rattle.slon_model.specs.Tasks.{ToWork}
 use Rattle.slon_model.specs.Events.{Event}
-use Rattle.slon_model.specs.Config.{is_known}
-use Rattle.slon_model.specs.Deeds.{Node}
+use Rattle.slon_model.specs.Config.{has_path, is_known, names_of}
+use Rattle.node_rows.specs.declared.body.Body.TheVariants.{Sync}
+use Rattle.slon_model.specs.Deeds.{Node, nothing_brought}
 use Rattle.slon_model.specs.Place.{Place, is_running, node_id}
 use Rattle.slon_model.specs.Sessions.{World, Memory, Running, Stated, Outcome, Excess, Seat, seat_of, excess_of}
-use Rattle.slon_model.specs.Sessions.{no_change, bind, when}
+use Rattle.slon_model.specs.Sessions.{no_change, bind, checked, tells, when, writer_of}
 use Rattle.slon_model.specs.Scripts.{Stepping, ending, done_by, single, order_step, statement_step, step_todo, step_of}
 use Rattle.slon_model.specs.Scripts.{ordered, quiet, read_as, kill_of}
 use Rattle.slon_model.specs.Turns.{is_id, at_node, switched, switched_at, is_cut, with_cuts, seat_at, on_turn}
 use Rattle.slon_model.specs.Turns.{turned, turned_by, taken_turn, is_synced, sync_turn}
 use Rattle.slon_model.specs.Polls.{Poll, poll_of, hears_none, linked, server_for, brings_nothing, polled, hearing}
 use Rattle.slon_model.specs.Polls.{stated_by, left_by}
-use Rattle.slon_model.specs.Working.{next_at, can_carry_out, taken_up, worked, applied_by, taken_from}
+use Rattle.slon_model.specs.Working.{Carried, Copying, next_at, can_carry_out, taken_up, width_checks, copy_checks}
+use Rattle.slon_model.specs.Working.{linked_to, provided, still_leads, copy_of, copied, copying_in, brought_by, worked}
+use Rattle.slon_model.specs.Working.{applied_by, taken_from}
 use Rattle.slon_model.specs.Membership.{synced}
 use Rattle.slon_model.specs.Rows.{member}
 use Rattle.slon_model.specs.World.{outcome}
 use Rattle.slon_model.proofs.Names.{all_found}
+use Rattle.slon_laws.specs.Worlds.{AllPlaces}
+use Rattle.stream_laws.specs.Facts.{IsRegular}
+use Rattle.stream_laws.proofs.Seats as Seats
+use Rattle.stream_laws.proofs.Seats.{OnOk, turn_ok}
+use Rattle.reply_forms.proofs.Said.{PlaceReads, names_read}
 use Rattle.reply_forms.proofs.Words.{Reads}
 use Rattle.reply_forms.proofs.Words.{RefusalReads}
 use Rattle.reply_forms.proofs.Statements.{Gives, IsOne, AreNamed, AreCommits, StatedReads, all_filter, ordered_gives}
-use Rattle.reply_forms.proofs.Statements.{bind_gives, checked_gives, when_tells}
+use Rattle.reply_forms.proofs.Statements.{bind_gives, checked_gives, emitting_reads, when_tells, Tells}
 
 -- what a script says: its NODE lines are lines, and so are the texts of what is left of it
 abbrev pub RunReads : Running → Type 0
@@ -50,10 +58,13 @@ RunReads run = AreNodeLines run.lines × AreStatements run.todo
 abbrev pub AreRunning : Named Running → Type 0
 AreRunning scripts = AllByRecursion (λ e. RunReads e.1) scripts
 
--- What is known of a session: the names of its databases are names, and its scripts say lines.
+-- What is known of a session: the names of its databases are names, its scripts say lines, and so do the events that
+-- nodes emitted, which stand in regular streams.
 pub record Known (w : World) : Type 0 where
   pub named : AreNamed w.places
   pub scripts : AreRunning w.memory.scripts
+  pub reads : AllPlaces PlaceReads w
+  pub regular : IsRegular w
 
 -- What a command about a script comes to.
 pub record Ends (o : Outcome) : Type 0 where
@@ -218,7 +229,7 @@ sync_reads : (node : ℕ) (w : World) → Known w → Gives StatedReads (sync_tu
 sync_reads node w known =
     bind_gives IsSeat StatedReads (on_turn node w) _ (turn_reads node w known)
     (λ s named. checked_gives StatedReads (when (is_synced s) refused.Nothing ∷ []) (synced s)
-    (when_tells _ refused.Nothing tt, tt) (tt, (named, tt)))
+    (when_tells _ refused.Nothing tt, tt) (emitting_reads s (tells Sync ∷ []) named (tt, tt)))
 
 -- ---- polls
 
@@ -253,7 +264,7 @@ polled_gives node server w known =
 
 hearing_named : (s : Seat) (confirms : List (ℕ × ℕ × ℕ)) → IsSeat s → AreCommits (hearing s confirms)
 hearing_named s [] named = tt
-hearing_named s (c ∷ cs) named = (named, tt)
+hearing_named s (c ∷ cs) named = ((named, ((tt, tt), tt)), tt)
 
 poll_reads : (delivery : Delivery) (b : Poll) → IsPoll b → StatedReads (stated_by delivery b)
 poll_reads Lost b named = (tt, tt)
@@ -269,14 +280,83 @@ left_scripts others b m = refl
 taken_gives : (s : Seat) (o : Option Event) → IsSeat s → Gives (λ e. IsSeat s) (taken_up s o)
 taken_gives s None named = tt
 taken_gives s (Some e) named =
-    checked_gives (λ e. IsSeat s) (when (not (can_carry_out s.node.id e.body)) (refused.NotBuilt (codes "work")) ∷ []) e
+    checked_gives (λ e. IsSeat s)
+    (when (not (can_carry_out s.node.id e.body)) (refused.NotBuilt (codes "work")) ∷ []) e
     (when_tells _ (refused.NotBuilt (codes "work")) refl, tt) named
 
-worked_gives : (node origin : ℕ) (w : World) → Known w → Gives (λ x. IsSeat x.0) (worked node origin w)
+-- what is given has this too, where all that is not refused has it
+also_gives : {A : Type 0} (P Q : A → Type 0) (r : Result A Refusal) → Gives P r → OnOk Q r → Gives (λ a. P a × Q a) r
+also_gives P Q (Ok a) reads is = (reads, is)
+also_gives P Q (Err refusal) reads is = reads
+
+appended : {X : Type 0} (P : X → Type 0) (xs : List X) (x : X) → AllByRecursion P xs → P x →
+    AllByRecursion P (xs ++ x ∷ [])
+appended P [] x all is = (is, tt)
+appended P (y ∷ ys) x all is = (all.0, appended P ys x all.1 is)
+
+widths_tell : (here there : Place) (names : List (List ℕ)) → AllByRecursion IsLine names →
+    AllByRecursion Tells (width_checks here there names)
+widths_tell here there [] lines = tt
+widths_tell here there (name ∷ more) lines =
+    (when_tells _ (refused.NoTable name) lines.0, (when_tells _ _ tt, widths_tell here there more lines.1))
+
+busy_tells : (o : Option ℕ) → Tells (option_map refused.Busy o)
+busy_tells None = tt
+busy_tells (Some xid) = tt
+
+-- the provider of a copy
+provided_gives : (provider : ℕ) (w : World) (s : Seat) → Known w →
+    Gives IsSeat (provided provider w.memory s (at_node provider w))
+provided_gives provider w s known =
+    bind_gives IsSeat IsSeat
+    (bind (linked_to provider w.memory s (at_node provider w)) (λ found. seat_at provider found)) _
+    (bind_gives Each IsSeat (linked_to provider w.memory s (at_node provider w)) _
+    (checked_gives Each (when (not (has_path s.node.id provider s.known.config)) (refused.NoPath provider)
+    ∷ when (is_cut s.node.id provider w.memory) (refused.Severed s.node.id provider)
+    ∷ when (provider == s.node.id) (refused.NoNode provider) ∷ []) (at_node provider w) (
+      when_tells _ (refused.NoPath provider) tt,
+      (when_tells _ (refused.Severed s.node.id provider) tt, (when_tells _ (refused.NoNode provider) tt, tt)),
+    )
+    (at_named provider w known)) (seated provider))
+    (λ p named. checked_gives IsSeat (when (not (is_known s.node.id p.known.config)) (refused.NotKnown s.node.id) ∷ [])
+    p (when_tells _ (refused.NotKnown s.node.id) tt, tt) named)
+  where
+    Each : Option (List ℕ × Place) → Type 0
+    Each found = (e : List ℕ × Place) → found ≡ Some e → IsOne e
+
+copied_gives : (c : Copying) (s : Seat) (e : Event) (p : Seat) →
+    AllByRecursion IsLine (names_of c.set_id s.known.config) → Gives (λ b. Unit {0}) (copied c s e p)
+copied_gives c s e p lines =
+    let names = names_of c.set_id s.known.config in
+    elim (still_leads c p) as (λ b. Gives (λ b. Unit {0})
+    (cond b (checked (copy_checks s.place p.place names) (copy_of c e.number p names)) (Ok nothing_brought))) [
+      | true ↦ checked_gives (λ b. Unit {0}) (copy_checks s.place p.place names) (copy_of c e.number p names)
+          (appended Tells (width_checks s.place p.place names) _ (widths_tell s.place p.place names lines)
+          (busy_tells (writer_of names s.place))) tt
+      | false ↦ tt
+    ]
+
+brought_gives : (w : World) (s : Seat) (e : Event) (o : Option Copying) → Known w → Seats.IsSeat w.places s →
+    Gives (λ b. Unit {0}) (brought_by w s e o)
+brought_gives w s e None known is = tt
+brought_gives w s e (Some c) known is =
+    bind_gives IsSeat (λ b. Unit {0}) (provided c.provider w.memory s (at_node c.provider w)) _
+    (provided_gives c.provider w s known)
+    (λ p named. copied_gives c s e p (names_read w known.regular known.reads s is c.set_id))
+
+-- the name of the database of the node that applies is a name
+abbrev IsWork : Carried → Type 0
+IsWork c = IsSeat c.seat
+
+worked_gives : (node origin : ℕ) (w : World) → Known w → Gives IsWork (worked node origin w)
 worked_gives node origin w known =
-    bind_gives IsSeat (λ x. IsSeat x.0) (on_turn node w) _ (turn_reads node w known)
-    (λ s named. bind_gives (λ e. IsSeat s) (λ x. IsSeat x.0) (taken_up s (next_at w.memory s origin)) _
-    (taken_gives s (next_at w.memory s origin) named) (λ e is. is))
+    bind_gives (λ s. IsSeat s × Seats.IsSeat w.places s) IsWork (on_turn node w) _
+    (also_gives IsSeat (Seats.IsSeat w.places) (on_turn node w) (turn_reads node w known)
+    (turn_ok node w known.regular.once))
+    (λ s is. bind_gives (λ e. IsSeat s) IsWork (taken_up s (next_at w.memory s origin)) _
+    (taken_gives s (next_at w.memory s origin) is.0)
+    (λ e named. bind_gives (λ b. Unit {0}) IsWork (brought_by w s e (copying_in s.node.id e.body)) _
+    (brought_gives w s e (copying_in s.node.id e.body) known is.1) (λ b any. named)))
 
 -- ---- each command
 
@@ -302,5 +382,5 @@ outcome_ends (ToListen node server delivery) w act known =
     taken_ends IsPoll w (λ b. left_by delivery b w.memory) (stated_by delivery) (polled node server w)
     (λ b. left_scripts delivery b w.memory, poll_reads delivery) (known, polled_gives node server w known)
 outcome_ends (ToWork node origin) w act known =
-    taken_ends (λ x. IsSeat x.0) w (λ x. taken_from x w.memory) applied_by (worked node origin w)
-    (λ x. refl, λ x named. (tt, (named, tt))) (known, worked_gives node origin w known)
+    taken_ends IsWork w (λ c. taken_from c w.memory) applied_by (worked node origin w)
+    (λ c. refl, λ c named. (tt, ((named, ((tt, tt), tt)), tt))) (known, worked_gives node origin w known)

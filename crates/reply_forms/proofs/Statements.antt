@@ -11,22 +11,25 @@ use Rattle.slon_model.specs.declared.reply.Refusal.TheVariants as refused
 use Rattle.slon_model.specs.Names.{Named, find_named}
 use Rattle.slon_model.specs.Maps.{Map, entry_at}
 use Rattle.slon_model.specs.Spoken.{IsName, IsLine, IsOrder, AreNodeLines}
-use Rattle.slon_model.specs.Config.{has_path}
+use Rattle.node_rows.specs.declared.body.Body.TheVariants.{Sync, StoreNode, StorePath, DropPath, StoreSet}
+use Rattle.slon_model.specs.Config.{era_of, has_path}
 use Rattle.slon_model.specs.Deeds.{Node}
 use Rattle.slon_model.specs.Place.{Place, is_running, node_id}
-use Rattle.slon_model.specs.Sessions.{World, Running, Commit, Stated, Seat, bind, when, first_refusal}
+use Rattle.slon_model.specs.Sessions.{World, Running, Commit, Emission, Stated, Seat, bind, when, first_refusal}
+use Rattle.slon_model.specs.Sessions.{next_event, tells}
 use Rattle.slon_model.specs.Sessions.{unless_refused, checked, seat_of, writer_of}
 use Rattle.slon_model.specs.Reaching.{database_in, database_up, database_by, database_of_line, is_node_of, reach}
 use Rattle.slon_model.specs.Reaching.{nodes_of, down_among, any_down, known_somewhere, origin_checks, origin_of}
-use Rattle.slon_model.specs.Reaching.{receiver_with, best_of, found_owner, owner}
+use Rattle.slon_model.specs.Reaching.{receiver_with, best_of, emitting, found_owner, owner}
 use Rattle.slon_model.specs.Membership.{comment_of, already, first_node, stored_by, init_cluster, store_node}
 use Rattle.slon_model.specs.Membership.{is_dropped, store_path, drop_path, sync_node}
-use Rattle.slon_model.specs.Sets.{create_set, NewTable, set_add_table}
-use Rattle.slon_model.specs.Subscribing.{NewFeed, subscribing, feed_checks, subscribe_set}
+use Rattle.slon_model.specs.Sets.{adding, create_set, NewTable, set_add_table}
+use Rattle.slon_model.specs.Subscribing.{NewFeed, subscribing, all_tell, feed_bodies, feed_checks, subscribe_set}
 use Rattle.slon_model.specs.Scripts.{first_word, ordered}
 use Rattle.slon_model.proofs.Names.{all_map, bytes_same}
 use Rattle.slon_laws.proofs.Owners.{OnSome, OfNode, owner_is}
 use Rattle.reply_forms.proofs.Words.{AnswerReads, RefusalReads}
+use Rattle.reply_forms.proofs.Said.{BodyReads, CommitReads, emissions_read}
 use Rattle.reply_forms.proofs.Conninfo.{IsLineIn, database_line}
 
 -- ---- refusals
@@ -181,20 +184,25 @@ owner_gives run set w runs =
 
 -- ---- statements
 
--- the databases of commits have names
+-- the databases of commits have names, and what is emitted reads well
 abbrev pub AreCommits : List Commit → Type 0
-AreCommits cs = AllByRecursion (λ c. IsName c.name) cs
+AreCommits cs = AllByRecursion (λ c. IsName c.name × CommitReads c) cs
 
 -- what an accepted statement answers reads well
 abbrev pub StatedReads : Stated → Type 0
 StatedReads stated = AnswerReads stated.answer × AreCommits stated.commits
+
+-- a node emits events that read well
+pub emitting_reads : (s : Seat) (ms : List Emission) → IsSeat s → AllByRecursion (λ m. BodyReads m.body) ms →
+    StatedReads (emitting s ms)
+emitting_reads s ms named all = (tt, ((named, (emissions_read s (next_event s) ms all, tt)), tt))
 
 init_gives : (id : ℕ) (comment : Option (List ℕ)) (run : Running) (w : World) → Runs run w →
     Gives StatedReads (init_cluster id comment run w)
 init_gives id comment run w runs =
     bind_gives IsOne StatedReads (database_of_line run id w) _ (line_gives run id w runs) (λ e one.
     checked_gives StatedReads (down_among w.places ∷ already (first_node w) ∷ []) _
-    (down_tells w.places runs.named, (already_tells (first_node w), tt)) (tt, (one, tt)))
+    (down_tells w.places runs.named, (already_tells (first_node w), tt)) (tt, ((one, (tt, tt)), tt)))
 
 node_gives : (id event_node : ℕ) (comment : Option (List ℕ)) (run : Running) (w : World) → Runs run w →
     Gives StatedReads (store_node id event_node comment run w)
@@ -204,8 +212,13 @@ node_gives id event_node comment run w runs =
     checked_gives StatedReads (already (node_id e.1) ∷ any_down w
     ∷ when (known_somewhere (λ c. is_some (entry_at id c.nodes)) w) (refused.IdUsed id) ∷ [])
     (stored_by s e.0 id (comment_of comment) run)
-    (already_tells (node_id e.1), (any_tells w runs.named, (when_tells _ _ tt, tt)))
-    (tt, (named, (one, tt)))))
+    (already_tells (node_id e.1), (any_tells w runs.named, (when_tells _ _ tt, tt))) (
+      tt,
+      (
+        (named, (emissions_read s (next_event s) (tells (StoreNode id (comment_of comment)) ∷ []) (tt, tt), tt)),
+        ((one, (tt, tt)), tt),
+      ),
+    )))
 
 path_gives : (server client : ℕ) (conninfo : List ℕ) (run : Running) (w : World) → Runs run w →
     Gives StatedReads (store_path server client conninfo run w)
@@ -213,14 +226,15 @@ path_gives server client conninfo run w runs =
     bind_gives IsSeat StatedReads (reach run client w) _ (reach_gives run client w runs) (λ s named.
     checked_gives StatedReads (when (client == server) (refused.SameNode client)
     ∷ when (is_dropped (entry_at server s.known.config.nodes)) (refused.NoNode server) ∷ []) _
-    (when_tells _ _ tt, (when_tells _ _ tt, tt)) (tt, (named, tt)))
+    (when_tells _ _ tt, (when_tells _ _ tt, tt))
+    (emitting_reads s (tells (StorePath server client conninfo) ∷ []) named (tt, tt)))
 
 drop_gives : (server client : ℕ) (run : Running) (w : World) → Runs run w →
     Gives StatedReads (drop_path server client run w)
 drop_gives server client run w runs =
     bind_gives IsSeat StatedReads (reach run client w) _ (reach_gives run client w runs) (λ s named.
     checked_gives StatedReads (when (not (has_path client server s.known.config)) (refused.NoPath server) ∷ []) _
-    (when_tells _ _ tt, tt) (tt, (named, tt)))
+    (when_tells _ _ tt, tt) (emitting_reads s (tells (DropPath server client) ∷ []) named (tt, tt)))
 
 set_gives : (id origin : ℕ) (comment : Option (List ℕ)) (run : Running) (w : World) → Runs run w →
     Gives StatedReads (create_set id origin comment run w)
@@ -228,7 +242,8 @@ set_gives id origin comment run w runs =
     bind_gives IsSeat StatedReads (reach run origin w) _ (reach_gives run origin w runs) (λ s named.
     checked_gives StatedReads
     (any_down w ∷ when (known_somewhere (λ c. is_some (entry_at id c.sets)) w) (refused.IdUsed id) ∷ []) _
-    (any_tells w runs.named, (when_tells _ _ tt, tt)) (tt, (named, tt)))
+    (any_tells w runs.named, (when_tells _ _ tt, tt))
+    (emitting_reads s (tells (StoreSet id origin (comment_of comment)) ∷ []) named (tt, tt)))
 
 table_gives : (origin : ℕ) (t : NewTable) (run : Running) (w : World) → IsLine t.name → Runs run w →
     Gives StatedReads (set_add_table origin t run w)
@@ -246,17 +261,19 @@ table_gives origin t run w line runs =
     ∷ when used_id (refused.IdUsed t.id) ∷ when used_name (refused.TableUsed t.name)
     ∷ option_map refused.Busy writer ∷ []) _
     (receives, (when_tells _ _ line, (any_tells w runs.named, (when_tells _ _ tt, (when_tells _ _ line, (busy, tt))))))
-    (tt, (named, tt)))
+    (emitting_reads s (adding s t ∷ []) named (line, tt)))
 
 feed_gives : (f : NewFeed) (run : Running) (w : World) → Runs run w → Gives StatedReads (subscribe_set f run w)
 feed_gives f run w runs =
     bind_gives IsSeat StatedReads (owner run f.set_id w) _ (owner_gives run f.set_id w runs) (λ s named.
     checked_gives StatedReads (feed_checks s f) _
-    (when_tells _ _ tt, (when_tells _ _ tt, (when_tells _ _ tt, (when_tells _ _ refl, tt)))) (tt, (named, tt)))
+    (when_tells _ _ tt, (when_tells _ _ tt, (when_tells _ _ tt, (when_tells _ _ refl, tt))))
+    (emitting_reads s (all_tell (feed_bodies (era_of f.set_id s.known.config) f)) named (tt, (tt, (tt, tt)))))
 
 sync_gives : (id : ℕ) (run : Running) (w : World) → Runs run w → Gives StatedReads (sync_node id run w)
 sync_gives id run w runs =
-    bind_gives IsSeat StatedReads (reach run id w) _ (reach_gives run id w runs) (λ s named. (tt, (named, tt)))
+    bind_gives IsSeat StatedReads (reach run id w) _ (reach_gives run id w runs)
+    (λ s named. emitting_reads s (tells Sync ∷ []) named (tt, tt))
 
 -- the word of a statement that cannot be run yet is on one line
 word_line : (o : Order) → IsLine (first_word o)

@@ -7,8 +7,10 @@ use Rattle.slon_model.specs.declared.reply.Reply.{Reply}
 use Rattle.slon_model.specs.declared.reply.Reply.TheVariants.{Accepted}
 use Rattle.slon_model.specs.Names.{Named, find_named, put_named}
 use Rattle.slon_model.specs.Spoken.{IsName, IsSubject, IsSpoken}
-use Rattle.slon_model.specs.Tasks.{Act, ToStep}
-use Rattle.slon_model.specs.Place.{Place, fallen}
+use Rattle.slon_model.specs.Tasks.{Act, ToFound, ToStep}
+use Rattle.slon_model.specs.Place.{Place, bare_place, fallen}
+use Rattle.slon_model.proofs.Names.{all_behind, all_found, all_put}
+use Rattle.std.specs.List.{AllByRecursion}
 use Rattle.slon_model.specs.Deciding.{Fate, AllStand, Breaks, DoubtsAt, place_by}
 use Rattle.slon_model.specs.Sessions.{World, Memory, Commit, start, changed, in_doubt}
 use Rattle.slon_model.specs.Sessions.{felled, felled_at}
@@ -16,8 +18,12 @@ use Rattle.slon_model.specs.World.{Happening, Step, Grants, Denies, Misses, Asks
 use Rattle.slon_model.specs.World.{memory_after, spoilt, broken_at, wavering, wavering_at, doubt_reply, CanFail, MayEnd}
 use Rattle.slon_model.specs.World.{reply_by, world_by}
 use Rattle.slon_laws.specs.Turning.{Carries, IsWithin}
-use Rattle.slon_laws.specs.Worlds.{AllSpoken}
-use Rattle.slon_laws.proofs.Acting.{acting_carries}
+use Rattle.slon_laws.specs.Worlds.{AllPlaces, AllSpoken}
+use Rattle.slon_laws.proofs.Acting.{acting_carries, acting_turns}
+use Rattle.slon_laws.proofs.Keeps.{kept, carried}
+use Rattle.stream_laws.specs.Facts.{IsRegular}
+use Rattle.stream_laws.proofs.Steps.{regular_world}
+use Rattle.reply_forms.proofs.Said.{CommitReads, PlaceReads, keeps_reading, all_read}
 use Rattle.slon_laws.proofs.Memories.{remembered_kept}
 use Rattle.reply_forms.proofs.Words.{Reads}
 use Rattle.reply_forms.proofs.Statements.{AreNamed, AreCommits, name_found}
@@ -86,39 +92,73 @@ carries_names name p q ps found turned all = put_named_names name q ps all
 
 -- ---- what is known of a session
 
-known_step : (w v : World) (h : Happening) → Step w h v → IsSpoken h.command → Known w → Known v
-known_step w v h (Grants name result about granted takes told is) spoken known =
-    subst Known (sym is) (record {
-      named = behind_names name _ w.places (subst IsSubject about spoken) known.named;
-      scripts = known.scripts;
-    })
-known_step w v h (Denies name about denied sure told is) spoken known = subst Known (sym is) known
-known_step w v h (Misses name task about none sure told is) spoken known = subst Known (sym is) known
-known_step w v h (Asks t) spoken known =
-    subst Known (sym t.is) (record {
-      named = put_named_names t.name _ w.places known.named;
-      scripts = changed_running t.name (place_by t.task t.place h.choice) w known.scripts;
-    })
-known_step w v h (Acts t) spoken known =
-    record {
-      named = acting_carries carries_names w v h t known.named;
-      scripts =
-          subst (λ u. AreRunning u.memory.scripts) (sym t.is)
-          (world_running t.act t.fate w known (outcome_ends t.act w (subst IsSubject t.about spoken) known));
-    }
+-- the names of databases and the scripts of a session
+abbrev Texts : World → Type 0
+Texts w = AreNamed w.places × AreRunning w.memory.scripts
+
+texts_step : (w v : World) (h : Happening) → Step w h v → IsSpoken h.command → Known w → Texts v
+texts_step w v h (Grants name result about granted takes told is) spoken known =
+    subst Texts (sym is) (behind_names name _ w.places (subst IsSubject about spoken) known.named, known.scripts)
+texts_step w v h (Denies name about denied sure told is) spoken known =
+    subst Texts (sym is) (known.named, known.scripts)
+texts_step w v h (Misses name task about none sure told is) spoken known =
+    subst Texts (sym is) (known.named, known.scripts)
+texts_step w v h (Asks t) spoken known =
+    subst Texts (sym t.is) (
+      put_named_names t.name _ w.places known.named,
+      changed_running t.name (place_by t.task t.place h.choice) w known.scripts,
+    )
+texts_step w v h (Acts t) spoken known = (
+  acting_carries carries_names w v h t known.named,
+  subst (λ u. AreRunning u.memory.scripts) (sym t.is)
+      (world_running t.act t.fate w known (outcome_ends t.act w (subst IsSubject t.about spoken) known)),
+)
+
+-- the commits of a step emit what reads well
+commits_read : (cs : List Commit) → AreCommits cs → AllByRecursion CommitReads cs
+commits_read [] all = tt
+commits_read (c ∷ cs) all = (all.0.1, commits_read cs all.1)
+
+reads_step : (w v : World) (h : Happening) → Step w h v → IsSpoken h.command → Known w → AllPlaces PlaceReads v
+reads_step w v h (Grants name result about granted takes told is) spoken known =
+    subst (AllPlaces PlaceReads) (sym is)
+    (all_behind PlaceReads name _ w.places (kept keeps_reading ToFound bare_place h.choice (tt, tt)) known.reads)
+reads_step w v h (Denies name about denied sure told is) spoken known =
+    subst (AllPlaces PlaceReads) (sym is) known.reads
+reads_step w v h (Misses name task about none sure told is) spoken known =
+    subst (AllPlaces PlaceReads) (sym is) known.reads
+reads_step w v h (Asks t) spoken known =
+    subst (AllPlaces PlaceReads) (sym t.is)
+    (all_put PlaceReads t.name _ w.places (kept keeps_reading t.task t.place h.choice
+    (tt, all_found PlaceReads t.name t.place w.places known.reads t.found)) known.reads)
+reads_step w v h (Acts t) spoken known =
+    acting_turns (carried keeps_reading) w v h t (all_read (outcome t.act w).commits w.places
+    (commits_read (outcome t.act w).commits
+    (outcome_ends t.act w (subst IsSubject t.about spoken) known).commits)) known.reads
+
+known_step : (w v : World) (h : Happening) → Step w h v → IsSpoken h.command → Known w → IsRegular v → Known v
+known_step w v h step spoken known regular =
+    let is = texts_step w v h step spoken known in
+    record { named = is.0; scripts = is.1; reads = reads_step w v h step spoken known; regular = regular }
 
 pub known_world : (limit : ℕ) (history : List Happening) (w : World) → AllSpoken history →
     Leads (start limit) history w → Known w
-known_world limit [] w spoken is = subst Known (sym is) (record { named = tt; scripts = tt })
+known_world limit [] w spoken is = record {
+  named = subst (λ u. AreNamed u.places) (sym is) tt;
+  scripts = subst (λ u. AreRunning u.memory.scripts) (sym is) tt;
+  reads = subst (AllPlaces PlaceReads) (sym is) tt;
+  regular = regular_world limit [] w is;
+}
 known_world limit (h ∷ hs) w spoken leads =
     known_step leads.0 w h leads.2 spoken.0 (known_world limit hs leads.0 spoken.1 leads.1)
+    (regular_world limit (h ∷ hs) w leads)
 
 -- ---- the reply to a command about a script
 
 doubt_reads : (n : ℕ) (cs : List Commit) (reply : Reply) → AreCommits cs → Reads reply →
     Reads (doubt_reply (drop n cs) reply)
 doubt_reads zero [] reply named reads = reads
-doubt_reads zero (c ∷ cs) (Accepted answer) named reads = (named.0, reads)
+doubt_reads zero (c ∷ cs) (Accepted answer) named reads = (named.0.0, reads)
 doubt_reads zero (c ∷ cs) others named reads = reads
 doubt_reads (suc n) [] reply named reads = reads
 doubt_reads (suc n) (c ∷ cs) reply named reads = doubt_reads n cs reply named.1 reads

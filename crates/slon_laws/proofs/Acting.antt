@@ -109,7 +109,7 @@ outcome_within (ToCut node other) w = refl
 outcome_within (ToJoin node other) w = refl
 outcome_within (ToSync node) w = taken_within w _ _ (sync_turn node w)
 outcome_within (ToListen node server delivery) w = taken_within w _ _ (polled node server w)
-outcome_within (ToWork node origin) w = taken_within w (λ x. taken_from x w.memory) applied_by (worked node origin w)
+outcome_within (ToWork node origin) w = taken_within w (λ c. taken_from c w.memory) applied_by (worked node origin w)
 
 -- a commit within the limit, and the others
 within_parts : (c : Commit) (p : Place) (more : Option (List ℕ)) → beyond_at c (Some p) more ≡ None →
@@ -202,7 +202,10 @@ acting_turns {F} {R} k w v h t all is = subst (λ u. R u.places) (sym t.is) (by 
     by (DoubtsAt before stands) =
         wavering_carries k before (outcome t.act w).commits stands _ w.places (all, is) refl
 
+pub outcome_all : (act : Act) (w : World) → AllHold IsWithin (outcome act w).commits w.places
+outcome_all act w = all_within (outcome act w).commits w.places (outcome_within act w)
+
 pub acting_carries : {R : Named Place → Type 0} → Carries IsWithin R → (w v : World) (h : Happening) →
     Acting w h v → R w.places → R v.places
 acting_carries k w v h t is =
-    acting_turns k w v h t (all_within (outcome t.act w).commits w.places (outcome_within t.act w)) is
+    acting_turns k w v h t (outcome_all t.act w) is

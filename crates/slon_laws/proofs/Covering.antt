@@ -16,6 +16,7 @@ use Rattle.slon_model.proofs.Names.{all_found, one_found}
 use Rattle.slon_laws.specs.Sound.{Sound, ids_of}
 use Rattle.slon_laws.specs.Worlds.{AllPlaces}
 use Rattle.slon_laws.specs.Laws.{SnapshotsCover}
+use Rattle.slon_laws.specs.Turning.{IsWithin}
 use Rattle.slon_laws.specs.Keeps.{Keeps}
 use Rattle.slon_laws.proofs.Decides.{raised_same}
 use Rattle.slon_laws.proofs.Later.{HoldsOf, holds_later}
@@ -96,7 +97,8 @@ done_outlasts move p s =
     outlasts_on p (prepared move p) (done move p) (prepared_outlasts move p)
     (moved_outlasts move (prepared move p) (sound_prepared move p s))
 
-pub keeps_outlasting : (first : Place) → Keeps (λ task. Unit {0}) (λ p. Sound p × Outlasts first p) (Outlasts first)
+pub keeps_outlasting : (first : Place) →
+    Keeps IsWithin (λ task. Unit {0}) (λ p. Sound p × Outlasts first p) (Outlasts first)
 keeps_outlasting first = record {
   tasks = record {
     stays = λ p s. s.1;

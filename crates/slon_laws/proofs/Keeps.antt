@@ -5,10 +5,10 @@ use Rattle.slon_model.specs.Tasks.{Task}
 use Rattle.slon_model.specs.Place.{Place}
 use Rattle.slon_model.specs.Moves.{prepared, done}
 use Rattle.slon_model.specs.Deciding.{Choice, AtFault, Wavers, decide, move_of, place_by}
-use Rattle.slon_model.specs.Sessions.{committing}
+use Rattle.slon_model.specs.Sessions.{Commit, committing}
 use Rattle.slon_model.proofs.Names.{all_put, all_found}
 use Rattle.slon_laws.specs.Keeps.{Keeps, KeepsTasks}
-use Rattle.slon_laws.specs.Turning.{Turned, Commits, Falls, Doubts, Carries, IsWithin}
+use Rattle.slon_laws.specs.Turning.{Turned, Commits, Falls, Doubts, Carries}
 use Rattle.slon_laws.proofs.Decides.{allowed}
 
 either : (P : Place → Type 0) (b : Bool) (p q : Place) → P p → P q → P (cond b p q)
@@ -27,20 +27,20 @@ kept_task {Q = Q} k task p (Wavers stands) is =
     (k.moves task (move_of (decide task p)) p is.0 (allowed task p) is.1) (k.stays p is.1))
 kept_task k task p others is = k.moves task (move_of (decide task p)) p is.0 (allowed task p) is.1
 
-pub kept : {IsOne : Task → Type 0} {P Q : Place → Type 0} → Keeps IsOne P Q →
+pub kept : {F : Commit → Place → Type 0} {IsOne : Task → Type 0} {P Q : Place → Type 0} → Keeps F IsOne P Q →
     (task : Task) (p : Place) (choice : Choice) → IsOne task × P p → Q (place_by task p choice)
 kept k = kept_task k.tasks
 
 -- a step on several databases keeps it of each of them
-pub turned_keeps : {IsOne : Task → Type 0} {P Q : Place → Type 0} → Keeps IsOne P Q → (p q : Place) →
-    Turned IsWithin p q → Q p → Q q
+pub turned_keeps : {F : Commit → Place → Type 0} {IsOne : Task → Type 0} {P Q : Place → Type 0} → Keeps F IsOne P Q →
+    (p q : Place) → Turned F p q → Q p → Q q
 turned_keeps {Q = Q} k p q (Commits c first is) was = subst Q (sym is) (k.commits c p first was)
 turned_keeps {Q = Q} k p q (Falls count is) was = subst Q (sym is) (k.tasks.falls count p was)
 turned_keeps {Q = Q} k p q (Doubts c stands first is) was =
     subst Q (sym is)
     (k.promises _ _ (k.tasks.wavers stands _ (either Q stands (committing c p) p (k.commits c p first was) was)))
 
-pub carried : {IsOne : Task → Type 0} {P Q : Place → Type 0} → Keeps IsOne P Q →
-    Carries IsWithin (λ ps. AllByRecursion (λ e. Q e.1) ps)
+pub carried : {F : Commit → Place → Type 0} {IsOne : Task → Type 0} {P Q : Place → Type 0} → Keeps F IsOne P Q →
+    Carries F (λ ps. AllByRecursion (λ e. Q e.1) ps)
 carried {Q = Q} k name p q ps found turned all =
     all_put Q name q ps (turned_keeps k p q turned (all_found Q name p ps all found)) all

@@ -6,13 +6,13 @@ use Rattle.std.specs.Option.{option_map}
 use Rattle.std.specs.Str.{bytes_eq}
 use Rattle.std.specs.Ordering.{is_eq}
 use Rattle.std.specs.Cmp.Lexicographic.{nat_list_cmp_total}
-use Rattle.std.specs.FinMap.{get, insert, empty, get-insert, get-remove}
+use Rattle.std.specs.FinMap.{get, insert, get-insert, get-remove}
 use Rattle.std.proofs.lemmas.Bool.{and_right}
 use Rattle.std.proofs.lemmas.Slice.Eq.{bytes_eq-Decides}
 use Rattle.std.proofs.lemmas.Map.Text.{is_eq-slice_cmp}
 use Rattle.slon_base.specs.Keeper.{key_cmp}
 use Rattle.slon_model.specs.Rows.{Row, Rows, Action, Change, Put, Set, Remove, updated, set_found, apply, touches}
-use Rattle.slon_model.specs.Rows.{is_on, play_rows, rows_by}
+use Rattle.slon_model.specs.Rows.{is_on, play_rows}
 use Rattle.slon_laws.specs.Keys.{change_at}
 
 -- the test of the map is the test of changes
@@ -86,7 +86,7 @@ played_at p r table k (a ∷ rest) one other alikes =
     ∙ sym (get-played r table k a rest other)
 
 -- tests that agree on the actions on a row make the same row
-pub agree_at : (p r : Action → Bool) (table k : List ℕ) (actions : List Action) →
+pub agree_at : (p r : Action → Bool) (table k : List ℕ) (actions : List Action) (start : Rows) →
     AllByRecursion (λ a. is_on table k a ≡ true → p a ≡ r a) actions →
-    get (rows_by p table actions) k ≡ get (rows_by r table actions) k
-agree_at p r table k actions agree = played_at p r table k actions empty empty (agree, refl)
+    get (play_rows p table actions start) k ≡ get (play_rows r table actions start) k
+agree_at p r table k actions start agree = played_at p r table k actions start start (agree, refl)

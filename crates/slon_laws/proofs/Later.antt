@@ -8,6 +8,7 @@ use Rattle.slon_model.specs.World.{World, Step, Grants, Denies, Misses, Asks, Ac
 use Rattle.slon_model.proofs.Names.{bytes_same, found_behind, put_found, put_other, all_found, one_found}
 use Rattle.slon_laws.specs.Sound.{Sound}
 use Rattle.slon_laws.specs.Worlds.{AllPlaces}
+use Rattle.slon_laws.specs.Turning.{IsWithin}
 use Rattle.slon_laws.specs.Keeps.{Keeps}
 use Rattle.slon_laws.proofs.Keeps.{kept, turned_keeps}
 use Rattle.slon_laws.proofs.Acting.{acting_carries}
@@ -15,7 +16,7 @@ use Rattle.slon_laws.proofs.Worlds.{sound_world_step}
 
 -- each step of a database keeps it, where the database is sound
 abbrev pub KeptBySteps : (Place → Type 0) → Type 0
-KeptBySteps R = Keeps (λ task. Unit {0}) (λ p. Sound p × R p) R
+KeptBySteps R = Keeps IsWithin (λ task. Unit {0}) (λ p. Sound p × R p) R
 
 -- it holds of the database of this name
 abbrev pub HoldsOf : (Place → Type 0) → List ℕ → Named Place → Type 0

@@ -1,15 +1,25 @@
 -- Open transactions by their names, and lists of ids.
-use Rattle.std.proofs.Common.{◌≡◌, ℕ, ◌<◌, true, false, cond, List, [], ◌∷◌, ◌++◌, Some, None, refl, sym, ap}
+use Rattle.std.proofs.Common.{◌≡◌, ℕ, ◌<◌, Bool, true, false, cond, List, [], ◌∷◌, ◌++◌, Some, None, refl, sym, ap}
 use Rattle.std.proofs.Common.{subst, ◌∙◌, arith, ◌⊎◌, inl, inr}
 use Rattle.std.specs.Prelude.{◌==◌, ◌||◌, not}
 use Rattle.std.specs.List.{AllByRecursion}
 use Rattle.std.specs.Str.{bytes_eq}
-use Rattle.std.proofs.lemmas.Bool.{false≢true, eqb-true, eq-eqb, or_cases, or_right}
+use Rattle.std.proofs.lemmas.Bool.{false≢true, true≢false, eqb-true, eq-eqb, or_cases, or_right}
 use Rattle.slon_model.specs.Rows.{member}
 use Rattle.slon_model.specs.Names.{Named, find_named, without}
 use Rattle.slon_model.proofs.Names.{bytes_turned_false}
 use Rattle.slon_model.specs.Snapshots.{Rising}
 use Rattle.slon_laws.specs.Sound.{AreNamedOnce, ids_of}
+
+pub or_parts : (a b : Bool) → (a || b) ≡ false → (a ≡ false) × (b ≡ false)
+or_parts true b is = absurd (true≢false is)
+or_parts false b is = (refl, is)
+
+-- what follows of two facts on each
+pub all_two : {X : Type 0} (P Q R : X → Type 0) (f : (x : X) → P x → Q x → R x) (xs : List X) → AllByRecursion P xs →
+    AllByRecursion Q xs → AllByRecursion R xs
+all_two P Q R f [] ps qs = tt
+all_two P Q R f (x ∷ xs) ps qs = (f x ps.0 qs.0, all_two P Q R f xs ps.1 qs.1)
 
 -- ---- lists of ids
 

@@ -25,6 +25,27 @@ play_agrees p r table (a ∷ rest) start agree =
     ∙ ap (λ rows. cond (r a && bytes_eq table a.table) (apply a.change rows) rows)
     (play_agrees p r table rest start agree.1)
 
+-- it is enough that they agree on those on the table
+pub play_agrees_on : (p r : Action → Bool) (table : List ℕ) (actions : List Action) (start : Rows) →
+    AllByRecursion (λ a. bytes_eq table a.table ≡ true → p a ≡ r a) actions →
+    play_rows p table actions start ≡ play_rows r table actions start
+play_agrees_on p r table [] start agree = refl
+play_agrees_on p r table (a ∷ rest) start agree =
+    ap (λ b. cond b (apply a.change (play_rows p table rest start)) (play_rows p table rest start))
+    (on (bytes_eq table a.table) refl)
+    ∙ ap (λ rows. cond (r a && bytes_eq table a.table) (apply a.change rows) rows)
+    (play_agrees_on p r table rest start agree.1)
+  where
+    off : (b c : Bool) → (b && false) ≡ (c && false)
+    off true true = refl
+    off true false = refl
+    off false true = refl
+    off false false = refl
+
+    on : (b : Bool) → bytes_eq table a.table ≡ b → (p a && b) ≡ (r a && b)
+    on true is = ap (λ b. b && true) (agree.0 is)
+    on false is = off (p a) (r a)
+
 -- actions that do not pass the test leave the rows that the others make
 pub play_skips : (test : Action → Bool) (table : List ℕ) (more rest : List Action) (start : Rows) →
     AllByRecursion (λ a. test a ≡ false) more →

@@ -1,24 +1,30 @@
 -- Each change of a database keeps it sound.
-use Rattle.std.proofs.Common.{◌≡◌, ℕ, ◌+◌, ◌<◌, ◌≤◌, true, false, cond, List, [], ◌∷◌, Some, None, refl, sym, ap}
-use Rattle.std.proofs.Common.{subst, ◌∙◌, arith, inl, inr}
-use Rattle.std.specs.Prelude.{◌==◌}
+use Rattle.std.proofs.Common.{◌≡◌, ℕ, ◌+◌, ◌<◌, ◌≤◌, Bool, true, false, cond, List, [], ◌∷◌, Option, Some, None, refl}
+use Rattle.std.proofs.Common.{sym, ap, subst, ◌∙◌, arith, inl, inr}
+use Rattle.std.specs.Prelude.{◌==◌, ◌&&◌, unwrap_or}
+use Rattle.std.specs.FinMap.{empty}
+use Rattle.std.specs.List.{AllByRecursion, list_any}
+use Rattle.std.specs.Str.{bytes_eq}
 use Rattle.std.proofs.lemmas.Bool.{false≢true, eqb-true, eqb-false, or_cases}
 use Rattle.slon_model.specs.declared.numbering.Numbering.{Numbering}
 use Rattle.slon_model.specs.declared.numbering.Numbering.TheVariants.{Xids, Actions}
 use Rattle.slon_model.specs.Names.{Named, find_named, without}
-use Rattle.slon_model.specs.Rows.{Action, Change, change_key, member}
+use Rattle.slon_model.specs.Rows.{Rows, Action, Change, change_key, member}
 use Rattle.slon_model.specs.Snapshots.{Rising}
 use Rattle.slon_model.specs.Tasks.{Task}
 use Rattle.slon_model.specs.Place.{Place, Counter, bare_place, counter, with_counter, lifted, stamped, raised}
-use Rattle.slon_model.specs.Place.{founded, holder}
+use Rattle.slon_model.specs.Place.{Filling, filling_of, filled, filled_by, founded, has_writer, holder, open_xids}
+use Rattle.slon_model.specs.Deeds.{Deed, brought_in}
 use Rattle.slon_model.specs.Moves.{Move, Stays, Founds, Tables, Begins, Writes, Commits, Aborts, Falls, Rises, begun}
 use Rattle.slon_model.specs.Moves.{written, committed, aborted, risen, first_rows, prepared, done}
-use Rattle.slon_model.proofs.Names.{all_map}
+use Rattle.slon_model.proofs.Names.{all_map, all_found, bytes_turned}
 use Rattle.slon_laws.specs.Sound.{SoundOf, Sound, IsLocked, IsOrdered, AreNamedOnce, ids_of}
 use Rattle.slon_laws.specs.Allowed.{IsFree, Allows}
 use Rattle.slon_laws.specs.Keeps.{Keeps}
+use Rattle.slon_laws.specs.Turning.{IsWithin}
 use Rattle.slon_laws.proofs.Decides.{either_raised, raised_same}
-use Rattle.slon_laws.proofs.Opens.{all_member, member_behind, rising_behind, named_behind, found_member, rising_without}
+use Rattle.slon_laws.proofs.Opens.{all_member, all_two, or_parts, member_behind, rising_behind, named_behind}
+use Rattle.slon_laws.proofs.Opens.{found_member, rising_without}
 use Rattle.slon_laws.proofs.Opens.{named_without, member_without, member_taken}
 use Rattle.slon_laws.proofs.Locks.{pairs_map, pairs_both, pairs_each, holder_frees, order_committed}
 
@@ -36,6 +42,8 @@ sound_bare = record {
   locked = tt;
   ordered = tt;
   rising = tt;
+  filled = tt;
+  behind = tt;
 }
 
 -- ---- ceilings that rise
@@ -52,10 +60,11 @@ lifted_higher c = record { new = lifted c; next = refl; ceiling = omega arith }
 abbrev same_higher : (c : Counter) → Higher c
 same_higher c = record { new = c; next = refl; ceiling = omega arith }
 
-sound_higher : {actions : List Action} {commits : List ℕ} {opens : Named ℕ} {xids numbers : Counter}
-    (x : Higher xids) (n : Higher numbers) → SoundOf actions commits opens xids numbers →
-    SoundOf actions commits opens x.new n.new
-sound_higher {actions} x n s = record {
+sound_higher : {actions : List Action} {commits : List ℕ} {fillings : Named Filling} {opens : Named ℕ}
+    {xids numbers : Counter}
+    (x : Higher xids) (n : Higher numbers) → SoundOf actions commits fillings opens xids numbers →
+    SoundOf actions commits fillings opens x.new n.new
+sound_higher {actions} {fillings = fillings} x n s = record {
   known = all_map _ _ (λ a below. omega (arith, below, x.next)) actions s.known;
   apart = s.apart;
   opened = λ y is. let below = s.opened y is in omega (arith, below, x.next);
@@ -68,6 +77,8 @@ sound_higher {actions} x n s = record {
   ordered = s.ordered;
   numbers_below = omega (arith, s.numbers_below, n.next, n.ceiling);
   rising = s.rising;
+  filled = all_map _ _ (λ f below. omega (arith, below, n.next)) fillings s.filled;
+  behind = s.behind;
 }
 
 sound_founded : (p : Place) → Sound p → Sound (founded p)
@@ -117,10 +128,11 @@ record Left (opens : Named ℕ) (xids numbers : Counter) : Type 0 where
   later : (xids.next ≤ new_xids.next) × (new_xids.next ≤ new_xids.ceiling)
   more : (numbers.next ≤ new_numbers.next) × (new_numbers.next ≤ new_numbers.ceiling)
 
-sound_left : {actions : List Action} {commits : List ℕ} {opens : Named ℕ} {xids numbers : Counter}
-    (l : Left opens xids numbers) → SoundOf actions commits opens xids numbers →
-    SoundOf actions commits l.fewer l.new_xids l.new_numbers
-sound_left {actions} {opens = opens} l s = record {
+sound_left : {actions : List Action} {commits : List ℕ} {fillings : Named Filling} {opens : Named ℕ}
+    {xids numbers : Counter}
+    (l : Left opens xids numbers) → SoundOf actions commits fillings opens xids numbers →
+    SoundOf actions commits fillings l.fewer l.new_xids l.new_numbers
+sound_left {actions} {fillings = fillings} {opens = opens} l s = record {
   known = all_map _ _ (λ a known. omega (arith, known, l.later.0)) actions s.known;
   opened = λ x is. let known = s.opened x (l.less x is) in omega (arith, known, l.later.0);
   ended = λ x is. let known = s.ended x is in omega (arith, known, l.later.0);
@@ -135,6 +147,8 @@ sound_left {actions} {opens = opens} l s = record {
       (λ a b locked conflict is_open. locked conflict (l.less a.xid is_open)) actions s.locked;
   ordered = s.ordered;
   rising = s.rising;
+  filled = all_map _ _ (λ f below. omega (arith, below, l.more.0)) fillings s.filled;
+  behind = all_map _ _ (λ a behind is_open. behind (l.less a.xid is_open)) actions s.behind;
 }
 
 sound_aborted : (name : List ℕ) (p : Place) → Sound p → Sound (aborted name p)
@@ -165,8 +179,9 @@ none_left opens xids numbers new_xids new_numbers later more = record {
   more = more;
 }
 
-pub sound_closed : {actions : List Action} {commits : List ℕ} {opens : Named ℕ} {xids numbers : Counter} →
-    SoundOf actions commits opens xids numbers → SoundOf actions commits [] xids numbers
+pub sound_closed : {actions : List Action} {commits : List ℕ} {fillings : Named Filling} {opens : Named ℕ}
+    {xids numbers : Counter} →
+    SoundOf actions commits fillings opens xids numbers → SoundOf actions commits fillings [] xids numbers
 sound_closed {opens = opens} {xids = xids} {numbers = numbers} s =
     sound_left (none_left opens xids numbers xids numbers (omega arith, s.xids_below) (omega arith, s.numbers_below)) s
 
@@ -202,6 +217,9 @@ sound_begun name p none below s = record {
       (λ a b known locked conflict is_open. locked conflict (old a known is_open)) p.actions s.known s.locked;
   ordered = s.ordered;
   rising = s.rising;
+  filled = s.filled;
+  behind = all_two (λ a. a.xid < p.xids.next) _ _ (λ a known behind is_open. behind (old a known is_open)) p.actions
+      s.known s.behind;
 }
   where
     old : (a : Action) → a.xid < p.xids.next → member a.xid (ids_of (begun name p).opens) ≡ true →
@@ -212,6 +230,16 @@ sound_begun name p none below s = record {
     ]
 
 -- ---- a row is written
+
+-- a table was last filled before the next action
+pub filled_below : (table : List ℕ) (n : ℕ) (fillings : Named Filling) → AllByRecursion (λ f. f.1.first ≤ n) fillings →
+    (filling_of table fillings).first ≤ n
+filled_below table n fillings all = by (find_named table fillings) refl
+  where
+    by : (o : Option Filling) → find_named table fillings ≡ o →
+        (unwrap_or o (record { first = 0; rows = empty })).first ≤ n
+    by None found = omega arith
+    by (Some f) found = all_found (λ f. f.first ≤ n) table f fillings all found
 
 sound_written : (xid : ℕ) (table : List ℕ) (change : Change) (p : Place) → member xid (ids_of p.opens) ≡ true →
     IsFree xid (holder table (change_key change) p) → p.numbers.next < p.numbers.ceiling → Sound p →
@@ -237,6 +265,10 @@ sound_written xid table change p is_open free below s = record {
     s.ordered,
   );
   rising = (s.numbered, s.rising);
+  filled =
+      all_map (λ f. f.1.first ≤ p.numbers.next) (λ f. f.1.first ≤ p.numbers.next + 1) (λ f below. omega (arith, below))
+      p.fillings s.filled;
+  behind = ((λ is_open. filled_below table p.numbers.next p.fillings s.filled), s.behind);
 }
   where
     new : Action
@@ -270,6 +302,8 @@ sound_committed name xid p found s = record {
       (order_committed xid (ids_of p.opens) p.commits (found_member name xid p.opens found)) p.actions s.locked
       s.ordered;
   rising = left.rising;
+  filled = left.filled;
+  behind = left.behind;
 }
   where
     left : Sound (aborted name p)
@@ -277,6 +311,69 @@ sound_committed name xid p found s = record {
 
 sound_first : (p : Place) → Sound p → Sound (first_rows p)
 sound_first p s = elim (p.stamp == 0) as (λ b. Sound (cond b (founded p) p)) [ true ↦ sound_founded p s | false ↦ s ]
+
+-- ---- tables are filled
+
+-- one table more, which no open transaction wrote
+one_filled : (p : Place) (table : List ℕ) (rows : Rows) (fillings : Named Filling) → has_writer table p ≡ false →
+    SoundOf p.actions p.commits fillings p.opens p.xids p.numbers →
+    SoundOf p.actions p.commits ((table, record { first = p.numbers.next; rows = rows }) ∷ fillings) p.opens p.xids
+    p.numbers
+one_filled p table rows fillings none s = record {
+  known = s.known;
+  opened = s.opened;
+  ended = s.ended;
+  numbered = s.numbered;
+  xids_below = s.xids_below;
+  numbers_below = s.numbers_below;
+  apart = s.apart;
+  running = s.running;
+  named = s.named;
+  locked = s.locked;
+  ordered = s.ordered;
+  rising = s.rising;
+  filled = (omega arith, s.filled);
+  behind = still p.actions none s.behind;
+}
+  where
+    on : (b : Bool) (a : Action) → (b ≡ true → ⊥) → (filling_of a.table fillings).first ≤ a.number →
+        (unwrap_or (cond b (Some (record { first = p.numbers.next; rows = rows })) (find_named a.table fillings))
+        (record { first = 0; rows = empty })).first ≤ a.number
+    on true a other behind = absurd (other refl)
+    on false a other behind = behind
+
+    still : (actions : List Action) →
+        list_any (λ a. member a.xid (open_xids p) && bytes_eq table a.table) actions ≡ false →
+        AllByRecursion (λ a. member a.xid (ids_of p.opens) ≡ true → (filling_of a.table fillings).first ≤ a.number)
+        actions → AllByRecursion (λ a. member a.xid (ids_of p.opens) ≡ true →
+        (filling_of a.table ((table, record { first = p.numbers.next; rows = rows }) ∷ fillings)).first ≤ a.number)
+        actions
+    still [] none behind = tt
+    still (a ∷ rest) none behind =
+        let parts = or_parts (member a.xid (open_xids p) && bytes_eq table a.table) _ none in (
+          (λ is_open. on (bytes_eq a.table table) a
+              (λ same. false≢true (sym parts.0 ∙ ap (λ b. b && bytes_eq table a.table) is_open
+              ∙ bytes_turned a.table table same)) (behind.0 is_open)),
+          still rest parts.1 behind.1,
+        )
+
+rows_filled : (p : Place) (rs : Named Rows) (fillings : Named Filling) →
+    SoundOf p.actions p.commits fillings p.opens p.xids p.numbers →
+    SoundOf p.actions p.commits (filled p rs fillings) p.opens p.xids p.numbers
+rows_filled p [] fillings s = s
+rows_filled p (r ∷ rs) fillings s =
+    elim (has_writer r.0 p) as (λ b. has_writer r.0 p ≡ b → SoundOf p.actions p.commits
+    (cond b (filled p rs fillings) ((r.0, record { first = p.numbers.next; rows = r.1 }) ∷ filled p rs fillings))
+    p.opens
+    p.xids p.numbers) [
+      | true ↦ λ written. rows_filled p rs fillings s
+      | false ↦ λ none. one_filled p r.0 r.1 (filled p rs fillings) none (rows_filled p rs fillings s)
+    ] refl
+
+pub sound_filled : (p : Place) (ds : List Deed) → Sound p →
+    SoundOf p.actions p.commits (filled_by p ds p.fillings) p.opens p.xids p.numbers
+sound_filled p [] s = s
+sound_filled p (d ∷ ds) s = rows_filled p (brought_in d.doing).rows (filled_by p ds p.fillings) (sound_filled p ds s)
 
 -- ---- each move
 
@@ -309,7 +406,7 @@ sound_done task (Aborts name) p allowed s = sound_aborted name p s
 sound_done task Falls p allowed s = sound_closed s
 sound_done task Rises p allowed s = sound_risen (prepared Rises p) (sound_prepared Rises p s)
 
-pub keeps_sound : Keeps (λ task. Unit {0}) Sound Sound
+pub keeps_sound : Keeps IsWithin (λ task. Unit {0}) Sound Sound
 keeps_sound = record {
   tasks = record {
     stays = λ p s. s;
@@ -318,6 +415,6 @@ keeps_sound = record {
     falls = λ count p s. sound_closed s;
     wavers = λ stands p s. sound_closed s;
   };
-  commits = λ c p first s. s;
+  commits = λ c p first s. sound_filled p c.deeds s;
   promises = λ node p s. s;
 }

@@ -1,37 +1,38 @@
 -- Each change of a database keeps what it holds spelled.
-use Rattle.std.proofs.Common.{◌≡◌, ℕ, ◌+◌, ◌<◌, ◌≤◌, Bool, true, false, cond, List, [], ◌∷◌, length, refl}
+use Rattle.std.proofs.Common.{◌≡◌, ℕ, ◌+◌, ◌<◌, ◌≤◌, true, false, cond, List, [], ◌∷◌, length, refl}
 use Rattle.std.proofs.Common.{arith}
 use Rattle.std.specs.Prelude.{◌==◌, ◌&&◌, ◌||◌, not, nat_le, map}
-use Rattle.std.specs.List.{list_all}
-use Rattle.std.proofs.lemmas.Bool.{eqb-true, and_parts, leb-false, true≢false}
+use Rattle.std.specs.List.{list_all, AllByRecursion}
+use Rattle.std.proofs.lemmas.Bool.{eqb-true, and_parts, leb-false}
 use Rattle.slon_base.specs.Codec.{AllTexts}
 use Rattle.slon_model.specs.declared.numbering.Numbering.{Numbering}
 use Rattle.slon_model.specs.declared.numbering.Numbering.TheVariants.{Xids, Actions}
 use Rattle.slon_model.specs.Forms.{is_value}
-use Rattle.slon_model.specs.Rows.{Change, Put, Set, Remove}
+use Rattle.slon_model.specs.Names.{Named}
+use Rattle.slon_model.specs.Rows.{Rows, Change, Put, Set, Remove}
+use Rattle.slon_model.specs.Deeds.{Deed, brought_in}
 use Rattle.slon_model.specs.Spoken.{IsTask, IsTableName, IsChange, most_columns}
 use Rattle.slon_model.specs.Tasks.{Task}
 use Rattle.slon_model.specs.Place.{Place, bare_place, block, counter, with_counter, lifted, stamped, raised, founded}
-use Rattle.slon_model.specs.Place.{own_count}
+use Rattle.slon_model.specs.Place.{Filling, filled, filled_by, has_writer, own_count}
 use Rattle.slon_model.specs.Moves.{Move, Stays, Founds, Tables, Begins, Writes, Commits, Aborts, Falls, Rises}
 use Rattle.slon_model.specs.Moves.{first_rows, prepared, done, stored_limit, is_last_stamp, is_last, is_beyond}
 use Rattle.slon_model.specs.Deciding.{fits}
 use Rattle.slon_model.proofs.Names.{all_found}
 use Rattle.slon_model.proofs.Spoken.{value_text, value_texts, table_name_text}
 use Rattle.slon_laws.specs.Sound.{Sound}
-use Rattle.slon_laws.specs.Spelled.{IsSmall, IsSpelled, CanSpell}
+use Rattle.slon_laws.specs.Spelled.{IsSmall, IsSpelled, CanSpell, AreFormed}
 use Rattle.slon_laws.specs.Allowed.{MayWrite, MayMove}
 use Rattle.slon_laws.specs.Keeps.{Keeps}
+use Rattle.slon_laws.specs.Turning.{IsFormed}
+use Rattle.slon_laws.proofs.Opens.{or_parts}
 use Rattle.slon_laws.proofs.Sounds.{sound_prepared, keeps_sound}
-
-or_parts : (a b : Bool) → (a || b) ≡ false → (a ≡ false) × (b ≡ false)
-or_parts true b is = absurd (true≢false is)
-or_parts false b is = (refl, is)
 
 pub spelled_bare : IsSpelled bare_place
 spelled_bare = record {
   small = record { stamp = omega arith; xids = omega arith; numbers = omega arith };
   written = tt;
+  filled = tt;
   narrow = tt;
   few = omega arith;
   bare = λ none. (refl, refl);
@@ -39,10 +40,11 @@ spelled_bare = record {
 
 -- a transaction of the store stands
 spelled_stamped : (p q : Place) → q.actions ≡ p.actions → q.tables ≡ p.tables → q.numbers.next ≡ p.numbers.next →
-    0 < q.stamp → IsSmall q → IsSpelled p → IsSpelled q
-spelled_stamped p q actions tables next some small s = record {
+    AllByRecursion (λ f. AreFormed f.1.rows) q.fillings × (0 < q.stamp) → IsSmall q → IsSpelled p → IsSpelled q
+spelled_stamped p q actions tables next (filled, some) small s = record {
   small = small;
   written = rw actions s.written;
+  filled = filled;
   narrow = rw tables s.narrow;
   few = rw (actions, next) s.few;
   bare = λ none. absurd (omega (arith, none, some));
@@ -73,8 +75,10 @@ lifted_small Actions p not s =
 spelled_lifted : (kind : Numbering) (p : Place) →
     (is_last_stamp p || nat_le stored_limit ((counter kind p).ceiling + block)) ≡ false → IsSpelled p →
     IsSpelled (stamped (with_counter kind (lifted (counter kind p)) p))
-spelled_lifted Xids p not s = spelled_stamped p _ refl refl refl (omega arith) (lifted_small Xids p not s.small) s
-spelled_lifted Actions p not s = spelled_stamped p _ refl refl refl (omega arith) (lifted_small Actions p not s.small) s
+spelled_lifted Xids p not s =
+    spelled_stamped p _ refl refl refl (s.filled, omega arith) (lifted_small Xids p not s.small) s
+spelled_lifted Actions p not s =
+    spelled_stamped p _ refl refl refl (s.filled, omega arith) (lifted_small Actions p not s.small) s
 
 spelled_raised : (kind : Numbering) (p : Place) → is_last kind p ≡ false → IsSpelled p → IsSpelled (raised kind p)
 spelled_raised kind p not s =
@@ -90,7 +94,7 @@ spelled_founded p none s =
     let bare = s.bare none in
     let xids = bare.0 in
     let numbers = bare.1 in
-    spelled_stamped p (founded p) refl refl refl (omega arith)
+    spelled_stamped p (founded p) refl refl refl (s.filled, omega arith)
     (record { stamp = omega arith; xids = omega (arith, xids); numbers = omega (arith, numbers) }) s
 
 spelled_first : (p : Place) → IsSpelled p → IsSpelled (first_rows p)
@@ -104,12 +108,13 @@ spelled_first p s =
 abbrev StaysAs : Place → Place → Type 0
 StaysAs p q =
     (q.actions ≡ p.actions) × (q.tables ≡ p.tables) × (p.numbers.next ≤ q.numbers.next) × (q.stamp ≡ p.stamp)
-    × (q.xids.ceiling ≡ p.xids.ceiling) × (q.numbers.ceiling ≡ p.numbers.ceiling)
+    × (q.xids.ceiling ≡ p.xids.ceiling) × (q.numbers.ceiling ≡ p.numbers.ceiling) × (q.fillings ≡ p.fillings)
 
 spelled_same : (p q : Place) → StaysAs p q → IsSpelled p → IsSpelled q
-spelled_same p q (actions, tables, next, stamps, xids, numbers) s = record {
+spelled_same p q (actions, tables, next, stamps, xids, numbers, fillings) s = record {
   small = record { stamp = rw stamps s.small.stamp; xids = rw xids s.small.xids; numbers = rw numbers s.small.numbers };
   written = rw actions s.written;
+  filled = rw fillings s.filled;
   narrow = rw tables s.narrow;
   few = let few = s.few in rw actions (omega (arith, few, next));
   bare = rw (stamps, xids, numbers) s.bare;
@@ -153,6 +158,7 @@ spelled_written task xid table change p (formed, may) within s = record {
     },
     raised_spelled.written,
   );
+  filled = raised_spelled.filled;
   narrow = raised_spelled.narrow;
   few = omega (arith, raised_spelled.few);
   bare = raised_spelled.bare;
@@ -163,6 +169,26 @@ spelled_written task xid table change p (formed, may) within s = record {
 
     raised_spelled : IsSpelled (raised Actions p)
     raised_spelled = spelled_raised Actions p within s
+
+-- ---- tables are filled
+
+rows_formed : (p : Place) (rs : Named Rows) (fillings : Named Filling) → AllByRecursion (λ r. AreFormed r.1) rs →
+    AllByRecursion (λ f. AreFormed f.1.rows) fillings → AllByRecursion (λ f. AreFormed f.1.rows) (filled p rs fillings)
+rows_formed p [] fillings new old = old
+rows_formed p (r ∷ rs) fillings new old =
+    elim (has_writer r.0 p) as (λ b. AllByRecursion (λ f. AreFormed f.1.rows)
+    (cond b (filled p rs fillings) ((r.0, record { first = p.numbers.next; rows = r.1 }) ∷ filled p rs fillings))) [
+      | true ↦ rows_formed p rs fillings new.1 old
+      | false ↦ (new.0, rows_formed p rs fillings new.1 old)
+    ]
+
+formed_by : (p : Place) (ds : List Deed) →
+    AllByRecursion (λ d. AllByRecursion (λ r. AreFormed r.1) (brought_in d.doing).rows) ds →
+    AllByRecursion (λ f. AreFormed f.1.rows) p.fillings →
+    AllByRecursion (λ f. AreFormed f.1.rows) (filled_by p ds p.fillings)
+formed_by p [] new old = old
+formed_by p (d ∷ ds) new old =
+    rows_formed p (brought_in d.doing).rows (filled_by p ds p.fillings) new.0 (formed_by p ds new.1 old)
 
 -- ---- each move
 
@@ -178,9 +204,9 @@ spelled_committed name xid p within s =
     elim (own_count xid p == 0)
     as (λ b. (not b && is_last_stamp p) ≡ false →
     IsSpelled (record (done (Commits name xid) p) { stamp = cond b p.stamp (p.stamp + 1) })) [
-      | true ↦ λ any. spelled_same p _ (refl, refl, omega arith, refl, refl, refl) s
+      | true ↦ λ any. spelled_same p _ (refl, refl, omega arith, refl, refl, refl, refl) s
       | false ↦
-          λ less. spelled_stamped p _ refl refl refl (omega arith)
+          λ less. spelled_stamped p _ refl refl refl (s.filled, omega arith)
           (record { stamp = below_limit (p.stamp + 1) less; xids = s.small.xids; numbers = s.small.numbers }) s
     ] within
 
@@ -188,31 +214,32 @@ spelled_done : (task : Task) (move : Move) (p : Place) → IsTask task → MayMo
     IsSpelled (done move p)
 spelled_done task Stays p formed may sound s = s
 spelled_done task Founds p formed may sound s =
-    spelled_same (first_rows p) (done Founds p) (refl, refl, omega arith, refl, refl, refl) (spelled_first p s)
+    spelled_same (first_rows p) (done Founds p) (refl, refl, omega arith, refl, refl, refl, refl) (spelled_first p s)
 spelled_done task (Tables table columns) p formed may sound s = record {
   small = record { stamp = below_limit (p.stamp + 1) may.within; xids = s.small.xids; numbers = s.small.numbers };
   written = s.written;
+  filled = s.filled;
   narrow = ((may.allows formed).1, s.narrow);
   few = s.few;
   bare = λ none. absurd (omega (arith, none));
 }
 spelled_done task (Begins name) p formed may sound s =
-    spelled_same (raised Xids p) (done (Begins name) p) (refl, refl, omega arith, refl, refl, refl)
+    spelled_same (raised Xids p) (done (Begins name) p) (refl, refl, omega arith, refl, refl, refl, refl)
     (spelled_raised Xids p may.within s)
 spelled_done task (Writes xid table change) p formed may sound s =
     spelled_written task xid table change p (formed, may.allows) may.within s
 spelled_done task (Commits name xid) p formed may sound s = spelled_committed name xid p may.within s
 spelled_done task (Aborts name) p formed may sound s =
-    spelled_same p (done (Aborts name) p) (refl, refl, omega arith, refl, refl, refl) s
+    spelled_same p (done (Aborts name) p) (refl, refl, omega arith, refl, refl, refl, refl) s
 spelled_done task Falls p formed may sound s =
-    spelled_same p (done Falls p) (refl, refl, omega arith, refl, refl, refl) s
+    spelled_same p (done Falls p) (refl, refl, omega arith, refl, refl, refl, refl) s
 spelled_done task Rises p formed may sound s =
     spelled_same (prepared Rises p) (done Rises p)
-    (refl, refl, (sound_prepared Rises p sound).numbers_below, refl, refl, refl)
+    (refl, refl, (sound_prepared Rises p sound).numbers_below, refl, refl, refl, refl)
     (spelled_prepared Rises p may.within s)
 
 -- a sound database stays spelled
-pub keeps_spelled : Keeps IsTask (λ p. Sound p × IsSpelled p) (λ p. Sound p × IsSpelled p)
+pub keeps_spelled : Keeps IsFormed IsTask (λ p. Sound p × IsSpelled p) (λ p. Sound p × IsSpelled p)
 keeps_spelled = record {
   tasks = record {
     stays = λ p s. s;
@@ -225,23 +252,26 @@ keeps_spelled = record {
     falls =
         λ count p s. (
           keeps_sound.tasks.falls count p s.0,
-          spelled_same p _ (refl, refl, omega arith, refl, refl, refl) s.1,
+          spelled_same p _ (refl, refl, omega arith, refl, refl, refl, refl) s.1,
         );
     wavers =
         λ stands p s. (
           keeps_sound.tasks.wavers stands p s.0,
-          spelled_same p _ (refl, refl, omega arith, refl, refl, refl) s.1,
+          spelled_same p _ (refl, refl, omega arith, refl, refl, refl, refl) s.1,
         );
   };
-  commits = λ c p within s. (
-    keeps_sound.commits c p within s.0,
-    spelled_stamped p _ refl refl refl (omega arith)
+  commits = λ c p formed s. (
+    keeps_sound.commits c p formed.0 s.0,
+    spelled_stamped p _ refl refl refl (formed_by p c.deeds formed.1 s.1.filled, omega arith)
         (record {
-          stamp = below_limit (p.stamp + 1) within;
+          stamp = below_limit (p.stamp + 1) formed.0;
           xids = s.1.small.xids;
           numbers = s.1.small.numbers;
         }) s.1,
   );
   promises =
-      λ node p s. (keeps_sound.promises node p s.0, spelled_same p _ (refl, refl, omega arith, refl, refl, refl) s.1);
+      λ node p s. (
+        keeps_sound.promises node p s.0,
+        spelled_same p _ (refl, refl, omega arith, refl, refl, refl, refl) s.1,
+      );
 }

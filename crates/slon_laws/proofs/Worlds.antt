@@ -1,23 +1,27 @@
 -- Every database of a legal history is sound, spelled and small.
 use Rattle.std.proofs.Common.{◌≡◌, ℕ, List, [], ◌∷◌, sym, subst}
 use Rattle.std.specs.List.{AllByRecursion}
-use Rattle.slon_model.specs.Tasks.{Task, ToFound, OnOne, subject_of}
+use Rattle.slon_model.specs.Tasks.{Task, ToFound, OnOne, Act, subject_of}
+use Rattle.slon_model.specs.Sessions.{Commit}
 use Rattle.slon_model.specs.Spoken.{IsTask, IsSubject, IsSpoken}
 use Rattle.slon_model.specs.Place.{Place, bare_place}
-use Rattle.slon_model.specs.World.{World, start, Happening, Step, Grants, Denies, Misses, Asks, Acts, Leads}
+use Rattle.slon_model.specs.World.{World, start, Happening, Step, Grants, Denies, Misses, Asks, Acts, Leads, outcome}
 use Rattle.slon_model.proofs.Names.{all_map, all_put, all_behind, all_found}
 use Rattle.slon_laws.specs.Sound.{Sound}
 use Rattle.slon_laws.specs.Spelled.{IsSpelled}
 use Rattle.slon_laws.specs.Keeps.{Keeps}
+use Rattle.slon_laws.specs.Turning.{AllHold, IsFormed, IsWithin}
 use Rattle.slon_laws.specs.Worlds.{AllPlaces, AllSpoken}
 use Rattle.slon_laws.proofs.Keeps.{kept, carried}
-use Rattle.slon_laws.proofs.Acting.{acting_carries}
+use Rattle.slon_laws.proofs.Acting.{acting_turns, outcome_all}
+use Rattle.slon_laws.proofs.Bringing.{outcome_formed}
 use Rattle.slon_laws.proofs.Sounds.{sound_bare, keeps_sound}
 use Rattle.slon_laws.proofs.Spells.{spelled_bare, keeps_spelled}
 
 -- What every step keeps of one database, from the first on.
-pub record Lasts (IsOne : Task → Type 0) (P Q : Place → Type 0) : Type 0 where
-  pub keeps : Keeps IsOne P Q
+pub record Lasts (F : Commit → Place → Type 0) (IsOne : Task → Type 0) (P Q : Place → Type 0) : Type 0 where
+  pub keeps : Keeps F IsOne P Q
+  pub acts : (w : World) → AllPlaces P w → (act : Act) → AllHold F (outcome act w).commits w.places
   pub first : P bare_place
   pub founds : IsOne ToFound
 
@@ -32,10 +36,11 @@ abbrev pub stepped : (w v : World) (h : Happening) → Step w h v → Stepped
 stepped w v h step = record { old = w; new = v; happening = h; step = step }
 
 -- it is kept of all databases of a session
-pub all_step : {IsOne : Task → Type 0} {P Q : Place → Type 0} → Lasts IsOne P Q → (s : Stepped) →
+pub all_step : {F : Commit → Place → Type 0} {IsOne : Task → Type 0} {P Q : Place → Type 0} → Lasts F IsOne P Q →
+    (s : Stepped) →
     ((name : List ℕ) (task : Task) → subject_of s.happening.command ≡ OnOne name task → IsOne task) →
     AllPlaces P s.old → AllPlaces Q s.new
-all_step {IsOne} {P} {Q} l s one all = by s.step
+all_step {P = P} {Q = Q} l s one all = by s.step
   where
     still : AllPlaces Q s.old
     still = all_map (λ e. P e.1) (λ e. Q e.1) (λ e. l.keeps.tasks.stays e.1) s.old.places all
@@ -52,12 +57,12 @@ all_step {IsOne} {P} {Q} l s one all = by s.step
         (all_put Q t.name _ s.old.places
         (kept l.keeps t.task t.place s.happening.choice
         (one t.name t.task t.about, all_found P t.name t.place s.old.places all t.found)) still)
-    by (Acts t) = acting_carries (carried l.keeps) s.old s.new s.happening t still
+    by (Acts t) = acting_turns (carried l.keeps) s.old s.new s.happening t (l.acts s.old all t.act) still
 
 -- ---- sound
 
-lasts_sound : Lasts (λ task. Unit {0}) Sound Sound
-lasts_sound = record { keeps = keeps_sound; first = sound_bare; founds = tt }
+lasts_sound : Lasts IsWithin (λ task. Unit {0}) Sound Sound
+lasts_sound = record { keeps = keeps_sound; acts = λ w all act. outcome_all act w; first = sound_bare; founds = tt }
 
 pub sound_world_step : (w v : World) (h : Happening) → Step w h v → AllPlaces Sound w → AllPlaces Sound v
 sound_world_step w v h step all = all_step lasts_sound (stepped w v h step) (λ name task about. tt) all
@@ -68,8 +73,15 @@ sound_world limit (h ∷ hs) w leads = sound_world_step leads.0 w h leads.2 (sou
 
 -- ---- sound and spelled
 
-lasts_spelled : Lasts IsTask (λ p. Sound p × IsSpelled p) (λ p. Sound p × IsSpelled p)
-lasts_spelled = record { keeps = keeps_spelled; first = (sound_bare, spelled_bare); founds = tt }
+lasts_spelled : Lasts IsFormed IsTask (λ p. Sound p × IsSpelled p) (λ p. Sound p × IsSpelled p)
+lasts_spelled = record {
+  keeps = keeps_spelled;
+  acts = λ w all act.
+      outcome_formed w (all_map (λ e. Sound e.1 × IsSpelled e.1) (λ e. IsSpelled e.1) (λ e s. s.1) w.places all) act
+      (outcome_all act w);
+  first = (sound_bare, spelled_bare);
+  founds = tt;
+}
 
 formed_task : (h : Happening) → IsSpoken h.command → (name : List ℕ) (task : Task) →
     subject_of h.command ≡ OnOne name task → IsTask task

@@ -4,7 +4,7 @@ use Rattle.std.specs.List.{AllByRecursion}
 use Rattle.std.specs.Str.{bytes_eq}
 use Rattle.slon_model.specs.Names.{Named, find_named}
 use Rattle.slon_model.specs.Rows.{Action, Change, change_key, touches, member}
-use Rattle.slon_model.specs.Place.{Place, Counter}
+use Rattle.slon_model.specs.Place.{Place, Counter, Filling, filling_of}
 use Rattle.slon_model.specs.Snapshots.{Rising}
 
 -- two changes have a row in common
@@ -44,8 +44,9 @@ abbrev pub AreNamedOnce : Named ℕ → Type 0
 AreNamedOnce [] = Unit {0}
 AreNamedOnce (o ∷ os) = (find_named o.0 os ≡ None) × AreNamedOnce os
 
--- What holds of the actions, the commits, the open transactions and the counters.
-pub record SoundOf (actions : List Action) (commits : List ℕ) (opens : Named ℕ) (xids numbers : Counter) : Type 0 where
+-- What holds of the actions, the commits, what tables were filled with, the open transactions and the counters.
+pub record SoundOf (actions : List Action) (commits : List ℕ) (fillings : Named Filling) (opens : Named ℕ)
+    (xids numbers : Counter) : Type 0 where
   -- ids and numbers are below the next ones, and these at most at the durable ceilings
   pub known : AllByRecursion (λ a. a.xid < xids.next) actions
   pub opened : (x : ℕ) → member x (ids_of opens) ≡ true → x < xids.next
@@ -61,6 +62,10 @@ pub record SoundOf (actions : List Action) (commits : List ℕ) (opens : Named �
   pub locked : Pairs (IsLocked (ids_of opens)) actions
   pub ordered : Pairs (IsOrdered commits) actions
   pub rising : Pairs (λ a b. a.number < b.number) actions
+  -- tables were filled before the actions that open transactions did on them
+  pub filled : AllByRecursion (λ f. f.1.first ≤ numbers.next) fillings
+  pub behind : AllByRecursion
+      (λ a. member a.xid (ids_of opens) ≡ true → (filling_of a.table fillings).first ≤ a.number) actions
 
 abbrev pub Sound : Place → Type 0
-Sound p = SoundOf p.actions p.commits p.opens p.xids p.numbers
+Sound p = SoundOf p.actions p.commits p.fillings p.opens p.xids p.numbers

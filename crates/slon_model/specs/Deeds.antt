@@ -5,13 +5,23 @@ use Rattle.slon_model.specs.Maps.{Map, Map2, entry_at, with_entry, number_at, ro
 use Rattle.slon_model.specs.Rows.{Rows, Action}
 use Rattle.slon_model.specs.Events.{Event, is_sync}
 use Rattle.slon_model.specs.Config.{Config, change}
-use Rattle.slon_model.specs.Views.{View, Views, views_emitted}
+use Rattle.slon_model.specs.Names.{Named}
+use Rattle.slon_model.specs.Views.{View, Views, views_emitted, with_views}
+
+-- What a node takes of sets as it applies an event: what it keeps of each from then on, and the rows with which it
+-- fills tables.
+pub record Brought : Type 0 where
+  pub views : Map View
+  pub rows : Named Rows
+
+abbrev pub nothing_brought : Brought
+nothing_brought = record { views = []; rows = [] }
 
 -- What a node does in one transaction of its store.
 pub data Doing : Type 0 where
   Emits : (event : Event) → Doing
   -- an event of another node
-  Applies : (event : Event) → Doing
+  Applies : (event : Event) (brought : Brought) → Doing
   -- a transaction of an application, with at least one action
   Commits : (xid : ℕ) → Doing
   -- confirmations: an origin, a node, and how far that node is
@@ -71,9 +81,10 @@ learned own (Emits e) k =
       progress = with_entry e.origin e.number k.progress;
       news = noticed e k.news;
     }
-learned own (Applies e) k =
+learned own (Applies e b) k =
     record k {
       config = change e k.config;
+      views = with_views b.views k.views;
       progress = with_entry e.origin e.number k.progress;
       news = noticed e k.news;
     }
@@ -108,8 +119,12 @@ emitted_by others = None
 
 abbrev pub met_by : Doing → Option Event
 met_by (Emits e) = Some e
-met_by (Applies e) = Some e
+met_by (Applies e b) = Some e
 met_by others = None
+
+abbrev pub brought_in : Doing → Brought
+brought_in (Applies e b) = b
+brought_in others = nothing_brought
 
 -- the events of the node, the newest first
 abbrev pub stream : Node → List Event

@@ -1,15 +1,18 @@
 -- What the rules know of one database.
-use Rattle.std.specs.Prelude.{ℕ, ◌+◌, ◌==◌, if◌then◌else◌, Bool, true, false, List, [], ◌∷◌, length, filter, map}
-use Rattle.std.specs.Prelude.{Option, None, option_map}
+use Rattle.std.specs.Prelude.{ℕ, ◌+◌, ◌==◌, ◌&&◌, nat_le, if◌then◌else◌, Bool, true, false, List, [], ◌∷◌, length}
+use Rattle.std.specs.Prelude.{filter, map, Option, None, option_map, unwrap_or}
+use Rattle.std.specs.FinMap.{empty}
+use Rattle.std.specs.List.{list_any}
+use Rattle.std.specs.Str.{bytes_eq}
 use Rattle.std.specs.Option.{option_or}
 use Rattle.slon_model.specs.declared.numbering.Numbering.{Numbering}
 use Rattle.slon_model.specs.declared.numbering.Numbering.TheVariants.{Xids, Actions}
-use Rattle.slon_model.specs.Names.{Named}
-use Rattle.slon_model.specs.Rows.{Action, member, rows_by, holder_in, Rows as TableOf}
+use Rattle.slon_model.specs.Names.{Named, find_named}
+use Rattle.slon_model.specs.Rows.{Action, member, play_rows, holder_in, Rows as TableOf}
 use Rattle.slon_model.specs.Snapshots.{Snapshot, first_or, snapshot_text}
 use Rattle.slon_model.specs.Config.{live_nodes}
 use Rattle.slon_model.specs.Views.{View}
-use Rattle.slon_model.specs.Deeds.{Node, Deed, Doing, Logged, knowledge, progress}
+use Rattle.slon_model.specs.Deeds.{Node, Deed, Doing, Logged, brought_in, knowledge, progress}
 
 -- How a database stands: it is up; it is down; or it is down and a commit of it is in doubt, which stands or not.
 pub data Standing : Type 0 where
@@ -26,6 +29,11 @@ pub record Counter : Type 0 where
   pub next : ℕ
   pub ceiling : ℕ
 
+-- What a table was filled with: the number of the first action behind that, and its rows then.
+pub record Filling : Type 0 where
+  pub first : ℕ
+  pub rows : TableOf
+
 pub record Place : Type 0 where
   pub standing : Standing
   -- its tables with their numbers of columns, the newest first
@@ -34,6 +42,8 @@ pub record Place : Type 0 where
   pub actions : List Action
   -- the transactions whose commit stands, the newest first
   pub commits : List ℕ
+  -- what tables were filled with from elsewhere, by their names, the newest first
+  pub fillings : Named Filling
   -- the open transactions, by their names, the oldest first
   pub opens : Named ℕ
   -- the ids of transactions, and the numbers of actions
@@ -93,13 +103,39 @@ raised kind p =
 abbrev pub open_xids : Place → List ℕ
 open_xids p = map (λ o. o.1) p.opens
 
+-- what a table was last filled with, or else nothing before all its actions
+abbrev pub filling_of : List ℕ → Named Filling → Filling
+filling_of table fillings = unwrap_or (find_named table fillings) (record { first = 0; rows = empty })
+
+-- the rows that the actions behind a filling that pass a test make of it
+abbrev pub rows_since : (Action → Bool) → List ℕ → List Action → Filling → TableOf
+rows_since test table actions f = play_rows (λ a. test a && nat_le f.first a.number) table actions f.rows
+
 -- the rows of a table that stand
 abbrev pub standing_rows : Place → List ℕ → TableOf
-standing_rows p table = rows_by (λ a. member a.xid p.commits) table p.actions
+standing_rows p table = rows_since (λ a. member a.xid p.commits) table p.actions (filling_of table p.fillings)
 
 -- the rows that a transaction sees: its own and those that stand
 abbrev pub seen_rows : ℕ → Place → List ℕ → TableOf
-seen_rows xid p table = rows_by (λ a. member a.xid (xid ∷ p.commits)) table p.actions
+seen_rows xid p table =
+    rows_since (λ a. member a.xid (xid ∷ p.commits)) table p.actions (filling_of table p.fillings)
+
+-- an open transaction wrote the table
+abbrev pub has_writer : List ℕ → Place → Bool
+has_writer table p = list_any (λ a. member a.xid (open_xids p) && bytes_eq table a.table) p.actions
+
+-- Tables are filled with these rows behind all actions. None is filled that an open transaction wrote, since 66 is told
+-- before.
+abbrev pub filled : Place → Named TableOf → Named Filling → Named Filling
+filled p [] fillings = fillings
+filled p (r ∷ rs) fillings =
+    if has_writer r.0 p then filled p rs fillings
+    else (r.0, record { first = p.numbers.next; rows = r.1 }) ∷ filled p rs fillings
+
+-- by deeds, the newest first
+abbrev pub filled_by : Place → List Deed → Named Filling → Named Filling
+filled_by p [] fillings = fillings
+filled_by p (d ∷ ds) fillings = filled p (brought_in d.doing).rows (filled_by p ds fillings)
 
 -- the open transaction that wrote a row
 abbrev pub holder : List ℕ → List ℕ → Place → Option ℕ
@@ -126,6 +162,7 @@ bare_place =
       tables = [];
       actions = [];
       commits = [];
+      fillings = [];
       opens = [];
       xids = first_counter;
       numbers = first_counter;

@@ -16,7 +16,7 @@ use Rattle.slon_model.specs.Events.{Event}
 use Rattle.slon_model.specs.Views.{View}
 use Rattle.slon_model.specs.Deeds.{Node, Deed, Emits, Knowledge, knowledge, with_deeds, progress, emitted_by}
 use Rattle.slon_model.specs.Logs.{named}
-use Rattle.slon_model.specs.Place.{Place, is_running, fallen, doubted, deed, open_xids, taken}
+use Rattle.slon_model.specs.Place.{Place, is_running, fallen, doubted, deed, filled_by, open_xids, taken}
 use Rattle.slon_model.specs.Moves.{is_last_stamp, stored_limit}
 
 -- What a node read for its next event of an origin: of each set the view that stood then and how many rows there were,
@@ -104,7 +104,11 @@ pub record Commit : Type 0 where
 -- a database whose commit stands
 abbrev pub committing : Commit → Place → Place
 committing c p =
-    record p { node = option_map (with_deeds c.deeds) (option_or c.becomes p.node); stamp = p.stamp + 1 }
+    record p {
+      fillings = filled_by p c.deeds p.fillings;
+      node = option_map (with_deeds c.deeds) (option_or c.becomes p.node);
+      stamp = p.stamp + 1;
+    }
 
 -- a database whose commit is in doubt, and stands or not
 abbrev pub in_doubt : Commit → Bool → Place → Place

@@ -28,6 +28,11 @@ abbrev pub without_sets : List Taken → Views → Views
 without_sets [] views = views
 without_sets (s ∷ more) views = without_entry s.0 (without_sets more views)
 
+-- with these views of sets
+abbrev pub with_views : Views → Views → Views
+with_views [] views = views
+with_views (v ∷ more) views = with_entry v.0 v.1 (with_views more views)
+
 -- The views of a node after an event of its own: who hands a set over begins to subscribe, and who takes over ends.
 abbrev pub views_emitted : Event → Body → Views → Views
 views_emitted e (MoveSet set old new era feeds) views =

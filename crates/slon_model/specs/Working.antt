@@ -1,22 +1,29 @@
 -- The turn by which a node applies an event of another one: the next event of an origin that waits at the node.
-use Rattle.std.specs.Prelude.{ℕ, ◌+◌, ◌==◌, not, nat_lt, Bool, true, false, [], ◌∷◌, codes, filter, find}
-use Rattle.std.specs.Prelude.{Option, Some, None, Result, Ok, Err}
+use Rattle.std.specs.Prelude.{ℕ, ◌+◌, ◌==◌, ◌&&◌, if◌then◌else◌, not, is_none, nat_lt, Bool, true, false, List, [], ◌∷◌}
+use Rattle.std.specs.Prelude.{◌++◌, codes, filter, find, length, map, sum_by, Option, Some, None, option_map, unwrap_or}
+use Rattle.std.specs.Prelude.{Result, Ok, Err}
+use Rattle.std.specs.FinMap.{entries}
 use Rattle.node_rows.specs.declared.body.Body.{Body}
 use Rattle.node_rows.specs.declared.body.Body.TheVariants.{DropSet, EnableSubscription, MoveSet, AcceptSet, FailoverSet}
 use Rattle.slon_model.specs.declared.reply.Answer.TheVariants.{Applied}
 use Rattle.slon_model.specs.declared.reply.Refusal.{Refusal}
 use Rattle.slon_model.specs.declared.reply.Refusal.TheVariants as refused
+use Rattle.slon_model.specs.Names.{find_named}
 use Rattle.slon_model.specs.Maps.{with_entry}
 use Rattle.slon_model.specs.Events.{Event, kind_of}
-use Rattle.slon_model.specs.Deeds.{Applies, progress}
-use Rattle.slon_model.specs.Place.{deed}
-use Rattle.slon_model.specs.Sessions.{World, Memory, Stated, Outcome, Seat, bind, when, checked}
-use Rattle.slon_model.specs.Turns.{on_turn, taken_turn}
+use Rattle.slon_model.specs.Config.{has_path, is_known, is_origin, era_of, names_of}
+use Rattle.slon_model.specs.Views.{first_view}
+use Rattle.slon_model.specs.Deeds.{Brought, Applies, nothing_brought, progress}
+use Rattle.slon_model.specs.Place.{Place, deed, standing_rows, taken}
+use Rattle.slon_model.specs.Sessions.{World, Memory, Stated, Outcome, Seat, bind, when, checked, writer_of}
+use Rattle.slon_model.specs.Turns.{at_node, seat_at, is_cut, on_turn, taken_turn}
 use Rattle.slon_model.specs.Polls.{queue_at, line_of, with_queue}
 
 -- the event behind the last one that the node has applied, if it waits
 abbrev pub next_at : Memory → Seat → ℕ → Option Event
 next_at m s origin = find (λ e. e.number == progress origin s.known + 1) (line_of origin (queue_at s.name m))
+
+-- ---- what cannot be carried out yet
 
 -- The node of this id can carry out what the event says. It copies no set yet, and takes over none.
 abbrev pub can_carry_out : ℕ → Body → Bool
@@ -30,26 +37,123 @@ can_carry_out own others = true
 -- 60, 98
 abbrev pub taken_up : Seat → Option Event → Result Event Refusal
 taken_up s None = Err refused.Nothing
-taken_up s (Some e) = checked (when (not (can_carry_out s.node.id e.body)) (refused.NotBuilt (codes "work")) ∷ []) e
+taken_up s (Some e) =
+    checked (when (not (can_carry_out s.node.id e.body)) (refused.NotBuilt (codes "work")) ∷ []) e
 
--- 44, 16, 67 of the node, 60, 98: the node at its seat, and the event that it applies
-abbrev pub worked : ℕ → ℕ → World → Result (Seat × Event) Refusal
+-- ---- a copy, which no turn comes to yet
+
+-- A set that the node is to copy, from which node, and the era of the set in which it was told so.
+pub record Copying : Type 0 where
+  pub set_id : ℕ
+  pub provider : ℕ
+  pub era : ℕ
+
+-- the receiver of a new subscription copies the set
+abbrev pub copying_in : ℕ → Body → Option Copying
+copying_in own (EnableSubscription set provider receiver forward era) =
+    if receiver == own then Some (record { set_id = set; provider = provider; era = era }) else None
+copying_in own others = None
+
+-- what is found of the provider: 75, 68, 44 it is the node itself
+abbrev pub linked_to : ℕ → Memory → Seat → Option (List ℕ × Place) → Result (Option (List ℕ × Place)) Refusal
+linked_to provider m s found =
+    checked (when (not (has_path s.node.id provider s.known.config)) (refused.NoPath provider)
+    ∷ when (is_cut s.node.id provider m) (refused.Severed s.node.id provider)
+    ∷ when (provider == s.node.id) (refused.NoNode provider) ∷ []) found
+
+-- 75, 68, 44, 16, 62: the provider at its seat
+abbrev pub provided : ℕ → Memory → Seat → Option (List ℕ × Place) → Result Seat Refusal
+provided provider m s found =
+    bind (bind (linked_to provider m s found) (λ found. seat_at provider found))
+    (λ p. checked (when (not (is_known s.node.id p.known.config)) (refused.NotKnown s.node.id) ∷ []) p)
+
+-- the columns of a table, or 0
+abbrev pub width_of : List ℕ → Place → ℕ
+width_of name p = unwrap_or (find_named name p.tables) 0
+
+-- 52, 57: the node lacks a table, or it has another width at the provider
+abbrev pub width_checks : Place → Place → List (List ℕ) → List (Option Refusal)
+width_checks here there [] = []
+width_checks here there (name ∷ more) =
+    when (is_none (find_named name here.tables)) (refused.NoTable name)
+    ∷ when (not (width_of name here == width_of name there)) (refused.BadWidth (width_of name here))
+    ∷ width_checks here there more
+
+-- 52, 57 of each table in turn, 66
+abbrev pub copy_checks : Place → Place → List (List ℕ) → List (Option Refusal)
+copy_checks here there names =
+    width_checks here there names ++ option_map refused.Busy (writer_of names here) ∷ []
+
+-- the rows of these tables at the provider, and its snapshot
+abbrev pub copy_of : Copying → ℕ → Seat → List (List ℕ) → Brought
+copy_of c number p names =
+    record {
+      views = (c.set_id, first_view c.era p.node.id number (taken p.place)) ∷ [];
+      rows = map (λ name. (name, standing_rows p.place name)) names;
+    }
+
+-- the provider is the origin of the set in that era
+abbrev pub still_leads : Copying → Seat → Bool
+still_leads c p = is_origin p.node.id c.set_id p.known.config && era_of c.set_id p.known.config == c.era
+
+-- what a node brings from a provider at this seat; nothing, where that is not the origin of the set any more
+abbrev pub copied : Copying → Seat → Event → Seat → Result Brought Refusal
+copied c s e p =
+    let names = names_of c.set_id s.known.config in
+    if still_leads c p then checked (copy_checks s.place p.place names) (copy_of c e.number p names)
+    else Ok nothing_brought
+
+-- from a provider that is found so
+abbrev pub copied_from : Copying → Memory → Seat → Event → Option (List ℕ × Place) → Result Brought Refusal
+copied_from c m s e found = bind (provided c.provider m s found) (copied c s e)
+
+-- what the node brings with an event
+abbrev pub brought_by : World → Seat → Event → Option Copying → Result Brought Refusal
+brought_by w s e None = Ok nothing_brought
+brought_by w s e (Some c) = copied_from c w.memory s e (at_node c.provider w)
+
+-- ---- the turn
+
+-- An event that a node applies: the node at its seat, the event, and what it brings.
+pub record Carried : Type 0 where
+  pub seat : Seat
+  pub event : Event
+  pub brought : Brought
+
+abbrev pub carried : Seat → Event → Brought → Carried
+carried s e b = record { seat = s; event = e; brought = b }
+
+abbrev pub carried_at : World → Seat → Event → Result Carried Refusal
+carried_at w s e = bind (brought_by w s e (copying_in s.node.id e.body)) (λ b. Ok (carried s e b))
+
+-- 44, 16, 67 of the node, 60, 98, and the refusals of a copy
+abbrev pub worked : ℕ → ℕ → World → Result Carried Refusal
 worked node origin w =
-    bind (on_turn node w) (λ s. bind (taken_up s (next_at w.memory s origin)) (λ e. Ok (s, e)))
+    bind (on_turn node w) (λ s. bind (taken_up s (next_at w.memory s origin)) (carried_at w s))
+
+-- how many rows come with it
+abbrev pub rows_in : Brought → ℕ
+rows_in b = sum_by (λ r. length (entries r.1)) b.rows
 
 -- what is answered, and the one commit
-abbrev pub applied_by : Seat × Event → Stated
-applied_by (s, e) = record {
-  answer = Applied (kind_of e.body) e.number 0;
-  commits = record { name = s.name; becomes = None; deeds = deed s.place [] [] (Applies e) ∷ [] } ∷ [];
+abbrev pub applied_by : Carried → Stated
+applied_by c = record {
+  answer = Applied (kind_of c.event.body) c.event.number (rows_in c.brought);
+  commits =
+      record {
+        name = c.seat.name;
+        becomes = None;
+        deeds = deed c.seat.place [] [] (Applies c.event c.brought) ∷ [];
+      } ∷ [];
 }
 
 -- it waits no more, nor does what is before it
-abbrev pub taken_from : Seat × Event → Memory → Memory
-taken_from (s, e) m =
-    let queue = queue_at s.name m in
-    with_queue s.name (with_entry e.origin (filter (λ f. nat_lt e.number f.number) (line_of e.origin queue)) queue) m
+abbrev pub taken_from : Carried → Memory → Memory
+taken_from c m =
+    let queue = queue_at c.seat.name m in
+    with_queue c.seat.name
+    (with_entry c.event.origin (filter (λ f. nat_lt c.event.number f.number) (line_of c.event.origin queue)) queue) m
 
 -- `work N X`
 abbrev pub work_outcome : ℕ → ℕ → World → Outcome
-work_outcome node origin w = taken_turn w (λ x. taken_from x w.memory) applied_by (worked node origin w)
+work_outcome node origin w = taken_turn w (λ c. taken_from c w.memory) applied_by (worked node origin w)

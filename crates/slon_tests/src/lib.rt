@@ -23,3 +23,5 @@ mod subscriptions;
 mod system;
 #[cfg(test)]
 mod wanted;
+#[cfg(test)]
+mod works;

@@ -9,7 +9,7 @@ use std::test::Fail;
 use test_words::{keeping, require};
 
 /// The databases, with their tables.
-const DATABASES: &[Step] = &[
+pub(crate) const DATABASES: &[Step] = &[
     ("database a", "ok"),
     ("database b", "ok"),
     ("database c", "ok"),
@@ -18,14 +18,14 @@ const DATABASES: &[Step] = &[
 ];
 
 /// The nodes by their databases.
-const NODES: &str = "cluster name = demo;
+pub(crate) const NODES: &str = "cluster name = demo;
 node 1 admin conninfo = 'dbname=a';
 node 2 admin conninfo = 'dbname=b';
 node 3 admin conninfo = 'dbname=c';
 ";
 
 /// The statements are run one by one, and then these lines.
-fn expect_lines(
+pub(crate) fn expect_lines(
     alloc: Global,
     statements: &[Step],
     front: &[Step],
@@ -40,7 +40,7 @@ fn expect_lines(
 }
 
 /// The same for each of these, behind the same lines.
-fn expect_each(
+pub(crate) fn expect_each(
     alloc: Global,
     statements: &[Step],
     front: &[Step],
@@ -55,7 +55,7 @@ fn expect_each(
 // ---- two nodes
 
 /// Each of two nodes has a path from the other one, and node 1 a set of a table.
-const PAIR: &[Step] = &[
+pub(crate) const PAIR: &[Step] = &[
     ("init cluster (id = 1);", "ok"),
     ("store node (id = 2, event node = 1);", "ok event 1 1"),
     (
@@ -73,7 +73,7 @@ const PAIR: &[Step] = &[
     ),
 ];
 
-const STARTED: &[Step] = &[("start 1", "ok"), ("start 2", "ok")];
+pub(crate) const STARTED: &[Step] = &[("start 1", "ok"), ("start 2", "ok")];
 
 const POLLED: &[&[Step]] = &[
     // A poll that is lost, one that comes twice, one that brings nothing, one that brings a confirmation, and one

@@ -17,10 +17,10 @@ use Rattle.slon_model.specs.declared.reply.Reply.TheVariants as replied
 use Rattle.slon_model.specs.Maps.{Map, with_entry}
 use Rattle.slon_model.specs.Events.{Event, kind_of}
 use Rattle.slon_model.specs.Deeds.{knowledge, progress}
-use Rattle.slon_model.specs.Sessions.{Memory, Seat, bind, checked, when}
+use Rattle.slon_model.specs.Sessions.{Memory, bind, checked, when}
 use Rattle.slon_model.specs.Polls.{line_of, queue_at}
 use Rattle.slon_model.specs.Tasks.{Words}
-use Rattle.slon_model.specs.Working.{can_carry_out, next_at, taken_up}
+use Rattle.slon_model.specs.Working.{Carried, can_carry_out, next_at, taken_up}
 use Rattle.slon_model.specs.World.{reply_of, refusal_of}
 use Rattle.set_config.proofs.Entries.{eq_of}
 use Rattle.event_store.specs.declared.event.Event as declared
@@ -46,19 +46,19 @@ use Rattle.slonik_exec.proofs.Telling.{words_at}
 use Rattle.slonik_exec.proofs.Works.{commits_due}
 use Rattle.slon_turns.specs.Polling.{Waits}
 use Rattle.slon_turns.specs.Working.{stated_work, left_by_work}
-use Rattle.slon_turns.specs.Applying.{applied_as, due_at, Post, seat_in, PostFits, WorksHere, AppliesAt}
+use Rattle.slon_turns.specs.Applying.{applied_as, due_at, plainly, Post, seat_in, PostFits, WorksHere, AppliesAt}
 use Rattle.slon_turns.proofs.Acted.{acts_as}
 use Rattle.slon_turns.proofs.Waiting.{queue_here}
 
 -- ---- refusals and failures
 
 -- what is in memory behind a reply that is no acceptance
-pub left_refused : (due : Result (Seat × Event) Refusal) (refusal : Refusal) (m : Memory) →
+pub left_refused : (due : Result Carried Refusal) (refusal : Refusal) (m : Memory) →
     left_by_work due (replied.Refused refusal) m ≡ m
 left_refused (Ok x) refusal m = refl
 left_refused (Err e) refusal m = refl
 
-pub refused_here : (s : Post) (due : Result (Seat × Event) Refusal) (refusal : Refusal) (new : Base × Queue) →
+pub refused_here : (s : Post) (due : Result Carried Refusal) (refusal : Refusal) (new : Base × Queue) →
     due ≡ Err refusal → Fits s.place new.0 × Waits s.name s.memory new.1 →
     WorksHere s due (replied.Refused refusal) new
 refused_here s due refusal new is (fits, waits) = record {
@@ -68,7 +68,7 @@ refused_here s due refusal new is (fits, waits) = record {
 
 -- the store of the node failed
 pub stops_here : {new : Base × Queue} {fault : DbFault} {reply : Reply} (s : Post)
-    (due : Result (Seat × Event) Refusal) → FellTo s.place s.place fault new.0 →
+    (due : Result Carried Refusal) → FellTo s.place s.place fault new.0 →
     reply ≡ refusal_of (words_at s.name) fault → Waits s.name s.memory new.1 → WorksHere s due reply new
 stops_here {new} {fault} {reply} s due fell said waits = by fell
   where
@@ -115,19 +115,20 @@ pub missing_due : {s : Post} {origin : ℕ} {w : Worker IsReady} {old : Base × 
     PostFits s old → waits_as w.origin w.state.number old.1 ≡ None →
     due_at origin s.memory (seat_in s) ≡ Err refused.Nothing
 missing_due {s} next fits none =
-    ap (λ o. bind (taken_up (seat_in s) o) (λ e. Ok (seat_in s, e)))
+    ap (λ o. bind (taken_up (seat_in s) o) (λ e. Ok (plainly (seat_in s) e)))
     (next_is next fits ∙ ap (option_map seen_event) none)
 
 -- the node of this id can carry out what waits, or not
-abbrev pub due_by : Post → declared.Event → Bool → Result (Seat × Event) Refusal
+abbrev pub due_by : Post → declared.Event → Bool → Result Carried Refusal
 due_by s e can =
-    bind (checked (when (not can) (refused.NotBuilt (codes "work")) ∷ []) (seen_event e)) (λ x. Ok (seat_in s, x))
+    bind (checked (when (not can) (refused.NotBuilt (codes "work")) ∷ []) (seen_event e))
+    (λ x. Ok (plainly (seat_in s) x))
 
 pub found_due : {s : Post} {origin : ℕ} {w : Worker IsReady} {old : Base × Queue} {can : Bool} → IsNext s origin w →
     PostFits s old → (e : declared.Event) → waits_as w.origin w.state.number old.1 ≡ Some e →
     can_carry_out w.node e.body ≡ can → due_at origin s.memory (seat_in s) ≡ due_by s e can
 found_due {s} {w = w} next fits e found can =
-    ap (λ o. bind (taken_up (seat_in s) o) (λ e. Ok (seat_in s, e)))
+    ap (λ o. bind (taken_up (seat_in s) o) (λ e. Ok (plainly (seat_in s) e)))
     (next_is next fits ∙ ap (option_map seen_event) found)
     ∙ ap (due_by s e) (ap (λ k. can_carry_out k e.body) (sym next.node) ∙ can)
 
@@ -217,7 +218,7 @@ found_is origin number queue e found =
 -- ---- what is told
 
 -- a fault of a database is told by no acceptance
-left_fault : (x : Seat × Event) (words : Words) (fault : DbFault) (m : Memory) →
+left_fault : (x : Carried) (words : Words) (fault : DbFault) (m : Memory) →
     left_by_work (Ok x) (refusal_of words fault) m ≡ m
 left_fault x words (Halt (Fault count)) m = refl
 left_fault x words (Halt others) m = refl
@@ -233,7 +234,7 @@ told_of s e result = reply_of (words_at s.name) (answered (applied_as (kind_of e
 
 waits_by : (s : Post) (e : declared.Event) (result : Result Bool DbFault) (old new : Queue) →
     Waits s.name s.memory old → Left e.origin e.number result old new →
-    Waits s.name (left_by_work (Ok (seat_in s, seen_event e)) (told_of s e result) s.memory) new
+    Waits s.name (left_by_work (Ok (plainly (seat_in s) (seen_event e))) (told_of s e result) s.memory) new
 waits_by s e (Ok false) old new waits left =
     let lines = queue_at s.name s.memory in
     let kept = filter (λ f. nat_lt e.number f.number) (line_of e.origin lines) in
@@ -241,7 +242,8 @@ waits_by s e (Ok false) old new waits left =
     (drop_fits e.origin e.number lines old new waits left.queue)
 waits_by s e (Ok true) old new waits left = subst (Waits s.name s.memory) (sym left.queue) waits
 waits_by s e (Err fault) old new waits left =
-    subst (λ m. Waits s.name m new) (sym (left_fault (seat_in s, seen_event e) (words_at s.name) fault s.memory))
+    subst (λ m. Waits s.name m new)
+    (sym (left_fault (plainly (seat_in s) (seen_event e)) (words_at s.name) fault s.memory))
     (subst (Waits s.name s.memory) (sym left.stays) waits)
 
 -- What came of an event that was taken: at the database of the node, and at what waits there.
@@ -275,7 +277,7 @@ applies_at {w} {name} {old} {new} {reply} d s e named found fits can = record {
   comes = commits_due told (record { is = refl; named = refl })
       (acts_as (record { sure = refl; doubt = refl }) d.result
       (d.applies e found s.place s.node fits.ready fits.is d.full can.can can.learns s.name));
-  waits = subst (λ r. Waits s.name (left_by_work (Ok (seat_in s, seen_event e)) r s.memory) new.1) (sym told)
+  waits = subst (λ r. Waits s.name (left_by_work (Ok (plainly (seat_in s) (seen_event e))) r s.memory) new.1) (sym told)
       (waits_by s e d.result old.1 new.1 fits.waits
       (left_found w e d.result old.1 new.1 is (record { queue = d.queue; stays = d.stays })));
 }

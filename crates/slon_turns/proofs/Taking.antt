@@ -1,5 +1,9 @@
 -- The turn of a node that applies an event is one that the rules allow.
-use Rattle.std.proofs.Common.{◌≡◌, ◌∙◌, ℕ, false, List, set, None, Result, Ok, Err, refl, sym, ap, subst}
+use Rattle.std.proofs.Common.{◌≡◌, ◌∙◌, ℕ, Bool, true, false, cond, List, [], ◌∷◌, set, Option, Some, None, Result}
+use Rattle.std.proofs.Common.{Ok, Err}
+use Rattle.std.proofs.Common.{refl, sym, ap, subst, not}
+use Rattle.std.specs.Prelude.{◌==◌, codes}
+use Rattle.std.proofs.lemmas.Bool.{false≢true}
 use Rattle.std.specs.FinMap.{get, insert, remove}
 use Rattle.std.specs.Str.{bytes_eq}
 use Rattle.slon_base.specs.Keeper.{Kept as KeptStore}
@@ -8,9 +12,14 @@ use Rattle.slon_model.specs.declared.reply.Refusal.{Refusal}
 use Rattle.slon_model.specs.declared.reply.Reply.{Reply}
 use Rattle.slon_model.specs.declared.reply.Reply.TheVariants as replied
 use Rattle.slon_model.specs.Events.{Event}
-use Rattle.slon_model.specs.Sessions.{Memory, Seat, bind}
+use Rattle.slon_model.specs.Sessions.{World, Memory, Seat, bind, checked, when}
+use Rattle.slon_model.specs.Turns.{on_turn}
+use Rattle.node_rows.specs.declared.body.Body.{Body}
+use Rattle.node_rows.specs.declared.body.Body.TheVariants.{EnableSubscription}
+use Rattle.slon_model.specs.declared.reply.Refusal.TheVariants as refused
 use Rattle.slon_model.specs.Polls.{queue_at}
-use Rattle.slon_model.specs.Working.{taken_up, next_at, worked}
+use Rattle.slon_model.specs.Working.{Copying, brought_by, can_carry_out, carried, carried_at, copying_in, next_at}
+use Rattle.slon_model.specs.Working.{taken_up, worked}
 use Rattle.slon_model.specs.World.{is_of}
 use Rattle.slon_model.proofs.Names.{bytes_itself}
 use Rattle.event_store.specs.declared.queue.Queue.{Queue}
@@ -25,11 +34,43 @@ use Rattle.slonik_exec.proofs.Lifting.{Worked, put_worked, comes_at}
 use Rattle.slonik_exec.proofs.Lists.{find_position}
 use Rattle.slonik_exec.proofs.Stores.{ready_here}
 use Rattle.slon_turns.specs.declared.working.Work.{Work}
-use Rattle.slon_turns.specs.Applying.{due_at, Post, seat_in, WorksAt}
+use Rattle.slon_turns.specs.Applying.{due_at, plainly, Post, seat_in, WorksAt}
 use Rattle.slon_turns.specs.Turning.{Queues, WaitsIn, IsTaken, Kept}
 use Rattle.slon_turns.specs.Working.{Works, stated_work, left_by_work}
 use Rattle.slon_turns.proofs.Applying.{left_refused}
 use Rattle.slon_turns.proofs.Waiting.{taken_waits, queue_beside, waits_beside}
+
+-- ---- what is brought
+
+-- what a node can carry out asks for no copy
+no_copy : (own : ℕ) (body : Body) → can_carry_out own body ≡ true → copying_in own body ≡ None
+no_copy own (EnableSubscription set provider receiver forward era) can =
+    ap copying (other (receiver == own) can)
+  where
+    copying : Bool → Option Copying
+    copying b = cond b (Some (record { set_id = set; provider = provider; era = era })) None
+
+    other : (b : Bool) → not b ≡ true → b ≡ false
+    other true is = absurd (false≢true is)
+    other false is = refl
+no_copy own others can = refl
+
+-- so it brings nothing
+taken_plainly : (w : World) (s : Seat) (o : Option Event) →
+    bind (taken_up s o) (carried_at w s) ≡ bind (taken_up s o) (λ e. Ok (plainly s e))
+taken_plainly w s None = refl
+taken_plainly w s (Some e) = by (can_carry_out s.node.id e.body) refl
+  where
+    by : (b : Bool) → can_carry_out s.node.id e.body ≡ b →
+        bind (checked (when (not b) (refused.NotBuilt (codes "work")) ∷ []) e) (carried_at w s)
+        ≡ bind (checked (when (not b) (refused.NotBuilt (codes "work")) ∷ []) e) (λ f. Ok (plainly s f))
+    by true can = ap (λ c. bind (brought_by w s e c) (λ b. Ok (carried s e b))) (no_copy s.node.id e.body can)
+    by false can = refl
+
+pub worked_plainly : (node origin : ℕ) (w : World) →
+    worked node origin w ≡ bind (on_turn node w) (due_at origin w.memory)
+worked_plainly node origin w =
+    ap (bind (on_turn node w)) (λ i s. taken_plainly w s (next_at w.memory s origin) i)
 
 -- the turn is refused
 pub work_refused : {K : Type 0} {g : Ghosts K} (kept : K → KeptStore) (work : Work) (started : List ℕ)
@@ -39,7 +80,7 @@ pub work_refused : {K : Type 0} {g : Ghosts K} (kept : K → KeptStore) (work : 
     Works work.node work.origin started old (replied.Refused refusal) old
 work_refused kept work started ds queues refusal (calm, turns) w ready on waits takes =
     let is : worked work.node work.origin w ≡ Err refusal
-    = ap (λ r. bind r (due_at work.origin w.memory)) (turns w ready.fits on) in
+    = worked_plainly work.node work.origin w ∙ ap (λ r. bind r (due_at work.origin w.memory)) (turns w ready.fits on) in
     record {
       comes = Refuses refusal (ap stated_work is) refl ready.fits;
       own = λ name halt told. let none = calm in absurd cc;
@@ -55,7 +96,7 @@ beside : (origin : ℕ) (s : Seat) (reply : Reply) (m : Memory) (other : List �
 beside origin s reply m other apart = by (taken_up s (next_at m s origin)) reply
   where
     by : (r : Result Event Refusal) (told : Reply) →
-        queue_at other (left_by_work (bind r (λ e. Ok (s, e))) told m) ≡ queue_at other m
+        queue_at other (left_by_work (bind r (λ e. Ok (plainly s e))) told m) ≡ queue_at other m
     by (Ok e) (replied.Accepted answer) = queue_beside other s.name _ m apart
     by (Ok e) others = refl
     by (Err refusal) told = refl
@@ -87,14 +128,14 @@ works_named {kept = kept} {work} {old = old} {new} {reply} queues d turns taken 
     let sits = turns w ready.fits on d.before d.at.is.held in
     let s : Post = record { name = name; place = sits.place; node = sits.own; memory = w.memory } in
     let due_is : worked work.node work.origin w ≡ due_at work.origin w.memory (seat_in s)
-    = ap (λ r. bind r (due_at work.origin w.memory)) sits.due in
+    = worked_plainly work.node work.origin w ∙ ap (λ r. bind r (due_at work.origin w.memory)) sits.due in
     let here = d.works s refl (record {
       ready = ready_here name (base_of kept d.before.database) w (bases_of kept old.0) sits.place ready
           (find_position (named_base kept) name old.0 d.index d.before d.at.is) sits.found;
       is = sits.is;
       waits = taken_waits name w.memory (get queues name) old.1 taken
           (waits name sits.place sits.found sits.running);
-    }) (λ e is. takes (seat_in s) e (due_is ∙ is)) in
+    }) (λ e is. takes (plainly (seat_in s) e) (due_is ∙ is)) in
     record {
       comes = subst (λ due. Comes w (stated_work due) reply (bases_of kept (set old.0 d.index d.after))) (sym due_is)
           (subst (Comes w (stated_work (due_at work.origin w.memory (seat_in s))) reply) (put_worked d.at)

@@ -7,10 +7,10 @@ use Rattle.slon_model.specs.declared.reply.EventKind.{EventKind}
 use Rattle.slon_model.specs.declared.reply.Refusal.{Refusal}
 use Rattle.slon_model.specs.declared.reply.Reply.{Reply}
 use Rattle.slon_model.specs.Events.{Event}
-use Rattle.slon_model.specs.Deeds.{Node}
+use Rattle.slon_model.specs.Deeds.{Node, nothing_brought}
 use Rattle.slon_model.specs.Place.{Place}
 use Rattle.slon_model.specs.Sessions.{Memory, Seat, bind, seat}
-use Rattle.slon_model.specs.Working.{next_at, taken_up}
+use Rattle.slon_model.specs.Working.{Carried, carried, next_at, taken_up}
 use Rattle.event_store.specs.declared.event.Event as declared
 use Rattle.event_store.specs.declared.queue.Queue.{Queue}
 use Rattle.event_store.specs.Seen.{seen_event}
@@ -25,9 +25,13 @@ abbrev pub applied_as : EventKind → ℕ → Bool → Answered
 applied_as kind number true = InDoubt (Applied kind number 0)
 applied_as kind number false = Sure (Applied kind number 0)
 
+-- the node applies an event, and brings nothing with it
+abbrev pub plainly : Seat → Event → Carried
+plainly s e = carried s e nothing_brought
+
 -- 60, 98: what the node at this seat is to apply
-abbrev pub due_at : ℕ → Memory → Seat → Result (Seat × Event) Refusal
-due_at origin m s = bind (taken_up s (next_at m s origin)) (λ e. Ok (s, e))
+abbrev pub due_at : ℕ → Memory → Seat → Result Carried Refusal
+due_at origin m s = bind (taken_up s (next_at m s origin)) (λ e. Ok (plainly s e))
 
 -- Work under the rules: the database of the node, and what is in memory.
 pub record Post : Type 0 where
@@ -46,7 +50,7 @@ pub record PostFits (s : Post) (old : Base × Queue) : Type 0 where
   pub waits : Waits s.name s.memory old.1
 
 -- a refusal or one commit, and what waits behind it
-pub record WorksHere (s : Post) (due : Result (Seat × Event) Refusal) (reply : Reply) (new : Base × Queue) :
+pub record WorksHere (s : Post) (due : Result Carried Refusal) (reply : Reply) (new : Base × Queue) :
     Type 0 where
   pub comes : ComesAt s.name s.place (stated_work due) reply new.0
   pub waits : Waits s.name (left_by_work due reply s.memory) new.1
@@ -55,11 +59,11 @@ pub record WorksHere (s : Post) (due : Result (Seat × Event) Refusal) (reply : 
 abbrev pub AppliesAt : List ℕ → Option declared.Event → (Base × Queue) → Reply → (Base × Queue) → Type 0
 AppliesAt name found old reply new =
     (s : Post) (e : declared.Event) → s.name ≡ name → found ≡ Some e → PostFits s old →
-    CanTake (seat_in s) (seen_event e) → WorksHere s (Ok (seat_in s, seen_event e)) reply new
+    CanTake (seat_in s) (seen_event e) → WorksHere s (Ok (plainly (seat_in s) (seen_event e))) reply new
 
 -- from every place that fits and can apply what it is to apply
 abbrev pub WorksAt : ℕ → List ℕ → (Base × Queue) → Reply → (Base × Queue) → Type 0
 WorksAt origin name old reply new =
     (s : Post) → s.name ≡ name → PostFits s old →
-    ((e : Event) → due_at origin s.memory (seat_in s) ≡ Ok (seat_in s, e) → CanTake (seat_in s) e) →
+    ((e : Event) → due_at origin s.memory (seat_in s) ≡ Ok (plainly (seat_in s) e) → CanTake (seat_in s) e) →
     WorksHere s (due_at origin s.memory (seat_in s)) reply new

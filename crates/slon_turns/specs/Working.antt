@@ -9,7 +9,7 @@ use Rattle.slon_model.specs.Names.{Named}
 use Rattle.slon_model.specs.Events.{Event}
 use Rattle.slon_model.specs.Sessions.{World, Memory, Seat, Stated, bind}
 use Rattle.slon_model.specs.Turns.{at_node}
-use Rattle.slon_model.specs.Working.{worked, applied_by, taken_from}
+use Rattle.slon_model.specs.Working.{Carried, worked, applied_by, taken_from}
 use Rattle.slon_model.specs.World.{is_of}
 use Rattle.node_change.specs.Done.{CanApply}
 use Rattle.node_state.specs.Known.{LearnsOfOther}
@@ -25,13 +25,13 @@ pub record CanTake (s : Seat) (e : Event) : Type 0 where
 
 -- what the rules have a node apply it can apply
 abbrev pub TakesUp : ℕ → ℕ → World → Type 0
-TakesUp node origin w = (s : Seat) (e : Event) → worked node origin w ≡ Ok (s, e) → CanTake s e
+TakesUp node origin w = (c : Carried) → worked node origin w ≡ Ok c → CanTake c.seat c.event
 
-abbrev pub stated_work : Result (Seat × Event) Refusal → Result Stated Refusal
+abbrev pub stated_work : Result Carried Refusal → Result Stated Refusal
 stated_work due = bind due (λ x. Ok (applied_by x))
 
 -- what is in memory behind a turn with this reply: what was applied waits no more, or all is as it was
-abbrev pub left_by_work : Result (Seat × Event) Refusal → Reply → Memory → Memory
+abbrev pub left_by_work : Result Carried Refusal → Reply → Memory → Memory
 left_by_work (Ok x) (Accepted answer) m = taken_from x m
 left_by_work due reply m = m
 

@@ -8,7 +8,7 @@ use Rattle.node_rows.specs.declared.body.Body.TheVariants.{StoreSet, SetAddTable
 use Rattle.slon_model.specs.Maps.{Map, entry_at, number_at}
 use Rattle.slon_model.specs.Events.{Event}
 use Rattle.slon_model.specs.Config.{Config}
-use Rattle.slon_model.specs.Deeds.{Node, Deed, Applies, knowledge, with_deeds, stream, met, progress}
+use Rattle.slon_model.specs.Deeds.{Node, Deed, Brought, Applies, knowledge, with_deeds, stream, met, progress}
 use Rattle.slon_model.proofs.Names.{one_found}
 use Rattle.stream_laws.specs.Nodes.{IsAmong, Nodes, IsEvent}
 use Rattle.stream_laws.specs.Making.{Mark, OfSet, tells_of, IsMade, HasStored, is_emitted, MayFollow}
@@ -31,18 +31,19 @@ MayCome own (StoreSet set origin comment) c = origin ≡ own
 MayCome own (SetAddTable set table name comment) c = IsSetOf set own c
 MayCome own others c = is_emitted others ≡ true
 
--- A node of these that applies an event of one of them, the next one of its origin.
+-- A node of these that applies an event of one of them, the next one of its origin, and what it brings with that.
 pub record Applying (nodes : Nodes) : Type 0 where
   pub name : List ℕ
   pub node : Node
   pub is : nodes name ≡ Some node
   pub deed : Deed
   pub event : Event
+  pub brought : Brought
   pub one : IsEvent nodes event
   pub next : IsNext (knowledge node).progress event
 
 abbrev pub having_applied : {nodes : Nodes} → Applying nodes → Node
-having_applied a = with_deeds (record a.deed { doing = Applies a.event } ∷ []) a.node
+having_applied a = with_deeds (record a.deed { doing = Applies a.event a.brought } ∷ []) a.node
 
 -- the event is not its own, as it is at the end of its own stream
 pub not_own : {nodes : Nodes} (a : Applying nodes) → AreRegular nodes → a.event.origin ≢ a.node.id

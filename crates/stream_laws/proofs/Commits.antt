@@ -8,7 +8,6 @@ use Rattle.std.proofs.lemmas.Bool.{false≢true, false_from_ne_true}
 use Rattle.slon_model.specs.Names.{Named, find_named, put_named}
 use Rattle.slon_model.specs.Maps.{entry_at}
 use Rattle.node_rows.specs.declared.body.Body.TheVariants.{StoreNode}
-use Rattle.slon_model.specs.Events.{Event}
 use Rattle.slon_model.specs.Deeds.{Node, Deed, Applies, Hears, knowledge, with_deeds, progress}
 use Rattle.slon_model.specs.Place.{Place, deed, fallen}
 use Rattle.slon_model.specs.Sessions.{World, Running, Commit, Seat, Emission, committing, in_doubt, stood_at, stood}
@@ -16,7 +15,7 @@ use Rattle.slon_model.specs.Sessions.{tells, emissions, next_event, felled, fell
 use Rattle.slon_model.specs.Membership.{becoming, first_of_cluster, joining, stored_by}
 use Rattle.slon_model.specs.Reaching.{commit_of}
 use Rattle.slon_model.specs.Polls.{hearing}
-use Rattle.slon_model.specs.Working.{applied_by}
+use Rattle.slon_model.specs.Working.{Carried, applied_by}
 use Rattle.slon_model.specs.World.{broken_at, wavering, wavering_at}
 use Rattle.slon_model.proofs.Names.{find-put, put_other, bytes_same}
 use Rattle.stream_laws.specs.Nodes.{Nodes, nodes_in, node_in, IsEvent, HasConfirmed}
@@ -188,24 +187,25 @@ hears_all ps s (c ∷ cs) is regular are =
       are = are;
     }) regular)
 
-abbrev pub applying_at : (ps : Named Place) (s : Seat) (e : Event) → IsSeat ps s → IsEvent (nodes_in ps) e →
-    IsNext (knowledge s.node).progress e → Applying (nodes_in ps)
-applying_at ps s e is one next = record {
-  name = s.name;
-  node = s.node;
-  is = seat_node ps s is;
-  deed = deed s.place [] [] (Applies e);
-  event = e;
+abbrev pub applying_at : (ps : Named Place) (c : Carried) → IsSeat ps c.seat → IsEvent (nodes_in ps) c.event →
+    IsNext (knowledge c.seat.node).progress c.event → Applying (nodes_in ps)
+applying_at ps c is one next = record {
+  name = c.seat.name;
+  node = c.seat.node;
+  is = seat_node ps c.seat is;
+  deed = deed c.seat.place [] [] (Applies c.event c.brought);
+  event = c.event;
+  brought = c.brought;
   one = one;
   next = next;
 }
 
-pub applies_all : (ps : Named Place) (s : Seat) (e : Event) → IsSeat ps s → AreRegular (nodes_in ps) →
-    IsEvent (nodes_in ps) e → IsNext (knowledge s.node).progress e →
-    AllGoOn (nodes_in ps) (applied_by (s, e)).commits ps
-applies_all ps s e is regular one next =
-    deeds_all ps s (deed s.place [] [] (Applies e) ∷ []) is regular
-    (applied_on (nodes_in ps) (applying_at ps s e is one next) regular)
+pub applies_all : (ps : Named Place) (c : Carried) → IsSeat ps c.seat → AreRegular (nodes_in ps) →
+    IsEvent (nodes_in ps) c.event → IsNext (knowledge c.seat.node).progress c.event →
+    AllGoOn (nodes_in ps) (applied_by c).commits ps
+applies_all ps c is regular one next =
+    deeds_all ps c.seat (deed c.seat.place [] [] (Applies c.event c.brought) ∷ []) is regular
+    (applied_on (nodes_in ps) (applying_at ps c is one next) regular)
 
 -- ---- a database becomes a node
 

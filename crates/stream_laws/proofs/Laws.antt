@@ -87,7 +87,7 @@ applied_met P (d ∷ ds) given all = by (applied_met P ds given) d.doing all
         AllByRecursion P (cons_option (met_by doing) (filter_map (λ d. met_by d.doing) ds) ++ given) →
         AllByRecursion P (cons_option (applied_in doing) (filter_map (λ d. applied_in d.doing) ds))
     by on (Emits e) all = on all.1
-    by on (Applies e) all = (all.0, on all.1)
+    by on (Applies e brought) all = (all.0, on all.1)
     by on others all = on all
 
 are_applied : (w : World) → IsRegular w → AreApplied w

@@ -1,10 +1,10 @@
 pub mod Applies
 pub mod Commits
+pub mod Copies
 pub mod Emits
 pub mod Growing
 pub mod Hears
 pub mod Joins
-pub mod Leaves
 pub mod Laws
 pub mod Lists
 pub mod Marks

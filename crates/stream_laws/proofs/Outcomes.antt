@@ -8,21 +8,21 @@ use Rattle.slon_model.specs.Names.{Named}
 use Rattle.slon_model.specs.Maps.{Map}
 use Rattle.slon_model.specs.Events.{Event}
 use Rattle.slon_model.specs.Tasks.{Act}
-use Rattle.slon_model.specs.Sessions.{World, Commit, Stated, Seat, tells}
+use Rattle.slon_model.specs.Sessions.{World, Commit, Stated, tells}
 use Rattle.slon_model.specs.Scripts.{ordered}
 use Rattle.slon_model.specs.Turns.{sync_turn, on_turn}
 use Rattle.slon_model.specs.Polls.{Poll, polled, left_by, stated_by}
-use Rattle.slon_model.specs.Working.{worked, applied_by, taken_from}
+use Rattle.slon_model.specs.Working.{Carried, worked, applied_by, taken_from}
 use Rattle.slon_model.specs.World.{outcome}
+use Rattle.slon_laws.proofs.Leaves.{outcome_has}
 use Rattle.stream_laws.specs.Nodes.{nodes_in}
 use Rattle.stream_laws.specs.Facts.{IsRegular, AllWait}
 use Rattle.stream_laws.proofs.Growing.{go_nowhere}
 use Rattle.stream_laws.proofs.Seats.{OnOk, ok_then, IsSeat, bind_ok, kept_ok, turn_ok}
 use Rattle.stream_laws.proofs.Commits.{AllGoOn, hears_all, applies_all}
-use Rattle.stream_laws.proofs.Leaves.{outcome_has}
 use Rattle.stream_laws.proofs.Statements.{IsStated, free_stated, ordered_stated}
 use Rattle.stream_laws.proofs.Waiting.{IsPoll, polled_ok, left_waits, taken_waits, forgotten_waits}
-use Rattle.stream_laws.proofs.Works.{IsWork, worked_ok}
+use Rattle.stream_laws.proofs.Works.{IsCarried, worked_ok}
 
 -- Commits go on from the session, and what waits behind them is of streams of the session.
 pub record IsOutcome (w : World) (commits : List Commit) (queues : Named (Map (List Event))) : Type 0 where
@@ -53,11 +53,11 @@ poll_left delivery w regular b is = record {
   waits = left_waits (nodes_in w.places) delivery b w.memory is.events regular.waits;
 }
 
-work_left : (w : World) → IsRegular w → (origin : ℕ) (x : Seat × Event) → IsWork w origin x.0 x.1 →
-    IsOutcome w (applied_by x).commits (taken_from x w.memory).queues
-work_left w regular origin (s, e) is = record {
-  goes_on = applies_all w.places s e is.seat regular.nodes is.event is.next;
-  waits = taken_waits (nodes_in w.places) s e w.memory regular.waits;
+work_left : (w : World) → IsRegular w → (origin : ℕ) (c : Carried) → IsCarried w origin c →
+    IsOutcome w (applied_by c).commits (taken_from c w.memory).queues
+work_left w regular origin c is = record {
+  goes_on = applies_all w.places c is.work.seat regular.nodes is.work.event is.work.next;
+  waits = taken_waits (nodes_in w.places) c w.memory regular.waits;
 }
 
 silent : (w : World) → IsRegular w → (queues : Named (Map (List Event))) → AllWait (nodes_in w.places) queues →
@@ -74,6 +74,6 @@ act_outcome act w regular = outcome_has w (IsOutcome w) (record {
   polls = λ node server delivery.
       ok_then (IsPoll w) _ (polled node server w) (polled_ok node server w regular) (poll_left delivery w regular);
   works = λ node origin.
-      ok_then (λ x. IsWork w origin x.0 x.1) _ (worked node origin w) (worked_ok node origin w regular)
+      ok_then (IsCarried w origin) _ (worked node origin w) (worked_ok node origin w regular)
       (work_left w regular origin);
 }) act

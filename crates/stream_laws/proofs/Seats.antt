@@ -1,5 +1,5 @@
 -- What a script or a turn reaches is a node of the session, and what it was not refused for is not so.
-use Rattle.std.proofs.Common.{◌≡◌, ℕ, Bool, true, false, cond, List, [], ◌∷◌, Option, Some, None, Result, Ok, Err, refl}
+use Rattle.std.proofs.Common.{◌≡◌, ℕ, Bool, true, false, cond, List, [], ◌∷◌, Option, Some, None, Ok, Err, refl}
 use Rattle.std.proofs.Common.{sym, ap, subst, ◌∙◌, not}
 use Rattle.std.specs.Prelude.{◌==◌, ◌||◌, filter_map, option_map, find}
 use Rattle.std.specs.Option.{option_or}
@@ -14,56 +14,18 @@ use Rattle.slon_model.specs.Maps.{entry_at}
 use Rattle.slon_model.specs.Config.{Config, is_origin}
 use Rattle.slon_model.specs.Deeds.{Node, knowledge}
 use Rattle.slon_model.specs.Place.{Place, is_running, node_id}
-use Rattle.slon_model.specs.Sessions.{World, Running, Seat, bind, when, first_refusal, unless_refused, checked, seat_of}
+use Rattle.slon_model.specs.Sessions.{World, Running, Seat, when, seat_of}
 use Rattle.slon_model.specs.Reaching.{database_up, database_by, database_of_line, is_node_of, reach, origin_checks}
 use Rattle.slon_model.specs.Reaching.{origin_of, best_of, found_owner, owner}
 use Rattle.slon_model.specs.Membership.{already, first_id}
 use Rattle.slon_model.specs.Turns.{at_node, seat_at, on_turn}
 use Rattle.slon_model.proofs.Names.{all_map, bytes_itself, bytes_same, one_found}
+pub use Rattle.slon_laws.proofs.Results.{OnOk, bind_ok, ok_then, checked_ok, kept_ok, none_first, all_none, when_none}
 use Rattle.slon_laws.proofs.Owners.{OnSome, OfNode, owner_is}
 use Rattle.stream_laws.specs.Nodes.{nodes_in, node_in}
 use Rattle.stream_laws.specs.Facts.{AreNamedOnce}
 
 -- ---- results
-
--- P of what there is, if it was not refused
-abbrev pub OnOk : {A : Type 0} → (A → Type 0) → Result A Refusal → Type 0
-OnOk P (Ok a) = P a
-OnOk P (Err refusal) = Unit {0}
-
-pub bind_ok : {A B : Type 0} (P : A → Type 0) (Q : B → Type 0) (r : Result A Refusal) (f : A → Result B Refusal) →
-    OnOk P r → ((a : A) → P a → OnOk Q (f a)) → OnOk Q (bind r f)
-bind_ok P Q (Ok a) f is on = on a is
-bind_ok P Q (Err refusal) f is on = tt
-
-pub ok_then : {A : Type 0} (P Q : A → Type 0) (r : Result A Refusal) → OnOk P r → ((a : A) → P a → Q a) → OnOk Q r
-ok_then P Q (Ok a) is on = on a is
-ok_then P Q (Err refusal) is on = tt
-
--- where none of these looks at something that refuses
-pub checked_ok : {A : Type 0} (P : A → Type 0) (checks : List (Option Refusal)) (a : A) →
-    (first_refusal checks ≡ None → P a) → OnOk P (checked checks a)
-checked_ok {A} P checks a is = by (first_refusal checks) refl
-  where
-    by : (o : Option Refusal) → first_refusal checks ≡ o → OnOk P (unless_refused o a)
-    by None none = is none
-    by (Some refusal) some = tt
-
-pub kept_ok : {A : Type 0} (P : A → Type 0) (checks : List (Option Refusal)) (a : A) → P a → OnOk P (checked checks a)
-kept_ok P checks a is = checked_ok P checks a (λ none. is)
-
-pub none_first : (o : Option Refusal) (more : List (Option Refusal)) → first_refusal (o ∷ more) ≡ None →
-    (o ≡ None) × (first_refusal more ≡ None)
-none_first None more none = (refl, none)
-none_first (Some refusal) more none = absurd cc
-
-pub all_none : (checks : List (Option Refusal)) → first_refusal checks ≡ None → AllByRecursion (λ o. o ≡ None) checks
-all_none [] none = tt
-all_none (o ∷ more) none = let parts = none_first o more none in (parts.0, all_none more parts.1)
-
-pub when_none : (b : Bool) (refusal : Refusal) → when b refusal ≡ None → b ≡ false
-when_none true refusal none = absurd cc
-when_none false refusal none = refl
 
 pub already_none : (o : Option ℕ) → already o ≡ None → o ≡ None
 already_none None none = refl

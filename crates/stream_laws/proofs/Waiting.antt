@@ -22,7 +22,7 @@ use Rattle.slon_model.specs.Turns.{at_node, seat_at, on_turn, is_cut}
 use Rattle.slon_model.specs.Polls.{Poll, queue_at, line_of, last_number, lined, queued, all_queued, events_behind}
 use Rattle.slon_model.specs.Polls.{confirms_of, is_new, poll_of, hears_none, linked, server_for, brings_nothing, polled}
 use Rattle.slon_model.specs.Polls.{delivered, left_by, reach_of}
-use Rattle.slon_model.specs.Working.{taken_from}
+use Rattle.slon_model.specs.Working.{Carried, taken_from}
 use Rattle.slon_model.specs.World.{broken_at, wavering, wavering_at}
 use Rattle.slon_model.proofs.Names.{one_found}
 use Rattle.stream_laws.specs.Nodes.{Nodes, nodes_in, IsKnown, IsEvent, HasConfirmed, WaitsAt}
@@ -136,15 +136,17 @@ pub waiting_in : (nodes : Nodes) (name : List ℕ) (origin : ℕ) (m : Memory) �
     AllByRecursion (WaitsIn nodes name origin) (line_of origin (queue_at name m))
 waiting_in nodes name origin m all = line_is nodes name origin (queue_at name m) (queue_is nodes name m all)
 
-pub taken_waits : (nodes : Nodes) (s : Seat) (e : Event) (m : Memory) → AllWait nodes m.queues →
-    AllWait nodes (taken_from (s, e) m).queues
-taken_waits nodes s e m all = (
-  all_with (λ line. AllByRecursion (WaitsIn nodes s.name line.0) line.1) e.origin _ (queue_at s.name m)
-      (all_filtered (WaitsIn nodes s.name e.origin) (λ f. nat_lt e.number f.number)
-      (line_of e.origin (queue_at s.name m)) (waiting_in nodes s.name e.origin m all))
-      (queue_is nodes s.name m all),
-  forgotten_waits nodes s.name m all,
-)
+pub taken_waits : (nodes : Nodes) (c : Carried) (m : Memory) → AllWait nodes m.queues →
+    AllWait nodes (taken_from c m).queues
+taken_waits nodes c m all =
+    let name = c.seat.name in
+    let e = c.event in (
+      all_with (λ line. AllByRecursion (WaitsIn nodes name line.0) line.1) e.origin _ (queue_at name m)
+          (all_filtered (WaitsIn nodes name e.origin) (λ f. nat_lt e.number f.number)
+          (line_of e.origin (queue_at name m)) (waiting_in nodes name e.origin m all))
+          (queue_is nodes name m all),
+      forgotten_waits nodes name m all,
+    )
 
 -- ---- what a poll brings
 

@@ -6,11 +6,11 @@ use Rattle.std.proofs.lemmas.Bool.{eqb-true, not-false}
 use Rattle.slon_model.specs.declared.reply.Refusal.TheVariants as refused
 use Rattle.slon_model.specs.Maps.{entry_at}
 use Rattle.slon_model.specs.Events.{Event}
-use Rattle.slon_model.specs.Deeds.{knowledge, progress}
+use Rattle.slon_model.specs.Deeds.{knowledge, nothing_brought, progress}
 use Rattle.slon_model.specs.Sessions.{World, Seat, when}
 use Rattle.slon_model.specs.Turns.{on_turn}
 use Rattle.slon_model.specs.Polls.{queue_at, line_of}
-use Rattle.slon_model.specs.Working.{next_at, can_carry_out, taken_up, worked}
+use Rattle.slon_model.specs.Working.{Carried, carried, next_at, can_carry_out, taken_up, brought_by, copying_in, worked}
 use Rattle.slon_model.proofs.Names.{one_found}
 use Rattle.stream_laws.specs.Nodes.{nodes_in, IsEvent}
 use Rattle.stream_laws.specs.Facts.{WaitsIn, IsRegular}
@@ -19,6 +19,7 @@ use Rattle.stream_laws.proofs.Seats.{OnOk, IsSeat, bind_ok, checked_ok, all_none
 use Rattle.stream_laws.proofs.Marks.{AreNew}
 use Rattle.stream_laws.proofs.Applies.{MayCome, Applying, not_own, meeting, may_come}
 use Rattle.stream_laws.proofs.Commits.{applying_at}
+use Rattle.stream_laws.proofs.Copies.{IsBrought, brought_ok}
 use Rattle.stream_laws.proofs.Waiting.{waiting_in}
 
 -- The seat is that of a node of the session, which can carry out what the event says. It is an event of this origin, of
@@ -66,7 +67,7 @@ next_work w regular s origin is e found able = record {
         omega (arith, number, known, at)
 
     work : Applying (nodes_in w.places)
-    work = applying_at w.places s e is waits.0.event next
+    work = applying_at w.places (carried s e nothing_brought) is waits.0.event next
 
 taken_ok : (P : Event → Type 0) (s : Seat) (o : Option Event) →
     ((e : Event) → o ≡ Some e → can_carry_out s.node.id e.body ≡ true → P e) → OnOk P (taken_up s o)
@@ -76,13 +77,20 @@ taken_ok P s (Some e) from =
     checked_ok P checks e
     (λ none. from e refl (not-false _ (when_none _ (refused.NotBuilt (codes "work")) (all_none checks none).0)))
 
-pub worked_ok : (node origin : ℕ) (w : World) → IsRegular w → OnOk (λ x. IsWork w origin x.0 x.1) (worked node origin w)
+-- What a turn carries out: such an event, and what it brings with that.
+pub record IsCarried (w : World) (origin : ℕ) (c : Carried) : Type 0 where
+  pub work : IsWork w origin c.seat c.event
+  pub brings : IsBrought w c.seat c.event c.brought
+
+pub worked_ok : (node origin : ℕ) (w : World) → IsRegular w → OnOk (IsCarried w origin) (worked node origin w)
 worked_ok node origin w regular =
-    bind_ok (IsSeat w.places) (λ x. IsWork w origin x.0 x.1) (on_turn node w) _ (turn_ok node w regular.once)
-    (λ s is. bind_ok (IsWork w origin s) (λ x. IsWork w origin x.0 x.1) (taken_up s (next_at w.memory s origin)) _
-    (taken_ok (IsWork w origin s) s (next_at w.memory s origin) (next_work w regular s origin is)) (λ e work. work))
+    bind_ok (IsSeat w.places) (IsCarried w origin) (on_turn node w) _ (turn_ok node w regular.once)
+    (λ s is. bind_ok (IsWork w origin s) (IsCarried w origin) (taken_up s (next_at w.memory s origin)) _
+    (taken_ok (IsWork w origin s) s (next_at w.memory s origin) (next_work w regular s origin is))
+    (λ e work. bind_ok (IsBrought w s e) (IsCarried w origin) (brought_by w s e (copying_in s.node.id e.body)) _
+    (brought_ok w regular s e is) (λ b brings. record { work = work; brings = brings })))
 
 -- what is known of the event that a turn applies
-pub work_is : (node origin : ℕ) (w : World) (s : Seat) (e : Event) → IsRegular w → worked node origin w ≡ Ok (s, e) →
-    IsWork w origin s e
-work_is node origin w s e regular is = subst (OnOk (λ x. IsWork w origin x.0 x.1)) is (worked_ok node origin w regular)
+pub work_is : (node origin : ℕ) (w : World) (c : Carried) → IsRegular w → worked node origin w ≡ Ok c →
+    IsCarried w origin c
+work_is node origin w c regular is = subst (OnOk (IsCarried w origin)) is (worked_ok node origin w regular)

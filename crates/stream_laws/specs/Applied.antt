@@ -6,7 +6,7 @@ use Rattle.slon_model.specs.Events.{Event}
 use Rattle.slon_model.specs.Deeds.{Node, Doing, Applies}
 
 abbrev pub applied_in : Doing → Option Event
-applied_in (Applies e) = Some e
+applied_in (Applies e brought) = Some e
 applied_in others = None
 
 -- the newest first

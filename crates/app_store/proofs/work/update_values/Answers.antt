@@ -1,6 +1,6 @@
 use Rattle.std.proofs.Common.{◌∙◌, Some, sym, ap}
 use Rattle.slon_model.specs.Rows.{updated}
-use Rattle.app_store.proofs.Reading.{AreTexts-updated}
+use Rattle.slon_laws.proofs.Formed.{AreTexts-updated}
 use Rattle.app_store.proofs.Formed.{none_lacks}
 use Rattle.app_store.proofs.Written.{row_written}
 use Rattle.app_store.proofs.work.update_values.Goals as goal

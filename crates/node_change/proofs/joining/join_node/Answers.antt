@@ -8,7 +8,7 @@ use Rattle.slon_model.specs.Membership.{joining}
 use Rattle.event_store.specs.Formed.{Lacks, Reads}
 use Rattle.event_store.specs.Giving.{AreConfirmations}
 use Rattle.event_store.specs.Holds.{ShowsStreams}
-use Rattle.event_store.specs.Streams.{streams_of, given}
+use Rattle.event_store.specs.Streams.{given}
 use Rattle.event_store.proofs.Clearing.{sees_pending}
 use Rattle.event_store.proofs.Formed.{passes_on}
 use Rattle.node_change.specs.Becoming.{IsNode, named}
@@ -17,7 +17,7 @@ use Rattle.node_change.specs.Pairs.{put_pairs, pairs_of}
 use Rattle.node_change.proofs.Both.{well_on, safe_as, to_stops, to_ends, both_handed, stop_handed}
 use Rattle.node_change.proofs.Copies.{pairs_copied}
 use Rattle.node_change.proofs.Naming.{named_node}
-use Rattle.node_change.proofs.NewNodes.{given_copy, copy_pending, joined_made, same_reads, then_reads}
+use Rattle.node_change.proofs.NewNodes.{bare_streams, given_copy, copy_pending, joined_made, same_reads, then_reads}
 use Rattle.node_change.proofs.joining.join_node.Goals as goal
 
 pub returns-in_err-sided-clause-safe : goal.returns-in_err-sided-clause-safe
@@ -31,7 +31,7 @@ returns-in_err-sided-clause-safe g c =
 pub returns-in_err-sided-clause-turns : goal.returns-in_err-sided-clause-turns
 returns-in_err-sided-clause-turns g c n run m t own cluster seen held known is none =
     let result = c.from_residual-in_err-sided.result in
-    let s = streams_of n in
+    let s = bare_streams n in
     let base = given_copy m t in
     let copied = c.in_ok-copy_spaces.ensures.put m seen ∙ ap (option_map (option_map (given_copy m))) is in
     let shown = copy_pending m t (g.T.Keeper.kept c.copy_spaces.new.to) copied held none in
@@ -68,7 +68,7 @@ pub returns-clause-turns : goal.returns-clause-turns
 returns-clause-turns g c n run m t own cluster seen held known is none =
     let new = c.args.new in
     let joined = joining new n run in
-    let s = streams_of n in
+    let s = bare_streams n in
     let base = given_copy m t in
     let put = g.T.Keeper.kept c.put_identity.new.keeper in
     let copied = c.in_ok-copy_spaces.ensures.put m seen ∙ ap (option_map (option_map (given_copy m))) is in

@@ -2,7 +2,7 @@ use Rattle.std.proofs.Common.{◌∙◌, ◌+◌, Err, refl, sym, ap, arith}
 use Rattle.std.proofs.lemmas.Result.{err_from_is_err_and}
 use Rattle.node_keeper.specs.Fused.{fuse_kept}
 use Rattle.event_store.specs.Seen.{seen_event}
-use Rattle.slon_model.specs.Deeds.{Applies}
+use Rattle.slon_model.specs.Deeds.{Applies, nothing_brought}
 use Rattle.node_store.specs.Acting.{Stood, Wavered, Broke, Burst, does}
 use Rattle.app_store.specs.Base.{base_of, memory_of}
 use Rattle.node_store.proofs.Acting.{never_memory}
@@ -22,7 +22,7 @@ returns-then-database-ge-STORED_LIMIT-clause-applies g c p n ready is memory tak
     let at = up_at ready c.requires.up in
     let most = c.if-database-ge-STORED_LIMIT.true in
     Burst 1 (ap (λ f. Err f) c.overflow.ensures.fault)
-    (stamp_beyond (does name p (Applies (seen_event c.args.event.now))) p
+    (stamp_beyond (does name p (Applies (seen_event c.args.event.now) nothing_brought)) p
     (last_stamp p c.args.database.now.state.stamp (running at).1.stamp (omega (arith, most))))
     (felled_fits at _ (record { down = c.overflow.ensures.down; looked = untouched _ }))
 
@@ -30,7 +30,7 @@ pub returns-in_ok-learn-in-Done-clause-applies : goal.returns-in_ok-learn-in-Don
 returns-in_ok-learn-in-Done-clause-applies g c p n ready is memory takes learns name =
     let at = up_at ready c.requires.up in
     let e = seen_event c.args.event.now in
-    let d : Doer p = record { node = n; is = is; doing = Applies e; name = name } in
+    let d : Doer p = record { node = n; is = is; doing = Applies e nothing_brought; name = name; brings = refl } in
     let own = own_is n at is (sym c.in-Some.ensures.id) in
     let room = c.if-database-ge-STORED_LIMIT.false in
     let w = is_written {mid = fuse_kept g.K.Keeper.kept c.write_applied.new.keeper} at d
@@ -60,7 +60,14 @@ returns-in_ok-learn-in-Done-clause-applies g c p n ready is memory takes learns 
 pub returns-in-InDoubt-clause-applies : goal.returns-in-InDoubt-clause-applies
 returns-in-InDoubt-clause-applies g c p n ready is memory takes learns name =
     let at = up_at ready c.requires.up in
-    let d : Doer p = record { node = n; is = is; doing = Applies (seen_event c.args.event.now); name = name } in
+    let d : Doer p =
+    record {
+      node = n;
+      is = is;
+      doing = Applies (seen_event c.args.event.now) nothing_brought;
+      name = name;
+      brings = refl;
+    } in
     let own = own_is n at is (sym c.in-Some.ensures.id) in
     let room = c.if-database-ge-STORED_LIMIT.false in
     let w = is_written {mid = fuse_kept g.K.Keeper.kept c.write_applied.new.keeper} at d

@@ -34,7 +34,8 @@ returns-then-database-ge-STORED_LIMIT-clause-hears g c p n ready is memory name 
 pub returns-in-Done-clause-hears : goal.returns-in-Done-clause-hears
 returns-in-Done-clause-hears g c p n ready is memory name =
     let at = up_at ready c.requires.up in
-    let d : Doer p = record { node = n; is = is; doing = Hears (map named c.args.rows.now); name = name } in
+    let d : Doer p =
+    record { node = n; is = is; doing = Hears (map named c.args.rows.now); name = name; brings = refl } in
     let own = own_is n at is (sym c.in-Some.ensures.id) in
     let room = c.if-database-ge-STORED_LIMIT.false in
     let w = is_written {mid = fuse_kept g.K.Keeper.kept c.write_heard.new.keeper} at d
@@ -57,7 +58,8 @@ returns-in-Done-clause-hears g c p n ready is memory name =
 pub returns-in-InDoubt-clause-hears : goal.returns-in-InDoubt-clause-hears
 returns-in-InDoubt-clause-hears g c p n ready is memory name =
     let at = up_at ready c.requires.up in
-    let d : Doer p = record { node = n; is = is; doing = Hears (map named c.args.rows.now); name = name } in
+    let d : Doer p =
+    record { node = n; is = is; doing = Hears (map named c.args.rows.now); name = name; brings = refl } in
     let own = own_is n at is (sym c.in-Some.ensures.id) in
     let room = c.if-database-ge-STORED_LIMIT.false in
     let w = is_written {mid = fuse_kept g.K.Keeper.kept c.write_heard.new.keeper} at d

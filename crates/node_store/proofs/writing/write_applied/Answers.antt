@@ -1,6 +1,6 @@
 use Rattle.std.proofs.Common.{◌∙◌, Some, ap}
 use Rattle.event_store.specs.Seen.{seen_event}
-use Rattle.slon_model.specs.Deeds.{Applies}
+use Rattle.slon_model.specs.Deeds.{Applies, nothing_brought}
 use Rattle.node_store.proofs.Doers.{stamped_done}
 use Rattle.node_store.proofs.Midways.{midway_begun, midway_on, enters_on}
 use Rattle.node_store.proofs.writing.write_applied.Goals as goal
@@ -15,7 +15,7 @@ returns-in-Ok-clause-writes g c n m own held holds takes home =
     stamped_done (record {
       node = n;
       held = m;
-      doing = Applies (seen_event c.args.event.now);
+      doing = Applies (seen_event c.args.event.now) nothing_brought;
       stamp = c.args.stamp;
       bytes = c.as_slice.result.now;
       spelled = c.as_slice.ensures ∙ c.in_ok-stamp.ensures;

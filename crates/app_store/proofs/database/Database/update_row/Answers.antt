@@ -13,7 +13,7 @@ use Rattle.slon_model.specs.Deciding.{limited, decide_row}
 use Rattle.app_store.specs.Targets.{Follows}
 use Rattle.change_capture.specs.declared.action.Change.TheVariants as captured
 use Rattle.node_state.specs.Known.{is_change}
-use Rattle.app_store.proofs.Listing.{texts_by}
+use Rattle.slon_laws.proofs.Formed.{since_formed}
 use Rattle.app_store.proofs.Writing.{row_stopped, row_left, row_added, row_parts, sees_none, seen_some, acted_calm}
 use Rattle.app_store.proofs.Writing.{update_stopped}
 use Rattle.app_store.proofs.Handing.{tells_stop, tells_none, values_formed, values_handed}
@@ -36,8 +36,8 @@ returns-in_ok-copy_columns-in-Ok-update_values-clause-writes g c p ready memory 
     seen_some (get (seen_rows c.args.xid p c.args.table.now) c.args.key.now) c.in-Ok.target.seen c.in-Some.values
     parts.target.seen_is c.in-Some.is in
     let texts =
-    texts_by (λ a. member a.xid (c.args.xid ∷ p.commits)) c.args.table.now c.args.key.now p.actions
-    ready.spelled.written row.0 row.1 in
+    (since_formed (λ a. member a.xid (c.args.xid ∷ p.commits)) c.args.table.now p ready.spelled c.args.key.now row.0
+    row.1).0.1 in
     let value = c.in-Ok-update_values.ensures.says row.0 texts row.2 in
     subst
     (λ r. Follows
@@ -69,8 +69,8 @@ returns-in-Err-update_values-clause-writes g c p ready memory named =
     seen_some (get (seen_rows c.args.xid p c.args.table.now) c.args.key.now) c.in-Ok.target.seen c.in-Some.values
     parts.target.seen_is c.in-Some.is in
     let texts =
-    texts_by (λ a. member a.xid (c.args.xid ∷ p.commits)) c.args.table.now c.args.key.now p.actions
-    ready.spelled.written row.0 row.1 in
+    (since_formed (λ a. member a.xid (c.args.xid ∷ p.commits)) c.args.table.now p ready.spelled c.args.key.now row.0
+    row.1).0.1 in
     absurd (update_stopped (list_bytes (updated c.args.columns.now row.0)) c.in-Err-update_values.stop c.fall.result _
     (c.in-Err-update_values.ensures.says row.0 texts row.2) c.in-Err-update_values.ensures.never
     c.fall.ensures.fault memory)

@@ -1,4 +1,4 @@
-use Rattle.std.proofs.Common.{◌≡◌, ℕ, List, ◌++◌, ap, ◌∙◌, append_assoc, rules}
+use Rattle.std.proofs.Common.{◌≡◌, ℕ, List, ◌++◌, ◌∙◌, append_assoc, rules}
 use Rattle.slon_base.specs.Codec.{number_bytes}
 use Rattle.slon_model.specs.Views.{View}
 use Rattle.txn_core.specs.Snapshots.{seen_as}

@@ -24,7 +24,7 @@ use Rattle.slon_model.specs.Turns.{at_node, switched_at, turned, turned_by, take
 use Rattle.slon_model.specs.Polls.{polled, left_by, stated_by}
 use Rattle.slon_model.specs.Working.{worked, applied_by, taken_from}
 use Rattle.slon_model.specs.World.{outcome}
-use Rattle.stream_laws.proofs.Seats.{OnOk}
+use Rattle.slon_laws.proofs.Results.{OnOk}
 
 -- the events that wait at nodes
 abbrev Queues : Type 0
@@ -39,7 +39,7 @@ pub record Leaves (w : World) (P : List Commit → Queues → Type 0) : Type 0 w
   pub polls : (node server : ℕ) (delivery : Delivery) →
       OnOk (λ b. P (stated_by delivery b).commits (left_by delivery b w.memory).queues) (polled node server w)
   pub works : (node origin : ℕ) →
-      OnOk (λ x. P (applied_by x).commits (taken_from x w.memory).queues) (worked node origin w)
+      OnOk (λ c. P (applied_by c).commits (taken_from c w.memory).queues) (worked node origin w)
 
 abbrev Has : (List Commit → Queues → Type 0) → Outcome → Type 0
 Has P o = P o.commits o.memory.queues

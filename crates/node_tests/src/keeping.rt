@@ -1,0 +1,102 @@
+// A node that applies an event and keeps, from then on, how far it is in a set.
+ghost use Rattle.std.specs.Prelude.{◌≡◌, is_some, true, false, OnOk, IfOk};
+ghost use Rattle.event_store.specs.Kept.{seen_view};
+ghost use Rattle.event_store.specs.Spellings.{CanView};
+
+use crate::stored_nodes::{found_first, join_second};
+use crate::viewed::{VIEW, put_first};
+use event_store::{Event, View, find_view};
+use node_change::apply_keeping;
+use node_keeper::{Fuse, Keeper, MemKeeper};
+use node_rows::Body;
+use node_state::{kept_views, tell};
+use session_text::print_reply;
+use slon_model::Reply;
+use std::alloc::Global;
+use std::test::Fail;
+use test_words::{expect, require};
+use txn_core::{Snapshot, XidList};
+
+/// The space of what a store has once, and the key there of the status of its logs.
+const META: u8 = 1;
+
+const LOG_STATUS: &[u8] = &[6];
+
+/// The view that a row of another store is.
+fn some_view(alloc: Global) -> Result<View, Fail>
+    ensures { IfOk result (λ v. CanView (seen_view v)) }
+{
+    let mut keeper = Fuse::new(MemKeeper::new(alloc, Vec::new(alloc), false)?);
+    put_first(&mut keeper, VIEW)?;
+    match find_view(alloc, &mut keeper, 1)? {
+        None => Err(Fail::new("a view")),
+        Some(view) => Ok(view),
+    }
+}
+
+/// The first log of this store is the active one.
+fn put_log<K: Keeper>(keeper: &mut K) -> Result<(), Fail>
+    requires { is_some (K.kept keeper.old).pending ≡ false }
+    ensures { OnOk result (is_some (K.kept keeper.new).pending ≡ false) }
+{
+    keeper.begin()?;
+    keeper.put(META, LOG_STATUS, &[0])?;
+    keeper.commit()?;
+    Ok(())
+}
+
+/// The second node applies the first event of the first node, and keeps this of set 5 from then on.
+fn keep<K: Keeper>(alloc: Global, keeper: &mut K, view: &View) -> Result<(), Fail>
+    requires closed { is_some (K.kept keeper.old).pending ≡ false }
+    requires can { CanView (seen_view view.now) }
+{
+    let taken = Snapshot {
+        xmin: 1,
+        xmax: 1,
+        running: XidList::new(alloc),
+    };
+    let event = Event {
+        origin: 1,
+        number: 1,
+        taken,
+        body: Body::Sync,
+    };
+    keeper.begin()?;
+    apply_keeping(alloc, keeper, 2, &event, 5, view)?;
+    keeper.commit()?;
+    Ok(())
+}
+
+/// The line that the second node tells of itself.
+fn told<K: Keeper>(alloc: Global, keeper: &mut K, wanted: &str) -> Result<(), Fail> {
+    let reply = Reply::Accepted(tell(alloc, keeper, 2)?);
+    expect("the node", print_reply(alloc, &reply)?.as_str(), wanted)
+}
+
+/// The node of this store keeps nothing but set 5.
+fn keeps_one<K: Keeper>(alloc: Global, keeper: &mut K) -> Result<(), Fail> {
+    let views = kept_views(alloc, keeper)?;
+    match views.as_slice() {
+        [(set, view)] => require(*set == 5 && view.era == 3, "set 5 of era 3"),
+        _ => Err(Fail::new("one set")),
+    }
+}
+
+#[test]
+fn a_set_is_kept_with_the_event(rt: HostRuntime) -> Result<(), Fail> {
+    let alloc = rt.alloc();
+    let mut first = Fuse::new(MemKeeper::new(alloc, Vec::new(alloc), false)?);
+    let mut second = Fuse::new(MemKeeper::new(alloc, Vec::new(alloc), false)?);
+    found_first(alloc, &mut first)?;
+    put_log(&mut second)?;
+    join_second(alloc, &mut first, &mut second)?;
+    told(alloc, &mut second, "ok node 2 log 0 progress 1 0")?;
+    let view = some_view(alloc)?;
+    keep(alloc, &mut second, &view)?;
+    told(
+        alloc,
+        &mut second,
+        "ok node 2 log 0 progress 1 1 set 5 era 3 at 7:9:7,8",
+    )?;
+    keeps_one(alloc, &mut second)
+}
