@@ -90,7 +90,6 @@ fn a_set_is_kept_with_the_event(rt: HostRuntime) -> Result<(), Fail> {
     found_first(alloc, &mut first)?;
     put_log(&mut second)?;
     join_second(alloc, &mut first, &mut second)?;
-    told(alloc, &mut second, "ok node 2 log 0 progress 1 0")?;
     let view = some_view(alloc)?;
     keep(alloc, &mut second, &view)?;
     told(

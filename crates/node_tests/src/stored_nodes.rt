@@ -51,6 +51,7 @@ pub(crate) fn join_second<F: Keeper, T: Keeper>(
     to: &mut T,
 ) -> Result<(), Fail>
     requires { is_some (T.kept to.old).pending ≡ false }
+    ensures { OnOk result (is_some (T.kept to.new).pending ≡ false) }
 {
     let cluster = Text::from_str(alloc, "c")?;
     to.begin()?;
