@@ -1,10 +1,10 @@
 -- The snapshot that is taken of the open transactions of a database.
 use Rattle.std.specs.Prelude.{◌≡◌, ◌↔◌, ℕ, if◌then◌else◌, Bool, true, List, [], ◌∷◌, Some}
 use Rattle.std.specs.List.{list_any}
-use Rattle.std.specs.Str.{bytes_eq}
 use Rattle.std.specs.Ordering.{nat_cmp}
 use Rattle.std.specs.BTreeSet.{insert_key}
 use Rattle.std.specs.FinMap.{get}
+use Rattle.slon_model.specs.Logs.{named}
 use Rattle.slon_model.specs.Rows.{member}
 use Rattle.slon_model.specs.Snapshots.{Snapshot, Rising, first_or}
 use Rattle.app_store.specs.declared.opens.Transaction.{Transaction}
@@ -27,11 +27,11 @@ pub record IsTakenOf (m : Memory) (s : Snapshot) : Type 0 where
   pub rising : Rising s.running
   pub lists : (x : ℕ) → (member x s.running ≡ true) ↔ IsOpen x m.opens
 
--- the transaction wrote this table
-abbrev pub wrote_table : List ℕ → Transaction → Bool
-wrote_table table t = list_any (λ a. bytes_eq table a.table) t.actions
+-- the transaction wrote one of these tables
+abbrev pub wrote_one : List (List ℕ) → Transaction → Bool
+wrote_one tables t = list_any (λ a. named a.table tables) t.actions
 
 -- those that wrote it
-abbrev pub writers : List ℕ → List (List ℕ × Transaction) → List (List ℕ × Transaction)
-writers table [] = []
-writers table (e ∷ es) = if wrote_table table e.1 then e ∷ writers table es else writers table es
+abbrev pub writers : List (List ℕ) → List (List ℕ × Transaction) → List (List ℕ × Transaction)
+writers tables [] = []
+writers tables (e ∷ es) = if wrote_one tables e.1 then e ∷ writers tables es else writers tables es

@@ -1,5 +1,5 @@
 // What a statement of a script asks of the tables and the open transactions of a database.
-ghost use Rattle.std.specs.Prelude.{◌≡◌, is_some, true, IfOk, [], ◌∷◌};
+ghost use Rattle.std.specs.Prelude.{◌≡◌, true, IfOk};
 ghost use Rattle.slon_base.specs.Codec.{IsText};
 ghost use Rattle.slon_model.specs.Names.{find_named};
 ghost use Rattle.slon_model.specs.Place.{Place, is_running};
@@ -20,36 +20,36 @@ use slon_model::DbFault;
 use std::alloc::AllocError;
 
 impl<K: Keeper> Database<K> {
-    /// Whether there is a table of this name.
+    /// How many columns the table of this name has, if there is one.
     ///
     /// # Errors
     ///
     /// What stopped the store; the database is down then.
-    pub fn has_table(&mut self, table: &Text) -> Result<bool, DbFault>
+    pub fn width(&mut self, table: &Text) -> Result<Option<u64>, DbFault>
         requires up { self.old.state.up ≡ true }
         requires text { IsText table.now }
         ensures part { Part NeedsNothing (base_of K.kept self.old) (base_of K.kept self.new) result }
-        ensures looks { Looks (λ p found. found ≡ is_some (find_named table.now p.tables)) (base_of K.kept self.old)
+        ensures looks { Looks (λ p found. found ≡ find_named table.now p.tables) (base_of K.kept self.old)
             result (base_of K.kept self.new) }
         ensures same { Remembers (base_of K.kept self.old) result (base_of K.kept self.new) }
         ensures sure { (base_of K.kept self.new).kept.doubts ≡ (base_of K.kept self.old).kept.doubts }
     {
         let key = spell_table(self.alloc, table)?;
         match find_columns(&mut self.keeper, key.as_slice()) {
-            Ok(found) => Ok(found.is_some()),
+            Ok(found) => Ok(found),
             Err(stop) => Err(fall(self.alloc, &mut self.state, &self.keeper, stop)),
         }
     }
 
-    /// The least id of an open transaction that wrote this table, if one did.
+    /// The least id of an open transaction that wrote one of these tables, if one did.
     ///
     /// # Errors
     ///
     /// `AllocError` where there is no memory.
-    pub fn writer(&self, table: &Text) -> Result<Option<u64>, AllocError>
+    pub fn writer(&self, tables: &[Text]) -> Result<Option<u64>, AllocError>
         ensures { (p : Place) → Ready p (base_of K.kept self.now) → is_running p.standing ≡ true →
-            IfOk result (λ found. found ≡ writer_of (table.now ∷ []) p) }
+            IfOk result (λ found. found ≡ writer_of tables.now p) }
     {
-        least_writer(self.alloc, &self.state.opens, table)
+        least_writer(self.alloc, &self.state.opens, tables)
     }
 }

@@ -1,9 +1,9 @@
 // The open transactions of a database.
-ghost use Rattle.std.specs.Prelude.{◌≡◌, ◌<◌, ◌^◌, ℕ, OnOk, IfOk, Some, None, true, [], slice_get};
-ghost use Rattle.std.specs.Option.{option_map};
+ghost use Rattle.std.specs.Prelude.{◌≡◌, ◌<◌, ◌^◌, OnOk, IfOk, Some, None, true, [], slice_get};
 ghost use Rattle.std.specs.FinMap.{get, insert, remove, empty, entries};
 ghost use Rattle.node_state.specs.Known.{is_captured};
-ghost use Rattle.app_store.specs.Taking.{put_xids, wrote_table, writers};
+ghost use Rattle.slon_model.specs.Logs.{named};
+ghost use Rattle.app_store.specs.Taking.{put_xids, wrote_one, writers};
 ghost use Rattle.app_store.specs.Written.{with_write, written_at, IsWritten, AreWritten};
 
 use change_capture::Action;
@@ -102,28 +102,37 @@ pub(crate) fn open_xids(alloc: Global, opens: &Opens) -> Result<XidList, AllocEr
     Ok(running)
 }
 
-/// Whether a transaction wrote this table.
-fn has_written(transaction: &Transaction, table: &Text) -> bool
-    ensures { result ≡ wrote_table table.now transaction.now }
+/// Whether this is one of these names.
+fn is_among(name: &Text, names: &[Text]) -> bool
+    ensures { result ≡ named name.now names.now }
+{
+    names
+        .iter()
+        .any(|other| name.as_slice() == other.as_slice())
+}
+
+/// Whether a transaction wrote one of these tables.
+fn has_written(transaction: &Transaction, tables: &[Text]) -> bool
+    ensures { result ≡ wrote_one tables.now transaction.now }
 {
     transaction
         .actions
         .as_slice()
         .iter()
-        .any(|action| table.as_slice() == action.table.as_slice())
+        .any(|action| is_among(&action.table, tables))
 }
 
-/// The least id of an open transaction that wrote this table, if one did.
+/// The least id of an open transaction that wrote one of these tables, if one did.
 pub(crate) fn least_writer(
     alloc: Global,
     opens: &Opens,
-    table: &Text,
+    tables: &[Text],
 ) -> Result<Option<u64>, AllocError>
-    ensures { IfOk result (λ found. found ≡ slice_get (put_xids [] (writers table.now (entries opens.now))) 0) }
+    ensures { IfOk result (λ found. found ≡ slice_get (put_xids [] (writers tables.now (entries opens.now))) 0) }
 {
     let mut xids = BTreeSet::new(alloc);
     for (_, transaction) in opens.iter() {
-        if has_written(transaction, table) {
+        if has_written(transaction, tables) {
             xids.insert(transaction.xid)?;
         }
     }

@@ -1,4 +1,5 @@
 pub mod Changing
+pub mod Filling
 pub mod Logged
 pub mod Replacing
 pub mod Tables

@@ -5,6 +5,7 @@ use Rattle.std.specs.FinMap.{get, entries}
 use Rattle.slon_base.specs.Codec.{text_bytes, list_bytes, IsText, AreTexts, AllAre}
 use Rattle.slon_base.specs.Keeper.{Store, after}
 use Rattle.store_rows.specs.Scan.{ranged, spelled_rows}
+use Rattle.slon_model.specs.Names.{Named}
 use Rattle.slon_model.specs.Rows.{Row, Rows, Change, Put, Remove}
 use Rattle.change_apply.specs.Applied.{changed_in}
 use Rattle.change_apply.specs.declared.copying.Turn.{Turn}
@@ -52,3 +53,27 @@ turned Give r = Put r.0 r.1
 
 abbrev pub turns : Turn → List (List ℕ × Row) → List Change
 turns turn rows = map (turned turn) rows
+
+-- ---- several tables
+
+-- tables by their names, each with its rows as a list
+abbrev pub Listed : Type 0
+Listed = List (List ℕ × List (List ℕ × Row))
+
+abbrev pub CanCopyAll : Listed → Type 0
+CanCopyAll = AllAre (λ t. IsText t.0 × CanCopy t.1)
+
+-- the same tables, each with its rows
+abbrev pub AreListed : Named Rows → Listed → Type 0
+AreListed [] [] = Unit {0}
+AreListed (r ∷ rs) (t ∷ ts) = (r.0 ≡ t.0) × AreRowsOf r.1 t.1 × AreListed rs ts
+AreListed rs ts = ⊥
+
+-- what these tables hold
+abbrev pub held_in : (List ℕ → Rows) → List (List ℕ) → Named Rows
+held_in tables names = map (λ name. (name, tables name)) names
+
+-- all tables with these rows in some of them, of two for one table the first
+abbrev pub with_tables : Named Rows → (List ℕ → Rows) → List ℕ → Rows
+with_tables [] tables = tables
+with_tables (r ∷ rs) tables = with_table r.0 r.1 (with_tables rs tables)

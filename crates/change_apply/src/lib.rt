@@ -8,6 +8,8 @@
 mod applying;
 mod copying;
 mod layout;
+mod several;
 
 pub use applying::{apply_action, apply_rows};
 pub use copying::{replace_table, table_rows};
+pub use several::{replace_tables, rows_of_tables};

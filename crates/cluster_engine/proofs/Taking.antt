@@ -328,7 +328,7 @@ worked_left (Err refusal) reply m = refl
 -- what is promised of the databases and of what waits is promised of the command
 pub work_acted : (node origin : ℕ) (old : Clustered) (reply : Reply) (news : Named Base) (queues : Queues) →
     Runs old.bases reply news →
-    Works node origin old.memory.switches.started (kept_of old) reply (kept_as news queues) →
+    Works node origin old.memory.switches (kept_of old) reply (kept_as news queues) →
     IsActed (ToWork node origin) old reply (with_queues news queues old)
 work_acted node origin old reply news queues runs works = record {
   runs = runs;
@@ -337,7 +337,7 @@ work_acted node origin old reply news queues runs works = record {
   goes = λ w follows.
       let due = worked node origin w in
       let fits = follows.agrees.memory in
-      let takes = works w (ready_of w old follows) (ap (λ s. s.started) fits.switches)
+      let takes = works w (ready_of w old follows) (ap (λ s. s.started) fits.switches) (ap (λ s. s.cuts) fits.switches)
       (λ name p found running. fits.waits name) (takes_up node origin w old follows) in
       finding_goes (record {
         found = due;
@@ -357,7 +357,7 @@ work_acted node origin old reply news queues runs works = record {
 
 pub work_if : {E : Type 0} (node origin : ℕ) (old : Clustered) (news : Named Base) (queues : Queues)
     (r : Result Reply E) → IfOk r (λ reply. Runs old.bases reply news) →
-    IfOk r (λ reply. Works node origin old.memory.switches.started (kept_of old) reply (kept_as news queues)) →
+    IfOk r (λ reply. Works node origin old.memory.switches (kept_of old) reply (kept_as news queues)) →
     IfOk r (λ reply. IsActed (ToWork node origin) old reply (with_queues news queues old))
 work_if node origin old news queues (Ok reply) runs works = work_acted node origin old reply news queues runs works
 work_if node origin old news queues (Err e) runs works = tt

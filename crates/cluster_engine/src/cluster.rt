@@ -20,13 +20,13 @@ ghost use Rattle.cluster_engine.specs.Calls.{Makes, MakingReplyCaused, MakesCert
 ghost use Rattle.cluster_engine.specs.Clustered.{cluster_of};
 
 use crate::scripts::{Started, Walked, end_script, key_of, run_next, start_script};
-use crate::slons::{add_cut, add_slon, are_cut, came_up, forget, remove_cut, remove_slon};
+use crate::slons::{add_cut, add_slon, came_up, forget, remove_cut, remove_slon};
 use app_store::Database;
 use event_store::Queue;
 use node_keeper::{Fuse, Keeper};
 use slon_base::{ByteMap, Text};
 use slon_model::{Answer, Command, DbFault, Delivery, Reading, Refusal, Reply};
-use slon_turns::{Listen, Work, take_poll, take_work};
+use slon_turns::{Listen, Switched, Work, are_cut, take_poll, take_work};
 use slonik_exec::{
     Named, NoMemory, answered, has_node, index_of, index_of_node, refused, take_sync,
 };
@@ -259,14 +259,12 @@ impl<K: Keeper> Cluster<K> {
         ensures { IfOk result (λ reply. IsActed (ToWork node origin) (cluster_of K.kept self.old) reply
             (cluster_of K.kept self.new)) }
     {
+        let on = Switched {
+            started: &self.started,
+            cuts: &self.cuts,
+        };
         let work = Work { node, origin };
-        take_work(
-            self.alloc,
-            &mut self.databases,
-            &mut self.queues,
-            &self.started,
-            work,
-        )
+        take_work(self.alloc, &mut self.databases, &mut self.queues, on, work)
     }
 
     /// Grants a new database, has a database that is there obey, steps and ends scripts, turns slons on and off and

@@ -2,10 +2,11 @@
 // are few of both, so each is looked for one by one. And the events that wait at nodes.
 ghost use Rattle.std.specs.Prelude.{◌≡◌, ◌&&◌, not, if◌then◌else◌, OnOk};
 ghost use Rattle.std.specs.FinMap.{remove};
-ghost use Rattle.slon_model.specs.Turns.{with_started, without_started, cuts_both, are_cut, with_cut, without_cut};
+ghost use Rattle.slon_model.specs.Turns.{with_started, without_started, with_cut, without_cut};
 
 use event_store::Queue;
 use slon_base::{ByteMap, Text};
+use slon_turns::{are_cut, is_between};
 use std::alloc::AllocError;
 
 /// Adds a node, if it is not there.
@@ -23,20 +24,6 @@ pub(crate) fn remove_slon(started: &mut Vec<u32>, node: u32)
     ensures { started.new.items ≡ without_started node started.old.items }
 {
     started.retain(|other| *other != node);
-}
-
-/// Whether a cut is between these two nodes, whichever of them it names first.
-fn is_between(cut: &(u32, u32), node: u32, other: u32) -> bool
-    ensures { result ≡ cuts_both node other cut.now }
-{
-    *cut == (node, other) || *cut == (other, node)
-}
-
-/// Whether two nodes are cut off from one another.
-pub(crate) fn are_cut(cuts: &[(u32, u32)], node: u32, other: u32) -> bool
-    ensures { result ≡ are_cut node other cuts.now }
-{
-    cuts.iter().any(|cut| is_between(cut, node, other))
 }
 
 /// Cuts two nodes off from one another, if they are not.

@@ -3,7 +3,7 @@ use Rattle.slon_model.specs.World.{outcome}
 use Rattle.slon_model.specs.Tasks.{Act}
 use Rattle.std.proofs.Common.{◌≡◌, ◌≢◌, ℕ, Bool, true, false, cond, List, [], ◌∷◌, Option, Some, None, Result, refl}
 use Rattle.std.proofs.Common.{◌++◌, sym, ap, subst, ◌∙◌, is_some}
-use Rattle.std.specs.Prelude.{◌==◌, ◌+◌, option_map}
+use Rattle.std.specs.Prelude.{◌==◌, ◌+◌}
 use Rattle.std.specs.Str.{bytes_eq}
 use Rattle.std.specs.List.{list_any, AllByRecursion}
 use Rattle.std.proofs.lemmas.Bool.{true≢false, false_from_ne_true, eqb-true, eq-eqb, and_parts}
@@ -60,6 +60,7 @@ use Rattle.image_laws.specs.Fits.{IsWhole, IsKept, Fit, Keeps, CreatesSet, AddsT
 use Rattle.image_laws.specs.Fits.{IsDoneNow, AllDone, IsOfOther, AreOfOthers, BringOthers, MayStand, Does, Becomes}
 use Rattle.image_laws.specs.Facts.{Holds, NodeHolds}
 use Rattle.slon_laws.proofs.Leaves.{Leaves, outcome_has}
+use Rattle.slon_laws.proofs.Results.{none_busy}
 
 -- ---- a session
 
@@ -298,10 +299,6 @@ create_fit id origin comment run w r =
       }),
       tt,
     )))
-
-none_busy : (o : Option ℕ) → option_map refused.Busy o ≡ None → o ≡ None
-none_busy None none = refl
-none_busy (Some xid) none = absurd cc
 
 adds_fit : (t : NewTable) (w : World) (s : Seat) → IsLeading w.places t.set_id s →
     AllByRecursion (λ o. o ≡ None) (table_checks t w s) → IsStated w (emitting s (adding s t ∷ []))

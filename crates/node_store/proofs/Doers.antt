@@ -1,35 +1,47 @@
--- A node that does one thing, by which it gives tables no rows and logs nothing: what its store holds then, and the
--- place that fits.
-use Rattle.std.proofs.Common.{◌≡◌, ℕ, ◌+◌, ◌<◌, Bool, true, false, List, [], ◌∷◌, Option, Some, Result, Ok, Err}
+-- A node that does one thing, by which it gives the tables of sets no rows and logs nothing: what its store holds then,
+-- and the place that fits.
+use Rattle.std.proofs.Common.{◌≡◌, ℕ, ◌+◌, Bool, true, false, cond, List, [], ◌∷◌, Option, Some, None}
+use Rattle.std.proofs.Common.{Ok}
 use Rattle.std.proofs.Common.{refl, sym, ap, subst, is_some}
 use Rattle.std.proofs.Common.{◌∙◌, ◌⊎◌, inl, inr, arith}
-use Rattle.std.specs.Prelude.{OnOk, IfErr}
+use Rattle.std.specs.Prelude.{◌==◌}
+use Rattle.std.specs.List.{AllByRecursion}
+use Rattle.std.specs.Str.{bytes_eq}
 use Rattle.std.specs.Option.{option_map}
 use Rattle.std.specs.FinMap.{get}
 use Rattle.slon_base.specs.Keeper.{Store, Kept, put_at}
 use Rattle.slon_base.specs.Codec.{number_bytes}
-use Rattle.store_rows.specs.Space.{IsPending}
-use Rattle.store_rows.specs.Steps.{IsOutside}
-use Rattle.store_rows.specs.declared.stop.Stop.{Stop}
 use Rattle.store_rows.proofs.Spaces.{same_space}
-use Rattle.slon_model.specs.Names.{find_named}
+use Rattle.slon_model.specs.Names.{Named, find_named}
 use Rattle.slon_model.specs.Events.{Event}
-use Rattle.slon_model.specs.Deeds.{Node, Deed, Doing, Applies, Commits, Hears, brought_in, nothing_brought, with_deeds}
-use Rattle.slon_model.specs.Place.{Place, deed, filled, filled_by, standing_rows}
+use Rattle.slon_model.specs.Deeds.{Node, Deed, Doing, Brought, Applies, Commits, Hears, brought_in, with_deeds}
+use Rattle.slon_model.specs.Rows.{Rows}
+use Rattle.slon_model.specs.Place.{Place, deed, standing_rows}
 use Rattle.slon_model.specs.Sessions.{Commit, committing, in_doubt}
 use Rattle.node_state.specs.declared.memory.Members.{Members}
-use Rattle.node_state.specs.Held.{HoldsNode}
+use Rattle.slon_laws.specs.Sound.{Sound}
+use Rattle.slon_laws.specs.Spelled.{AreFormed, IsSpelled}
+use Rattle.slon_laws.proofs.Formed.{standing_formed}
+use Rattle.slon_laws.proofs.Opens.{found_member}
+use Rattle.change_apply.specs.Applied.{HoldsRows}
+use Rattle.change_apply.specs.Copied.{with_tables}
+use Rattle.node_state.specs.Held.{HoldsNode, is_own}
 use Rattle.node_state.specs.Known.{IsKnown, LearnsOfOther, identity_of, member_at, is_named, learned_as, learned_name}
 use Rattle.node_state.proofs.Staying.{node_stays}
 use Rattle.node_change.specs.Done.{HasDone}
 use Rattle.node_store.specs.Acting.{WritesDone, does}
 use Rattle.app_store.specs.Base.{Memory, Base}
-use Rattle.app_store.specs.Fits.{Fits, Runs, IsNamed}
+use Rattle.app_store.specs.declared.opens.Transaction.{Transaction}
+use Rattle.app_store.specs.Fits.{Fits, OpensAs, Runs, IsNamed}
 use Rattle.app_store.specs.Spelled.{Holds, AreTables, AreRows, IsMeta, meta, stamp_key, meta_at}
 use Rattle.app_store.proofs.Holding.{stored_of, restamped, put_other, never_bare}
-use Rattle.app_store.proofs.Standing.{fits_running, named_up, named_as, opens_same}
+use Rattle.app_store.proofs.Openings.{opened_same}
+use Rattle.app_store.proofs.Standing.{fits_running, named_up, named_as}
 use Rattle.app_store.proofs.Upright.{UpAt, running, IsChanged, LeftInDoubt}
-use Rattle.node_store.proofs.Committing.{stamped_store, commit_wavers, rows_stay, same_id}
+use Rattle.node_store.specs.Bringing.{CanFill, WritesBrought}
+use Rattle.node_store.proofs.Committing.{stamped_store, commit_wavers, same_id}
+use Rattle.node_store.proofs.Filled.{opened_filled, standing_filled, with_filled}
+use Rattle.node_store.proofs.Tables.{holds_tables, tables_held}
 
 -- The node of a place, which does this, with a name on which nothing in the place depends.
 pub record Doer (p : Place) : Type 0 where
@@ -37,7 +49,7 @@ pub record Doer (p : Place) : Type 0 where
   pub is : p.node ≡ Some node
   pub doing : Doing
   pub name : List ℕ
-  pub brings : (brought_in doing).rows ≡ []
+  pub fills : CanFill p (brought_in doing).rows
 
 abbrev pub done_in : {p : Place} → Doer p → Commit
 done_in {p} d = does d.name p d.doing
@@ -52,9 +64,41 @@ node_after d = with_deeds (deed_in d ∷ []) d.node
 after_is : {p : Place} (d : Doer p) → (committing (done_in d) p).node ≡ Some (node_after d)
 after_is d = ap (option_map (with_deeds (deed_in d ∷ []))) d.is
 
--- it fills no table
-fillings_stay : {p : Place} (d : Doer p) → filled_by p (deed_in d ∷ []) p.fillings ≡ p.fillings
-fillings_stay {p} d = ap (λ rs. filled p rs p.fillings) d.brings
+-- What its store holds behind that: the node, and the tables that are filled.
+pub record HasFilled {p : Place} (d : Doer p) (m store : Store) : Type 0 where
+  pub held : HoldsNode (Some (node_after d)) store
+  pub own : (space : ℕ) → is_own space ≡ true → (space == 3) ≡ false → store space ≡ m space
+  pub rows : HoldsRows (with_tables (brought_in d.doing).rows (standing_rows p)) store
+
+-- with nothing that is brought
+pub plainly_filled : {p : Place} {m store : Store} (d : Doer p) → (brought_in d.doing).rows ≡ [] → IsSpelled p →
+    Holds p m → HasDone d.node d.doing m store → HasFilled d m store
+plainly_filled {p} {m} {store} d none spelled holds has = record {
+  held = has.held (deed_in d) refl refl;
+  own = λ space one other. has.own space one;
+  rows = subst (λ rs. HoldsRows (with_tables rs (standing_rows p)) store) (sym none)
+      (holds_tables (standing_rows p) store (λ table. standing_formed p table spelled)
+      (subst (AreRows (standing_rows p)) (sym (has.own 3 refl)) holds.rows_held));
+}
+
+-- rows that stand have their forms, and so have those with which tables are filled
+with_formed : (rs : Named Rows) (tables : List ℕ → Rows) → AllByRecursion (λ r. AreFormed r.1) rs →
+    ((table : List ℕ) → AreFormed (tables table)) → (table : List ℕ) → AreFormed (with_tables rs tables table)
+with_formed [] tables all formed table = formed table
+with_formed (r ∷ rs) tables all formed table =
+    elim (bytes_eq table r.0)
+    as (λ b. AreFormed (cond b r.1 (with_tables rs tables table))) [
+      | true ↦ all.0
+      | false ↦ with_formed rs tables all.1 formed table
+    ]
+
+rows_filled : {p : Place} {m store : Store} (d : Doer p) → Sound p → IsSpelled p → HasFilled d m store →
+    AreRows (standing_rows (committing (done_in d) p)) (store 3)
+rows_filled {p} {m} {store} d sound spelled has =
+    let rs = (brought_in d.doing).rows in
+    subst (λ tables. AreRows tables (store 3)) (λ i table. sym (standing_filled p rs table sound d.fills) i)
+    (tables_held (with_tables rs (standing_rows p)) store
+    (with_formed rs (standing_rows p) d.fills.formed (λ table. standing_formed p table spelled)) has.rows)
 
 -- whatever a node does, its id, its cluster and the status of its log stay
 meta_done : (stamp xids numbers : ℕ) (p : Place) (n : Node) (doing : Doing) (key : ℕ) →
@@ -63,23 +107,26 @@ meta_done : (stamp xids numbers : ℕ) (p : Place) (n : Node) (doing : Doing) (k
 meta_done stamp xids numbers p n (Commits xid) key = refl
 meta_done stamp xids numbers p n others key = refl
 
-pub holds_done : {p : Place} {m store : Store} (d : Doer p) → 0 < p.stamp → HasDone d.node d.doing m store →
-    Holds p m → Holds (committing (done_in d) p) (stamped_store p store)
-holds_done {p} {m} {store} d founded has holds = record {
-  meta_numbers = same_space (restamped (stored_of p) (p.stamp + 1) (store meta) founded (omega arith)
-      (subst (IsMeta p.stamp p.xids.ceiling p.numbers.ceiling p.node) (sym (has.own meta refl)) holds.meta_numbers))
-      (λ key one. ap (λ own. meta_at (p.stamp + 1) p.xids.ceiling p.numbers.ceiling own key) (after_is d)
-      ∙ meta_done (p.stamp + 1) p.xids.ceiling p.numbers.ceiling p d.node d.doing key
-      ∙ sym (ap (λ own. meta_at (p.stamp + 1) p.xids.ceiling p.numbers.ceiling own key) d.is));
-  table_rows = subst (AreTables p.tables) (sym (has.own 2 refl)) holds.table_rows;
-  rows_held = rows_stay (done_in d) p (store 3) (fillings_stay d)
-      (subst (AreRows (standing_rows p)) (sym (has.own 3 refl)) holds.rows_held);
-  node_held = subst (λ own. HoldsNode own (stamped_store p store)) (sym (after_is d))
-      (node_stays (Some (node_after d)) store _
-      (λ space other. put_other meta stamp_key (number_bytes (p.stamp + 1)) store space refl other)
-      (has.held (deed_in d) refl refl));
-  bare = never_bare (p.stamp + 1) (omega arith);
-}
+pub holds_done : {p : Place} {b : Base} {store : Store} (at : UpAt p b) (d : Doer p) →
+    HasFilled d at.ready.fits.held.0 store → Holds (committing (done_in d) p) (stamped_store p store)
+holds_done {p} {b} {store} at d has =
+    let holds = at.ready.fits.held.2 in
+    let founded = (running at).1.founded in
+    record {
+      meta_numbers = same_space (restamped (stored_of p) (p.stamp + 1) (store meta) founded (omega arith)
+          (subst (IsMeta p.stamp p.xids.ceiling p.numbers.ceiling p.node) (sym (has.own meta refl refl))
+          holds.meta_numbers))
+          (λ key one. ap (λ own. meta_at (p.stamp + 1) p.xids.ceiling p.numbers.ceiling own key) (after_is d)
+          ∙ meta_done (p.stamp + 1) p.xids.ceiling p.numbers.ceiling p d.node d.doing key
+          ∙ sym (ap (λ own. meta_at (p.stamp + 1) p.xids.ceiling p.numbers.ceiling own key) d.is));
+      table_rows = subst (AreTables p.tables) (sym (has.own 2 refl refl)) holds.table_rows;
+      rows_held = rows_filled d at.ready.sound at.ready.spelled has;
+      node_held = subst (λ own. HoldsNode own (stamped_store p store)) (sym (after_is d))
+          (node_stays (Some (node_after d)) store _
+          (λ space other. put_other meta stamp_key (number_bytes (p.stamp + 1)) store space refl other)
+          has.held);
+      bare = never_bare (p.stamp + 1) (omega arith);
+    }
 
 -- ---- the memory
 
@@ -87,18 +134,34 @@ holds_done {p} {m} {store} d founded has holds = record {
 abbrev pub with_stamp : ℕ → Members → Memory → Memory
 with_stamp stamp members m = record m { stamp = stamp; members = members }
 
-runs_done : {p : Place} {m : Memory} (d : Doer p) (members : Members) →
+-- an open transaction wrote none of the tables that are filled
+opens_done : {p : Place} (d : Doer p) (name : List ℕ) (o : Option Transaction) → Sound p →
+    (x : Option ℕ) → find_named name p.opens ≡ x → OpensAs p x o → OpensAs (committing (done_in d) p) x o
+opens_done {p} d name o sound None found is = by o is
+  where
+    by : (o : Option Transaction) → OpensAs p None o → OpensAs (committing (done_in d) p) None o
+    by None is = tt
+    by (Some t) is = is
+opens_done {p} d name o sound (Some x) found is = by o is
+  where
+    by : (o : Option Transaction) → OpensAs p (Some x) o → OpensAs (committing (done_in d) p) (Some x) o
+    by None is = is
+    by (Some t) is =
+        let rs = (brought_in d.doing).rows in
+        opened_same (with_filled rs p) (committing (done_in d) p) x t (refl, refl, refl)
+        (opened_filled rs sound d.fills (found_member name x p.opens found) is)
+
+runs_done : {p : Place} {m : Memory} (d : Doer p) (members : Members) → Sound p →
     IsKnown (Some (node_after d)) m.identity members → Runs p m →
     Runs (committing (done_in d) p) (with_stamp (m.stamp + 1) members m)
-runs_done {p} {m} d members known runs = record {
+runs_done {p} {m} d members sound known runs = record {
   up = runs.up;
   stamp = ap (λ n. n + 1) runs.stamp;
   settled = runs.settled;
   founded = omega arith;
   xids = runs.xids;
   numbers = runs.numbers;
-  opened = λ name. opens_same p (committing (done_in d) p) (find_named name p.opens) (get m.opens name)
-      (refl, refl, fillings_stay d) (runs.opened name);
+  opened = λ name. opens_done d name (get m.opens name) sound (find_named name p.opens) refl (runs.opened name);
   locked = runs.locked;
   known = subst (λ own. IsKnown own m.identity members) (sym (after_is d)) known;
   unpromised = runs.unpromised;
@@ -118,10 +181,10 @@ pub record HasTaken (e : Event) (old new : Members) : Type 0 where
   pub members : (name : List ℕ) → get new.live name ≡ learned_as false e.body name (get old.live name)
   pub names : (name : List ℕ) → is_some (get new.names name) ≡ learned_name e.body name (is_some (get old.names name))
 
-pub known_applying : {p : Place} {m : Memory} {members : Members} (n : Node) (e : Event) → p.node ≡ Some n →
-    LearnsOfOther n e → HasTaken e m.members members → Runs p m →
-    IsKnown (Some (with_deeds (deed p [] [] (Applies e nothing_brought) ∷ []) n)) m.identity members
-known_applying n e is learns taken runs = record {
+pub known_applying : {p : Place} {m : Memory} {members : Members} (n : Node) (e : Event) (b : Brought) →
+    p.node ≡ Some n → LearnsOfOther n e → HasTaken e m.members members → Runs p m →
+    IsKnown (Some (with_deeds (deed p [] [] (Applies e b) ∷ []) n)) m.identity members
+known_applying n e b is learns taken runs = record {
   identity_is = runs.known.identity_is ∙ ap identity_of is;
   members_are = λ name. taken.members name
       ∙ ap (learned_as false e.body name) (runs.known.members_are name ∙ ap (λ own. member_at own name) is)
@@ -136,7 +199,7 @@ known_applying n e is learns taken runs = record {
 -- What is known where the commit stands.
 pub record HasStood {p : Place} {b : Base} (at : UpAt p b) (d : Doer p) (new : Base) : Type 0 where
   pub store : Store
-  pub has : HasDone d.node d.doing at.ready.fits.held.0 store
+  pub has : HasFilled d at.ready.fits.held.0 store
   pub changed : IsChanged (stamped_store p store) b.kept new.kept
   pub members : Members
   pub known : IsKnown (Some (node_after d)) b.memory.identity members
@@ -149,11 +212,11 @@ done_stands {p} {b} at d new s =
     let told = at.ready.fits.told in
     let later = s.changed.later in
     fits_running (committing (done_in d) p) new (stamped_store p s.store) runs.0
-    (subst (Runs (committing (done_in d) p)) (sym s.memory) (runs_done d s.members s.known runs.1))
-    (omega (arith, told, later)) s.changed.held (holds_done d runs.1.founded s.has at.ready.fits.held.2)
+    (subst (Runs (committing (done_in d) p)) (sym s.memory) (runs_done d s.members at.ready.sound s.known runs.1))
+    (omega (arith, told, later)) s.changed.held (holds_done at d s.has)
 
 pub done_wavers : {p : Place} {b : Base} (at : UpAt p b) (d : Doer p) (store : Store) (new : Base) →
-    HasDone d.node d.doing at.ready.fits.held.0 store →
+    HasFilled d at.ready.fits.held.0 store →
     LeftInDoubt at.ready.fits.held.0 (stamped_store p store) b new →
     (stands : Bool) × Fits (in_doubt (done_in d) stands p) new
 done_wavers {p} {b} at d store new has left =
@@ -164,7 +227,7 @@ done_wavers {p} {b} at d store new has left =
       named = λ stands. by_stands stands
           (named_as p p b.memory new.memory (named_up p b.memory runs) left.identity refl);
       later = left.later;
-      holds = holds_done d runs.founded has at.ready.fits.held.2;
+      holds = holds_done at d has;
       either = left.either;
     })
   where
@@ -178,14 +241,57 @@ done_wavers {p} {b} at d store new has left =
 pub record IsWritten {p : Place} {b : Base} (at : UpAt p b) (d : Doer p) (mid : Kept) : Type 0 where
   pub store : Store
   pub pending : mid.pending ≡ Some (Some (stamped_store p store))
-  pub has : HasDone d.node d.doing at.ready.fits.held.0 store
+  pub has : HasFilled d at.ready.fits.held.0 store
 
-pub is_written : {p : Place} {b : Base} {mid : Kept} (at : UpAt p b) (d : Doer p) →
+next_stamp : {p : Place} {b : Base} (at : UpAt p b) (store : Store) (mid : Kept) →
+    mid.pending ≡ Some (Some (put_at meta stamp_key (number_bytes (b.memory.stamp + 1)) store)) →
+    mid.pending ≡ Some (Some (stamped_store p store))
+next_stamp at store mid is =
+    is ∙ ap (λ s. Some (Some (put_at meta stamp_key (number_bytes (s + 1)) store))) (running at).1.stamp
+
+pub is_written : {p : Place} {b : Base} {mid : Kept} (at : UpAt p b) (d : Doer p) → (brought_in d.doing).rows ≡ [] →
     WritesDone d.node at.ready.fits.held.0 d.doing (b.memory.stamp + 1) (Ok tt) mid → IsWritten at d mid
-is_written at d w = record {
+is_written {mid = mid} at d none w = record {
   store = w.0;
-  pending = w.1 ∙ ap (λ s. Some (Some (put_at meta stamp_key (number_bytes (s + 1)) w.0))) (running at).1.stamp;
-  has = w.2;
+  pending = next_stamp at w.0 mid w.1;
+  has = plainly_filled d none at.ready.spelled at.ready.fits.held.2 w.2;
+}
+
+-- the rows that stand are those of the tables of the store
+pub tables_at : {p : Place} {b : Base} (at : UpAt p b) → HoldsRows (standing_rows p) at.ready.fits.held.0
+tables_at {p} at =
+    holds_tables (standing_rows p) at.ready.fits.held.0 (λ table. standing_formed p table at.ready.spelled)
+    at.ready.fits.held.2.rows_held
+
+-- An event of another one that the node applies, with what it brings.
+pub record Applying (p : Place) : Type 0 where
+  pub node : Node
+  pub is : p.node ≡ Some node
+  pub event : Event
+  pub brought : Brought
+  pub name : List ℕ
+  pub fills : CanFill p brought.rows
+
+abbrev pub applier : {p : Place} → Applying p → Doer p
+applier a = record {
+  node = a.node;
+  is = a.is;
+  doing = Applies a.event a.brought;
+  name = a.name;
+  fills = a.fills;
+}
+
+pub brought_written : {p : Place} {b : Base} {mid : Kept} (at : UpAt p b) (a : Applying p) →
+    WritesBrought a.node a.event a.brought (standing_rows p) at.ready.fits.held.0 (b.memory.stamp + 1) (Ok tt) mid →
+    IsWritten at (applier a) mid
+brought_written {p} {mid = mid} at a w = record {
+  store = w.0;
+  pending = next_stamp at w.0 mid w.1;
+  has = record {
+    held = w.2.held (deed p [] [] (Applies a.event a.brought)) refl refl;
+    own = w.2.own;
+    rows = w.2.rows;
+  };
 }
 
 pub held_stood : {p : Place} {b : Base} {at : UpAt p b} {d : Doer p} {mid : Kept} (w : IsWritten at d mid)
@@ -200,25 +306,3 @@ either_held {at = at} w new same either =
       | inl before ↦ inl (before ∙ same ∙ at.ready.fits.held.1)
       | inr made ↦ inr (held_stood w new.held made)
     ]
-
--- What is written: what the node does, and the stamp.
-pub record Writing : Type 0 where
-  pub node : Node
-  pub held : Store
-  pub doing : Doing
-  pub stamp : ℕ
-  pub bytes : List ℕ
-  pub spelled : bytes ≡ number_bytes stamp
-
--- the stamp is put behind it, or the store failed
-pub stamped_done : (w : Writing) {mid : Kept} (new : Kept) (result : Result (Unit {0}) Stop) →
-    IsPending (HasDone w.node w.doing w.held) mid →
-    OnOk result (new.pending ≡ option_map (option_map (put_at meta stamp_key w.bytes)) mid.pending)
-    × IfErr result IsOutside → WritesDone w.node w.held w.doing w.stamp result new
-stamped_done w new (Ok u) done (put, only) = (
-  done.store,
-  put ∙ ap (λ (q : Option (Option Store)). option_map (option_map (put_at meta stamp_key w.bytes)) q) done.is
-      ∙ ap (λ v. Some (Some (put_at meta stamp_key v done.store))) w.spelled,
-  done.has,
-)
-stamped_done w new (Err stop) done (put, only) = only

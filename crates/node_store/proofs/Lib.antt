@@ -1,8 +1,10 @@
 pub mod Acting
 pub mod Becoming
+pub mod Chaining
 pub mod Committing
 pub mod Emitted
 pub mod Emitting
+pub mod Filled
 pub mod Joiners
 pub mod Learning
 pub mod Lookups
@@ -12,4 +14,6 @@ pub mod Outcomes
 pub mod Pairs
 pub mod Several
 pub mod Synced
+pub mod Tables
+pub mod Taking
 mod Doers

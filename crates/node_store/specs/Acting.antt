@@ -16,7 +16,7 @@ use Rattle.slon_model.specs.declared.reply.Answered.TheVariants.{Sure, InDoubt}
 use Rattle.node_rows.specs.declared.body.Body.{Body}
 use Rattle.slon_model.specs.Snapshots.{Snapshot}
 use Rattle.slon_model.specs.Events.{Event}
-use Rattle.slon_model.specs.Deeds.{Node, Deed, Doing, Emits, Applies, Hears, knowledge, nothing_brought, progress}
+use Rattle.slon_model.specs.Deeds.{Node, Deed, Doing, Emits, Hears, knowledge, progress}
 use Rattle.slon_model.specs.Deeds.{with_deeds}
 use Rattle.slon_model.specs.Place.{Place, fallen, taken, deed}
 use Rattle.slon_model.specs.Moves.{is_last_stamp}
@@ -30,13 +30,13 @@ use Rattle.store_rows.specs.Steps.{IsOutside}
 use Rattle.store_rows.specs.declared.stop.Stop.{Stop}
 use Rattle.store_rows.specs.declared.stop.Stop.TheVariants.{TooBig as StopTooBig}
 use Rattle.node_change.specs.Becoming.{IsNode}
-use Rattle.node_change.specs.Done.{HasDone, CanApply}
+use Rattle.node_change.specs.Done.{HasDone}
 use Rattle.node_state.specs.declared.memory.NodeMemory.{NodeMemory}
 use Rattle.node_state.specs.declared.memory.Identity.{Identity}
 use Rattle.node_state.specs.Held.{HoldsNode, is_own}
 use Rattle.node_state.specs.declared.memory.Member.{Member}
 use Rattle.node_state.specs.declared.memory.Members.{Members}
-use Rattle.node_state.specs.Known.{IsKnown, Learns, LearnsOfOther, learned_member, learned_name}
+use Rattle.node_state.specs.Known.{IsKnown, Learns, learned_member, learned_name}
 use Rattle.app_store.specs.Base.{Base, Memory}
 use Rattle.app_store.specs.Fits.{Fits, Ready}
 use Rattle.app_store.specs.Parts.{FellTo}
@@ -234,11 +234,13 @@ WritesEvents e stamp (Err stop) new = IsOutside stop
 -- ---- one thing that a node does, by which it gives tables no rows and logs nothing
 
 -- what is pending behind it, with the next stamp; or there was no memory, or the store failed
+abbrev pub WritesAs : (Store → Type 0) → ℕ → Result (Unit {0}) Stop → Kept → Type 0
+WritesAs P stamp (Ok u) new =
+    (store : Store) × (new.pending ≡ Some (Some (put_at meta stamp_key (number_bytes stamp) store))) × P store
+WritesAs P stamp (Err stop) new = IsOutside stop
+
 abbrev pub WritesDone : Node → Store → Doing → ℕ → Result (Unit {0}) Stop → Kept → Type 0
-WritesDone n m doing stamp (Ok u) new =
-    (store : Store) × (new.pending ≡ Some (Some (put_at meta stamp_key (number_bytes stamp) store)))
-    × HasDone n doing m store
-WritesDone n m doing stamp (Err stop) new = IsOutside stop
+WritesDone n m doing = WritesAs (HasDone n doing m)
 
 abbrev pub does : List ℕ → Place → Doing → Commit
 does name p doing = record { name = name; becomes = None; deeds = deed p [] [] doing ∷ [] }
@@ -248,10 +250,3 @@ abbrev pub HearsAll : List (ℕ × ℕ × ℕ) → Base → Result Answered DbFa
 HearsAll confirms old result new =
     (p : Place) (n : Node) → Ready p old → p.node ≡ Some n → is_memory (trouble result) ≡ false → (name : List ℕ) →
     ActsAs (does name p (Hears confirms)) Done p result new
-
--- From every place that fits, whose node can apply this event of another one and learns no more of it than that: it
--- applies the event, in one commit.
-abbrev pub AppliesOne : Event → Base → Result Answered DbFault → Base → Type 0
-AppliesOne e old result new =
-    (p : Place) (n : Node) → Ready p old → p.node ≡ Some n → is_memory (trouble result) ≡ false → CanApply n e →
-    LearnsOfOther n e → (name : List ℕ) → ActsAs (does name p (Applies e nothing_brought)) Done p result new

@@ -1,4 +1,5 @@
 pub mod Acting
+pub mod Bringing
 pub mod Finishing
 pub mod Joining
 pub mod Looking

@@ -28,7 +28,7 @@ const MOST_RUNNING: usize = 4_294_967_295;
 /// # Errors
 ///
 /// `AllocError` where there is no memory.
-pub(crate) fn stored_snapshot<K: Keeper>(database: &Database<K>) -> Result<Snapshot, AllocError>
+pub fn stored_snapshot<K: Keeper>(database: &Database<K>) -> Result<Snapshot, AllocError>
     ensures can { IfOk result (λ s. CanSnapshot (seen_as s)) }
     ensures taken { (p : Place) → Ready p (base_of K.kept database.now) → is_running p.standing ≡ true →
         IfOk result (λ s. seen_as s ≡ taken p) }

@@ -3,6 +3,8 @@
 
 mod announcing;
 mod applying;
+mod bringing;
+mod copying;
 mod finishing;
 mod founding;
 mod hearing;
@@ -13,15 +15,17 @@ mod polling;
 mod syncing;
 mod writing;
 
-pub use announcing::announce;
+pub use announcing::{announce, stored_snapshot};
 pub use app_store::{Database, DbFault, Keeper};
 pub use applying::apply;
+pub use bringing::Brought;
+pub use copying::read_tables;
 pub use founding::found;
 pub use hearing::hear;
 pub use joining::{Fell, Joined, join};
 pub use looking::{
     Reign, first_receiver, has_table, is_dropped, knows_live, knows_node, knows_path,
-    knows_receiver, knows_set, knows_table, names_table, set_reign, writer,
+    knows_receiver, knows_set, knows_table, names_table, set_reign, width, writer,
 };
 pub use node_change::Side;
 pub use polling::news_among;

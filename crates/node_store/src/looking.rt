@@ -1,5 +1,5 @@
 // What statements look up at a database that is a node.
-ghost use Rattle.std.specs.Prelude.{◌≡◌, is_some, true, [], ◌∷◌, IfOk};
+ghost use Rattle.std.specs.Prelude.{◌≡◌, is_some, true, IfOk};
 ghost use Rattle.std.specs.List.{list_any};
 ghost use Rattle.std.specs.Option.{option_map};
 ghost use Rattle.std.specs.Str.{bytes_eq};
@@ -274,20 +274,39 @@ pub fn has_table<K: Keeper>(database: &mut Database<K>, name: &Text) -> Result<b
         (base_of K.kept database.old) result (base_of K.kept database.new) }
     ensures same { Remembers (base_of K.kept database.old) result (base_of K.kept database.new) }
 {
-    database.has_table(name)
+    match width(database, name) {
+        Ok(found) => Ok(found.is_some()),
+        Err(fault) => Err(fault),
+    }
 }
 
-/// The least id of an open transaction that wrote this table, if one did.
+/// How many columns the table of this name has at the database, if there is one.
 ///
 /// # Errors
 ///
 /// What stopped the store; the database is down then.
-pub fn writer<K: Keeper>(database: &mut Database<K>, name: &Text) -> Result<Option<u64>, DbFault>
-    requires { database.old.state.up ≡ true }
+pub fn width<K: Keeper>(database: &mut Database<K>, name: &Text) -> Result<Option<u64>, DbFault>
+    requires up { database.old.state.up ≡ true }
+    requires name { IsText name.now }
     ensures acts { Acts (halts result) (base_of K.kept database.old) (base_of K.kept database.new) }
-    ensures looks { Looks (λ p found. found ≡ writer_of (name.now ∷ []) p)
+    ensures looks { Looks (λ p found. found ≡ find_named name.now p.tables)
         (base_of K.kept database.old) result (base_of K.kept database.new) }
     ensures same { Remembers (base_of K.kept database.old) result (base_of K.kept database.new) }
 {
-    Ok(database.writer(name)?)
+    database.width(name)
+}
+
+/// The least id of an open transaction that wrote one of these tables, if one did.
+///
+/// # Errors
+///
+/// What stopped the store; the database is down then.
+pub fn writer<K: Keeper>(database: &mut Database<K>, names: &[Text]) -> Result<Option<u64>, DbFault>
+    requires { database.old.state.up ≡ true }
+    ensures acts { Acts (halts result) (base_of K.kept database.old) (base_of K.kept database.new) }
+    ensures looks { Looks (λ p found. found ≡ writer_of names.now p)
+        (base_of K.kept database.old) result (base_of K.kept database.new) }
+    ensures same { Remembers (base_of K.kept database.old) result (base_of K.kept database.new) }
+{
+    Ok(database.writer(names)?)
 }

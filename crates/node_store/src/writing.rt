@@ -13,7 +13,13 @@ ghost use Rattle.txn_core.specs.Snapshots.{seen_as};
 ghost use Rattle.node_rows.specs.declared.body.Body.TheVariants.{StoreNode};
 ghost use Rattle.node_change.specs.Becoming.{IsNode};
 ghost use Rattle.slon_model.specs.Maps.{entry_at};
-ghost use Rattle.slon_model.specs.Deeds.{Node, Applies, Hears, knowledge, nothing_brought};
+ghost use Rattle.slon_model.specs.Deeds.{Node, Hears, knowledge};
+ghost use Rattle.slon_model.specs.Deeds.{Brought as Rules};
+ghost use Rattle.slon_model.specs.Rows.{Rows};
+ghost use Rattle.store_rows.specs.Space.{Becomes};
+ghost use Rattle.change_apply.specs.Applied.{HoldsRows};
+ghost use Rattle.node_store.specs.Bringing.{CanBring, CanKeep, HasBrought, HasSet, IsBrought};
+ghost use Rattle.node_store.specs.Bringing.{WritesBrought};
 ghost use Rattle.event_store.specs.Keeping.{KeepsViews};
 ghost use Rattle.event_store.specs.Seen.{seen_event};
 ghost use Rattle.event_store.specs.Spellings.{CanSnapshot};
@@ -25,10 +31,14 @@ ghost use Rattle.node_change.specs.Both.{stopped};
 ghost use Rattle.node_store.specs.Midways.{Enters, EntersSecond, EntersBoth, of_event};
 ghost use Rattle.node_store.specs.Joining.{WritesBoth};
 
+use crate::bringing::Brought;
 use crate::layout::{EVENTS, META, STAMP};
 use app_store::begin;
+use change_apply::replace_tables;
 use event_store::{Confirmation, Event};
-use node_change::{Failed, Side, announce, apply, found_node, hear, join_node, sided};
+use node_change::{
+    Failed, Side, announce, apply, apply_keeping, found_node, hear, join_node, sided,
+};
 use node_rows::Body;
 use node_state::{NodeMemory, find_node};
 use slon_base::{Keeper, Text};
@@ -240,26 +250,77 @@ pub(crate) fn write_heard<K: Keeper>(
     put_pair(keeper, META, &STAMP, stamp.as_slice())
 }
 
-/// Begins a transaction, and has the node apply an event of another node, with the stamp of the transaction.
+/// The node applies an event of another node, and takes a set with it, in what is pending.
+fn take_set<K: Keeper>(
+    alloc: Global,
+    keeper: &mut K,
+    own: u32,
+    event: &Event,
+    brought: Brought,
+) -> Result<(), Stop>
+    requires opened { is_some (K.kept keeper.old).pending ≡ true }
+    requires own { IsId own }
+    requires keeps { KeepsViews event.now.body }
+    requires can { CanKeep brought }
+    ensures safe { Safe (K.kept keeper.old) (K.kept keeper.new) result }
+    ensures takes { (n : Node) (m : Store) (b : Rules) (tables : List ℕ → Rows) → n.id ≡ own →
+        (K.kept keeper.old).pending ≡ Some (Some m) → HoldsNode (Some n) m → HoldsRows tables m →
+        CanApply n (seen_event event.now) → IsHomed event.now.body (knowledge n).config → HasSet b brought →
+        Becomes (HasBrought n (seen_event event.now) b tables m) (K.kept keeper.new) result }
+{
+    let Brought { set, view, tables } = brought;
+    apply_keeping(alloc, keeper, own, event, set, &view)?;
+    replace_tables(alloc, keeper, tables)
+}
+
+/// The node applies an event of another node with what comes with it, in what is pending.
+fn take<K: Keeper>(
+    alloc: Global,
+    keeper: &mut K,
+    own: u32,
+    event: &Event,
+    brought: Option<Brought>,
+) -> Result<(), Stop>
+    requires opened { is_some (K.kept keeper.old).pending ≡ true }
+    requires own { IsId own }
+    requires keeps { KeepsViews event.now.body }
+    requires can { CanBring brought }
+    ensures safe { Safe (K.kept keeper.old) (K.kept keeper.new) result }
+    ensures takes { (n : Node) (m : Store) (b : Rules) (tables : List ℕ → Rows) → n.id ≡ own →
+        (K.kept keeper.old).pending ≡ Some (Some m) → HoldsNode (Some n) m → HoldsRows tables m →
+        CanApply n (seen_event event.now) → IsHomed event.now.body (knowledge n).config → IsBrought b brought →
+        Becomes (HasBrought n (seen_event event.now) b tables m) (K.kept keeper.new) result }
+{
+    match brought {
+        None => apply(alloc, keeper, own, event),
+        Some(brought) => take_set(alloc, keeper, own, event, brought),
+    }
+}
+
+/// Begins a transaction, and has the node apply an event of another node with what comes with it, with the stamp of the
+/// transaction.
 pub(crate) fn write_applied<K: Keeper>(
     alloc: Global,
     keeper: &mut K,
     own: u32,
     event: &Event,
+    brought: Option<Brought>,
     stamp: u64,
 ) -> Result<(), Stop>
     requires idle { is_some (K.kept keeper.old).pending ≡ false }
     requires own { IsId own }
     requires keeps { KeepsViews event.now.body }
+    requires can { CanBring brought }
     requires room { stamp < 2 ^ 63 }
     ensures enters { Enters (K.kept keeper.old) (K.kept keeper.new) result }
-    ensures writes { (n : Node) (m : Store) → n.id ≡ own → (K.kept keeper.old).held ≡ Some m → HoldsNode (Some n) m →
-        CanApply n (seen_event event.now) → IsHomed event.now.body (knowledge n).config →
-        WritesDone n m (Applies (seen_event event.now) nothing_brought) stamp result (K.kept keeper.new) }
+    ensures writes { (n : Node) (m : Store) (b : Rules) (tables : List ℕ → Rows) → n.id ≡ own →
+        (K.kept keeper.old).held ≡ Some m → HoldsNode (Some n) m → HoldsRows tables m →
+        CanApply n (seen_event event.now) → IsHomed event.now.body (knowledge n).config → IsBrought b brought →
+        WritesBrought n (seen_event event.now) b tables m stamp result (K.kept keeper.new) }
 {
     let stamp = spelling(alloc, &stamp)?;
     begin(keeper)?;
-    match apply(alloc, keeper, own, event) {
+    match take(alloc, keeper, own, event, brought) {
         Ok(()) => put_pair(keeper, META, &STAMP, stamp.as_slice()),
         Err(stop) => Err(event_stop(stop)),
     }

@@ -11,6 +11,7 @@ use node_store::{
 };
 use slon_base::Text;
 use std::alloc::Global;
+use std::array;
 use std::test::Fail;
 use test_words::{expect, require};
 
@@ -236,7 +237,10 @@ fn expect_writer(
     if text.as_slice().len() > 31 {
         return Err(Fail::new("a long name"));
     }
-    require(writer(node, &text) == Ok(written), "a writer")
+    require(
+        writer(node, array::from_ref(&text)) == Ok(written),
+        "a writer",
+    )
 }
 
 #[test]

@@ -39,7 +39,7 @@ fn take(
     if !own.is_up() || own.node_id().is_none() {
         return Err(Fail::new("no node that is up"));
     }
-    Ok(apply(own, event))
+    Ok(apply(own, event, None))
 }
 
 /// Node 1 stores a path, emits a SYNC, and makes a set with a table; these events wait for node 2.

@@ -1,1 +1,4 @@
 pub mod Abilities
+pub mod Looking
+mod Naming
+mod Finding

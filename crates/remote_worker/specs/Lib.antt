@@ -1,1 +1,3 @@
+pub mod Fetching
+pub mod Looking
 pub mod Working

@@ -1,19 +1,29 @@
 -- What a node takes of what waits there, and what becomes of that where it is applied.
-use Rattle.std.specs.Prelude.{◌≡◌, ◌==◌, ℕ, nat_lt, Bool, true, false, filter, Option, Some, None, Result}
+use Rattle.std.specs.Prelude.{◌≡◌, ◌==◌, ◌+◌, ℕ, nat_lt, Bool, true, false, filter, length, sum_by, Option, Some, None}
+use Rattle.std.specs.Prelude.{option_map, Result}
 use Rattle.std.specs.List.{find}
 use Rattle.slon_model.specs.declared.fault.DbFault.{DbFault}
 use Rattle.slon_model.specs.declared.reply.Answered.{Answered}
-use Rattle.slon_model.specs.declared.reply.EventKind.{EventKind}
 use Rattle.slon_model.specs.Events.{kind_of}
-use Rattle.slon_model.specs.Working.{can_carry_out}
+use Rattle.slon_model.specs.Deeds.{Node, knowledge, progress}
+use Rattle.slon_model.specs.Working as rules
+use Rattle.slon_model.specs.Working.{can_carry_out, copying_in, receives_from}
+use Rattle.change_apply.specs.Copied.{Listed}
 use Rattle.event_store.specs.declared.event.Event.{Event}
 use Rattle.event_store.specs.declared.queue.Queue.{Queue}
+use Rattle.event_store.specs.Keeping.{KeepsViews}
 use Rattle.event_store.specs.Queueing.{waiting}
 use Rattle.event_store.specs.Seen.{seen_event}
 use Rattle.app_store.specs.Base.{Base}
-use Rattle.node_store.specs.Acting.{AppliesOne}
+use Rattle.node_store.specs.declared.bringing.Brought.{Brought}
+use Rattle.node_store.specs.Bringing.{AppliesWith}
+use Rattle.remote_worker.specs.declared.carrying.Copying.{Copying}
 use Rattle.remote_worker.specs.declared.worker.Next.{Next}
 use Rattle.remote_worker.specs.declared.worker.Next.TheVariants.{Due, Missing, NotBuilt}
+use Rattle.remote_worker.specs.declared.worker.Fetched.{Fetched}
+use Rattle.remote_worker.specs.declared.worker.Ready.{Ready}
+use Rattle.remote_worker.specs.declared.worker.Taken.{Taken}
+use Rattle.remote_worker.specs.declared.worker.Worker.{Worker}
 
 -- ---- what waits
 
@@ -21,25 +31,61 @@ use Rattle.remote_worker.specs.declared.worker.Next.TheVariants.{Due, Missing, N
 abbrev pub waits_as : ℕ → ℕ → Queue → Option Event
 waits_as origin number queue = find (λ e. e.number == number) (waiting origin queue)
 
--- it waits, the node of this id can carry it out, and it is of this kind
-abbrev pub IsDue : ℕ → Option Event → EventKind → Type 0
-IsDue own found kind =
-    (e : Event) × (found ≡ Some e) × (can_carry_out own e.body ≡ true) × (kind ≡ kind_of e.body)
+-- the set that is copied, by the rules
+abbrev pub seen_copying : Copying → rules.Copying
+seen_copying c = record { set_id = c.set; provider = c.provider; era = c.era }
+
+-- It waits, a node that receives sets from its origin, or none, can carry it out, and this is known of it by the node
+-- of this id.
+pub record IsDue (own : ℕ) (receives : Bool) (found : Option Event) (taken : Taken) : Type 0 where
+  pub event : Event
+  pub is : found ≡ Some event
+  pub can : can_carry_out receives event.body ≡ true
+  pub kind : taken.kind ≡ kind_of event.body
+  pub copying : option_map seen_copying taken.copying ≡ copying_in own event.body
+
+-- which event of an origin comes next at a node
+pub record IsReady (origin : ℕ) (n : Node) (w : Worker Ready) : Type 0 where
+  pub node : w.node ≡ n.id
+  pub number : w.state.number ≡ progress origin (knowledge n) + 1
+  pub receives : w.state.receives ≡ receives_from origin (knowledge n)
+
+-- the event that was found leaves how far the node is in sets
+abbrev pub IsAble : Option Event → Type 0
+IsAble found = (e : Event) × (found ≡ Some e) × KeepsViews e.body
+
+-- the event is the same, and this comes with it
+pub record IsWith (taken : Worker Taken) (brought : Option Brought) (w : Worker Fetched) : Type 0 where
+  pub node : w.node ≡ taken.node
+  pub origin : w.origin ≡ taken.origin
+  pub number : w.state.number ≡ taken.state.number
+  pub kind : w.state.kind ≡ taken.state.kind
+  pub brought_is : w.state.brought ≡ brought
+
+-- how many rows tables have
+abbrev pub rows_in : Listed → ℕ
+rows_in tables = sum_by (λ t. length t.1) tables
+
+abbrev pub rows_given : Option Brought → ℕ
+rows_given None = 0
+rows_given (Some brought) = rows_in brought.tables
 
 -- what the node of this id takes of the event of an origin with this number
-abbrev pub Takes : ℕ → ℕ → ℕ → Queue → Next → Type 0
-Takes own origin number queue (Due w) =
-    (w.node ≡ own) × (w.origin ≡ origin) × (w.state.number ≡ number)
-    × IsDue own (waits_as origin number queue) w.state.kind
-Takes own origin number queue Missing = waits_as origin number queue ≡ None
-Takes own origin number queue NotBuilt =
-    (e : Event) × (waits_as origin number queue ≡ Some e) × (can_carry_out own e.body ≡ false)
+abbrev pub Takes : Worker Ready → Queue → Next → Type 0
+Takes ready queue (Due w) =
+    (w.node ≡ ready.node) × (w.origin ≡ ready.origin) × (w.state.number ≡ ready.state.number)
+    × IsDue ready.node ready.state.receives (waits_as ready.origin ready.state.number queue) w.state
+Takes ready queue Missing = waits_as ready.origin ready.state.number queue ≡ None
+Takes ready queue NotBuilt =
+    (e : Event) × (waits_as ready.origin ready.state.number queue ≡ Some e)
+    × (can_carry_out ready.state.receives e.body ≡ false)
 
 -- ---- where it is applied
 
--- the node applies the event that was found, in one commit
-abbrev pub Applies : Option Event → Base → Result Answered DbFault → Base → Type 0
-Applies found old result new = (e : Event) → found ≡ Some e → AppliesOne (seen_event e) old result new
+-- the node applies the event that was found with what it brings, in one commit
+abbrev pub Applies : Option Event → Option Brought → Base → Result Answered DbFault → Base → Type 0
+Applies found brought old result new =
+    (e : Event) → found ≡ Some e → AppliesWith (seen_event e) brought old result new
 
 -- the events of an origin up to this number wait no more
 pub record Drops (origin number : ℕ) (old new : Queue) : Type 0 where

@@ -1,10 +1,12 @@
 //! The slon of a node as it applies an event of another node: which one comes next, whether it waits and the node can
-//! carry it out, and the one commit. Each state of that work is a type of its own.
+//! carry it out, what comes with it, and the one commit. Each state of that work is a type of its own.
 #![tactic(auto)]
 
 mod carrying;
+mod fetching;
 mod reading;
 mod worker;
 
-pub use carrying::{can_carry_out, kind_of};
-pub use worker::{Next, Ready, Taken, Worker};
+pub use carrying::{Copying, can_carry_out, copying_in, kind_of};
+pub use fetching::Found;
+pub use worker::{Fetched, Next, Ready, Taken, Worker};

@@ -1,21 +1,24 @@
 // The states of the work of a node. Each is a value that holds what the next one needs.
-ghost use Rattle.std.specs.Prelude.{◌≡◌, ◌+◌, true, is_some, IfOk, IfErr};
+ghost use Rattle.std.specs.Prelude.{◌≡◌, true, is_some, IfOk, IfErr};
 ghost use Rattle.store_rows.specs.Rows.{IsId};
-ghost use Rattle.slon_model.specs.Deeds.{knowledge, progress};
 ghost use Rattle.app_store.specs.Base.{base_of};
 ghost use Rattle.app_store.specs.Parts.{Looks, Remembers};
 ghost use Rattle.app_store.specs.Serves.{answered, halts, trouble};
 ghost use Rattle.node_store.specs.Acting.{Acts, joined, own_id};
+ghost use Rattle.node_store.specs.Bringing.{CanBring};
 ghost use Rattle.node_store.specs.Polling.{OfNode};
-ghost use Rattle.remote_worker.specs.Working.{waits_as, IsDue, Takes, Applies, DropsUnless};
+ghost use Rattle.remote_worker.specs.Working.{waits_as, rows_given, rows_in, Applies, DropsUnless, IsAble, IsReady};
+ghost use Rattle.remote_worker.specs.Working.{IsWith, Takes};
 
-use crate::carrying::{can_carry_out, kind_of};
-use crate::reading::next_number;
+use crate::carrying::{Copying, can_carry_out, copying_in, kind_of};
+use crate::reading::next_of;
 use app_store::{Database, DbFault, fall};
 use event_store::Queue;
 use node_keeper::Keeper;
-use node_store::apply;
+use node_store::{Brought, apply};
+use slon_base::{Many, Text, TextList};
 use slon_model::EventKind;
+use std::alloc::AllocError;
 
 /// Where the node of this id is with the events of an origin.
 #[derive(Drop)]
@@ -33,6 +36,8 @@ pub struct Worker<S: Drop> {
 pub struct Ready {
     /// Its number: one more than that of the last one that the node has met.
     pub number: u64,
+    /// Whether the node receives a set of the origin.
+    pub receives: bool,
 }
 
 /// That event waits, and the node can carry it out.
@@ -42,6 +47,19 @@ pub struct Taken {
     pub number: u64,
     /// Its kind.
     pub kind: EventKind,
+    /// The set that the node is to copy with it, if it is to copy one.
+    pub copying: Option<Copying>,
+}
+
+/// All is there that comes with the event.
+#[derive(Drop)]
+pub struct Fetched {
+    /// Its number.
+    pub number: u64,
+    /// Its kind.
+    pub kind: EventKind,
+    /// What comes with it.
+    pub brought: Option<Brought>,
 }
 
 /// What there is for a node to apply.
@@ -67,18 +85,17 @@ impl Worker<Ready> {
         requires origin { IsId origin }
         ensures acts { Acts (halts result) (base_of K.kept own.old) (base_of K.kept own.new) }
         ensures own { IfOk result (λ w. (w.node ≡ own_id own.old.state.node.identity) × (w.origin ≡ origin)) }
-        ensures looks { Looks (OfNode (λ n w. (w.node ≡ n.id) × (w.state.number ≡ progress origin (knowledge n) + 1)))
-            (base_of K.kept own.old) result (base_of K.kept own.new) }
+        ensures looks { Looks (OfNode (IsReady origin)) (base_of K.kept own.old) result (base_of K.kept own.new) }
         ensures same { Remembers (base_of K.kept own.old) result (base_of K.kept own.new) }
     {
         let Some(node) = own.node_id() else {
             return Err(DbFault::Down);
         };
-        match next_number(own.alloc, &mut own.keeper, node, origin) {
-            Ok(number) => Ok(Worker {
+        match next_of(own.alloc, &mut own.keeper, node, origin) {
+            Ok((number, receives)) => Ok(Worker {
                 node,
                 origin,
-                state: Ready { number },
+                state: Ready { number, receives },
             }),
             Err(stop) => Err(fall(own.alloc, &mut own.state, &own.keeper, stop)),
         }
@@ -86,33 +103,88 @@ impl Worker<Ready> {
 
     /// Takes the event that comes next, where it waits and the node can carry it out.
     pub fn take(self, queue: &Queue) -> Next
-        ensures { Takes self.node self.origin self.state.number queue.now result }
+        ensures { Takes self queue.now result }
     {
         let Worker {
             node,
             origin,
             state,
         } = self;
-        let number = state.number;
+        let Ready { number, receives } = state;
         let Some(event) = queue.get(origin, number) else {
             return Next::Missing;
         };
-        if !can_carry_out(node, &event.body) {
+        if !can_carry_out(receives, &event.body) {
             return Next::NotBuilt;
         }
-        let kind = kind_of(&event.body);
+        let state = Taken {
+            number,
+            kind: kind_of(&event.body),
+            copying: copying_in(node, &event.body),
+        };
         Next::Due(Worker {
             node,
             origin,
-            state: Taken { number, kind },
+            state,
         })
     }
 }
 
 impl Worker<Taken> {
-    /// The node, whose database this is, applies the event that was taken of this queue, in one transaction; then that
-    /// event waits no more, nor does what is before it. Answers whether the commit is in doubt: the database is down
-    /// then, and the same waits as before.
+    /// Nothing comes with the event but what it says, or this set.
+    pub fn with(self, brought: Option<Brought>) -> Worker<Fetched>
+        ensures { IsWith self brought result }
+    {
+        let Worker {
+            node,
+            origin,
+            state,
+        } = self;
+        let Taken { number, kind, .. } = state;
+        Worker {
+            node,
+            origin,
+            state: Fetched {
+                number,
+                kind,
+                brought,
+            },
+        }
+    }
+}
+
+/// How many rows these tables have.
+fn count_rows(tables: &[(Text, Many<(Text, TextList)>)]) -> Result<u64, AllocError>
+    ensures { IfOk result (λ count. count ≡ rows_in tables.now) }
+{
+    let mut count: u64 = 0;
+    for (_, rows) in tables {
+        let Some(more) = count.checked_add(rows.len() as u64) else {
+            return Err(AllocError);
+        };
+        count = more;
+    }
+    Ok(count)
+}
+
+impl Worker<Fetched> {
+    /// How many rows come with the event.
+    ///
+    /// # Errors
+    ///
+    /// `AllocError` where there are more than a number can tell.
+    pub fn rows(&self) -> Result<u64, AllocError>
+        ensures { IfOk result (λ count. count ≡ rows_given self.now.state.brought) }
+    {
+        match &self.state.brought {
+            None => Ok(0),
+            Some(brought) => count_rows(brought.tables.as_slice()),
+        }
+    }
+
+    /// The node, whose database this is, applies the event, which waits in this queue, with what comes with it, in one
+    /// transaction; then that event waits no more, nor does what is before it. Answers whether the commit is in doubt:
+    /// the database is down then, and the same waits as before.
     ///
     /// # Errors
     ///
@@ -124,20 +196,27 @@ impl Worker<Taken> {
     ) -> Result<bool, DbFault>
         requires up { own.old.state.up ≡ true }
         requires node { is_some own.old.state.node.identity ≡ true }
-        requires due { IsDue self.node (waits_as self.origin self.state.number queue.old) self.state.kind }
+        requires due { IsAble (waits_as self.origin self.state.number queue.old) }
+        requires can { CanBring self.state.brought }
         ensures acts { Acts (trouble (answered joined result)) (base_of K.kept own.old) (base_of K.kept own.new) }
-        ensures applies { Applies (waits_as self.origin self.state.number queue.old)
+        ensures applies { Applies (waits_as self.origin self.state.number queue.old) self.state.brought
             (base_of K.kept own.old) (answered joined result) (base_of K.kept own.new) }
         ensures queue { IfOk result (DropsUnless self.origin self.state.number queue.old queue.new) }
         ensures stays { IfErr result (λ fault. queue.new ≡ queue.old) }
     {
-        let Some(event) = queue.get(self.origin, self.state.number) else {
+        let Worker { origin, state, .. } = self;
+        let Fetched {
+            number,
+            brought,
+            ..
+        } = state;
+        let Some(event) = queue.get(origin, number) else {
             return Err(DbFault::Down);
         };
-        if apply(own, event)? {
+        if apply(own, event, brought)? {
             return Ok(true);
         }
-        queue.drop_to(self.origin, self.state.number);
+        queue.drop_to(origin, number);
         Ok(false)
     }
 }

@@ -34,7 +34,8 @@ use Rattle.slon_model.specs.Turns.{is_id, at_node, switched, switched_at, is_cut
 use Rattle.slon_model.specs.Turns.{turned, turned_by, taken_turn, is_synced, sync_turn}
 use Rattle.slon_model.specs.Polls.{Poll, poll_of, hears_none, linked, server_for, brings_nothing, polled, hearing}
 use Rattle.slon_model.specs.Polls.{stated_by, left_by}
-use Rattle.slon_model.specs.Working.{Carried, Copying, next_at, can_carry_out, taken_up, width_checks, copy_checks}
+use Rattle.slon_model.specs.Working.{Carried, Copying, next_at, can_carry_out, receives_from, taken_up}
+use Rattle.slon_model.specs.Working.{width_checks, copy_checks}
 use Rattle.slon_model.specs.Working.{linked_to, provided, still_leads, copy_of, copied, copying_in, brought_by, worked}
 use Rattle.slon_model.specs.Working.{applied_by, taken_from}
 use Rattle.slon_model.specs.Membership.{synced}
@@ -277,11 +278,11 @@ left_scripts others b m = refl
 
 -- ---- events that are applied
 
-taken_gives : (s : Seat) (o : Option Event) → IsSeat s → Gives (λ e. IsSeat s) (taken_up s o)
-taken_gives s None named = tt
-taken_gives s (Some e) named =
+taken_gives : (origin : ℕ) (s : Seat) (o : Option Event) → IsSeat s → Gives (λ e. IsSeat s) (taken_up origin s o)
+taken_gives origin s None named = tt
+taken_gives origin s (Some e) named =
     checked_gives (λ e. IsSeat s)
-    (when (not (can_carry_out s.node.id e.body)) (refused.NotBuilt (codes "work")) ∷ []) e
+    (when (not (can_carry_out (receives_from origin s.known) e.body)) (refused.NotBuilt (codes "work")) ∷ []) e
     (when_tells _ (refused.NotBuilt (codes "work")) refl, tt) named
 
 -- what is given has this too, where all that is not refused has it
@@ -353,8 +354,8 @@ worked_gives node origin w known =
     bind_gives (λ s. IsSeat s × Seats.IsSeat w.places s) IsWork (on_turn node w) _
     (also_gives IsSeat (Seats.IsSeat w.places) (on_turn node w) (turn_reads node w known)
     (turn_ok node w known.regular.once))
-    (λ s is. bind_gives (λ e. IsSeat s) IsWork (taken_up s (next_at w.memory s origin)) _
-    (taken_gives s (next_at w.memory s origin) is.0)
+    (λ s is. bind_gives (λ e. IsSeat s) IsWork (taken_up origin s (next_at w.memory s origin)) _
+    (taken_gives origin s (next_at w.memory s origin) is.0)
     (λ e named. bind_gives (λ b. Unit {0}) IsWork (brought_by w s e (copying_in s.node.id e.body)) _
     (brought_gives w s e (copying_in s.node.id e.body) known is.1) (λ b any. named)))
 

@@ -37,7 +37,7 @@ use Rattle.slon_laws.specs.Spelled.{IsSpelled, AreFormed, FillsFormed}
 use Rattle.slon_laws.specs.Turning.{AllHold, HoldsAt, IsFormed, IsWithin}
 use Rattle.slon_laws.specs.Worlds.{AllPlaces}
 use Rattle.slon_laws.proofs.Formed.{standing_formed}
-use Rattle.slon_laws.proofs.Results.{OnOk, any_bind, bind_ok, kept_ok}
+use Rattle.slon_laws.proofs.Results.{OnOk, any_bind, bind_ok, kept_ok, ok_then}
 use Rattle.slon_laws.proofs.Leaves.{outcome_has}
 
 -- ---- lists
@@ -64,7 +64,7 @@ all_find P test (x ∷ xs) all =
 abbrev AreFilling : List Commit → Type 0
 AreFilling cs = AllByRecursion FillsFormed cs
 
-abbrev AreFilled : Named Rows → Type 0
+abbrev pub AreFilled : Named Rows → Type 0
 AreFilled rs = AllByRecursion (λ r. AreFormed r.1) rs
 
 -- events of a node bring nothing
@@ -177,13 +177,20 @@ brought_fills w all s e (Some c) =
     (provided_spelled c.provider w.memory s (at_node c.provider w)
     (all_find (λ e. IsSpelled e.1) _ w.places all)) (copied_fills c s e)
 
+-- what a turn brings has rows that have their forms
+pub work_brings : (w : World) → AllPlaces IsSpelled w → (node origin : ℕ) →
+    OnOk (λ c. AreFilled c.brought.rows) (worked node origin w)
+work_brings w all node origin =
+    any_bind _ (on_turn node w) _ (λ s. any_bind _ (taken_up origin s (next_at w.memory s origin)) _
+    (λ e. bind_ok (λ b. AreFilled b.rows) (λ c. AreFilled c.brought.rows)
+    (brought_by w s e (copying_in s.node.id e.body)) _ (brought_fills w all s e (copying_in s.node.id e.body))
+    (λ b is. is)))
+
 work_fills : (w : World) → AllPlaces IsSpelled w → (node origin : ℕ) →
     OnOk (λ c. AreFilling (applied_by c).commits) (worked node origin w)
 work_fills w all node origin =
-    any_bind _ (on_turn node w) _ (λ s. any_bind _ (taken_up s (next_at w.memory s origin)) _
-    (λ e. bind_ok (λ b. AreFilled b.rows) (λ c. AreFilling (applied_by c).commits)
-    (brought_by w s e (copying_in s.node.id e.body)) _ (brought_fills w all s e (copying_in s.node.id e.body))
-    (λ b is. ((is, tt), tt))))
+    ok_then (λ c. AreFilled c.brought.rows) (λ c. AreFilling (applied_by c).commits) (worked node origin w)
+    (work_brings w all node origin) (λ c is. ((is, tt), tt))
 
 -- ---- every command
 

@@ -4,6 +4,7 @@ pub mod Committing
 pub mod Covering
 pub mod Decides
 pub mod Drawing
+pub mod Fillable
 pub mod Formed
 pub mod Keeps
 pub mod Keys

@@ -1,7 +1,9 @@
 -- What holds of the result of checks and of steps that may be refused.
-use Rattle.std.proofs.Common.{◌≡◌, Bool, true, false, List, [], ◌∷◌, Option, Some, None, Result, Ok, Err, refl}
+use Rattle.std.proofs.Common.{◌≡◌, ℕ, Bool, true, false, List, [], ◌∷◌, ◌++◌, Option, Some, None, Result, Ok, Err, refl}
 use Rattle.std.specs.List.{AllByRecursion}
+use Rattle.std.specs.Prelude.{option_map}
 use Rattle.slon_model.specs.declared.reply.Refusal.{Refusal}
+use Rattle.slon_model.specs.declared.reply.Refusal.TheVariants as refused
 use Rattle.slon_model.specs.Sessions.{bind, when, first_refusal, unless_refused, checked}
 
 -- P of what there is, if it was not refused
@@ -41,6 +43,12 @@ pub none_first : (o : Option Refusal) (more : List (Option Refusal)) → first_r
 none_first None more none = (refl, none)
 none_first (Some refusal) more none = absurd cc
 
+-- where none of several looks at something that refuses, the last one does not
+pub last_none : (checks : List (Option Refusal)) (o : Option Refusal) → first_refusal (checks ++ o ∷ []) ≡ None →
+    o ≡ None
+last_none [] o none = (none_first o [] none).0
+last_none (check ∷ more) o none = last_none more o (none_first check (more ++ o ∷ []) none).1
+
 pub all_none : (checks : List (Option Refusal)) → first_refusal checks ≡ None → AllByRecursion (λ o. o ≡ None) checks
 all_none [] none = tt
 all_none (o ∷ more) none = let parts = none_first o more none in (parts.0, all_none more parts.1)
@@ -48,3 +56,7 @@ all_none (o ∷ more) none = let parts = none_first o more none in (parts.0, all
 pub when_none : (b : Bool) (refusal : Refusal) → when b refusal ≡ None → b ≡ false
 when_none true refusal none = absurd cc
 when_none false refusal none = refl
+
+pub none_busy : (o : Option ℕ) → option_map refused.Busy o ≡ None → o ≡ None
+none_busy None none = refl
+none_busy (Some xid) none = absurd cc

@@ -2,9 +2,11 @@
 use Rattle.std.specs.Prelude.{ℕ, ◌+◌, ◌==◌, ◌&&◌, if◌then◌else◌, not, is_none, nat_lt, Bool, true, false, List, [], ◌∷◌}
 use Rattle.std.specs.Prelude.{◌++◌, codes, filter, find, length, map, sum_by, Option, Some, None, option_map, unwrap_or}
 use Rattle.std.specs.Prelude.{Result, Ok, Err}
+use Rattle.std.specs.List.{list_any}
 use Rattle.std.specs.FinMap.{entries}
 use Rattle.node_rows.specs.declared.body.Body.{Body}
-use Rattle.node_rows.specs.declared.body.Body.TheVariants.{DropSet, EnableSubscription, MoveSet, AcceptSet, FailoverSet}
+use Rattle.node_rows.specs.declared.body.Body.TheVariants.{Sync, DropSet, EnableSubscription, MoveSet, AcceptSet}
+use Rattle.node_rows.specs.declared.body.Body.TheVariants.{FailoverSet}
 use Rattle.slon_model.specs.declared.reply.Answer.TheVariants.{Applied}
 use Rattle.slon_model.specs.declared.reply.Refusal.{Refusal}
 use Rattle.slon_model.specs.declared.reply.Refusal.TheVariants as refused
@@ -13,7 +15,7 @@ use Rattle.slon_model.specs.Maps.{with_entry}
 use Rattle.slon_model.specs.Events.{Event, kind_of}
 use Rattle.slon_model.specs.Config.{has_path, is_known, is_origin, era_of, names_of}
 use Rattle.slon_model.specs.Views.{first_view}
-use Rattle.slon_model.specs.Deeds.{Brought, Applies, nothing_brought, progress}
+use Rattle.slon_model.specs.Deeds.{Brought, Applies, Knowledge, nothing_brought, progress}
 use Rattle.slon_model.specs.Place.{Place, deed, standing_rows, taken}
 use Rattle.slon_model.specs.Sessions.{World, Memory, Stated, Outcome, Seat, bind, when, checked, writer_of}
 use Rattle.slon_model.specs.Turns.{at_node, seat_at, is_cut, on_turn, taken_turn}
@@ -25,22 +27,27 @@ next_at m s origin = find (λ e. e.number == progress origin s.known + 1) (line_
 
 -- ---- what cannot be carried out yet
 
--- The node of this id can carry out what the event says. It copies no set yet, and takes over none.
-abbrev pub can_carry_out : ℕ → Body → Bool
-can_carry_out own (EnableSubscription set provider receiver forward era) = not (receiver == own)
-can_carry_out own (DropSet set) = false
-can_carry_out own (MoveSet set old new era feeds) = false
-can_carry_out own (AcceptSet set old new era moved) = false
-can_carry_out own (FailoverSet failed limit sets) = false
-can_carry_out own others = true
+-- the node keeps a set that had this origin
+abbrev pub receives_from : ℕ → Knowledge → Bool
+receives_from origin k = list_any (λ v. v.1.origin == origin) k.views
+
+-- A node can carry out what an event says that comes from an origin of which it receives sets, or of which it receives
+-- none. It brings no rows with a SYNC yet, and takes over no set.
+abbrev pub can_carry_out : Bool → Body → Bool
+can_carry_out receives Sync = not receives
+can_carry_out receives (DropSet set) = false
+can_carry_out receives (MoveSet set old new era feeds) = false
+can_carry_out receives (AcceptSet set old new era moved) = false
+can_carry_out receives (FailoverSet failed limit sets) = false
+can_carry_out receives others = true
 
 -- 60, 98
-abbrev pub taken_up : Seat → Option Event → Result Event Refusal
-taken_up s None = Err refused.Nothing
-taken_up s (Some e) =
-    checked (when (not (can_carry_out s.node.id e.body)) (refused.NotBuilt (codes "work")) ∷ []) e
+abbrev pub taken_up : ℕ → Seat → Option Event → Result Event Refusal
+taken_up origin s None = Err refused.Nothing
+taken_up origin s (Some e) =
+    checked (when (not (can_carry_out (receives_from origin s.known) e.body)) (refused.NotBuilt (codes "work")) ∷ []) e
 
--- ---- a copy, which no turn comes to yet
+-- ---- a copy
 
 -- A set that the node is to copy, from which node, and the era of the set in which it was told so.
 pub record Copying : Type 0 where
@@ -112,6 +119,22 @@ abbrev pub brought_by : World → Seat → Event → Option Copying → Result B
 brought_by w s e None = Ok nothing_brought
 brought_by w s e (Some c) = copied_from c w.memory s e (at_node c.provider w)
 
+-- the database that is read for that, besides the node's own
+abbrev pub source_by : World → Option Copying → Option (List ℕ × Place)
+source_by w None = None
+source_by w (Some c) = at_node c.provider w
+
+abbrev pub source_for : World → Seat → Option Event → Option (List ℕ × Place)
+source_for w s None = None
+source_for w s (Some e) = source_by w (copying_in s.node.id e.body)
+
+abbrev pub source_at : World → ℕ → Result Seat Refusal → Option (List ℕ × Place)
+source_at w origin (Err refusal) = None
+source_at w origin (Ok s) = source_for w s (next_at w.memory s origin)
+
+abbrev pub source_of : ℕ → ℕ → World → Option (List ℕ × Place)
+source_of node origin w = source_at w origin (on_turn node w)
+
 -- ---- the turn
 
 -- An event that a node applies: the node at its seat, the event, and what it brings.
@@ -129,7 +152,7 @@ carried_at w s e = bind (brought_by w s e (copying_in s.node.id e.body)) (λ b. 
 -- 44, 16, 67 of the node, 60, 98, and the refusals of a copy
 abbrev pub worked : ℕ → ℕ → World → Result Carried Refusal
 worked node origin w =
-    bind (on_turn node w) (λ s. bind (taken_up s (next_at w.memory s origin)) (carried_at w s))
+    bind (on_turn node w) (λ s. bind (taken_up origin s (next_at w.memory s origin)) (carried_at w s))
 
 -- how many rows come with it
 abbrev pub rows_in : Brought → ℕ

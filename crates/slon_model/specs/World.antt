@@ -30,7 +30,7 @@ use Rattle.slon_model.specs.Sessions.{Memory, Running, Commit, in_doubt, stand, 
 use Rattle.slon_model.specs.Scripts.{slonik_outcome, step_outcome, kill_outcome, without_script}
 use Rattle.slon_model.specs.Turns.{at_node, start_outcome, stop_outcome, cut_outcome, join_outcome, sync_outcome}
 use Rattle.slon_model.specs.Polls.{listen_outcome}
-use Rattle.slon_model.specs.Working.{work_outcome}
+use Rattle.slon_model.specs.Working.{work_outcome, source_of}
 use Rattle.slon_model.specs.Printed.{reply_line}
 
 -- ---- replies
@@ -139,13 +139,13 @@ abbrev pub is_of : List ℕ → Option (List ℕ × Place) → Bool
 is_of name None = false
 is_of name (Some e) = bytes_eq name e.0
 
--- a step may call on the store of each database, where something is left to do; a turn on that of its node, and a poll
--- on that of the server too
+-- a step may call on the store of each database, where something is left to do; a turn on that of its node, a poll on
+-- that of the server too, and a turn that copies on that of the provider
 abbrev pub may_break : Act → List ℕ → World → Bool
 may_break (ToStep script) name w = has_todo (find_named script w.memory.scripts)
 may_break (ToSync node) name w = is_of name (at_node node w)
 may_break (ToListen node server delivery) name w = is_of name (at_node node w) || is_of name (at_node server w)
-may_break (ToWork node origin) name w = is_of name (at_node node w)
+may_break (ToWork node origin) name w = is_of name (at_node node w) || is_of name (source_of node origin w)
 may_break others name w = false
 
 -- the script ends

@@ -1,5 +1,5 @@
 // Nodes that apply the events of one another: in their order, each once, and what comes of it where the store fails.
-use crate::polls::{DATABASES, NODES, PAIR, STARTED, expect_each, expect_lines};
+use crate::polls::{DATABASES, NODES, PAIR, STARTED, expect_each};
 use crate::running::{NOTHING, run};
 use crate::wanted::{Step, is_among, nothing_wanted};
 use node_keeper::MemSink;
@@ -90,37 +90,6 @@ const APPLIED: &[&[Step]] = &[
 #[test]
 fn events_are_applied(rt: HostRuntime) -> Result<(), Fail> {
     expect_each(rt.alloc(), PAIR, STARTED, APPLIED)
-}
-
-/// A subscription at the origin, behind the events of `PAIR`.
-const SUBSCRIBED: &[Step] = &[
-    ("init cluster (id = 1);", "ok"),
-    ("store node (id = 2, event node = 1);", "ok event 1 1"),
-    (
-        "store path (server = 1, client = 2, conninfo = 'dbname=a');",
-        "ok event 2 1",
-    ),
-    ("create set (id = 1, origin = 1);", "ok event 1 2"),
-    (
-        "subscribe set (id = 1, provider = 1, receiver = 2);",
-        "ok event 1 5",
-    ),
-];
-
-/// The receiver applies all up to the event by which it is to copy the set, which cannot be done yet.
-const UP_TO_THE_COPY: &[Step] = &[
-    ("listen 2 1", "ok events 4 confirms 0"),
-    ("work 2 1", "ok STORE_SET 2 rows 0"),
-    ("work 2 1", "ok SYNC 3 rows 0"),
-    ("work 2 1", "ok SUBSCRIBE_SET 4 rows 0"),
-    ("work 2 1", "no 98 notbuilt work"),
-    ("work 2 1", "no 98 notbuilt work"),
-    ("status b", "ok node 2 log 0 progress 1 4 progress 2 1"),
-];
-
-#[test]
-fn copies_are_refused(rt: HostRuntime) -> Result<(), Fail> {
-    expect_lines(rt.alloc(), SUBSCRIBED, STARTED, UP_TO_THE_COPY)
 }
 
 /// The replies to an event that is applied while the store of the node fails behind this number of calls, and to the

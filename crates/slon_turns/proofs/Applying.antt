@@ -1,10 +1,9 @@
 -- What the work of a node comes to at its database, by the calls that it makes on it.
 use Rattle.std.proofs.Common.{◌≡◌, ◌∙◌, ◌+◌, ◌==◌, ℕ, Bool, true, false, cond, not, List, [], ◌∷◌, map, filter}
 use Rattle.std.proofs.Common.{Option, Some, None, Result, Ok, Err, refl, sym, ap, subst}
-use Rattle.std.proofs.lemmas.Bool.{false≢true}
-use Rattle.std.specs.Prelude.{◌&&◌, nat_lt, codes, IfOk, IfErr}
+use Rattle.std.specs.Prelude.{nat_lt, codes, IfOk, IfErr}
 use Rattle.std.specs.Cmp.{nat_eq_equiv}
-use Rattle.std.specs.List.{find, list_all}
+use Rattle.std.specs.List.{find}
 use Rattle.std.specs.Option.{option_map}
 use Rattle.slon_base.specs.declared.fault.Halt.TheVariants.{Fault}
 use Rattle.slon_model.specs.declared.fault.DbFault.{DbFault}
@@ -16,37 +15,43 @@ use Rattle.slon_model.specs.declared.reply.Reply.{Reply}
 use Rattle.slon_model.specs.declared.reply.Reply.TheVariants as replied
 use Rattle.slon_model.specs.Maps.{Map, with_entry}
 use Rattle.slon_model.specs.Events.{Event, kind_of}
-use Rattle.slon_model.specs.Deeds.{knowledge, progress}
+use Rattle.slon_model.specs.Deeds.{Brought, knowledge, progress}
 use Rattle.slon_model.specs.Sessions.{Memory, bind, checked, when}
 use Rattle.slon_model.specs.Polls.{line_of, queue_at}
 use Rattle.slon_model.specs.Tasks.{Words}
-use Rattle.slon_model.specs.Working.{Carried, can_carry_out, next_at, taken_up}
+use Rattle.slon_model.specs.Working.{Carried, can_carry_out, carried, copying_in, next_at, receives_from, taken_up}
+use Rattle.slon_model.specs.Working.{rows_in as rows_brought}
 use Rattle.slon_model.specs.World.{reply_of, refusal_of}
 use Rattle.set_config.proofs.Entries.{eq_of}
 use Rattle.event_store.specs.declared.event.Event as declared
 use Rattle.event_store.specs.declared.queue.Queue.{Queue}
 use Rattle.event_store.specs.Queueing.{waiting}
 use Rattle.event_store.specs.Seen.{seen_event}
-use Rattle.event_store.proofs.Queues.{waiting_of}
 use Rattle.app_store.specs.Base.{Base}
 use Rattle.app_store.specs.Fits.{Fits}
 use Rattle.app_store.specs.Parts.{FellTo, Fell}
 use Rattle.app_store.specs.Serves.{answered, is_memory, trouble}
 use Rattle.node_store.specs.Acting.{joined}
+use Rattle.node_store.specs.Bringing.{CanBring}
 use Rattle.remote_listener.specs.Queues.{FitsQueue}
 use Rattle.remote_listener.proofs.Lines.{line_with}
+use Rattle.remote_worker.specs.declared.worker.Fetched.{Fetched}
 use Rattle.remote_worker.specs.declared.worker.Next.TheVariants.{Due}
 use Rattle.remote_worker.specs.declared.worker.Ready.{Ready as IsReady}
 use Rattle.remote_worker.specs.declared.worker.Taken.{Taken}
 use Rattle.remote_worker.specs.declared.worker.Worker.{Worker}
-use Rattle.remote_worker.specs.Working.{waits_as, IsDue, Takes, Applies, Drops, DropsUnless}
+use Rattle.remote_worker.specs.Working.{rows_given, waits_as, Applies, Drops, DropsUnless, IsDue, Takes}
+use Rattle.remote_worker.proofs.Abilities.{found_is}
 use Rattle.slonik_exec.specs.Answering.{RefusesAt, BreaksAt}
 use Rattle.slonik_exec.proofs.Asking.{one_place}
 use Rattle.slonik_exec.proofs.Telling.{words_at}
 use Rattle.slonik_exec.proofs.Works.{commits_due}
 use Rattle.slon_turns.specs.Polling.{Waits}
 use Rattle.slon_turns.specs.Working.{stated_work, left_by_work}
-use Rattle.slon_turns.specs.Applying.{applied_as, due_at, plainly, Post, seat_in, PostFits, WorksHere, AppliesAt}
+use Rattle.slon_turns.specs.Applying.{applied_as, brought_with, due_at, AppliesAt, Finder, Post, PostFits}
+use Rattle.slon_turns.specs.Applying.{seat_in, WorksHere}
+use Rattle.slon_turns.specs.Planning.{IsPlanned}
+use Rattle.slon_turns.proofs.Counted.{rows_counted}
 use Rattle.slon_turns.proofs.Acted.{acts_as}
 use Rattle.slon_turns.proofs.Waiting.{queue_here}
 
@@ -101,6 +106,7 @@ pub record IsNext (s : Post) (origin : ℕ) (w : Worker IsReady) : Type 0 where
   pub node : w.node ≡ s.node.id
   pub origin_is : w.origin ≡ origin
   pub number : w.state.number ≡ progress origin (knowledge s.node) + 1
+  pub receives : w.state.receives ≡ receives_from origin (knowledge s.node)
 
 next_is : {s : Post} {origin : ℕ} {w : Worker IsReady} {old : Base × Queue} → IsNext s origin w → PostFits s old →
     next_at s.memory (seat_in s) origin ≡ option_map seen_event (waits_as w.origin w.state.number old.1)
@@ -110,45 +116,58 @@ next_is {s} {origin} {w} {old} next fits =
     ∙ ap (find (λ e. e.number == w.state.number)) (sym (fits.waits w.origin))
     ∙ found_seen w.state.number (waiting w.origin old.1)
 
+-- what the node applies of an event, with what it brings
+abbrev brings_of : Post → Finder → Event → Result Carried Refusal
+brings_of s find e =
+    bind (brought_with s.memory (seat_in s) e find (copying_in s.node.id e.body)) (λ b. Ok (carried (seat_in s) e b))
+
 -- it does not wait
 pub missing_due : {s : Post} {origin : ℕ} {w : Worker IsReady} {old : Base × Queue} → IsNext s origin w →
-    PostFits s old → waits_as w.origin w.state.number old.1 ≡ None →
-    due_at origin s.memory (seat_in s) ≡ Err refused.Nothing
-missing_due {s} next fits none =
-    ap (λ o. bind (taken_up (seat_in s) o) (λ e. Ok (plainly (seat_in s) e)))
+    PostFits s old → waits_as w.origin w.state.number old.1 ≡ None → (find : Finder) →
+    due_at origin s.memory (seat_in s) find ≡ Err refused.Nothing
+missing_due {s} {origin} next fits none find =
+    ap (λ o. bind (taken_up origin (seat_in s) o) (brings_of s find))
     (next_is next fits ∙ ap (option_map seen_event) none)
 
--- the node of this id can carry out what waits, or not
-abbrev pub due_by : Post → declared.Event → Bool → Result Carried Refusal
-due_by s e can =
-    bind (checked (when (not can) (refused.NotBuilt (codes "work")) ∷ []) (seen_event e))
-    (λ x. Ok (plainly (seat_in s) x))
+-- a node that receives sets of the origin or none can carry out what waits, or not
+abbrev pub due_by : Post → Finder → declared.Event → Bool → Result Carried Refusal
+due_by s find e can =
+    bind (checked (when (not can) (refused.NotBuilt (codes "work")) ∷ []) (seen_event e)) (brings_of s find)
 
 pub found_due : {s : Post} {origin : ℕ} {w : Worker IsReady} {old : Base × Queue} {can : Bool} → IsNext s origin w →
     PostFits s old → (e : declared.Event) → waits_as w.origin w.state.number old.1 ≡ Some e →
-    can_carry_out w.node e.body ≡ can → due_at origin s.memory (seat_in s) ≡ due_by s e can
-found_due {s} {w = w} next fits e found can =
-    ap (λ o. bind (taken_up (seat_in s) o) (λ e. Ok (plainly (seat_in s) e)))
+    can_carry_out w.state.receives e.body ≡ can → (find : Finder) →
+    due_at origin s.memory (seat_in s) find ≡ due_by s find e can
+found_due {s} {origin} {w} next fits e found can find =
+    ap (λ o. bind (taken_up origin (seat_in s) o) (brings_of s find))
     (next_is next fits ∙ ap (option_map seen_event) found)
-    ∙ ap (due_by s e) (ap (λ k. can_carry_out k e.body) (sym next.node) ∙ can)
+    ∙ ap (due_by s find e) (ap (λ r. can_carry_out r e.body) (sym next.receives) ∙ can)
 
 -- ---- what is taken
 
-pub found_taken : (own origin number : ℕ) (queue : Queue) (w : Worker Taken) (e : declared.Event) →
-    Takes own origin number queue (Due w) → waits_as origin number queue ≡ Some e →
-    waits_as w.origin w.state.number queue ≡ Some e
-found_taken own origin number queue w e took is =
-    ap (λ o. waits_as o w.state.number queue) took.1 ∙ ap (λ k. waits_as origin k queue) took.2 ∙ is
+-- what was taken is due
+pub due_taken : {w : Worker IsReady} (queue : Queue) (t : Worker Taken) → Takes w queue (Due t) →
+    IsDue w.node w.state.receives (waits_as t.origin t.state.number queue) t.state
+due_taken {w} queue t took =
+    subst (λ o. IsDue w.node w.state.receives (waits_as o t.state.number queue) t.state) (sym took.1)
+    (subst (λ n. IsDue w.node w.state.receives (waits_as w.origin n queue) t.state) (sym took.2) took.3)
 
-abbrev pub due_taken : (own origin number : ℕ) (queue : Queue) (w : Worker Taken) →
-    Takes own origin number queue (Due w) → IsDue w.node (waits_as w.origin w.state.number queue) w.state.kind
-due_taken own origin number queue w took =
-    let due = took.3 in (
-      due.0,
-      found_taken own origin number queue w due.0 took due.1,
-      ap (λ k. can_carry_out k due.0.body) took.0 ∙ due.2,
-      due.3,
-    )
+-- what was taken is what the node is to apply
+pub taken_planned : {s : Post} {origin : ℕ} {w : Worker IsReady} {old : Base × Queue} (t : Worker Taken) →
+    IsNext s origin w → PostFits s old → Takes w old.1 (Due t) → IsPlanned origin s t old.1
+taken_planned {s} {w = w} {old} t next fits took =
+    let due = took.3 in record {
+      event = due.event;
+      took = record {
+        found = ap (λ o. waits_as o t.state.number old.1) took.1 ∙ ap (λ k. waits_as w.origin k old.1) took.2
+            ∙ due.is;
+        node = took.0 ∙ next.node;
+        kind = due.kind;
+        copying = due.copying ∙ ap (λ k. copying_in k due.event.body) next.node;
+      };
+      next = next_is next fits ∙ ap (option_map seen_event) due.is;
+      due = found_due next fits due.event due.is due.can;
+    }
 
 -- ---- what waits where it is applied
 
@@ -188,33 +207,6 @@ drop_fits origin number lines old new fits drops other =
         ∙ filter_seen number (waiting origin old) ∙ ap (filter (λ f. nat_lt number f.number)) (fits origin)
     by false apart = ap (map seen_event) (drops.others other apart) ∙ fits other
 
--- what is found among events has the number that was sought, and what all of them have
-found_both : (number origin : ℕ) (es : List declared.Event) (e : declared.Event) →
-    list_all (λ (f : declared.Event). f.origin == origin) es ≡ true → find (λ f. f.number == number) es ≡ Some e →
-    ((e.number == number) ≡ true) × ((e.origin == origin) ≡ true)
-found_both number origin [] e all found = absurd cc
-found_both number origin (f ∷ fs) e all found =
-    by (f.number == number) refl (f.origin == origin) refl all (found_both number origin fs e) found
-  where
-    by : (b : Bool) → (f.number == number) ≡ b → (a : Bool) → (f.origin == origin) ≡ a →
-        (a && list_all (λ (g : declared.Event). g.origin == origin) fs) ≡ true →
-        (list_all (λ (g : declared.Event). g.origin == origin) fs ≡ true → find (λ g. g.number == number) fs ≡ Some e →
-        ((e.number == number) ≡ true) × ((e.origin == origin) ≡ true)) →
-        cond b (Some f) (find (λ g. g.number == number) fs) ≡ Some e →
-        ((e.number == number) ≡ true) × ((e.origin == origin) ≡ true)
-    by b is false from all more here = absurd (false≢true all)
-    by true is true from all more here =
-        let same : f ≡ e = cc in
-        (subst (λ x. (x.number == number) ≡ true) same is, subst (λ x. (x.origin == origin) ≡ true) same from)
-    by false is true from all more here = more all here
-
--- so the event that was found is of the origin, and has the number
-pub found_is : (origin number : ℕ) (queue : Queue) (e : declared.Event) →
-    waits_as origin number queue ≡ Some e → (e.origin ≡ origin) × (e.number ≡ number)
-found_is origin number queue e found =
-    let is = found_both number origin (waiting origin queue) e (waiting_of queue origin) found in
-    (eq_of e.origin origin is.1, eq_of e.number number is.0)
-
 -- ---- what is told
 
 -- a fault of a database is told by no acceptance
@@ -229,65 +221,79 @@ record Left (origin number : ℕ) (result : Result Bool DbFault) (old new : Queu
   queue : IfOk result (DropsUnless origin number old new)
   stays : IfErr result (λ fault. new ≡ old)
 
-abbrev told_of : Post → declared.Event → Result Bool DbFault → Reply
-told_of s e result = reply_of (words_at s.name) (answered (applied_as (kind_of e.body) e.number) result)
+-- An event that is applied, with what comes with it.
+record Load : Type 0 where
+  post : Post
+  event : declared.Event
+  brought : Brought
 
-waits_by : (s : Post) (e : declared.Event) (result : Result Bool DbFault) (old new : Queue) →
-    Waits s.name s.memory old → Left e.origin e.number result old new →
-    Waits s.name (left_by_work (Ok (plainly (seat_in s) (seen_event e))) (told_of s e result) s.memory) new
-waits_by s e (Ok false) old new waits left =
-    let lines = queue_at s.name s.memory in
+abbrev carried_in : Load → Carried
+carried_in l = carried (seat_in l.post) (seen_event l.event) l.brought
+
+abbrev told_of : Load → Result Bool DbFault → Reply
+told_of l result =
+    reply_of (words_at l.post.name)
+    (answered (applied_as (kind_of l.event.body) l.event.number (rows_brought l.brought)) result)
+
+waits_by : (l : Load) (result : Result Bool DbFault) (old new : Queue) → Waits l.post.name l.post.memory old →
+    Left l.event.origin l.event.number result old new →
+    Waits l.post.name (left_by_work (Ok (carried_in l)) (told_of l result) l.post.memory) new
+waits_by l (Ok false) old new waits left =
+    let e = l.event in
+    let lines = queue_at l.post.name l.post.memory in
     let kept = filter (λ f. nat_lt e.number f.number) (line_of e.origin lines) in
-    subst (λ q. FitsQueue q new) (sym (queue_here s.name (with_entry e.origin kept lines) s.memory))
+    subst (λ q. FitsQueue q new) (sym (queue_here l.post.name (with_entry e.origin kept lines) l.post.memory))
     (drop_fits e.origin e.number lines old new waits left.queue)
-waits_by s e (Ok true) old new waits left = subst (Waits s.name s.memory) (sym left.queue) waits
-waits_by s e (Err fault) old new waits left =
-    subst (λ m. Waits s.name m new)
-    (sym (left_fault (plainly (seat_in s) (seen_event e)) (words_at s.name) fault s.memory))
-    (subst (Waits s.name s.memory) (sym left.stays) waits)
+waits_by l (Ok true) old new waits left = subst (Waits l.post.name l.post.memory) (sym left.queue) waits
+waits_by l (Err fault) old new waits left =
+    subst (λ m. Waits l.post.name m new)
+    (sym (left_fault (carried_in l) (words_at l.post.name) fault l.post.memory))
+    (subst (Waits l.post.name l.post.memory) (sym left.stays) waits)
 
--- What came of an event that was taken: at the database of the node, and at what waits there.
-pub record Doing (w : Worker Taken) (name : List ℕ) (old : Base × Queue) (reply : Reply) (new : Base × Queue) :
+-- What came of an event that was applied: at the database of the node, and at what waits there.
+pub record Doing (w : Worker Fetched) (name : List ℕ) (old : Base × Queue) (reply : Reply) (new : Base × Queue) :
     Type 0 where
   pub result : Result Bool DbFault
-  pub told : reply ≡ reply_of (words_at name) (answered (applied_as w.state.kind w.state.number) result)
+  pub told : reply ≡ reply_of (words_at name)
+      (answered (applied_as w.state.kind w.state.number (rows_given w.state.brought)) result)
   pub full : is_memory (trouble (answered joined result)) ≡ false
-  pub due : IsDue w.node (waits_as w.origin w.state.number old.1) w.state.kind
-  pub applies : Applies (waits_as w.origin w.state.number old.1) old.0 (answered joined result) new.0
+  pub can : CanBring w.state.brought
+  pub applies : Applies (waits_as w.origin w.state.number old.1) w.state.brought old.0 (answered joined result) new.0
   pub queue : IfOk result (DropsUnless w.origin w.state.number old.1 new.1)
   pub stays : IfErr result (λ fault. new.1 ≡ old.1)
 
-same_kind : (found : Option declared.Event) (own : ℕ) (kind : EventKind) (e : declared.Event) → IsDue own found kind →
-    found ≡ Some e → kind ≡ kind_of e.body
-same_kind found own kind e due is =
-    let some : Some due.0 ≡ Some e = sym due.1 ∙ is in
-    let same : due.0 ≡ e = cc in
-    due.3 ∙ ap (λ (x : declared.Event). kind_of x.body) same
-
-left_found : (w : Worker Taken) (e : declared.Event) (result : Result Bool DbFault) (old new : Queue) →
+left_found : (w : Worker Fetched) (e : declared.Event) (result : Result Bool DbFault) (old new : Queue) →
     (e.origin ≡ w.origin) × (e.number ≡ w.state.number) → Left w.origin w.state.number result old new →
     Left e.origin e.number result old new
 left_found w e result old new (origin, number) left =
     subst (λ o. Left o e.number result old new) (sym origin)
     (subst (λ k. Left w.origin k result old new) (sym number) left)
 
-pub applies_at : {w : Worker Taken} {name : List ℕ} {old new : Base × Queue} {reply : Reply} →
-    Doing w name old reply new → AppliesAt name (waits_as w.origin w.state.number old.1) old reply new
-applies_at {w} {name} {old} {new} {reply} d s e named found fits can = record {
+pub applies_at : {w : Worker Fetched} {name : List ℕ} {old new : Base × Queue} {reply : Reply} →
+    Doing w name old reply new → AppliesAt name w old reply new
+applies_at {w} {name} {old} {new} {reply} d s e b named for fits can = record {
   comes = commits_due told (record { is = refl; named = refl })
       (acts_as (record { sure = refl; doubt = refl }) d.result
-      (d.applies e found s.place s.node fits.ready fits.is d.full can.can can.learns s.name));
-  waits = subst (λ r. Waits s.name (left_by_work (Ok (plainly (seat_in s) (seen_event e))) r s.memory) new.1) (sym told)
-      (waits_by s e d.result old.1 new.1 fits.waits
+      (d.applies e for.found s.place s.node fits.ready fits.is d.full can.takes.can can.takes.learns b for.brings
+      can.fills s.name));
+  waits = subst (λ r. Waits s.name (left_by_work (Ok (carried_in load)) r s.memory) new.1) (sym told)
+      (waits_by load d.result old.1 new.1 fits.waits
       (left_found w e d.result old.1 new.1 is (record { queue = d.queue; stays = d.stays })));
 }
   where
-    is : (e.origin ≡ w.origin) × (e.number ≡ w.state.number)
-    is = found_is w.origin w.state.number old.1 e found
+    load : Load
+    load = record { post = s; event = e; brought = b }
 
-    told : reply ≡ told_of s e d.result
+    is : (e.origin ≡ w.origin) × (e.number ≡ w.state.number)
+    is = found_is w.origin w.state.number old.1 e for.found
+
+    said : List ℕ → EventKind → ℕ → ℕ → Reply
+    said n kind number rows = reply_of (words_at n) (answered (applied_as kind number rows) d.result)
+
+    told : reply ≡ told_of load d.result
     told = d.told
-        ∙ ap (λ n. reply_of (words_at n) (answered (applied_as w.state.kind w.state.number) d.result)) (sym named)
-        ∙ ap (λ k. reply_of (words_at s.name) (answered (applied_as k w.state.number) d.result))
-        (same_kind (waits_as w.origin w.state.number old.1) w.node w.state.kind e d.due found)
-        ∙ ap (λ k. reply_of (words_at s.name) (answered (applied_as (kind_of e.body) k) d.result)) (sym is.1)
+        ∙ ap (λ n. said n w.state.kind w.state.number (rows_given w.state.brought)) (sym named)
+        ∙ ap (λ k. said s.name k w.state.number (rows_given w.state.brought)) for.kind
+        ∙ ap (λ k. said s.name (kind_of e.body) k (rows_given w.state.brought)) (sym is.1)
+        ∙ ap (said s.name (kind_of e.body) e.number) (sym (rows_counted b w.state.brought for.brings can.fills.formed
+        d.can))

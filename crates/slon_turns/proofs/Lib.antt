@@ -3,11 +3,16 @@ pub mod Answered
 pub mod Applying
 pub mod Between
 pub mod Brought
+pub mod Copied
+pub mod Counted
 pub mod Due
 pub mod Left
 pub mod Lifted
+pub mod Linking
 pub mod Listens
+pub mod Mids
 pub mod Taking
 pub mod Turned
 pub mod Twice
+pub mod Visits
 pub mod Waiting

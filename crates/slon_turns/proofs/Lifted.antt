@@ -5,7 +5,9 @@ use Rattle.std.proofs.Common.{sym, ap, subst}
 use Rattle.std.specs.Str.{bytes_eq}
 use Rattle.slon_base.specs.declared.fault.Halt.{Halt as HaltOf}
 use Rattle.slon_model.specs.declared.reply.Refusal.{Refusal}
+use Rattle.slon_model.specs.declared.reply.Refusal.TheVariants as refused
 use Rattle.slon_model.specs.declared.reply.Reply.{Reply}
+use Rattle.slon_model.specs.declared.reply.Reply.TheVariants.{Refused}
 use Rattle.slon_model.specs.Names.{Named, find_named, put_named}
 use Rattle.slon_model.specs.Place.{Place, is_running, fallen}
 use Rattle.slon_model.specs.Sessions.{World, Stated}
@@ -24,7 +26,7 @@ use Rattle.slonik_exec.proofs.Hearing.{put_itself}
 use Rattle.slonik_exec.proofs.Lifting.{comes_at, runs_at}
 use Rattle.slonik_exec.proofs.Lists.{fits_put}
 use Rattle.slonik_exec.proofs.Trying.{runs_then, tries_at}
-use Rattle.slon_turns.specs.Polling.{Spot, GoesAt, Once, Never, ListensBetween, AtOwn, AtServer}
+use Rattle.slon_turns.specs.Polling.{CanFall, Spot, GoesAt, Once, Never, ListensBetween, AtOwn, AtServer}
 use Rattle.slon_turns.specs.Polling.{RunsBetween, OwnRuns, ServerRuns}
 
 -- ---- over every store
@@ -80,7 +82,7 @@ same_place w name p bases new found (all, fits) =
     subst (λ ps. FitsAll ps (put_named name new bases)) (put_itself name p w.places found)
     (fits_put name p new w.places bases all fits)
 
-goes_between : {w : World} {bases : Named Base} {c : Couple} {s : Spot} {q : Place} {due : Result Stated Refusal}
+pub goes_between : {w : World} {bases : Named Base} {c : Couple} {s : Spot} {q : Place} {due : Result Stated Refusal}
     {reply : Reply} (new : Pair) → Stage w bases c s q → GoesAt c.names.from s.place due reply new.from →
     Fits q new.to → Comes w due reply (put_both c.names new bases)
 goes_between {w} {bases} {c} {s} {q} {due} {reply} new st goes still =
@@ -98,17 +100,25 @@ goes_between {w} {bases} {c} {s} {q} {due} {reply} new st goes still =
         Stands (record { answer = answer; commits = [] }) is refl told
         (same_place w c.names.from s.place mids new.from st.from (fits, same))
 
--- what the poll comes to at both is what it comes to
-pub comes_between : {w : World} {bases : Named Base} {c : Couple} {s : Spot} {q : Place} (due : Result Poll Refusal)
-    (reply : Reply) (new : Pair) (queue : Queue) → Stage w bases c s q →
-    ListensBetween s (c.names.to, q) due reply new queue →
-    Comes w (stated_of s.delivery due) reply (put_both c.names new bases)
-comes_between {w} {bases} {c} {s} {q} due reply new queue st (AtOwn listens still) =
-    goes_between new st
-    (subst (λ n. GoesAt n s.place (stated_of s.delivery due) reply new.from) st.named listens.goes) still
-comes_between {w} {bases} {c} {s} {q} due reply new queue st (AtServer count told can fell fits waits) =
+-- the store of the second one failed
+pub breaks_between : {w : World} {bases : Named Base} {c : Couple} {s : Spot} {q : Place} {due : Result Stated Refusal}
+    {reply : Reply} (new : Pair) → Stage w bases c s q → (count : ℕ) →
+    reply ≡ Refused (refused.Fault c.names.to count) → CanFall count q → Fits (fallen count q) new.to →
+    Fits s.place new.from → Comes w due reply (put_both c.names new bases)
+breaks_between {w} {bases} {c} {s} {q} new st count told can fell fits =
     let mids = put_named c.names.from new.from bases in
     Breaks c.names.to count told (subst (CanFail count) (sym st.to) can)
     (subst (λ o. FitsAll (broken_at c.names.to count o w).places (put_both c.names new bases)) (sym st.to)
     (fits_put c.names.to (fallen count q) new.to w.places mids
     (same_place w c.names.from s.place bases new.from st.from (st.fits, fits)) fell))
+
+-- what the poll comes to at both is what it comes to
+pub comes_between : {w : World} {bases : Named Base} {c : Couple} {s : Spot} {q : Place} (due : Result Poll Refusal)
+    (reply : Reply) (new : Pair) (queue : Queue) → Stage w bases c s q →
+    ListensBetween s (c.names.to, q) due reply new queue →
+    Comes w (stated_of s.delivery due) reply (put_both c.names new bases)
+comes_between {s = s} due reply new queue st (AtOwn listens still) =
+    goes_between new st
+    (subst (λ n. GoesAt n s.place (stated_of s.delivery due) reply new.from) st.named listens.goes) still
+comes_between due reply new queue st (AtServer count told can fell fits waits) =
+    breaks_between new st count told can fell fits

@@ -1,37 +1,48 @@
 -- What the work of a node comes to at its database and at what waits there.
-use Rattle.std.specs.Prelude.{◌≡◌, ℕ, Bool, true, false, List, Option, Some, Result, Ok}
+use Rattle.std.specs.Prelude.{◌≡◌, ℕ, Bool, true, false, List, Option, Some, None, Result, Ok}
 use Rattle.slon_model.specs.declared.reply.Answer.TheVariants.{Applied}
 use Rattle.slon_model.specs.declared.reply.Answered.{Answered}
 use Rattle.slon_model.specs.declared.reply.Answered.TheVariants.{Sure, InDoubt}
 use Rattle.slon_model.specs.declared.reply.EventKind.{EventKind}
 use Rattle.slon_model.specs.declared.reply.Refusal.{Refusal}
 use Rattle.slon_model.specs.declared.reply.Reply.{Reply}
-use Rattle.slon_model.specs.Events.{Event}
-use Rattle.slon_model.specs.Deeds.{Node, nothing_brought}
+use Rattle.slon_model.specs.Events.{Event, kind_of}
+use Rattle.slon_model.specs.Deeds.{Node, Brought, nothing_brought}
 use Rattle.slon_model.specs.Place.{Place}
 use Rattle.slon_model.specs.Sessions.{Memory, Seat, bind, seat}
-use Rattle.slon_model.specs.Working.{Carried, carried, next_at, taken_up}
+use Rattle.slon_model.specs.Working.{Copying, Carried, carried, copied_from, copying_in, next_at, taken_up}
 use Rattle.event_store.specs.declared.event.Event as declared
 use Rattle.event_store.specs.declared.queue.Queue.{Queue}
 use Rattle.event_store.specs.Seen.{seen_event}
 use Rattle.app_store.specs.Base.{Base}
 use Rattle.app_store.specs.Fits.{Ready}
+use Rattle.node_store.specs.Bringing.{IsBrought}
+use Rattle.remote_worker.specs.declared.worker.Fetched.{Fetched}
+use Rattle.remote_worker.specs.declared.worker.Worker.{Worker}
+use Rattle.remote_worker.specs.Working.{waits_as}
 use Rattle.slonik_exec.specs.Answering.{ComesAt}
 use Rattle.slon_turns.specs.Polling.{Waits}
-use Rattle.slon_turns.specs.Working.{CanTake, stated_work, left_by_work}
+use Rattle.slon_turns.specs.Working.{CanCarry, stated_work, left_by_work}
 
--- what is answered where an event was applied
-abbrev pub applied_as : EventKind → ℕ → Bool → Answered
-applied_as kind number true = InDoubt (Applied kind number 0)
-applied_as kind number false = Sure (Applied kind number 0)
+-- what is answered where an event was applied, with so many rows
+abbrev pub applied_as : EventKind → ℕ → ℕ → Bool → Answered
+applied_as kind number rows true = InDoubt (Applied kind number rows)
+applied_as kind number rows false = Sure (Applied kind number rows)
 
--- the node applies an event, and brings nothing with it
-abbrev pub plainly : Seat → Event → Carried
-plainly s e = carried s e nothing_brought
+-- the database of each node, by its id
+abbrev pub Finder : Type 0
+Finder = ℕ → Option (List ℕ × Place)
 
--- 60, 98: what the node at this seat is to apply
-abbrev pub due_at : ℕ → Memory → Seat → Result Carried Refusal
-due_at origin m s = bind (taken_up s (next_at m s origin)) (λ e. Ok (plainly s e))
+-- what comes with an event, where nodes are found so
+abbrev pub brought_with : Memory → Seat → Event → Finder → Option Copying → Result Brought Refusal
+brought_with m s e find None = Ok nothing_brought
+brought_with m s e find (Some c) = copied_from c m s e (find c.provider)
+
+-- 60, 98, and the refusals of a copy: what the node at this seat is to apply
+abbrev pub due_at : ℕ → Memory → Seat → Finder → Result Carried Refusal
+due_at origin m s find =
+    bind (taken_up origin s (next_at m s origin)) (λ e.
+    bind (brought_with m s e find (copying_in s.node.id e.body)) (λ b. Ok (carried s e b)))
 
 -- Work under the rules: the database of the node, and what is in memory.
 pub record Post : Type 0 where
@@ -55,15 +66,14 @@ pub record WorksHere (s : Post) (due : Result Carried Refusal) (reply : Reply) (
   pub comes : ComesAt s.name s.place (stated_work due) reply new.0
   pub waits : Waits s.name (left_by_work due reply s.memory) new.1
 
--- from every place that fits and can apply the event that was found: it is applied
-abbrev pub AppliesAt : List ℕ → Option declared.Event → (Base × Queue) → Reply → (Base × Queue) → Type 0
-AppliesAt name found old reply new =
-    (s : Post) (e : declared.Event) → s.name ≡ name → found ≡ Some e → PostFits s old →
-    CanTake (seat_in s) (seen_event e) → WorksHere s (Ok (plainly (seat_in s) (seen_event e))) reply new
+-- The event is the one that waits, and this comes with it by the rules.
+pub record IsFor (w : Worker Fetched) (queue : Queue) (e : declared.Event) (b : Brought) : Type 0 where
+  pub found : waits_as w.origin w.state.number queue ≡ Some e
+  pub kind : w.state.kind ≡ kind_of e.body
+  pub brings : IsBrought b w.state.brought
 
--- from every place that fits and can apply what it is to apply
-abbrev pub WorksAt : ℕ → List ℕ → (Base × Queue) → Reply → (Base × Queue) → Type 0
-WorksAt origin name old reply new =
-    (s : Post) → s.name ≡ name → PostFits s old →
-    ((e : Event) → due_at origin s.memory (seat_in s) ≡ Ok (plainly (seat_in s) e) → CanTake (seat_in s) e) →
-    WorksHere s (due_at origin s.memory (seat_in s)) reply new
+-- from every place that fits and can apply the event, with what comes with it: it is applied
+abbrev pub AppliesAt : List ℕ → Worker Fetched → (Base × Queue) → Reply → (Base × Queue) → Type 0
+AppliesAt name w old reply new =
+    (s : Post) (e : declared.Event) (b : Brought) → s.name ≡ name → IsFor w old.1 e b → PostFits s old →
+    CanCarry (carried (seat_in s) (seen_event e) b) → WorksHere s (Ok (carried (seat_in s) (seen_event e) b)) reply new

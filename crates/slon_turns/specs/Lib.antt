@@ -1,5 +1,7 @@
 pub mod Applying
+pub mod Copying
 pub mod Pairing
+pub mod Planning
 pub mod Polling
 pub mod Turning
 pub mod Working

@@ -1,5 +1,6 @@
 pub mod Bytes
 pub mod Capture
+pub mod Copies
 pub mod Doubts
 pub mod Polls
 pub mod Refusals

@@ -1,6 +1,10 @@
 -- A node applies the events of another one in their order, and what comes of that where a store fails or its commit is
 -- in doubt.
-use Rattle.std.proofs.Common.{◌≡◌, ℕ, true, false, List, [], ◌∷◌, codes, refl, None}
+use Rattle.std.proofs.Common.{◌≡◌, ℕ, true, false, List, [], ◌∷◌, length, codes, refl, None, sym, ap, ◌∙◌, arith}
+use Rattle.std.specs.Prelude.{◌+◌}
+use Rattle.std.specs.FinMap.{empty, entries, len-empty, len-entries}
+use Rattle.slon_base.specs.Keeper.{key_cmp}
+use Rattle.slon_model.specs.Rows.{Row, Rows}
 use Rattle.slonik_script.specs.declared.script.Command.TheVariants as order
 use Rattle.slon_model.specs.declared.command.Delivery.TheVariants.{Once, Again}
 use Rattle.slon_model.specs.declared.reply.Answer.{Answer}
@@ -17,11 +21,11 @@ use Rattle.slon_worked.proofs.Running.{Worked, Asks, Meets, replies, reads, step
 use Rattle.slon_worked.proofs.Capture.{head}
 use Rattle.slon_worked.proofs.Polls.{crash, rise, listen, heard, emitted, done, begun, begun_replies}
 
-abbrev work : ℕ → ℕ → Worked
+abbrev pub work : ℕ → ℕ → Worked
 work node origin = Asks (OnAll (ToWork node origin))
 
 -- no row came with it
-abbrev applied : EventKind → ℕ → Reply
+abbrev pub applied : EventKind → ℕ → Reply
 applied kind number = Accepted (answer.Applied kind number 0)
 
 abbrev nothing : Reply
@@ -97,10 +101,15 @@ refused_session =
     ∷ work 2 1
     ∷ work 2 1
     ∷ work 2 1
+    ∷ work 2 1
+    ∷ reads (codes "v") head (order.Sync 1 ∷ [])
+    ∷ step (codes "v")
+    ∷ listen 2 1 Once
     ∷ work 2 1 ∷ [])
 
-abbrev refused_expected : List Reply
-refused_expected =
+-- with so many rows at the origin, whose table is empty
+abbrev refused_expected : ℕ → List Reply
+refused_expected rows =
     begun_replies
     (Refused (refused.NoNode 3)
     ∷ done
@@ -118,10 +127,25 @@ refused_expected =
     ∷ applied event.SetAddTable 4
     ∷ applied event.Sync 5
     ∷ applied event.SubscribeSet 6
+    ∷ Accepted (answer.Applied event.EnableSubscription 7 rows)
+    ∷ Accepted (answer.Statements 1)
+    ∷ emitted 1 8
+    ∷ heard 1 0
     ∷ Refused (refused.NotBuilt (codes "work")) ∷ [])
 
-refusals : replies (start 16) refused_session ≡ refused_expected
-refusals = refl
+-- maps of rows do not compute, so that it is a lemma
+pub no_entries : {X : Type 0} (xs : List X) → length xs ≡ 0 → xs ≡ []
+no_entries [] none = refl
+no_entries (x ∷ xs) none = absurd (omega (arith, none))
+
+abbrev pub no_rows : Rows
+no_rows = empty
+
+pub none_there : entries no_rows ≡ []
+none_there = no_entries (entries no_rows) (sym (len-entries no_rows) ∙ len-empty key_cmp Row)
+
+refusals : replies (start 16) refused_session ≡ refused_expected 0
+refusals = ap (λ rows. refused_expected (0 + length rows)) none_there
 
 -- ---- a store that fails, and a commit in doubt
 

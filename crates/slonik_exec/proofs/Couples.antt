@@ -26,7 +26,8 @@ use Rattle.slonik_exec.specs.Telling.{failure_of, troubled}
 use Rattle.slonik_exec.specs.Stored.{PairNames, Couple, JoinsTold, join_reply, name_at}
 use Rattle.slonik_exec.proofs.Lists.{IsFirst}
 use Rattle.slonik_exec.proofs.Telling.{words_at, told_refusal}
-use Rattle.slonik_exec.proofs.Trying.{tries_then, tries_put}
+use Rattle.node_store.proofs.Chaining.{tries_then}
+use Rattle.slonik_exec.proofs.Trying.{tries_put}
 
 -- ---- two names
 

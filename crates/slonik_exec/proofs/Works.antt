@@ -20,6 +20,7 @@ use Rattle.app_store.specs.Fits.{Fits, Ready}
 use Rattle.app_store.specs.Parts.{FellTo, Fell, Looks, Remembers}
 use Rattle.app_store.specs.Serves.{halts, is_memory, trouble}
 use Rattle.node_store.specs.Acting.{Acts, ActsAs, Stood, Wavered, Burst, Broke}
+use Rattle.node_store.proofs.Chaining.{acts_then}
 use Rattle.slonik_exec.specs.Databases.{told_by, trouble_here}
 use Rattle.slonik_exec.specs.Telling.{failure_of, troubled}
 use Rattle.slonik_exec.specs.Answering.{trouble_in, Answers, OneCommit, ComesAt, RefusesAt, StandsAt, BurstsAt}
@@ -28,7 +29,7 @@ use Rattle.slonik_exec.specs.Answering.{WaversAt, AtNode, EndsAt, RefusedAt, Bro
 use Rattle.node_state.specs.Known.{identity_of}
 use Rattle.slonik_exec.proofs.Seats.{same_up, known_up}
 use Rattle.slonik_exec.proofs.Telling.{words_at, told_reply}
-use Rattle.slonik_exec.proofs.Trying.{tries_then, acts_tried}
+use Rattle.slonik_exec.proofs.Trying.{acts_tried}
 use Rattle.slonik_exec.proofs.Asking.{one_place}
 
 -- ---- over every store
@@ -74,12 +75,6 @@ pub refused_calm : {name : List ℕ} {reply : Reply} (old new : Base) → told_b
 refused_calm {name} old new none acts = record {
   acts = subst (λ o. Acts (trouble_here o name) old new) (sym none) acts;
   own = λ other halt is. absurd cc;
-}
-
-acts_then : (t : Option HaltOf) (old mid new : Base) → Acts None old mid → Acts t mid new → Acts t old new
-acts_then t old mid new one two = record {
-  tries = tries_then old mid new t one.tries two.tries;
-  quiet = λ calm n up. two.quiet calm n (one.quiet refl n up);
 }
 
 -- work after a check that let the statement go on

@@ -27,6 +27,7 @@ use node_store::{
 use slon_base::Text;
 use slon_model::{Refusal, Reply};
 use std::alloc::Global;
+use std::array;
 
 /// 44: the node knows that the server of a path was dropped.
 pub(crate) fn check_server<K: Keeper>(
@@ -193,7 +194,7 @@ pub(crate) fn check_writers<K: Keeper>(
         (base_of K.kept seat.old.database) found (base_of K.kept seat.new.database)) }
     ensures name { seat.new.name ≡ seat.old.name }
 {
-    match writer(&mut seat.database, table) {
+    match writer(&mut seat.database, array::from_ref(table)) {
         Ok(None) => Ok(None),
         Ok(Some(xid)) => Ok(Some(Reply::Refused(Refusal::Busy { xid }))),
         Err(fault) => Ok(Some(told(alloc, &seat.name, fault)?)),

@@ -6,5 +6,5 @@ use Rattle.app_store.proofs.opens.least_writer.Given as goal
 
 abbrev pub invariant-loop-transaction : goal.invariant-loop-transaction
 invariant-loop-transaction l =
-    put_xids l.xids.keys (writers l.fn.table (pairs l.transaction-iterator))
-    ≡ put_xids [] (writers l.fn.table (entries l.fn.opens))
+    put_xids l.xids.keys (writers l.fn.tables (pairs l.transaction-iterator))
+    ≡ put_xids [] (writers l.fn.tables (entries l.fn.opens))

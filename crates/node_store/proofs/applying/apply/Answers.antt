@@ -2,14 +2,15 @@ use Rattle.std.proofs.Common.{◌∙◌, ◌+◌, Err, refl, sym, ap, arith}
 use Rattle.std.proofs.lemmas.Result.{err_from_is_err_and}
 use Rattle.node_keeper.specs.Fused.{fuse_kept}
 use Rattle.event_store.specs.Seen.{seen_event}
-use Rattle.slon_model.specs.Deeds.{Applies, nothing_brought}
+use Rattle.slon_model.specs.Deeds.{Applies}
+use Rattle.slon_model.specs.Place.{standing_rows}
 use Rattle.node_store.specs.Acting.{Stood, Wavered, Broke, Burst, does}
 use Rattle.app_store.specs.Base.{base_of, memory_of}
 use Rattle.node_store.proofs.Acting.{never_memory}
 use Rattle.node_store.proofs.Emitted.{own_is, held_node, felled_fits}
 use Rattle.node_store.proofs.Several.{stamp_beyond, within_limit}
-use Rattle.node_store.proofs.Doers.{Doer, done_in, is_written, held_stood, either_held, done_stands, done_wavers}
-use Rattle.node_store.proofs.Doers.{known_applying}
+use Rattle.node_store.proofs.Doers.{Applying, applier, brought_written, done_in, held_stood, either_held, done_stands}
+use Rattle.node_store.proofs.Doers.{done_wavers, known_applying, tables_at}
 use Rattle.app_store.proofs.Halting.{stopped}
 use Rattle.app_store.proofs.Pending.{rose_later}
 use Rattle.app_store.proofs.Standing.{is_down, look_fell, up_from}
@@ -18,23 +19,26 @@ use Rattle.app_store.proofs.Upright.{up_at, running, untouched}
 use Rattle.node_store.proofs.applying.apply.Goals as goal
 
 pub returns-then-database-ge-STORED_LIMIT-clause-applies : goal.returns-then-database-ge-STORED_LIMIT-clause-applies
-returns-then-database-ge-STORED_LIMIT-clause-applies g c p n ready is memory takes learns name =
+returns-then-database-ge-STORED_LIMIT-clause-applies g c p n ready is memory takes learns b brought fills name =
     let at = up_at ready c.requires.up in
     let most = c.if-database-ge-STORED_LIMIT.true in
     Burst 1 (ap (λ f. Err f) c.overflow.ensures.fault)
-    (stamp_beyond (does name p (Applies (seen_event c.args.event.now) nothing_brought)) p
+    (stamp_beyond (does name p (Applies (seen_event c.args.event.now) b)) p
     (last_stamp p c.args.database.now.state.stamp (running at).1.stamp (omega (arith, most))))
     (felled_fits at _ (record { down = c.overflow.ensures.down; looked = untouched _ }))
 
 pub returns-in_ok-learn-in-Done-clause-applies : goal.returns-in_ok-learn-in-Done-clause-applies
-returns-in_ok-learn-in-Done-clause-applies g c p n ready is memory takes learns name =
+returns-in_ok-learn-in-Done-clause-applies g c p n ready is memory takes learns b brought fills name =
     let at = up_at ready c.requires.up in
     let e = seen_event c.args.event.now in
-    let d : Doer p = record { node = n; is = is; doing = Applies e nothing_brought; name = name; brings = refl } in
+    let a : Applying p =
+    record { node = n; is = is; event = e; brought = b; name = name; fills = fills } in
+    let d = applier a in
     let own = own_is n at is (sym c.in-Some.ensures.id) in
     let room = c.if-database-ge-STORED_LIMIT.false in
-    let w = is_written {mid = fuse_kept g.K.Keeper.kept c.write_applied.new.keeper} at d
-    (c.in-Ok.ensures.writes n ready.fits.held.0 (sym own) ready.fits.held.1 (held_node n at is) takes learns.home) in
+    let w = brought_written {mid = fuse_kept g.K.Keeper.kept c.write_applied.new.keeper} at a
+    (c.in-Ok.ensures.writes n ready.fits.held.0 b (standing_rows p) (sym own) ready.fits.held.1 (held_node n at is)
+    (tables_at at) takes learns.home brought) in
     let done = rw c.in-Done.is at c.in-Ok-finish.ensures.ends in
     Stood refl (within_limit (done_in d) p
     (small_stamp p c.args.database.now.state.stamp (running at).1.stamp (omega (arith, room))) refl)
@@ -46,7 +50,7 @@ returns-in_ok-learn-in-Done-clause-applies g c p n ready is memory takes learns 
         later = omega (arith, c.in-Ok.ensures.enters.later, done.counted.later);
       };
       members = c.learn.new.self.members;
-      known = known_applying n e is learns (record {
+      known = known_applying n e b is learns (record {
         members = c.in_ok-learn-in-Done.ensures.members;
         names = c.in_ok-learn-in-Done.ensures.names;
       }) (running at).1;
@@ -58,20 +62,16 @@ returns-in_ok-learn-in-Done-clause-applies g c p n ready is memory takes learns 
     }))
 
 pub returns-in-InDoubt-clause-applies : goal.returns-in-InDoubt-clause-applies
-returns-in-InDoubt-clause-applies g c p n ready is memory takes learns name =
+returns-in-InDoubt-clause-applies g c p n ready is memory takes learns b brought fills name =
     let at = up_at ready c.requires.up in
-    let d : Doer p =
-    record {
-      node = n;
-      is = is;
-      doing = Applies (seen_event c.args.event.now) nothing_brought;
-      name = name;
-      brings = refl;
-    } in
+    let a : Applying p =
+    record { node = n; is = is; event = seen_event c.args.event.now; brought = b; name = name; fills = fills } in
+    let d = applier a in
     let own = own_is n at is (sym c.in-Some.ensures.id) in
     let room = c.if-database-ge-STORED_LIMIT.false in
-    let w = is_written {mid = fuse_kept g.K.Keeper.kept c.write_applied.new.keeper} at d
-    (c.in-Ok.ensures.writes n ready.fits.held.0 (sym own) ready.fits.held.1 (held_node n at is) takes learns.home) in
+    let w = brought_written {mid = fuse_kept g.K.Keeper.kept c.write_applied.new.keeper} at a
+    (c.in-Ok.ensures.writes n ready.fits.held.0 b (standing_rows p) (sym own) ready.fits.held.1 (held_node n at is)
+    (tables_at at) takes learns.home brought) in
     let doubt = rw c.in-InDoubt.is at c.in-Ok-finish.ensures.ends in
     let fits = done_wavers at d w.store _ w.has (record {
       up = c.take_down.ensures.up;
@@ -84,7 +84,7 @@ returns-in-InDoubt-clause-applies g c p n ready is memory takes learns name =
     (small_stamp p c.args.database.now.state.stamp (running at).1.stamp (omega (arith, room))) refl) fits.1
 
 pub returns-in-Err-finish-clause-applies : goal.returns-in-Err-finish-clause-applies
-returns-in-Err-finish-clause-applies g c p n ready is memory takes learns name =
+returns-in-Err-finish-clause-applies g c p n ready is memory takes learns b brought fills name =
     let room = c.if-database-ge-STORED_LIMIT.false in
     let at = up_at ready c.requires.up in
     Broke c.fall.result refl
@@ -96,7 +96,7 @@ returns-in-Err-finish-clause-applies g c p n ready is memory takes learns name =
     c.fall.ensures.fault (memory, c.in-Err-finish.ensures.ends.ends.1)))
 
 pub returns-in-Err-clause-applies : goal.returns-in-Err-clause-applies
-returns-in-Err-clause-applies g c p n ready is memory takes learns name =
+returns-in-Err-clause-applies g c p n ready is memory takes learns b brought fills name =
     let at = up_at ready c.requires.up in
     let own = own_is n at is (sym c.in-Some.ensures.id) in
     let room = c.if-database-ge-STORED_LIMIT.false in
@@ -107,10 +107,11 @@ returns-in-Err-clause-applies g c p n ready is memory takes learns name =
     (stopped _ _ _ _ (is_down c.fall-in-Err.ensures.down) c.in-Err.ensures.enters.failed
     c.fall-in-Err.ensures.fault (
       memory,
-      c.in-Err.ensures.writes n ready.fits.held.0 (sym own) ready.fits.held.1 (held_node n at is) takes learns.home,
+      c.in-Err.ensures.writes n ready.fits.held.0 b (standing_rows p) (sym own) ready.fits.held.1 (held_node n at is)
+          (tables_at at) takes learns.home brought,
     )))
 
 pub returns-in_err-learn-in-Done-clause-applies : goal.returns-in_err-learn-in-Done-clause-applies
-returns-in_err-learn-in-Done-clause-applies g c p n ready is memory takes learns name =
+returns-in_err-learn-in-Done-clause-applies g c p n ready is memory takes learns b brought fills name =
     absurd (never_memory _ c.from_residual.result
     (err_from_is_err_and c.from_residual.result c.from_residual.ensures.1) memory)

@@ -10,6 +10,7 @@ use Rattle.node_store.proofs.Emitted.{own_is, held_node, felled_fits}
 use Rattle.node_store.proofs.Several.{stamp_beyond, within_limit}
 use Rattle.node_store.proofs.Doers.{Doer, done_in, is_written, held_stood, either_held, done_stands, done_wavers}
 use Rattle.node_store.proofs.Doers.{known_hearing}
+use Rattle.node_store.proofs.Filled.{none_fill}
 use Rattle.app_store.proofs.Halting.{stopped}
 use Rattle.app_store.proofs.Pending.{rose_later}
 use Rattle.app_store.proofs.Standing.{is_down, look_fell, up_from}
@@ -35,10 +36,10 @@ pub returns-in-Done-clause-hears : goal.returns-in-Done-clause-hears
 returns-in-Done-clause-hears g c p n ready is memory name =
     let at = up_at ready c.requires.up in
     let d : Doer p =
-    record { node = n; is = is; doing = Hears (map named c.args.rows.now); name = name; brings = refl } in
+    record { node = n; is = is; doing = Hears (map named c.args.rows.now); name = name; fills = none_fill p } in
     let own = own_is n at is (sym c.in-Some.ensures.id) in
     let room = c.if-database-ge-STORED_LIMIT.false in
-    let w = is_written {mid = fuse_kept g.K.Keeper.kept c.write_heard.new.keeper} at d
+    let w = is_written {mid = fuse_kept g.K.Keeper.kept c.write_heard.new.keeper} at d refl
     (c.in-Ok.ensures.writes n ready.fits.held.0 (sym own) ready.fits.held.1 (held_node n at is)) in
     let done = rw c.in-Done.is at c.in-Ok-finish.ensures.ends in
     Stood refl (within_limit (done_in d) p
@@ -59,10 +60,10 @@ pub returns-in-InDoubt-clause-hears : goal.returns-in-InDoubt-clause-hears
 returns-in-InDoubt-clause-hears g c p n ready is memory name =
     let at = up_at ready c.requires.up in
     let d : Doer p =
-    record { node = n; is = is; doing = Hears (map named c.args.rows.now); name = name; brings = refl } in
+    record { node = n; is = is; doing = Hears (map named c.args.rows.now); name = name; fills = none_fill p } in
     let own = own_is n at is (sym c.in-Some.ensures.id) in
     let room = c.if-database-ge-STORED_LIMIT.false in
-    let w = is_written {mid = fuse_kept g.K.Keeper.kept c.write_heard.new.keeper} at d
+    let w = is_written {mid = fuse_kept g.K.Keeper.kept c.write_heard.new.keeper} at d refl
     (c.in-Ok.ensures.writes n ready.fits.held.0 (sym own) ready.fits.held.1 (held_node n at is)) in
     let doubt = rw c.in-InDoubt.is at c.in-Ok-finish.ensures.ends in
     let fits = done_wavers at d w.store _ w.has (record {

@@ -1,7 +1,6 @@
-use Rattle.std.proofs.Common.{◌∙◌, Some, ap}
-use Rattle.event_store.specs.Seen.{seen_event}
-use Rattle.slon_model.specs.Deeds.{Applies, nothing_brought}
-use Rattle.node_store.proofs.Doers.{stamped_done}
+use Rattle.std.proofs.Common.{◌∙◌, Some, ap, subst, sym}
+use Rattle.store_rows.specs.Steps.{IsOutside}
+use Rattle.node_store.proofs.Taking.{outside_event, stamped}
 use Rattle.node_store.proofs.Midways.{midway_begun, midway_on, enters_on}
 use Rattle.node_store.proofs.writing.write_applied.Goals as goal
 
@@ -11,14 +10,18 @@ returns-in-Ok-clause-enters g c =
     c.put_pair.ensures.safe c.put_pair.ensures.only
 
 pub returns-in-Ok-clause-writes : goal.returns-in-Ok-clause-writes
-returns-in-Ok-clause-writes g c n m own held holds takes home =
-    stamped_done (record {
-      node = n;
-      held = m;
-      doing = Applies (seen_event c.args.event.now) nothing_brought;
-      stamp = c.args.stamp;
+returns-in-Ok-clause-writes g c n m b tables own held holds rows takes home brought =
+    stamped (record {
+      number = c.args.stamp;
       bytes = c.as_slice.result.now;
       spelled = c.as_slice.ensures ∙ c.in_ok-stamp.ensures;
     }) (g.K.Keeper.kept c.put_pair.new.keeper) c.put_pair.result
-    (c.in-Ok.ensures.turns n m own (c.in_ok-begin.ensures.opened ∙ ap (λ h. Some h) held) holds takes home)
+    (c.in-Ok.ensures.takes n m b tables own (c.in_ok-begin.ensures.opened ∙ ap (λ h. Some h) held) holds rows takes home
+    brought)
     (c.put_pair.ensures.put, c.put_pair.ensures.only)
+
+pub returns-clause-writes : goal.returns-clause-writes
+returns-clause-writes g c n m b tables own held holds rows takes home brought =
+    subst IsOutside (sym c.event_stop.ensures.told) (outside_event c.in-Err.stop
+    (c.in-Err.ensures.takes n m b tables own (c.in_ok-begin.ensures.opened ∙ ap (λ h. Some h) held) holds rows takes
+    home brought))

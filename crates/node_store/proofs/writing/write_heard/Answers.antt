@@ -1,8 +1,6 @@
-use Rattle.std.proofs.Common.{◌∙◌, map, Some, ap, refl}
+use Rattle.std.proofs.Common.{◌∙◌, Some, ap, refl}
 use Rattle.std.proofs.lemmas.Result.{err_from_is_err_and}
-use Rattle.event_store.specs.Telling.{named}
-use Rattle.slon_model.specs.Deeds.{Hears}
-use Rattle.node_store.proofs.Doers.{stamped_done}
+use Rattle.node_store.proofs.Taking.{stamped}
 use Rattle.node_store.proofs.Midways.{midway_begun, midway_on, breaks_on, enters_as, enters_on}
 use Rattle.node_store.proofs.writing.write_heard.Goals as goal
 
@@ -19,11 +17,8 @@ returns-clause-enters g c =
 
 pub returns-clause-writes : goal.returns-clause-writes
 returns-clause-writes g c n m own held holds =
-    stamped_done (record {
-      node = n;
-      held = m;
-      doing = Hears (map named c.args.rows.now);
-      stamp = c.args.stamp;
+    stamped (record {
+      number = c.args.stamp;
       bytes = c.as_slice.result.now;
       spelled = c.as_slice.ensures ∙ c.in_ok-stamp.ensures;
     }) (g.K.Keeper.kept c.put_pair.new.keeper) c.put_pair.result

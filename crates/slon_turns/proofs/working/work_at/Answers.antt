@@ -1,86 +1,231 @@
-use Rattle.std.proofs.Common.{◌∙◌, ℕ, List, refl, sym, ap, subst}
+use Rattle.std.proofs.Common.{◌∙◌, get_or, set, IfOk, sym, ap, subst}
+use Rattle.std.proofs.lemmas.List.{get_or_default, get_or-set_same}
 use Rattle.std.proofs.lemmas.Result.{IfOk-weaker}
-use Rattle.std.specs.Prelude.{codes}
-use Rattle.slon_model.specs.declared.reply.Refusal.TheVariants.{Nothing, NotBuilt as IsUnbuilt}
-use Rattle.slon_model.specs.declared.reply.Reply.TheVariants.{Refused}
-use Rattle.slon_model.specs.World.{refusal_of}
-use Rattle.event_store.specs.Seen.{seen_event}
 use Rattle.app_store.specs.Base.{base_of}
-use Rattle.remote_worker.specs.Working.{Takes}
-use Rattle.slonik_exec.proofs.Telling.{words_at}
-use Rattle.slonik_exec.proofs.Works.{answers_then, ready_still}
-use Rattle.slon_turns.specs.Applying.{due_at, seat_in, WorksAt, WorksHere}
-use Rattle.slon_turns.proofs.Applying.{IsNext, missing_due, found_due, due_taken, refused_here, stops_here}
-use Rattle.slon_turns.proofs.Listens.{told_if}
+use Rattle.remote_worker.specs.Working.{waits_as, IsAble}
+use Rattle.slonik_exec.specs.Answering.{Answers}
+use Rattle.slonik_exec.specs.Databases.{bases_of}
+use Rattle.slonik_exec.proofs.Lifting.{runs_worked}
+use Rattle.slonik_exec.proofs.Trying.{runs_then}
+use Rattle.slon_turns.specs.Applying.{AppliesAt}
+use Rattle.slon_turns.specs.Planning.{CanPlan, PlanRuns, PlansAt}
+use Rattle.slon_turns.specs.Working.{Turn}
+use Rattle.slon_turns.proofs.Listens.{if_both}
+use Rattle.slon_turns.proofs.Mids.{LookedAt, mids_distinct, mids_inside, mids_seat, mids_try, worked_here}
+use Rattle.slon_turns.proofs.Taking.{carries_alone, carries_copied, carries_told}
 use Rattle.slon_turns.proofs.working.work_at.Goals as goal
 
-pub returns-in-Err-clause-works : goal.returns-in-Err-clause-works
-returns-in-Err-clause-works g c =
+pub returns-in-Told : goal.returns-in-Told
+returns-in-Told g c =
     let kept = g.K.Keeper.kept in
-    let name = c.args.own.now.name in
-    let old = base_of kept c.args.own.now.database in
-    let new = base_of kept c.resume.new.own in
-    told_if (λ reply. WorksAt c.args.origin name (old, c.args.queue.now) reply (new, c.args.queue.now))
-    c.told.result c.in-Err.fault (refusal_of (words_at name) c.in-Err.fault) c.told.ensures.reply
-    c.told.ensures.memory
-    (λ reply told full s named fits can. stops_here s (due_at c.args.origin s.memory (seat_in s))
-    (c.in-Err.ensures.looks s.place fits.ready full)
-    (told ∙ ap (λ x. refusal_of (words_at x) c.in-Err.fault) (sym named)) fits.waits)
-
-pub returns-in-Missing-clause-works : goal.returns-in-Missing-clause-works
-returns-in-Missing-clause-works g c s named fits can =
-    let look = c.in-Ok.ensures.looks s.place fits.ready refl in
-    let says = look.0 s.node fits.is in
-    let w = c.in-Ok.ready in
-    let next : IsNext s c.args.origin w
-    = record { node = says.0; origin_is = c.in-Ok.ensures.own.1; number = says.1 } in
-    refused_here s (due_at c.args.origin s.memory (seat_in s)) Nothing (
-      base_of g.K.Keeper.kept c.resume.new.own,
-      c.args.queue.now,
-    )
-    (missing_due next fits
-    (subst (Takes w.node w.origin w.state.number c.args.queue.now) c.in-Missing.is c.take.ensures))
-    (look.1, fits.waits)
-
-pub apply_at-requires-clause-due : goal.apply_at-requires-clause-due
-apply_at-requires-clause-due g c =
-    let w = c.in-Ok.ready in
-    due_taken w.node w.origin w.state.number c.args.queue.now c.in-Due.taken
-    (subst (Takes w.node w.origin w.state.number c.args.queue.now) c.in-Due.is c.take.ensures)
-
-pub returns-in_ok-word-in-NotBuilt-clause-works : goal.returns-in_ok-word-in-NotBuilt-clause-works
-returns-in_ok-word-in-NotBuilt-clause-works g c s named fits can =
-    let look = c.in-Ok.ensures.looks s.place fits.ready refl in
-    let says = look.0 s.node fits.is in
-    let w = c.in-Ok.ready in
-    let next : IsNext s c.args.origin w
-    = record { node = says.0; origin_is = c.in-Ok.ensures.own.1; number = says.1 } in
-    let found = subst (Takes w.node w.origin w.state.number c.args.queue.now) c.in-NotBuilt.is c.take.ensures in
-    subst (λ (word : List ℕ). WorksHere s (due_at c.args.origin s.memory (seat_in s)) (Refused (IsUnbuilt word))
-    (base_of g.K.Keeper.kept c.resume.new.own, c.args.queue.now)) (sym c.in_ok-word-in-NotBuilt.ensures)
-    (refused_here s (due_at c.args.origin s.memory (seat_in s)) (IsUnbuilt (codes "work"))
-    (base_of g.K.Keeper.kept c.resume.new.own, c.args.queue.now)
-    (found_due next fits found.0 found.1 found.2)
-    (look.1, fits.waits))
-
-pub returns-in-Due : goal.returns-in-Due
-returns-in-Due g c =
-    let kept = g.K.Keeper.kept in
+    let items = c.args.databases.now in
+    let i = c.args.index in
+    let inside = c.requires.seat.0 in
+    let x = get_or items i c.index-databases-index.result in
+    let y = c.plan_at.new.own in
+    let held = get_or_default items i c.index-databases-index.result x inside in
+    let queue = c.args.queue.now in
+    let t : Turn = record {
+      node = c.args.work.node;
+      origin = c.args.work.origin;
+      index = i;
+      cuts = c.args.cuts.now;
+    } in
+    let runs = subst (λ p. PlanRuns x.name (base_of kept x.database) p (base_of kept y.database)) c.in-Told.is
+    c.in_ok-reply.ensures.runs in
+    let plans = subst (λ p. PlansAt t.origin t.cuts x.name (base_of kept x.database, queue) p
+    (base_of kept y.database)) c.in-Told.is c.in_ok-reply.ensures.plans in
     record {
-      answers = IfOk-weaker c.apply_at.result _ _ (λ reply a. answers_then c.in-Ok.ensures.acts a)
-          c.apply_at.ensures.answers;
-      works = IfOk-weaker c.apply_at.result _ _ (λ reply applies s named fits can.
-          let look = c.in-Ok.ensures.looks s.place fits.ready refl in
-          let says = look.0 s.node fits.is in
-          let w = c.in-Ok.ready in
-          let next : IsNext s c.args.origin w
-          = record { node = says.0; origin_is = c.in-Ok.ensures.own.1; number = says.1 } in
-          let took = subst (Takes w.node w.origin w.state.number c.args.queue.now) c.in-Due.is c.take.ensures in
-          let due = due_taken w.node w.origin w.state.number c.args.queue.now c.in-Due.taken took in
-          let is = found_due next fits took.3.0 took.3.1 took.3.2 in
-          subst (λ r. WorksHere s r reply (base_of kept c.apply_at.new.own.database, c.apply_at.new.queue)) (sym is)
-          (applies s due.0 named due.1
-          (record { ready = ready_still fits.ready look.1; is = fits.is; waits = fits.waits })
-          (can (seen_event due.0) is))) c.apply_at.ensures.applies;
-      name = c.apply_at.ensures.name;
+      runs = runs_worked c.in-Told.reply (worked_here kept items i x y c.requires.distinct (inside, held)
+          c.in_ok-reply.ensures.name) runs;
+      carries = carries_told {kept = kept} t (record {
+        distinct = c.requires.distinct;
+        inside = inside;
+        held = held;
+        name = c.in_ok-reply.ensures.name;
+      }) runs plans;
     }
+
+pub apply_at-requires-clause-able : goal.apply_at-requires-clause-able
+apply_at-requires-clause-able g c =
+    let able = subst (CanPlan c.args.queue.now) c.in-Alone.is c.in_ok-reply.ensures.can in
+    let with = c.with.ensures in
+    subst (λ o. IsAble (waits_as o c.with.result.state.number c.args.queue.now)) (sym with.origin)
+    (subst (λ n. IsAble (waits_as c.in-Alone.taken.origin n c.args.queue.now)) (sym with.number) able)
+
+pub returns-in-Alone-clause-runs : goal.returns-in-Alone-clause-runs
+returns-in-Alone-clause-runs g c =
+    let kept = g.K.Keeper.kept in
+    let items = c.args.databases.now in
+    let i = c.args.index in
+    let inside = c.requires.seat.0 in
+    let x = get_or items i c.index-databases-index.result in
+    let y = c.plan_at.new.own in
+    let held = get_or_default items i c.index-databases-index.result x inside in
+    let queue = c.args.queue.now in
+    let t : Turn = record {
+      node = c.args.work.node;
+      origin = c.args.work.origin;
+      index = i;
+      cuts = c.args.cuts.now;
+    } in
+    let runs = subst (λ p. PlanRuns x.name (base_of kept x.database) p (base_of kept y.database)) c.in-Alone.is
+    c.in_ok-reply.ensures.runs in
+    let look : LookedAt kept items i x y = record {
+      distinct = c.requires.distinct;
+      inside = inside;
+      held = held;
+      name = c.in_ok-reply.ensures.name;
+      acts = runs.0;
+      same = runs.1;
+    } in
+    let z = c.apply_at.new.own in
+    let same = get_or-set_same items i y c.index-databases-index-in-Alone.result inside in
+    let name = c.apply_at.ensures.name ∙ ap (λ d. d.name) same in
+    let answers = subst (λ d. IfOk c.apply_at.result (λ reply.
+    Answers d.name (base_of kept d.database) reply (base_of kept z.database))) same c.apply_at.ensures.answers in
+    let mids = set items i y in
+    let y_held = sym (get_or-set_same items i y y inside) in
+    IfOk-weaker c.apply_at.result _ _ (λ reply answers.
+    runs_then reply (bases_of kept items) (bases_of kept mids) (bases_of kept (set mids i z)) (mids_try look)
+    (runs_worked reply (worked_here kept mids i y z (mids_distinct look) (mids_inside look, y_held)
+    name) answers)) answers
+
+pub returns-in-Alone-clause-carries : goal.returns-in-Alone-clause-carries
+returns-in-Alone-clause-carries g c =
+    let kept = g.K.Keeper.kept in
+    let items = c.args.databases.now in
+    let i = c.args.index in
+    let inside = c.requires.seat.0 in
+    let x = get_or items i c.index-databases-index.result in
+    let y = c.plan_at.new.own in
+    let held = get_or_default items i c.index-databases-index.result x inside in
+    let queue = c.args.queue.now in
+    let t : Turn = record {
+      node = c.args.work.node;
+      origin = c.args.work.origin;
+      index = i;
+      cuts = c.args.cuts.now;
+    } in
+    let runs = subst (λ p. PlanRuns x.name (base_of kept x.database) p (base_of kept y.database)) c.in-Alone.is
+    c.in_ok-reply.ensures.runs in
+    let look : LookedAt kept items i x y = record {
+      distinct = c.requires.distinct;
+      inside = inside;
+      held = held;
+      name = c.in_ok-reply.ensures.name;
+      acts = runs.0;
+      same = runs.1;
+    } in
+    let plans = subst (λ p. PlansAt t.origin t.cuts x.name (base_of kept x.database, queue) p
+    (base_of kept y.database)) c.in-Alone.is c.in_ok-reply.ensures.plans in
+    let z = c.apply_at.new.own in
+    let same = get_or-set_same items i y c.index-databases-index-in-Alone.result inside in
+    let name = c.apply_at.ensures.name ∙ ap (λ d. d.name) same in
+    let answers = subst (λ d. IfOk c.apply_at.result (λ reply.
+    Answers d.name (base_of kept d.database) reply (base_of kept z.database))) same c.apply_at.ensures.answers in
+    let applies = subst (λ d. IfOk c.apply_at.result (λ reply. AppliesAt d.name c.with.result
+    (base_of kept d.database, queue) reply (base_of kept z.database, c.apply_at.new.queue))) same
+    c.apply_at.ensures.applies in
+    if_both c.apply_at.result (λ reply answers applies.
+    carries_alone {kept = kept} {t = t} {w = c.in-Alone.taken} z c.with.result (record { look = look; plans = plans })
+    c.with.ensures
+    name answers applies) answers applies
+
+pub copy_from-requires-clause-distinct : goal.copy_from-requires-clause-distinct
+copy_from-requires-clause-distinct g c =
+    let kept = g.K.Keeper.kept in
+    let items = c.args.databases.now in
+    let i = c.args.index in
+    let inside = c.requires.seat.0 in
+    let x = get_or items i c.index-databases-index.result in
+    let y = c.plan_at.new.own in
+    let held = get_or_default items i c.index-databases-index.result x inside in
+    let runs = subst (λ p. PlanRuns x.name (base_of kept x.database) p (base_of kept y.database)) c.in-Copy.is
+    c.in_ok-reply.ensures.runs in
+    let look : LookedAt kept items i x y = record {
+      distinct = c.requires.distinct;
+      inside = inside;
+      held = held;
+      name = c.in_ok-reply.ensures.name;
+      acts = runs.0;
+      same = runs.1;
+    } in
+    mids_distinct look
+
+pub copy_from-requires-clause-seat : goal.copy_from-requires-clause-seat
+copy_from-requires-clause-seat g c =
+    let kept = g.K.Keeper.kept in
+    let items = c.args.databases.now in
+    let i = c.args.index in
+    let inside = c.requires.seat.0 in
+    let x = get_or items i c.index-databases-index.result in
+    let y = c.plan_at.new.own in
+    let held = get_or_default items i c.index-databases-index.result x inside in
+    let runs = subst (λ p. PlanRuns x.name (base_of kept x.database) p (base_of kept y.database)) c.in-Copy.is
+    c.in_ok-reply.ensures.runs in
+    let look : LookedAt kept items i x y = record {
+      distinct = c.requires.distinct;
+      inside = inside;
+      held = held;
+      name = c.in_ok-reply.ensures.name;
+      acts = runs.0;
+      same = runs.1;
+    } in
+    mids_seat look c.requires.seat
+
+pub returns-in-Copy-clause-runs : goal.returns-in-Copy-clause-runs
+returns-in-Copy-clause-runs g c =
+    let kept = g.K.Keeper.kept in
+    let items = c.args.databases.now in
+    let i = c.args.index in
+    let inside = c.requires.seat.0 in
+    let x = get_or items i c.index-databases-index.result in
+    let y = c.plan_at.new.own in
+    let held = get_or_default items i c.index-databases-index.result x inside in
+    let runs = subst (λ p. PlanRuns x.name (base_of kept x.database) p (base_of kept y.database)) c.in-Copy.is
+    c.in_ok-reply.ensures.runs in
+    let look : LookedAt kept items i x y = record {
+      distinct = c.requires.distinct;
+      inside = inside;
+      held = held;
+      name = c.in_ok-reply.ensures.name;
+      acts = runs.0;
+      same = runs.1;
+    } in
+    IfOk-weaker c.copy_from.result _ _ (λ reply runs.
+    runs_then reply (bases_of kept items) (bases_of kept (set items i y)) (bases_of kept c.copy_from.new.databases)
+    (mids_try look) runs) c.copy_from.ensures.runs
+
+pub returns-in-Copy-clause-carries : goal.returns-in-Copy-clause-carries
+returns-in-Copy-clause-carries g c =
+    let kept = g.K.Keeper.kept in
+    let items = c.args.databases.now in
+    let i = c.args.index in
+    let inside = c.requires.seat.0 in
+    let x = get_or items i c.index-databases-index.result in
+    let y = c.plan_at.new.own in
+    let held = get_or_default items i c.index-databases-index.result x inside in
+    let queue = c.args.queue.now in
+    let t : Turn = record {
+      node = c.args.work.node;
+      origin = c.args.work.origin;
+      index = i;
+      cuts = c.args.cuts.now;
+    } in
+    let runs = subst (λ p. PlanRuns x.name (base_of kept x.database) p (base_of kept y.database)) c.in-Copy.is
+    c.in_ok-reply.ensures.runs in
+    let look : LookedAt kept items i x y = record {
+      distinct = c.requires.distinct;
+      inside = inside;
+      held = held;
+      name = c.in_ok-reply.ensures.name;
+      acts = runs.0;
+      same = runs.1;
+    } in
+    let plans = subst (λ p. PlansAt t.origin t.cuts x.name (base_of kept x.database, queue) p
+    (base_of kept y.database)) c.in-Copy.is c.in_ok-reply.ensures.plans in
+    IfOk-weaker c.copy_from.result _ _ (λ reply copies.
+    carries_copied {kept = kept} {t = t} {w = c.in-Copy.taken} {c = c.in-Copy.copying} c.copy_from.new.databases
+    (record { look = look; plans = plans }) copies)
+    c.copy_from.ensures.copies

@@ -13,4 +13,4 @@ found_as (Err e) one other is same = tt
 pub returns : goal.returns
 returns g c p ready running =
     found_as c.least_writer.result _ _ c.least_writer.ensures
-    (writer_is (base_of g.K.Keeper.kept c.args.self.now) p c.args.table.now ready running)
+    (writer_is (base_of g.K.Keeper.kept c.args.self.now) p c.args.tables.now ready running)

@@ -24,9 +24,10 @@ returns g c =
     (work_if node origin old news queues c.take_work.result
     (subst (λ xs. IfOk c.take_work.result (λ reply. Runs (bases_of {g = g.K.Keeper} kept xs) reply news))
     c.deref_mut.ensures.value c.take_work.ensures.runs)
-    (subst (λ xs. IfOk c.take_work.result (λ reply. Works node origin old.memory.switches.started
+    (subst (λ xs. IfOk c.take_work.result (λ reply. Works node origin old.memory.switches
     (kept_as (bases_of {g = g.K.Keeper} kept xs) old.memory.queues) reply (kept_as news queues)))
     c.deref_mut.ensures.value
-    (subst (λ started. IfOk c.take_work.result (λ reply. Works node origin started
+    (subst (λ on. IfOk c.take_work.result (λ reply. Works node origin on
     (kept_as (bases_of kept c.deref_mut.result.now) old.memory.queues) reply (kept_as news queues)))
-    c.deref.ensures.value c.take_work.ensures.works)))
+    (λ i. record { started = c.deref.ensures.value i; cuts = c.deref-2.ensures.value i })
+    c.take_work.ensures.works)))

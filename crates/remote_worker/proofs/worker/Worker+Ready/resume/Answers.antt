@@ -15,7 +15,8 @@ returns-in-Ok-clause-looks g c p ready memory =
     let seen = sight-idle b.kept (c.args.own.now.idle c.requires.up) ∙ ready.fits.held.1 in (
       λ n is.
           let own = own_is n at is (sym c.in-Some.ensures.id) in
-          (own, c.in-Ok.ensures.says m n seen (sym own) (held_node n at is)),
+          let next = c.in-Ok.ensures.says m n seen (sym own) (held_node n at is) in
+          record { node = own; number = next.0; receives = next.1 },
       look_fits at (record {
         held = c.in-Ok.ensures.safe.held;
         later = c.in-Ok.ensures.safe.later;

@@ -14,10 +14,11 @@ returns c = (
   refl,
   refl,
   refl,
-  (
-    c.in-Some.event.now,
-    sym c.in-Some.ensures,
-    sym c.can_carry_out.ensures ∙ c.if-not-can_carry_out.false,
-    c.kind_of-kind.ensures,
-  ),
+  record {
+    event = c.in-Some.event.now;
+    is = sym c.in-Some.ensures;
+    can = sym c.can_carry_out.ensures ∙ c.if-not-can_carry_out.false;
+    kind = c.kind_of.ensures;
+    copying = c.copying_in.ensures;
+  },
 )

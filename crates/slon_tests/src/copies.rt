@@ -1,0 +1,221 @@
+// A node that copies a set from its origin: what it has then, why it cannot, and what comes of it where a store fails.
+use crate::polls::{DATABASES, NODES, PAIR, expect_each, expect_lines};
+use crate::running::{NOTHING, run};
+use crate::wanted::{Step, is_among, nothing_wanted};
+use node_keeper::MemSink;
+use slon_main::Status;
+use std::alloc::Global;
+use std::test::Fail;
+use test_words::{keeping, require};
+
+/// Node 2 is to receive the set of `PAIR`. One transaction of the origin has committed a row by then, and another one
+/// is still open.
+const SUBSCRIBED: &[Step] = &[
+    (
+        "slonik t <<\ncluster name = demo;\nnode 1 admin conninfo = 'dbname=a';\n\
+        node 2 admin conninfo = 'dbname=b';\nsubscribe set (id = 1, provider = 1, receiver = 2);\n>>",
+        "ok statements 1",
+    ),
+    ("step t", "ok event 1 7"),
+    ("start 1", "ok"),
+    ("start 2", "ok"),
+    ("begin a x", "ok xid 1"),
+    ("insert a x public.t p 1", "ok action 1"),
+    ("begin a y", "ok xid 2"),
+    ("insert a y public.t q 2", "ok action 2"),
+    ("commit a y", "ok actions 1"),
+    ("listen 2 1", "ok events 6 confirms 0"),
+    ("work 2 1", "ok STORE_PATH 2 rows 0"),
+    ("work 2 1", "ok STORE_SET 3 rows 0"),
+    ("work 2 1", "ok SET_ADD_TABLE 4 rows 0"),
+    ("work 2 1", "ok SYNC 5 rows 0"),
+    ("work 2 1", "ok SUBSCRIBE_SET 6 rows 0"),
+];
+
+const COPIED: &[&[Step]] = &[
+    // The rows that are committed at the origin take the place of those that the node has, also behind a crash. The
+    // node writes its table no more.
+    &[
+        ("begin b z", "ok xid 1"),
+        ("insert b z public.t old 0", "ok action 1"),
+        ("commit b z", "ok actions 1"),
+        ("work 2 1", "ok ENABLE_SUBSCRIPTION 7 rows 1"),
+        ("rows b public.t", "ok rows 1 q=2"),
+        (
+            "status b",
+            "ok node 2 log 0 progress 1 7 progress 2 1 set 1 era 1 at 1:3:1",
+        ),
+        ("begin b z", "ok xid 2"),
+        ("insert b z public.t r 3", "no 55 notorigin 1"),
+        ("crash b", "ok"),
+        ("up b", "ok"),
+        ("rows b public.t", "ok rows 1 q=2"),
+        ("commit a x", "ok actions 1"),
+        ("rows a public.t", "ok rows 2 p=1 q=2"),
+        ("rows b public.t", "ok rows 1 q=2"),
+        ("work 2 1", "no 60 nothing"),
+        ("listen 1 2", "ok events 1 confirms 1"),
+    ],
+    // What comes with a SYNC of the origin is not built yet.
+    &[
+        ("work 2 1", "ok ENABLE_SUBSCRIPTION 7 rows 1"),
+        ("commit a x", "ok actions 1"),
+        ("sync 1", "ok event 1 8"),
+        ("listen 2 1", "ok events 1 confirms 0"),
+        ("work 2 1", "no 98 notbuilt work"),
+        ("rows b public.t", "ok rows 1 q=2"),
+    ],
+    // Each refusal: the nodes are cut off from one another, the origin is down, and a transaction of the node wrote the
+    // table. The event waits on.
+    &[
+        ("begin b z", "ok xid 1"),
+        ("insert b z public.t r 3", "ok action 1"),
+        ("cut 1 2", "ok"),
+        ("crash a", "ok"),
+        ("work 2 1", "no 68 cut 2 1"),
+        ("join 1 2", "ok"),
+        ("work 2 1", "no 16 down a"),
+        ("up a", "ok"),
+        ("work 2 1", "no 66 busy 1"),
+        ("abort b z", "ok"),
+        ("stop 1", "ok"),
+        ("work 2 1", "ok ENABLE_SUBSCRIPTION 7 rows 1"),
+        ("rows b public.t", "ok rows 1 q=2"),
+    ],
+];
+
+#[test]
+fn sets_are_copied(rt: HostRuntime) -> Result<(), Fail> {
+    expect_each(rt.alloc(), PAIR, SUBSCRIBED, COPIED)
+}
+
+/// Node 3 is to receive a set with a table that it lacks.
+const UNLIKE: &[Step] = &[
+    ("init cluster (id = 1);", "ok"),
+    ("store node (id = 3, event node = 1);", "ok event 1 1"),
+    (
+        "store path (server = 1, client = 3, conninfo = 'dbname=a');",
+        "ok event 3 1",
+    ),
+    ("create set (id = 1, origin = 1);", "ok event 1 2"),
+    (
+        "set add table (set id = 1, origin = 1, id = 1, fully qualified name = 'public.t');",
+        "ok event 1 3",
+    ),
+    (
+        "subscribe set (id = 1, provider = 1, receiver = 3);",
+        "ok event 1 6",
+    ),
+];
+
+/// It has no such table, then one with another number of columns, and then no path to the origin.
+const REFUSED: &[Step] = &[
+    ("start 3", "ok"),
+    ("listen 3 1", "ok events 5 confirms 0"),
+    ("work 3 1", "ok STORE_SET 2 rows 0"),
+    ("work 3 1", "ok SET_ADD_TABLE 3 rows 0"),
+    ("work 3 1", "ok SYNC 4 rows 0"),
+    ("work 3 1", "ok SUBSCRIBE_SET 5 rows 0"),
+    ("work 3 1", "no 52 notable public.t"),
+    ("table c public.t 3", "ok"),
+    ("work 3 1", "no 57 badwidth 3"),
+    (
+        "slonik t <<\ncluster name = demo;\nnode 1 admin conninfo = 'dbname=a';\n\
+        node 3 admin conninfo = 'dbname=c';\ndrop path (server = 1, client = 3);\n>>",
+        "ok statements 1",
+    ),
+    ("step t", "ok event 3 2"),
+    ("cut 1 3", "ok"),
+    ("work 3 1", "no 75 nopath 1"),
+    ("status c", "ok node 3 log 0 progress 1 5 progress 3 2"),
+];
+
+#[test]
+fn tables_are_compared(rt: HostRuntime) -> Result<(), Fail> {
+    expect_lines(rt.alloc(), UNLIKE, &[], REFUSED)
+}
+
+// ---- where a store fails
+
+/// The replies to the copy while the store of a database fails behind this number of calls, and to the lines behind it.
+fn copied(alloc: Global, database: &str, calls: u32, keep: bool) -> Result<MemSink, Fail> {
+    let mut wanted = nothing_wanted(alloc);
+    wanted.push_all(DATABASES)?;
+    wanted.push_script(NODES, PAIR)?;
+    wanted.push_all(SUBSCRIBED)?;
+    let front = wanted.session.as_str();
+    let kept = keeping(keep);
+    let whole = format!(in alloc;
+        "{front}crash {database} after {calls} {kept}\nwork 2 1\ncrash {database}\nup {database}\nrows b public.t\n"
+    )?;
+    let (is, out) = run(alloc, Some("s"), whole.as_bytes(), NOTHING)?;
+    require(is == Status::Done, "a set that is copied")?;
+    Ok(out)
+}
+
+const DONE: [&str; 4] = [
+    "ok ENABLE_SUBSCRIPTION 7 rows 1",
+    "ok",
+    "ok",
+    "ok rows 1 q=2",
+];
+
+/// What may be replied to `work`, `crash`, `up` and `rows` where the store of the node fails: it is done; nothing of it
+/// stands; or the commit is in doubt, and all of it stands or nothing.
+fn outcomes(keep: bool) -> [[&'static str; 4]; 3] {
+    let down = "no 16 down b";
+    let doubt = "doubt b ok ENABLE_SUBSCRIPTION 7 rows 1";
+    [
+        DONE,
+        ["no 10 fault b 1", down, "ok", "ok rows 0"],
+        if keep {
+            [doubt, down, "ok kept", "ok rows 1 q=2"]
+        } else {
+            [doubt, down, "ok lost", "ok rows 0"]
+        },
+    ]
+}
+
+/// Whether the crash was told.
+fn is_told(alloc: Global, database: &str, calls: u32, keep: bool) -> Result<bool, Fail> {
+    let out = copied(alloc, database, calls, keep)?;
+    let text = str::from_utf8(out.written())?;
+    if database == "a" {
+        let failed = ["no 10 fault a 1", "no 16 down a", "ok", "ok rows 0"];
+        return is_among(
+            text,
+            [DONE.as_slice(), failed.as_slice(), failed.as_slice()],
+        );
+    }
+    let [done, failed, doubted] = outcomes(keep);
+    is_among(
+        text,
+        [done.as_slice(), failed.as_slice(), doubted.as_slice()],
+    )
+}
+
+/// A crash at each call: the first calls are told, and those behind are not reached. How many are told.
+fn told_at_each(alloc: Global, database: &str, keep: bool) -> Result<u32, Fail> {
+    let mut told = 0;
+    for calls in 0..80 {
+        if is_told(alloc, database, calls, keep)? {
+            require(told == calls, "a call that is not told")?;
+            told = calls + 1;
+        }
+    }
+    Ok(told)
+}
+
+#[test]
+fn copies_crash_at_every_call_of_the_node(rt: HostRuntime) -> Result<(), Fail> {
+    let alloc = rt.alloc();
+    let told = told_at_each(alloc, "b", false)?;
+    require(told > 15 && told < 80, "the calls of the node")?;
+    require(told_at_each(alloc, "b", true)? == told, "kept at the node")
+}
+
+#[test]
+fn copies_crash_at_every_call_of_the_origin(rt: HostRuntime) -> Result<(), Fail> {
+    let told = told_at_each(rt.alloc(), "a", false)?;
+    require(told > 4 && told < 80, "the calls of the origin")
+}

@@ -1,0 +1,100 @@
+-- What a node is to do at its turn under the rules, as far as its own database tells.
+use Rattle.std.specs.Prelude.{◌≡◌, ◌==◌, ◌<◌, ◌^◌, ℕ, Bool, true, false, not, List, [], ◌∷◌, Option, Some, None, Ok}
+use Rattle.std.specs.Prelude.{option_map}
+use Rattle.store_rows.specs.Rows.{IsId}
+use Rattle.slon_model.specs.declared.reply.Refusal.{Refusal}
+use Rattle.slon_model.specs.declared.reply.Refusal.TheVariants as refused
+use Rattle.slon_model.specs.declared.reply.Reply.{Reply}
+use Rattle.slon_model.specs.declared.reply.Reply.TheVariants.{Refused}
+use Rattle.slon_model.specs.Config.{has_path}
+use Rattle.slon_model.specs.Events.{kind_of}
+use Rattle.slon_model.specs.Sessions.{Seat, bind, first_refusal, when}
+use Rattle.slon_model.specs.Turns.{are_cut}
+use Rattle.slon_model.specs.Working.{carried, copying_in, next_at}
+use Rattle.event_store.specs.declared.event.Event.{Event}
+use Rattle.event_store.specs.declared.queue.Queue.{Queue}
+use Rattle.event_store.specs.Seen.{seen_event}
+use Rattle.app_store.specs.Base.{Base}
+use Rattle.app_store.specs.Fits.{Fits}
+use Rattle.node_store.specs.Acting.{Acts}
+use Rattle.remote_worker.specs.declared.worker.Taken.{Taken}
+use Rattle.remote_worker.specs.declared.worker.Worker.{Worker}
+use Rattle.remote_worker.specs.Fetching.{CanCopy}
+use Rattle.remote_worker.specs.Working.{waits_as, IsAble, seen_copying}
+use Rattle.slonik_exec.specs.Answering.{Answers}
+use Rattle.slon_turns.specs.declared.planning.Plan.{Plan}
+use Rattle.slon_turns.specs.declared.planning.Plan.TheVariants.{Told, Alone, Copy}
+use Rattle.slon_turns.specs.Applying.{Finder, Post, PostFits, WorksHere, brought_with, due_at, seat_in}
+
+-- ---- over every store
+
+-- what was planned is told of the database, or nothing failed and its memory is as it was
+abbrev pub PlanRuns : List ℕ → Base → Plan → Base → Type 0
+PlanRuns name old (Told reply) new = Answers name old reply new
+PlanRuns name old others new = Acts None old new × (new.memory ≡ old.memory)
+
+-- what was planned can be carried out
+abbrev pub CanPlan : Queue → Plan → Type 0
+CanPlan queue (Told reply) = Unit {0}
+CanPlan queue (Alone w) = IsAble (waits_as w.origin w.state.number queue)
+CanPlan queue (Copy w c) =
+    IsAble (waits_as w.origin w.state.number queue) × IsId w.node × CanCopy c × (w.state.number < 2 ^ 63)
+    × (c.provider ≡ w.node → ⊥)
+
+-- it is the node of this id
+abbrev pub PlansOwn : ℕ → Plan → Type 0
+PlansOwn own (Told reply) = Unit {0}
+PlansOwn own (Alone w) = w.node ≡ own
+PlansOwn own (Copy w c) = w.node ≡ own
+
+-- ---- by the rules
+
+-- The node took this event of what waits there.
+pub record TookUp (s : Post) (w : Worker Taken) (queue : Queue) (e : Event) : Type 0 where
+  pub found : waits_as w.origin w.state.number queue ≡ Some e
+  pub node : w.node ≡ s.node.id
+  pub kind : w.state.kind ≡ kind_of e.body
+  pub copying : option_map seen_copying w.state.copying ≡ copying_in s.node.id e.body
+
+-- It is what the node is to apply, with what is copied for it.
+pub record IsPlanned (origin : ℕ) (s : Post) (w : Worker Taken) (queue : Queue) : Type 0 where
+  pub event : Event
+  pub took : TookUp s w queue event
+  pub next : next_at s.memory (seat_in s) origin ≡ Some (seen_event event)
+  pub due : (find : Finder) → due_at origin s.memory (seat_in s) find
+      ≡ bind (brought_with s.memory (seat_in s) (seen_event event) find (copying_in s.node.id event.body))
+      (λ b. Ok (carried (seat_in s) (seen_event event) b))
+
+-- 75, 68, 44
+abbrev pub link_checks : ℕ → ℕ → List (ℕ × ℕ) → Seat → List (Option Refusal)
+link_checks node provider cuts s =
+    when (not (has_path node provider s.known.config)) (refused.NoPath provider)
+    ∷ when (are_cut node provider cuts) (refused.Severed node provider)
+    ∷ when (provider == node) (refused.NoNode provider) ∷ []
+
+-- what is replied where the node has a path
+abbrev pub apart_reply : ℕ → ℕ → Bool → Bool → Option Reply
+apart_reply node provider true same = Some (Refused (refused.Severed node provider))
+apart_reply node provider false true = Some (Refused (refused.NoNode provider))
+apart_reply node provider false false = None
+
+-- a node that goes on is another one than the provider
+abbrev pub IsApart : ℕ → ℕ → Option Reply → Type 0
+IsApart node provider None = provider ≡ node → ⊥
+IsApart node provider (Some reply) = Unit {0}
+
+-- none of these keeps the node from the provider
+abbrev pub Reaches : Post → ℕ → Type 0
+Reaches s provider = first_refusal (link_checks s.node.id provider s.memory.cuts (seat_in s)) ≡ None
+
+abbrev pub Plans : ℕ → Post → Queue → Plan → Base → Type 0
+Plans origin s queue (Told reply) new =
+    (find : Finder) → WorksHere s (due_at origin s.memory (seat_in s) find) reply (new, queue)
+Plans origin s queue (Alone w) new = IsPlanned origin s w queue × (w.state.copying ≡ None) × Fits s.place new
+Plans origin s queue (Copy w c) new =
+    IsPlanned origin s w queue × (w.state.copying ≡ Some c) × Reaches s c.provider × Fits s.place new
+
+-- from every place that fits, where these nodes are cut off from one another
+abbrev pub PlansAt : ℕ → List (ℕ × ℕ) → List ℕ → (Base × Queue) → Plan → Base → Type 0
+PlansAt origin cuts name old plan new =
+    (s : Post) → s.name ≡ name → s.memory.cuts ≡ cuts → PostFits s old → Plans origin s old.1 plan new
