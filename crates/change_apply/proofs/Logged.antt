@@ -168,3 +168,27 @@ pub stops_at : {row : ℕ × LogRow} {more : List (ℕ × LogRow)} {actions : Li
 stops_at {row} {more} stop p stops =
     let next = next_of row more p.has.left p.has.are in
     stops p.has.now next.action next.is (record { store = p.store; is = p.is; has = p.has.held })
+
+-- ---- actions that are left
+
+-- The store holds rows of tables, of which these actions make what all make of the first ones.
+pub record IsToDo (more all : List Action) (tables : List ℕ → Rows) (m : Store) : Type 0 where
+  pub now : List ℕ → Rows
+  pub held : HoldsRows now m
+  pub ends : acted_all more now ≡ acted_all all tables
+
+pub all_to_do : {all : List Action} {tables : List ℕ → Rows} {k : Kept} → IsPending (HoldsRows tables) k →
+    IsPending (IsToDo all all tables) k
+all_to_do {all} {tables} p = pending_as (λ m held. record { now = tables; held = held; ends = refl }) p
+
+pub one_done : {a : Action} {more all : List Action} {tables : List ℕ → Rows} {old new : Kept} →
+    IsPending (IsToDo (a ∷ more) all tables) old →
+    ((now : List ℕ → Rows) → IsPending (HoldsRows now) old → IsPending (HoldsRows (acted a now)) new) →
+    IsPending (IsToDo more all tables) new
+one_done {a} p on =
+    pending_as (λ m held. record { now = acted a p.has.now; held = held; ends = p.has.ends })
+    (on p.has.now (record { store = p.store; is = p.is; has = p.has.held }))
+
+pub none_to_do : {all : List Action} {tables : List ℕ → Rows} {k : Kept} → IsPending (IsToDo [] all tables) k →
+    IsPending (HoldsRows (acted_all all tables)) k
+none_to_do p = pending_as (λ m left. subst (λ t. HoldsRows t m) left.ends left.held) p

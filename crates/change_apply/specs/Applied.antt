@@ -1,6 +1,7 @@
 -- The rows of all tables of a store, and what actions do to them.
 use Rattle.std.specs.Prelude.{◌≡◌, ℕ, ◌==◌, ◌||◌, if◌then◌else◌, true, false, List, [], ◌∷◌, ◌++◌, Option, Some, None}
 use Rattle.std.specs.Prelude.{option_map}
+use Rattle.std.specs.List.{AllByRecursion}
 use Rattle.std.specs.Str.{bytes_eq}
 use Rattle.std.specs.FinMap.{get}
 use Rattle.slon_base.specs.Codec.{text_bytes, list_bytes, IsText, AreTexts, AllAre}
@@ -73,6 +74,10 @@ acted action = changed_in action.table (change_of action.change)
 abbrev pub acted_all : List Action → (List ℕ → Rows) → List ℕ → Rows
 acted_all [] tables = tables
 acted_all (a ∷ rest) tables = acted_all rest (acted a tables)
+
+-- the words of all of them are texts
+abbrev pub CanApplyAll : List Action → Type 0
+CanApplyAll = AllByRecursion (λ a. IsText a.table × CanApply (change_of a.change))
 
 -- ---- rows of a log
 

@@ -10,11 +10,11 @@ ghost use Rattle.change_capture.specs.Actions.{change_of};
 ghost use Rattle.change_capture.specs.Reading.{IsLogOf};
 ghost use Rattle.change_capture.specs.Spellings.{CanLogRow};
 ghost use Rattle.change_apply.specs.Applied.{CanApply, IsChanged, HoldsRows, OthersStay, IsActed, AreActed};
-ghost use Rattle.change_apply.specs.Applied.{changed_in, acted, acted_all, AreLogOf, IsOfEither};
+ghost use Rattle.change_apply.specs.Applied.{changed_in, acted, acted_all, AreLogOf, CanApplyAll, IsOfEither};
 
 use crate::layout::{LOG, ROWS};
 use change_capture::{Action, Change, LogRow, action_of, updated_values};
-use slon_base::{Keeper, Text, TextList};
+use slon_base::{Keeper, Many, Text, TextList};
 use std::alloc::Global;
 use store_rows::{Stop, del_row, get_row, put_row, row_stop};
 
@@ -74,6 +74,33 @@ pub fn apply_action<K: Keeper>(alloc: Global, keeper: &mut K, action: Action) ->
 {
     let Action { table, change, .. } = action;
     apply_change(alloc, keeper, table, change)
+}
+
+/// Does, in the transaction that is pending, what these writes do to the rows of their tables, one after the other.
+///
+/// # Errors
+///
+/// `BadRow` where a row that is changed is not in its form, and what stopped the store.
+pub fn apply_actions<K: Keeper>(
+    alloc: Global,
+    keeper: &mut K,
+    actions: Many<Action>,
+) -> Result<(), Stop>
+    requires opened { is_some (K.kept keeper.old).pending ≡ true }
+    requires can { CanApplyAll actions }
+    ensures safe { Safe (K.kept keeper.old) (K.kept keeper.new) result }
+    ensures within { IfErr result IsWithinLimit }
+    ensures space { IfErr result (IsOfSpace 3) }
+    ensures others { (m : Store) → (K.kept keeper.old).pending ≡ Some (Some m) →
+        IfOk result (λ u. IsPending (OthersStay m) (K.kept keeper.new)) }
+    // A store that holds rows of tables then holds what all actions make of them.
+    ensures applies { (tables : List ℕ → Rows) → IsPending (HoldsRows tables) (K.kept keeper.old) →
+        Becomes (HoldsRows (acted_all actions tables)) (K.kept keeper.new) result }
+{
+    for action in actions.into_vec() {
+        apply_action(alloc, keeper, action)?;
+    }
+    Ok(())
 }
 
 /// Does what the row of a log with this number does to the row of its table.

@@ -449,7 +449,7 @@ met_changes : (own : ℕ) (k : Knowledge) (doing : Doing) →
 met_changes own k (Emits e) = refl
 met_changes own k others = refl
 
-told : (p : Place) (d : OneDeed p) (e : Event) (body : Body) → met_by d.deed.doing ≡ Some e → e.body ≡ body →
+pub told : (p : Place) (d : OneDeed p) (e : Event) (body : Body) → met_by d.deed.doing ≡ Some e → e.body ≡ body →
     known_behind p d ≡ change_by e.origin e.number body (knowledge d.node).config
 told p d e body met is =
     met_changes d.node.id (knowledge d.node) d.deed.doing

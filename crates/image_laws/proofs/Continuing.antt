@@ -140,7 +140,7 @@ keeps_continuing s first = record {
 -- ---- a commit of a script or a turn
 
 -- what it does is fit for a database with another node, too
-fit_beside : (p : Place) (o : Option Node) (n : Node) (d : Deed) → Fit p n d → Fit (record p { node = o }) n d
+pub fit_beside : (p : Place) (o : Option Node) (n : Node) (d : Deed) → Fit p n d → Fit (record p { node = o }) n d
 fit_beside p o n d (Keeps none kept) = Keeps none kept
 fit_beside p o n d (CreatesSet a) = CreatesSet a
 fit_beside p o n d (AddsTable a) =
@@ -148,7 +148,7 @@ fit_beside p o n d (AddsTable a) =
 fit_beside p o n d (FollowsTable f) = FollowsTable f
 
 -- the database with the node behind these deeds
-abbrev doing_so : Place → Node → List Deed → Place
+abbrev pub doing_so : Place → Node → List Deed → Place
 doing_so q n ds = record q { node = Some (with_deeds ds n) }
 
 deeds_continue : (s : Stretch) (first : ℕ) (q : Place) (n : Node) (ds : List Deed) → q.node ≡ Some n →

@@ -77,7 +77,7 @@ deeds_beside p table (d ∷ ds) other =
     ∙ deeds_beside p table ds other.1
 
 -- a table of a set that the node leads is none that is filled
-not_filled : (p : Place) (own : ℕ) (c : Config) (s : Stretch) → Lasts p own c s → (table : List ℕ) →
+pub not_filled : (p : Place) (own : ℕ) (c : Config) (s : Stretch) → Lasts p own c s → (table : List ℕ) →
     IsOfOther own c table → bytes_eq s.table table ≡ false
 not_filled p own c s lasts table o =
     false_from_ne_true _ (λ same.

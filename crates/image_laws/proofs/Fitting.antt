@@ -2,11 +2,11 @@
 use Rattle.slon_model.specs.World.{outcome}
 use Rattle.slon_model.specs.Tasks.{Act}
 use Rattle.std.proofs.Common.{◌≡◌, ◌≢◌, ℕ, Bool, true, false, cond, List, [], ◌∷◌, Option, Some, None, Result, refl}
-use Rattle.std.proofs.Common.{◌++◌, sym, ap, subst, ◌∙◌, is_some}
-use Rattle.std.specs.Prelude.{◌==◌, ◌+◌}
+use Rattle.std.proofs.Common.{◌++◌, sym, ap, subst, ◌∙◌, is_some, map}
+use Rattle.std.specs.Prelude.{◌==◌, ◌+◌, ◌&&◌}
 use Rattle.std.specs.Str.{bytes_eq}
 use Rattle.std.specs.List.{list_any, AllByRecursion}
-use Rattle.std.proofs.lemmas.Bool.{true≢false, false_from_ne_true, eqb-true, eq-eqb, and_parts}
+use Rattle.std.proofs.lemmas.Bool.{true≢false, false≢true, false_from_ne_true, eqb-true, eq-eqb, and_parts}
 use Rattle.std.proofs.lemmas.List.{append_assoc}
 use Rattle.slonik_script.specs.declared.script.Command.{Command as Order}
 use Rattle.slonik_script.specs.declared.script.Command.TheVariants as order
@@ -16,15 +16,17 @@ use Rattle.slon_model.specs.declared.reply.Refusal.{Refusal}
 use Rattle.slon_model.specs.declared.reply.Refusal.TheVariants as refused
 use Rattle.node_rows.specs.declared.rows.NodeRow.{NodeRow}
 use Rattle.node_rows.specs.declared.rows.SetRow.{SetRow}
+use Rattle.node_rows.specs.declared.rows.TableRow.{TableRow}
 use Rattle.node_rows.specs.declared.body.Body.{Body}
 use Rattle.node_rows.specs.declared.body.Body.TheVariants.{Sync, StoreNode, StorePath, DropPath, StoreSet, DropSet}
 use Rattle.node_rows.specs.declared.body.Body.TheVariants.{SetAddTable, EnableSubscription, MoveSet, FailoverSet}
 use Rattle.slon_model.specs.Names.{Named, find_named}
 use Rattle.slon_model.specs.Maps.{entry_at}
 use Rattle.slon_model.specs.Events.{Event}
-use Rattle.slon_model.specs.Config.{Config, change_by, is_origin, era_of, live_set, leads_row, names_of}
-use Rattle.slon_model.specs.Deeds.{Node, Deed, Doing, Emits, Applies, Hears, Brought, Knowledge, brought_in, knowledge}
-use Rattle.slon_model.specs.Deeds.{learned, with_deeds}
+use Rattle.slon_model.specs.Config.{Config, change_by, is_origin, is_table_of, era_of, live_set, leads_row, names_of}
+use Rattle.slon_model.specs.Config.{tables_of}
+use Rattle.slon_model.specs.Deeds.{Node, Deed, Doing, Emits, Applies, Hears, Brought, Knowledge, Logged, brought_in}
+use Rattle.slon_model.specs.Deeds.{knowledge, learned, nothing_brought, with_deeds}
 use Rattle.slon_model.specs.Place.{Place, deed, standing_rows, taken, node_id}
 use Rattle.slon_model.specs.Sessions.{World, Running, Commit, Stated, Seat, Emission, bind, tells, when}
 use Rattle.slon_model.specs.Sessions.{writer_of, emissions, next_event, committing, stood_at}
@@ -37,15 +39,18 @@ use Rattle.slon_model.specs.Subscribing.{NewFeed, subscribing, feed_bodies, all_
 use Rattle.slon_model.specs.Scripts.{ordered}
 use Rattle.slon_model.specs.Turns.{on_turn, sync_turn}
 use Rattle.slon_model.specs.Polls.{Poll, polled, stated_by, hearing}
-use Rattle.slon_model.specs.Working.{Carried, copying_in, worked, applied_by}
-use Rattle.slon_model.proofs.Names.{put_other, all_found, all_map, bytes_itself}
+use Rattle.slon_model.specs.Following.{is_on_one, kept_from, set_syncs, tables_taken, with_syncs}
+use Rattle.slon_model.specs.Logs.{logged}
+use Rattle.slon_model.specs.Working.{Carried, Copying, ToCopy, errand_in, receives_from, worked, applied_by}
+use Rattle.slon_model.proofs.Names.{put_other, all_found, all_map, bytes_itself, bytes_same}
 use Rattle.slon_laws.specs.Turning.{IsWithin, HoldsAt, AllHold}
 use Rattle.slon_laws.proofs.Acting.{outcome_all}
 use Rattle.slon_laws.specs.Worlds.{AllPlaces}
-use Rattle.stream_laws.specs.Nodes.{node_in}
+use Rattle.stream_laws.specs.Nodes.{IsAmong, node_in}
 use Rattle.stream_laws.specs.Making.{OfSet, OfTable, OfName, tells_of}
 use Rattle.stream_laws.specs.Facts.{IsRegular}
-use Rattle.stream_laws.proofs.Lists.{all_appended, all_mapped, there_here, there_with}
+use Rattle.stream_laws.proofs.Lists.{all_appended, all_among, all_each, all_mapped, all_passed, among_all, any_among}
+use Rattle.stream_laws.proofs.Lists.{there_here, there_with}
 use Rattle.stream_laws.proofs.Seats.{OnOk, ok_then, IsSeat, IsFound, IsReached, IsLeading, bind_ok, checked_ok, kept_ok}
 use Rattle.stream_laws.proofs.Seats.{all_none, when_none, turn_ok, owner_ok, origin_ok}
 use Rattle.stream_laws.proofs.Statements.{create_checks, table_checks}
@@ -54,11 +59,13 @@ use Rattle.stream_laws.proofs.Emits.{known_changed}
 use Rattle.stream_laws.proofs.Commits.{Newcomer, other_name}
 use Rattle.stream_laws.proofs.Waiting.{IsPoll, polled_ok}
 use Rattle.stream_laws.proofs.Applies.{IsSetOf, MayCome}
-use Rattle.stream_laws.proofs.Copies.{IsBrought, Nothing, Copies, IsCopy, each_name}
+use Rattle.stream_laws.proofs.Copies.{IsBrought, Nothing, Copies, Brings, IsCopy, IsFollowed}
 use Rattle.stream_laws.proofs.Works.{IsWork, IsCarried, worked_ok}
 use Rattle.image_laws.specs.Fits.{IsWhole, IsKept, Fit, Keeps, CreatesSet, AddsTable, FollowsTable, IsFirst, IsFit}
-use Rattle.image_laws.specs.Fits.{IsDoneNow, AllDone, IsOfOther, AreOfOthers, BringOthers, MayStand, Does, Becomes}
+use Rattle.image_laws.specs.Fits.{IsDoneNow, AllDone, IsOfOther, AreOfOthers, BringOthers, LogOthers, MayStand, Does}
+use Rattle.image_laws.specs.Fits.{Becomes}
 use Rattle.image_laws.specs.Facts.{Holds, NodeHolds}
+use Rattle.slon_laws.proofs.Following.{TakesOf, syncs_have, taken_have}
 use Rattle.slon_laws.proofs.Leaves.{Leaves, outcome_has}
 use Rattle.slon_laws.proofs.Results.{none_busy}
 
@@ -86,11 +93,11 @@ event_of s number body = record { origin = s.node.id; number = number; taken = t
 abbrev deed_of : Seat → ℕ → Emission → Deed
 deed_of s number m = deed s.place m.rows [] (Emits (event_of s number m.body))
 
-done_now : (s : Seat) (number : ℕ) (m : Emission) → IsDoneNow s.place (deed_of s number m)
-done_now s number m = record {
+done_now : (s : Seat) (number : ℕ) (m : Emission) (n : Node) → IsDoneNow s.place n (deed_of s number m)
+done_now s number m n = record {
   first = refl;
   taken = λ e doing. let one : event_of s number m.body ≡ e = cc in ap (λ (k : Event). k.taken) (sym one);
-  quiet = refl;
+  logs = tt;
 }
 
 -- each of these is fit for the node behind the ones before it
@@ -105,7 +112,7 @@ done_behind : (p : Place) (n : Node) (later earlier : List Deed) → AllDone p n
 done_behind p n [] earlier before behind = before
 done_behind p n (d ∷ ds) earlier before behind = (
   done_behind p n ds earlier before behind.0,
-  behind.1,
+  subst (λ all. IsDoneNow p (record n { deeds = all }) d) (sym (append_assoc ds earlier n.deeds)) behind.1,
   subst (λ all. Fit p (record n { deeds = all }) d) (sym (append_assoc ds earlier n.deeds)) behind.2,
 )
 
@@ -113,7 +120,7 @@ all_done : (s : Seat) (ms : List Emission) (number : ℕ) (n : Node) → AllFit 
     AllDone s.place n (emissions s number ms)
 all_done s [] number n fit = tt
 all_done s (m ∷ ms) number n fit =
-    done_behind s.place n (emissions s (number + 1) ms) (deed_of s number m ∷ []) (tt, done_now s number m, fit.0)
+    done_behind s.place n (emissions s (number + 1) ms) (deed_of s number m ∷ []) (tt, done_now s number m n, fit.0)
     (all_done s ms (number + 1) (with_deeds (deed_of s number m ∷ []) n) fit.1)
 
 -- what is emitted brings nothing
@@ -248,12 +255,12 @@ stores_fit w r s c comment run is =
     }
 
 -- what is looked at before a database joins
-abbrev store_checks : ℕ → World → List ℕ × Place → List (Option Refusal)
+abbrev pub store_checks : ℕ → World → List ℕ × Place → List (Option Refusal)
 store_checks id w e =
     already (node_id e.1) ∷ any_down w
     ∷ when (known_somewhere (λ c. is_some (entry_at id c.nodes)) w) (refused.IdUsed id) ∷ []
 
-abbrev newcomer : (w : World) (id : ℕ) (e : List ℕ × Place) → IsFound w.places e →
+abbrev pub newcomer : (w : World) (id : ℕ) (e : List ℕ × Place) → IsFound w.places e →
     AllByRecursion (λ o. o ≡ None) (store_checks id w e) → Newcomer w.places
 newcomer w id e found none = record {
   name = e.0;
@@ -390,21 +397,32 @@ sync_fit w r node =
 abbrev known_then : Seat → Doing → Config
 known_then s doing = (learned s.node.id doing (knowledge s.node)).config
 
--- a node does one thing, and emits nothing
-does_fit : (w : World) (s : Seat) (doing : Doing) → IsSeat w.places s → ((e : Event) → doing ≡ Emits e → ⊥) →
-    Fit s.place s.node (deed s.place [] [] doing) → AreOfOthers s.node.id (known_then s doing) (brought_in doing).rows →
-    AreFit w (record { name = s.name; becomes = None; deeds = deed s.place [] [] doing ∷ [] } ∷ [])
-does_fit w s doing is silent fit others =
-    let now : IsDoneNow s.place (deed s.place [] [] doing) =
-    record { first = refl; taken = λ e emits. absurd (silent e emits); quiet = refl } in (
-      subst (HoldsAt IsFit _) (sym is.found) (Does s.node is.node refl (tt, now, fit) (others, tt)),
+-- What the node of a seat does, which is no event of its own: what comes with it, and what it logs, is of sets of other
+-- nodes.
+record IsOneDeed (s : Seat) (logs : List Logged) (doing : Doing) : Type 0 where
+  silent : (e : Event) → doing ≡ Emits e → ⊥
+  fit : Fit s.place s.node (deed s.place [] logs doing)
+  brings : AreOfOthers s.node.id (known_then s doing) (brought_in doing).rows
+  logged : LogOthers s.node.id (knowledge s.node).config logs
+
+does_fit : (w : World) (s : Seat) (logs : List Logged) (doing : Doing) → IsSeat w.places s → IsOneDeed s logs doing →
+    AreFit w (record { name = s.name; becomes = None; deeds = deed s.place [] logs doing ∷ [] } ∷ [])
+does_fit w s logs doing is d =
+    let now : IsDoneNow s.place s.node (deed s.place [] logs doing) =
+    record { first = refl; taken = λ e emits. absurd (d.silent e emits); logs = d.logged } in (
+      subst (HoldsAt IsFit _) (sym is.found) (Does s.node is.node refl (tt, now, d.fit) (d.brings, tt)),
       tt,
     )
 
 hears_fit : (w : World) (s : Seat) (confirms : List (ℕ × ℕ × ℕ)) → IsSeat w.places s → AreFit w (hearing s confirms)
 hears_fit w s [] is = tt
 hears_fit w s (c ∷ cs) is =
-    does_fit w s (Hears (c ∷ cs)) is (λ e emits. absurd cc) (Keeps refl (all_kept (knowledge s.node).config)) tt
+    does_fit w s [] (Hears (c ∷ cs)) is (record {
+      silent = λ e emits. absurd cc;
+      fit = Keeps refl (all_kept (knowledge s.node).config);
+      brings = tt;
+      logged = tt;
+    })
 
 poll_fit : (w : World) (delivery : Delivery) (b : Poll) → IsPoll w b → AreFit w (stated_by delivery b).commits
 poll_fit w Lost b is = tt
@@ -423,7 +441,7 @@ other_leads own origin set c other (row, found, from) =
     live false = refl
 
 abbrev DoesFit : Seat → Event → Brought → Type 0
-DoesFit s e b = Fit s.place s.node (deed s.place [] [] (Applies e b))
+DoesFit s e b = Fit s.place s.node (deed s.place [] b.logs (Applies e b))
 
 applies_fit : (w : World) (by : ℕ) (s : Seat) (e : Event) (b : Brought) → IsWork w by s e → (body : Body) →
     (e.body ≡ body) × MayCome e.origin body (knowledge s.node).config → DoesFit s e b
@@ -467,7 +485,20 @@ applies_fit w by s e b work others (is, may) =
       nodes = λ id. known_changed id e.origin e.number others c;
     }))
 
--- the tables that are copied are of a set of another node
+-- the tables of a set of another node
+tables_others : (own set : ℕ) (c : Config) → is_origin own set c ≡ false →
+    AllByRecursion (λ e. IsOfOther own c e.1.name) (tables_of set c)
+tables_others own set c other =
+    all_passed (λ e. IsAmong e c.tables) (λ e. IsOfOther own c e.1.name) (is_table_of set)
+    (λ e among on. record {
+      entry = e;
+      among = among;
+      named = refl;
+      other =
+          ap (λ id. is_origin own id c) (eqb-true e.1.set_id set (and_parts e.1.live (e.1.set_id == set) on).1) ∙ other;
+    }) c.tables (among_all (λ e. IsAmong e c.tables) c.tables (λ e among. among))
+
+-- the tables that are copied are such
 copied_others : (w : World) (s : Seat) (e : Event) (b : Brought) → IsSeat w.places s → IsCopy w s e b →
     AreOfOthers s.node.id (knowledge s.node).config b.rows
 copied_others w s e b is k =
@@ -475,14 +506,8 @@ copied_others w s e b is k =
     (all_mapped (IsOfOther s.node.id known) (λ r. IsOfOther s.node.id known r.0)
     (λ name. (name, standing_rows k.provider.place name)) (λ name of. of) (names_of set s.known.config)
     (subst (λ (m : Knowledge). AllByRecursion (IsOfOther s.node.id known) (names_of set m.config)) (sym is.known)
-    (each_name (IsOfOther s.node.id known) set known.tables (λ entry among on. record {
-      entry = entry;
-      among = among;
-      named = refl;
-      other =
-          ap (λ id. is_origin s.node.id id known)
-          (eqb-true entry.1.set_id set (and_parts entry.1.live (entry.1.set_id == set) on).1) ∙ k.other;
-    }))))
+    (all_mapped (λ e. IsOfOther s.node.id known e.1.name) (IsOfOther s.node.id known) (λ e. e.1.name) (λ e is. is)
+    (tables_of set known) (tables_others s.node.id set known k.other))))
   where
     set : ℕ
     set = k.copying.set_id
@@ -490,7 +515,72 @@ copied_others w s e b is k =
     known : Config
     known = (knowledge s.node).config
 
--- so they are behind the event, which is that of a new subscription
+-- an action on a table to which a node takes rows is on one of a set of another node
+taken_other : (own set : ℕ) (c : Config) (l : Logged) → is_on_one (tables_taken own set c) l ≡ true →
+    IsOfOther own c l.action.table
+taken_other own set c l = by (is_origin own set c) refl
+  where
+    entry : ℕ × TableRow → ℕ × List ℕ
+    entry e = (e.0, e.1.name)
+
+    by : (b : Bool) → is_origin own set c ≡ b →
+        is_on_one (cond b [] (map entry (tables_of set c))) l ≡ true → IsOfOther own c l.action.table
+    by true leads on = absurd (false≢true on)
+    by false other on =
+        let found =
+        any_among (λ t. t.0 == l.table_id && bytes_eq l.action.table t.1) (map entry (tables_of set c)) on in
+        subst (IsOfOther own c)
+        (sym (bytes_same l.action.table found.0.1
+        (and_parts (found.0.0 == l.table_id) (bytes_eq l.action.table found.0.1) found.2).1))
+        (all_among (λ t. IsOfOther own c t.1) found.0 (map entry (tables_of set c))
+        (all_mapped (λ e. IsOfOther own c e.1.name) (λ t. IsOfOther own c t.1) entry (λ e is. is) (tables_of set c)
+        (tables_others own set c other)) found.1)
+
+-- what a node brings with a SYNC, and what it logs of that, is of sets of other nodes
+syncs_others : (here : Place) (own : ℕ) (k : Knowledge) (e : Event) (logs : List Logged) →
+    let b : Brought = with_syncs here (set_syncs own k e logs) nothing_brought in
+    AreOfOthers own k.config b.rows × LogOthers own k.config b.logs
+syncs_others here own k e logs =
+    syncs_have here (λ r. IsOfOther own k.config r.0) Others (λ rows l old is. is) (set_syncs own k e logs)
+    nothing_brought
+    (taken_have own k e logs (λ l. Unit {0}) Others (all_each (λ l. Unit {0}) (λ l. tt) logs) (kept_from e.origin k)
+    (all_each (TakesOf own k (λ l. Unit {0}) Others) (λ v l has on. taken_other own v.0 k.config l on)
+    (kept_from e.origin k))) (tt, tt)
+  where
+    Others : Logged → Type 0
+    Others l = IsOfOther own k.config l.action.table
+
+followed_others : (w : World) (s : Seat) (e : Event) (b : Brought) → IsSeat w.places s → IsFollowed w s e b →
+    AreOfOthers s.node.id (knowledge s.node).config b.rows × LogOthers s.node.id (knowledge s.node).config b.logs
+followed_others w s e b is f =
+    subst Others (sym f.is)
+    (subst (λ (k : Knowledge). Others (with_syncs s.place (set_syncs s.node.id k e log) nothing_brought)) (sym is.known)
+    (syncs_others s.place s.node.id (knowledge s.node) e log))
+  where
+    log : List Logged
+    log = logged f.provider.node
+
+    Others : Brought → Type 0
+    Others b =
+        AreOfOthers s.node.id (knowledge s.node).config b.rows
+        × LogOthers s.node.id (knowledge s.node).config b.logs
+
+-- what it logs with an event is of sets of other nodes
+logs_others : (w : World) (s : Seat) (e : Event) (b : Brought) → IsSeat w.places s → IsBrought w s e b →
+    LogOthers s.node.id (knowledge s.node).config b.logs
+logs_others w s e b is (Nothing none) =
+    subst (λ (c : Brought). LogOthers s.node.id (knowledge s.node).config c.logs) (sym none) tt
+logs_others w s e b is (Copies k) =
+    subst (λ (c : Brought). LogOthers s.node.id (knowledge s.node).config c.logs) (sym k.is) tt
+logs_others w s e b is (Brings f) = (followed_others w s e b is f).1
+
+-- a set is copied with the event of a new subscription alone
+copies_none : (own : ℕ) (receives : Bool) (origin : ℕ) (k : Copying) →
+    errand_in own receives origin Sync ≡ Some (ToCopy k) → ⊥
+copies_none own true origin k asked = cc
+copies_none own false origin k asked = cc
+
+-- and what it brings is so behind the event, which is that of a new subscription, or a SYNC
 brings_others : (w : World) (s : Seat) (e : Event) (b : Brought) → IsSeat w.places s → IsBrought w s e b →
     (body : Body) → e.body ≡ body → AreOfOthers s.node.id (known_then s (Applies e b)) b.rows
 brings_others w s e b is (Nothing none) body same =
@@ -501,16 +591,27 @@ brings_others w s e b is (Copies k) (EnableSubscription set provider receiver fo
     (all_map (λ r. IsOfOther s.node.id c r.0) _
     (λ r of. record { entry = of.entry; among = of.among; named = of.named; other = of.other }) b.rows
     (copied_others w s e b is k))
+brings_others w s e b is (Copies k) Sync same =
+    let receives = receives_from e.origin s.known in
+    absurd (copies_none s.node.id receives e.origin k.copying
+    (ap (errand_in s.node.id receives e.origin) (sym same) ∙ k.asked))
 brings_others w s e b is (Copies k) others same =
-    let never : None ≡ Some k.copying = ap (copying_in s.node.id) (sym same) ∙ k.asked in absurd cc
+    let never : None ≡ Some (ToCopy k.copying) =
+    ap (errand_in s.node.id (receives_from e.origin s.known) e.origin) (sym same) ∙ k.asked in absurd cc
+brings_others w s e b is (Brings f) body same =
+    subst (λ body. AreOfOthers s.node.id (change_by e.origin e.number body (knowledge s.node).config) b.rows)
+    (sym f.body) (followed_others w s e b is f).0
 
 work_fit : (w : World) (by : ℕ) (c : Carried) → IsCarried w by c → AreFit w (applied_by c).commits
 work_fit w by c is =
     let s = c.seat in
     let e = c.event in
-    does_fit w s (Applies e c.brought) is.work.seat (λ f emits. absurd cc)
-    (applies_fit w by s e c.brought is.work e.body (refl, is.work.may))
-    (brings_others w s e c.brought is.work.seat is.brings e.body refl)
+    does_fit w s c.brought.logs (Applies e c.brought) is.work.seat (record {
+      silent = λ f emits. absurd cc;
+      fit = applies_fit w by s e c.brought is.work e.body (refl, is.work.may);
+      brings = brings_others w s e c.brought is.work.seat is.brings e.body refl;
+      logged = logs_others w s e c.brought is.work.seat is.brings;
+    })
 
 -- ---- each command
 

@@ -135,8 +135,8 @@ continues_step s w v h (Acts t) r on =
     )) w v h t (outcome_fit w r t.act) (r.holds, on)).1
 
 -- a history that goes on
-joined : (limit : ℕ) (history later : List Happening) (w v : World) → Leads (start limit) history w → Leads w later v →
-    Leads (start limit) (later ++ history) v
+pub joined : (limit : ℕ) (history later : List Happening) (w v : World) → Leads (start limit) history w →
+    Leads w later v → Leads (start limit) (later ++ history) v
 joined limit history [] w v leads is = subst (Leads (start limit) history) (sym is) leads
 joined limit history (h ∷ later) w v leads goes_on =
     (goes_on.0, joined limit history later w goes_on.0 leads goes_on.1, goes_on.2)

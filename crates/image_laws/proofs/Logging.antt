@@ -14,12 +14,13 @@ use Rattle.slon_model.specs.Logs.{logged, logged_on, own_logs}
 use Rattle.slon_model.specs.Place.{Place, open_xids, own_actions}
 use Rattle.slon_model.specs.Moves.{with_commit, commit_deed}
 use Rattle.slon_model.specs.Eras.{Stretch, stretches}
-use Rattle.slon_model.proofs.Names.{all_map, bytes_same}
+use Rattle.slon_model.proofs.Names.{all_map, bytes_itself, bytes_same}
 use Rattle.stream_laws.specs.Nodes.{IsAmong}
-use Rattle.stream_laws.proofs.Lists.{all_appended, all_among, among_all, all_mapped}
-use Rattle.image_laws.specs.Fits.{IsListed, Keeps, CreatesSet, AddsTable, FollowsTable, Fit}
+use Rattle.stream_laws.proofs.Lists.{all_appended, all_among, among_all, among_any, all_mapped}
+use Rattle.image_laws.specs.Fits.{IsListed, Keeps, CreatesSet, AddsTable, FollowsTable, Fit, IsOfOther, LogOthers}
 use Rattle.image_laws.specs.Facts.{Lasts, HoldsStretch, NodeHolds, IsOf, IsLogged, HasLogged, LogHolds}
 use Rattle.image_laws.proofs.Adding.{OneDeed, known_behind, stays_behind, new_behind, begins_behind}
+use Rattle.image_laws.proofs.Filling.{not_filled}
 use Rattle.image_laws.proofs.Stretching.{listed_member, behind, behind_same, lasted, none_begin}
 
 -- ---- lists
@@ -45,7 +46,7 @@ among_mapped f x y (z ∷ zs) among is = by among (λ later. among_mapped f x y 
     by (inr later) on None at = on later
     by (inr later) on (Some w) at = inr (on later)
 
-among_filtered : {X : Type 0} (test : X → Bool) (x : X) (xs : List X) → IsAmong x xs → test x ≡ true →
+pub among_filtered : {X : Type 0} (test : X → Bool) (x : X) (xs : List X) → IsAmong x xs → test x ≡ true →
     IsAmong x (filter test xs)
 among_filtered test x [] among is = absurd among
 among_filtered test x (y ∷ ys) among is = by among (λ later. among_filtered test x ys later is) (test y) refl
@@ -57,7 +58,7 @@ among_filtered test x (y ∷ ys) among is = by among (λ later. among_filtered t
     by (inr later) on true at = inr (on later)
     by (inr later) on false at = on later
 
-filtered_among : {X : Type 0} (test : X → Bool) (x : X) (xs : List X) → IsAmong x (filter test xs) →
+pub filtered_among : {X : Type 0} (test : X → Bool) (x : X) (xs : List X) → IsAmong x (filter test xs) →
     IsAmong x xs × (test x ≡ true)
 filtered_among test x [] among = absurd among
 filtered_among test x (y ∷ ys) among = by (filtered_among test x ys) (test y) refl among
@@ -196,25 +197,66 @@ none_logged p own log c s sound fresh listed = record {
       (bytes_same s.table l.action.table on) ∙ is))) log listed;
 }
 
-pub deed_logs : (p : Place) (d : OneDeed p) → Sound p → NodeHolds p d.node → d.deed.logs ≡ [] → LogHolds p d.node →
+-- a table of a set of another node is known
+other_listed : (own : ℕ) (c : Config) (table : List ℕ) → IsOfOther own c table → IsListed table c
+other_listed own c table o =
+    among_any (λ e. bytes_eq table e.1.name) o.entry c.tables o.among
+    (subst (λ name. bytes_eq table name ≡ true) (sym o.named) (bytes_itself table))
+
+-- of the table of a stretch that lasts, the log is as it was behind actions on tables of sets of other nodes
+beside_logged : (p : Place) (own : ℕ) (c : Config) (new log : List Logged) (s : Stretch) → LogOthers own c new →
+    Lasts p own c s → HasLogged p own log s → HasLogged p own (new ++ log) s
+beside_logged p own c new log s others lasts h = record {
+  all =
+      all_map (λ a. bytes_eq s.table a.table ≡ true → member a.xid p.commits ≡ true →
+      nat_le s.first a.number ≡ true → IsLogged log a) (λ a. bytes_eq s.table a.table ≡ true →
+      member a.xid p.commits ≡ true → nat_le s.first a.number ≡ true → IsLogged (new ++ log) a)
+      (λ a is on came first.
+      let there = is on came first in (there.0, among_right there.0 new log there.1, there.2)) p.actions h.all;
+  only =
+      all_appended (λ l. bytes_eq s.table l.action.table ≡ true → IsOf p own s l) new log
+      (all_map (λ l. IsOfOther own c l.action.table) (λ l. bytes_eq s.table l.action.table ≡ true → IsOf p own s l)
+      (λ l other on. absurd (true≢false (sym on ∙ not_filled p own c s lasts l.action.table other))) new others)
+      h.only;
+}
+
+pub deed_logs : (p : Place) (d : OneDeed p) → Sound p → NodeHolds p d.node →
+    LogOthers d.node.id (knowledge d.node).config d.deed.logs → LogHolds p d.node →
     LogHolds p (with_deeds (d.deed ∷ []) d.node)
-deed_logs p d sound h quiet k = record {
-  listed = subst (λ log. AllByRecursion (λ l. IsListed l.action.table (known_behind p d)) log) (sym same)
-      (all_map (λ l. IsListed l.action.table (knowledge d.node).config)
+deed_logs p d sound h others k = record {
+  listed =
+      all_map (λ l. IsListed l.action.table (knowledge d.node).config)
       (λ l. IsListed l.action.table (known_behind p d))
-      (λ l is. (stays_behind p d sound h).listed l.action.table is) (logged d.node) k.listed);
-  each = subst (λ log. AllByRecursion (λ s. s.last ≡ None → HasLogged p d.node.id log s)
-      (stretches (with_deeds (d.deed ∷ []) d.node))) (sym same) (by d.fit);
+      (λ l is. (stays_behind p d sound h).listed l.action.table is) log listed;
+  each = by d.fit;
 }
   where
-    same : logged (with_deeds (d.deed ∷ []) d.node) ≡ logged d.node
-    same = ap (λ new. new ++ logged d.node) quiet
+    log : List Logged
+    log = d.deed.logs ++ logged d.node
+
+    listed : AllByRecursion (λ l. IsListed l.action.table (knowledge d.node).config) log
+    listed =
+        all_appended (λ l. IsListed l.action.table (knowledge d.node).config) d.deed.logs (logged d.node)
+        (all_map (λ l. IsOfOther d.node.id (knowledge d.node).config l.action.table)
+        (λ l. IsListed l.action.table (knowledge d.node).config)
+        (λ l. other_listed d.node.id (knowledge d.node).config l.action.table) d.deed.logs others) k.listed
 
     Each : List Stretch → Type 0
-    Each all = AllByRecursion (λ s. s.last ≡ None → HasLogged p d.node.id (logged d.node) s) all
+    Each all = AllByRecursion (λ s. s.last ≡ None → HasLogged p d.node.id log s) all
+
+    before : (all : List Stretch) → AllByRecursion (HoldsStretch p d.node.id (knowledge d.node).config) all →
+        AllByRecursion (λ s. s.last ≡ None → HasLogged p d.node.id (logged d.node) s) all → Each all
+    before [] holds logs = tt
+    before (s ∷ more) holds logs = (
+      λ none. beside_logged p d.node.id (knowledge d.node).config d.deed.logs (logged d.node) s others
+          (holds.0.lasts none) (logs.0 none),
+      before more holds.1 logs.1,
+    )
 
     rest : Each (map (behind d.node.id (known_behind p d) d.deed) (stretches d.node))
-    rest = each_logged p d.node.id (logged d.node) (known_behind p d) d.deed (stretches d.node) k.each
+    rest =
+        each_logged p d.node.id log (known_behind p d) d.deed (stretches d.node)
+        (before (stretches d.node) h.each k.each)
 
     none : d.deed.rows ≡ [] → Each (stretches (with_deeds (d.deed ∷ []) d.node))
     none is = subst Each (sym (none_begin d.node.id (known_behind p d) d.deed (stretches d.node) is)) rest
@@ -225,8 +267,8 @@ deed_logs p d sound h quiet k = record {
     by (AddsTable a) =
         subst Each (ap (λ first. first ++ map (behind d.node.id (known_behind p d) d.deed) (stretches d.node))
         (sym (begins_behind p d sound h a))) (
-          (λ last. none_logged p d.node.id (logged d.node) (knowledge d.node).config (new_behind p d sound h a) sound
-              (record { first = d.first; unused = λ listed. true≢false (sym listed ∙ a.table.unused) }) k.listed),
+          (λ last. none_logged p d.node.id log (knowledge d.node).config (new_behind p d sound h a) sound
+              (record { first = d.first; unused = λ known. true≢false (sym known ∙ a.table.unused) }) listed),
           rest,
         )
     by (FollowsTable f) = none f.rows

@@ -149,7 +149,7 @@ deeds_log : (p : Place) (n : Node) (ds : List Deed) → Sound p → AllDone p n 
 deeds_log p n [] sound done h k = k
 deeds_log p n (d ∷ ds) sound done h k =
     deed_logs p (record { node = with_deeds ds n; deed = d; first = done.1.first; fit = done.2 }) sound
-    (deeds_hold p n ds sound done.0 h) done.1.quiet (deeds_log p n ds sound done.0 h k)
+    (deeds_hold p n ds sound done.0 h) done.1.logs (deeds_log p n ds sound done.0 h k)
 
 commit_logs : (c : Commit) (p : Place) → IsFit c p → HoldsAll p → LogsHold (committing c p)
 commit_logs c p (Does n is none done others) h m at =

@@ -10,7 +10,8 @@ use Rattle.slon_model.specs.Maps.{entry_at}
 use Rattle.slon_model.specs.Rows.{Rows}
 use Rattle.slon_model.specs.Events.{Event}
 use Rattle.slon_model.specs.Config.{Config, is_origin}
-use Rattle.slon_model.specs.Deeds.{Node, Deed, Emits, brought_in, learned, met_by, knowledge, with_deeds}
+use Rattle.slon_model.specs.Deeds.{Node, Deed, Logged, Emits, brought_in, learned, met_by, knowledge}
+use Rattle.slon_model.specs.Deeds.{with_deeds}
 use Rattle.slon_model.specs.Place.{Place, standing_rows, taken}
 use Rattle.slon_model.specs.Sessions.{Commit, writer_of}
 use Rattle.slon_laws.specs.Turning.{IsWithin}
@@ -83,17 +84,6 @@ pub record IsFirst (n : Node) : Type 0 where
   pub whole : IsWhole n.id n.given.config
   pub leads : (set : ℕ) → is_origin n.id set n.given.config ≡ false
 
--- It is done as the database is now: behind the actions that were drawn, with the snapshot of now, and it logs nothing.
-pub record IsDoneNow (p : Place) (d : Deed) : Type 0 where
-  pub first : d.first ≡ p.numbers.next
-  pub taken : (e : Event) → d.doing ≡ Emits e → e.taken ≡ taken p
-  pub quiet : d.logs ≡ []
-
--- the deeds of one commit, the newest first, each behind the ones before it
-abbrev pub AllDone : Place → Node → List Deed → Type 0
-AllDone p n [] = Unit {0}
-AllDone p n (d ∷ ds) = AllDone p n ds × IsDoneNow p d × Fit p (with_deeds ds n) d
-
 -- The table is in a set of which the node of this id is not the origin.
 pub record IsOfOther (own : ℕ) (c : Config) (table : List ℕ) : Type 0 where
   pub entry : ℕ × TableRow
@@ -105,7 +95,23 @@ pub record IsOfOther (own : ℕ) (c : Config) (table : List ℕ) : Type 0 where
 abbrev pub AreOfOthers : ℕ → Config → Named Rows → Type 0
 AreOfOthers own c rows = AllByRecursion (λ r. IsOfOther own c r.0) rows
 
--- so are all that these deeds bring to a node which then knows this
+-- actions that are logged are on such tables
+abbrev pub LogOthers : ℕ → Config → List Logged → Type 0
+LogOthers own c logs = AllByRecursion (λ l. IsOfOther own c l.action.table) logs
+
+-- It is done as the database is now: behind the actions that were drawn, and with the snapshot of now. What it logs is
+-- on tables of sets of other nodes.
+pub record IsDoneNow (p : Place) (n : Node) (d : Deed) : Type 0 where
+  pub first : d.first ≡ p.numbers.next
+  pub taken : (e : Event) → d.doing ≡ Emits e → e.taken ≡ taken p
+  pub logs : LogOthers n.id (knowledge n).config d.logs
+
+-- the deeds of one commit, the newest first, each behind the ones before it
+abbrev pub AllDone : Place → Node → List Deed → Type 0
+AllDone p n [] = Unit {0}
+AllDone p n (d ∷ ds) = AllDone p n ds × IsDoneNow p (with_deeds ds n) d × Fit p (with_deeds ds n) d
+
+-- the rows that all these deeds bring to a node which then knows this are of such tables
 abbrev pub BringOthers : ℕ → Config → List Deed → Type 0
 BringOthers own c ds = AllByRecursion (λ d. AreOfOthers own c (brought_in d.doing).rows) ds
 

@@ -164,7 +164,7 @@ read_log origin first items m id held =
     read_all origin items m (range_of origin first m) id held (have_ranged front (after key (entries (m 15))))
     (all_there front key (m 15))
 
-small_of : (rows : List (ℕ × LogRow)) → AllAre CanBeLogged rows → AllAre (λ r. r.0 < 2 ^ 63) rows
+pub small_of : (rows : List (ℕ × LogRow)) → AllAre CanBeLogged rows → AllAre (λ r. r.0 < 2 ^ 63) rows
 small_of [] can = tt
 small_of (r ∷ rs) can = (can.0.0, small_of rs can.1)
 
@@ -218,7 +218,7 @@ above_passed p a (r ∷ rs) above =
       | false ↦ above_passed p a rs above.1
     ]
 
-rise_passed : (p : LogRow → Bool) (rows : List (ℕ × LogRow)) → Rising (ids rows) → Rising (ids (passed p rows))
+pub rise_passed : (p : LogRow → Bool) (rows : List (ℕ × LogRow)) → Rising (ids rows) → Rising (ids (passed p rows))
 rise_passed p [] rising = tt
 rise_passed p (r ∷ rs) rising =
     elim (p r.1) as (λ b. Rising (ids (cond b (r ∷ passed p rs) (passed p rs)))) [
@@ -226,7 +226,7 @@ rise_passed p (r ∷ rs) rising =
       | false ↦ rise_passed p rs rising.1
     ]
 
-small_passed : (p : LogRow → Bool) (rows : List (ℕ × LogRow)) → AllAre (λ r. r.0 < 2 ^ 63) rows →
+pub small_passed : (p : LogRow → Bool) (rows : List (ℕ × LogRow)) → AllAre (λ r. r.0 < 2 ^ 63) rows →
     AllAre (λ r. r.0 < 2 ^ 63) (passed p rows)
 small_passed p [] small = tt
 small_passed p (r ∷ rs) small =
@@ -235,7 +235,7 @@ small_passed p (r ∷ rs) small =
       | false ↦ small_passed p rs small.1
     ]
 
-none_above : (n : ℕ) (rows : List (ℕ × LogRow)) → AllByRecursion (λ y. n < y) (ids rows) → entry_at n rows ≡ None
+pub none_above : (n : ℕ) (rows : List (ℕ × LogRow)) → AllByRecursion (λ y. n < y) (ids rows) → entry_at n rows ≡ None
 none_above n [] above = refl
 none_above n (r ∷ rs) above =
     let other : (n == r.0) ≡ false = differ n r.0 above.0 in
@@ -244,7 +244,7 @@ none_above n (r ∷ rs) above =
     differ : (a b : ℕ) → a < b → (a == b) ≡ false
     differ a b less = grind (arith, nat_tests)
 
-entry_passed : (p : LogRow → Bool) (n : ℕ) (rows : List (ℕ × LogRow)) → Rising (ids rows) →
+pub entry_passed : (p : LogRow → Bool) (n : ℕ) (rows : List (ℕ × LogRow)) → Rising (ids rows) →
     entry_at n (passed p rows) ≡ if_passes p (entry_at n rows)
 entry_passed p n [] rising = refl
 entry_passed p n (r ∷ rs) rising = step (p r.1) refl (n == r.0) refl (entry_passed p n rs rising.1)

@@ -86,6 +86,7 @@ pub fn between<K: Keeper>(
     ensures within { IfErr result IsWithinLimit }
     ensures space { IfErr result (IsOfSpace 15) }
     ensures can { IfOk result (AllAre (λ r. CanLogRow r.1)) }
+    ensures numbers { IfOk result (AllAre (λ r. r.0 < 2 ^ 63)) }
     // What is answered are all rows of the origin that pass, in whatever store they are found,
     ensures found { (m : Store) → sight (K.kept keeper.old) ≡ Some m → IfOk result (λ rows.
         (all : List (ℕ × LogRow)) × AreOf origin 0 m all
@@ -122,6 +123,7 @@ pub fn between_from<K: Keeper>(
     ensures within { IfErr result IsWithinLimit }
     ensures space { IfErr result (IsOfSpace 15) }
     ensures can { IfOk result (AllAre (λ r. CanLogRow r.1)) }
+    ensures numbers { IfOk result (AllAre (λ r. r.0 < 2 ^ 63)) }
     // What is answered are all rows of the origin from the number on that pass, in whatever store they are found,
     ensures found { (m : Store) → sight (K.kept keeper.old) ≡ Some m → IfOk result (λ rows.
         (all : List (ℕ × LogRow)) × AreOf origin first m all

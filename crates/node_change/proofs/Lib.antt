@@ -3,6 +3,7 @@ pub mod Copies
 pub mod Emitting
 pub mod FirstNodes
 pub mod Hearing
+pub mod Keeping
 pub mod Lookups
 pub mod Meeting
 pub mod Naming

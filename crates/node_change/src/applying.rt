@@ -1,19 +1,24 @@
 // Events of other nodes, which a node takes over and carries out.
-ghost use Rattle.std.specs.Prelude.{◌≡◌, Some, true, is_some};
+ghost use Rattle.std.specs.Prelude.{◌≡◌, List, Some, true, is_some, map, IfErr};
+ghost use Rattle.std.specs.List.{AllByRecursion};
 ghost use Rattle.slon_base.specs.Keeper.{Store};
 ghost use Rattle.store_rows.specs.Rows.{IsId};
 ghost use Rattle.store_rows.specs.Space.{Becomes};
-ghost use Rattle.store_rows.specs.Steps.{Safe};
-ghost use Rattle.slon_model.specs.Deeds.{Node, knowledge};
+ghost use Rattle.store_rows.specs.Steps.{IsOutside, Safe};
+ghost use Rattle.slon_model.specs.Events.{Event as SeenEvent};
+ghost use Rattle.slon_model.specs.Deeds.{Brought, Logged, Node, knowledge, nothing_brought};
+ghost use Rattle.log_switch.specs.Between.{CanBeLogged};
 ghost use Rattle.event_store.specs.Keeping.{KeepsViews};
 ghost use Rattle.event_store.specs.Kept.{seen_view};
 ghost use Rattle.event_store.specs.Spellings.{CanView};
 ghost use Rattle.event_store.specs.Seen.{seen_event};
 ghost use Rattle.node_state.specs.Held.{HoldsNode};
 ghost use Rattle.node_state.specs.Known.{IsHomed};
-ghost use Rattle.node_change.specs.Done.{CanApply, HasApplied, HasKept};
+ghost use Rattle.node_change.specs.Done.{CanApply, HasApplied, HasKept, HoldsKept, row_of, with_logs, with_view};
 
+use change_capture::LogRow;
 use event_store::{Event, View, keep_view, store};
+use log_switch::append;
 use set_config::change;
 use slon_base::Keeper;
 use std::alloc::Global;
@@ -59,8 +64,51 @@ pub fn apply_keeping<K: Keeper>(
     ensures safe { Safe (K.kept keeper.old) (K.kept keeper.new) result }
     ensures turns { (n : Node) (m : Store) → n.id ≡ own → (K.kept keeper.old).pending ≡ Some (Some m) →
         HoldsNode (Some n) m → CanApply n (seen_event event.now) → IsHomed event.now.body (knowledge n).config →
-        Becomes (HasKept n (seen_event event.now) (set, seen_view view.now) m) (K.kept keeper.new) result }
+        Becomes (HasKept n (seen_event event.now) (with_view (set, seen_view view.now) nothing_brought) m)
+        (K.kept keeper.new) result }
 {
     apply(alloc, keeper, own, event)?;
+    keep_set(alloc, keeper, set, view)
+}
+
+/// A node that applied an event in what is pending keeps this of one set more from then on.
+///
+/// # Errors
+///
+/// What stopped the store, and `NoMemory`.
+pub fn keep_set<K: Keeper>(alloc: Global, keeper: &mut K, set: u32, view: &View) -> Result<(), Stop>
+    requires opened { is_some (K.kept keeper.old).pending ≡ true }
+    requires kept { IsId set × CanView (seen_view view.now) }
+    ensures safe { Safe (K.kept keeper.old) (K.kept keeper.new) result }
+    ensures only { IfErr result IsOutside }
+    ensures turns { (n : Node) (e : SeenEvent) (b : Brought) (m : Store) →
+        (K.kept keeper.old).pending ≡ Some (Some m) → HoldsKept n e b m →
+        Becomes (HasKept n e (with_view (set, seen_view view.now) b) m) (K.kept keeper.new) result }
+{
     keep_view(alloc, keeper, set, view)
+}
+
+/// A node that applied an event in what is pending logs these rows of this origin too, each with the number of its
+/// action.
+///
+/// # Errors
+///
+/// What stopped the store, and `NoMemory`.
+pub fn log_rows<K: Keeper>(
+    alloc: Global,
+    keeper: &mut K,
+    origin: u32,
+    rows: &[(u64, LogRow)],
+) -> Result<(), Stop>
+    requires opened { is_some (K.kept keeper.old).pending ≡ true }
+    requires id { IsId origin }
+    requires can { AllByRecursion CanBeLogged rows.now }
+    ensures safe { Safe (K.kept keeper.old) (K.kept keeper.new) result }
+    ensures only { IfErr result IsOutside }
+    ensures turns { (n : Node) (e : SeenEvent) (b : Brought) (m : Store) (logs : List Logged) →
+        (K.kept keeper.old).pending ≡ Some (Some m) → HoldsKept n e b m →
+        AllByRecursion (λ l. l.origin ≡ origin) logs → rows.now ≡ map row_of logs →
+        Becomes (HasKept n e (with_logs logs b) m) (K.kept keeper.new) result }
+{
+    append(alloc, keeper, origin, rows)
 }

@@ -13,13 +13,13 @@ mod lookup;
 mod side;
 
 pub use announcing::announce;
-pub use applying::{apply, apply_keeping};
+pub use applying::{apply, apply_keeping, keep_set, log_rows};
 pub use confirming::hear;
 pub use founding::found_node;
 pub use joining::join_node;
 pub use listening::{is_known, known, listens};
 pub use lookup::{
-    find_node_row, find_set_row, first_receiver, has_fence, has_path, has_subscription,
-    has_table_row,
+    find_node_row, find_set_row, find_subscription, first_receiver, has_fence, has_path,
+    has_subscription, has_table_row,
 };
 pub use side::{Failed, Side, sided};

@@ -7,7 +7,8 @@ ghost use Rattle.slon_base.specs.Keeper.{Store, sight, after, first};
 ghost use Rattle.store_rows.specs.Rows.{IsId};
 ghost use Rattle.store_rows.specs.Space.{AllOf};
 ghost use Rattle.store_rows.specs.Steps.{Safe, IsOutside, IsWithinLimit, IsOfSpace, Gives, is_failed};
-ghost use Rattle.node_rows.specs.Spellings.{node_bytes, CanNode, set_bytes, CanSet};
+ghost use Rattle.node_rows.specs.Spellings.{node_bytes, CanNode, set_bytes, CanSet, subscription_bytes};
+ghost use Rattle.node_rows.specs.Spellings.{CanSubscription};
 ghost use Rattle.slon_model.specs.Maps.{entry_at, pair_at};
 ghost use Rattle.slon_model.specs.Config.{Config, has_path};
 ghost use Rattle.slon_model.specs.Reaching.{receiver_with};
@@ -17,7 +18,7 @@ ghost use Rattle.node_state.specs.Held.{IsOrderly};
 ghost use Rattle.node_change.specs.Receivers.{IsPairKey, receiver_of};
 
 use crate::layout::{FENCES, NODES, PATHS, SETS, SUBSCRIPTIONS, TABLES};
-use node_rows::{NodeRow, SetRow};
+use node_rows::{NodeRow, SetRow, Subscription};
 use slon_base::Keeper;
 use std::alloc::Global;
 use store_rows::{Stop, get_row, has_row, next_pair, read_alone, spelling};
@@ -156,6 +157,33 @@ pub fn has_subscription<K: Keeper>(
         Gives (λ found. found ≡ is_some (pair_at set receiver c.subscriptions)) result }
 {
     has_row(alloc, keeper, SUBSCRIPTIONS, &(set, receiver))
+}
+
+/// The row of the subscription of a node to a set, if the database knows that the node receives the set.
+///
+/// # Errors
+///
+/// `BadRow` of space 8 exactly where the row is not in its form, what stopped the store, and `NoMemory`.
+pub fn find_subscription<K: Keeper>(
+    alloc: Global,
+    keeper: &mut K,
+    set: u32,
+    receiver: u32,
+) -> Result<Option<Subscription>, Stop>
+    requires ids { IsId set × IsId receiver }
+    ensures safe { Safe (K.kept keeper.old) (K.kept keeper.new) result }
+    ensures same { OnOk result ((K.kept keeper.new).pending ≡ (K.kept keeper.old).pending) }
+    ensures within { IfErr result IsWithinLimit }
+    ensures space { IfErr result (IsOfSpace 8) }
+    ensures can { IfOk result (AllOf CanSubscription) }
+    ensures found { (m : Store) → sight (K.kept keeper.old) ≡ Some m →
+        IfOk result (λ found. get (m 8) (pair_key (set, receiver)) ≡ option_map subscription_bytes found) }
+    ensures says { (m : Store) (c : Config) → sight (K.kept keeper.old) ≡ Some m → HoldsConfig c m →
+        Gives (λ found. found ≡ pair_at set receiver c.subscriptions) result }
+    ensures form { (m : Store) → sight (K.kept keeper.old) ≡ Some m →
+        Reads (Lacks 8 (IsRow subscription_bytes CanSubscription (get (m 8) (pair_key (set, receiver))))) result }
+{
+    get_row(alloc, keeper, SUBSCRIPTIONS, &(set, receiver))
 }
 
 /// The receiver of the subscription with this key, if it is one to the set.

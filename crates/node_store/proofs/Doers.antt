@@ -1,5 +1,5 @@
--- A node that does one thing, by which it gives the tables of sets no rows and logs nothing: what its store holds then,
--- and the place that fits.
+-- A node that does one thing, by which it gives the tables of sets no rows of its own: what its store holds then, and
+-- the place that fits.
 use Rattle.std.proofs.Common.{◌≡◌, ℕ, ◌+◌, Bool, true, false, cond, List, [], ◌∷◌, Option, Some, None}
 use Rattle.std.proofs.Common.{Ok}
 use Rattle.std.proofs.Common.{refl, sym, ap, subst, is_some}
@@ -14,7 +14,8 @@ use Rattle.slon_base.specs.Codec.{number_bytes}
 use Rattle.store_rows.proofs.Spaces.{same_space}
 use Rattle.slon_model.specs.Names.{Named, find_named}
 use Rattle.slon_model.specs.Events.{Event}
-use Rattle.slon_model.specs.Deeds.{Node, Deed, Doing, Brought, Applies, Commits, Hears, brought_in, with_deeds}
+use Rattle.slon_model.specs.Deeds.{Node, Deed, Doing, Brought, Applies, Commits, Hears, Logged, brought_in}
+use Rattle.slon_model.specs.Deeds.{nothing_brought, with_deeds}
 use Rattle.slon_model.specs.Rows.{Rows}
 use Rattle.slon_model.specs.Place.{Place, deed, standing_rows}
 use Rattle.slon_model.specs.Sessions.{Commit, committing, in_doubt}
@@ -55,7 +56,7 @@ abbrev pub done_in : {p : Place} → Doer p → Commit
 done_in {p} d = does d.name p d.doing
 
 abbrev pub deed_in : {p : Place} → Doer p → Deed
-deed_in {p} d = deed p [] [] d.doing
+deed_in {p} d = deed p [] (brought_in d.doing).logs d.doing
 
 -- the node after it
 abbrev pub node_after : {p : Place} → Doer p → Node
@@ -71,12 +72,12 @@ pub record HasFilled {p : Place} (d : Doer p) (m store : Store) : Type 0 where
   pub rows : HoldsRows (with_tables (brought_in d.doing).rows (standing_rows p)) store
 
 -- with nothing that is brought
-pub plainly_filled : {p : Place} {m store : Store} (d : Doer p) → (brought_in d.doing).rows ≡ [] → IsSpelled p →
+pub plainly_filled : {p : Place} {m store : Store} (d : Doer p) → brought_in d.doing ≡ nothing_brought → IsSpelled p →
     Holds p m → HasDone d.node d.doing m store → HasFilled d m store
 plainly_filled {p} {m} {store} d none spelled holds has = record {
-  held = has.held (deed_in d) refl refl;
+  held = has.held (deed_in d) refl (λ i. (none i).logs);
   own = λ space one other. has.own space one;
-  rows = subst (λ rs. HoldsRows (with_tables rs (standing_rows p)) store) (sym none)
+  rows = subst (λ (b : Brought). HoldsRows (with_tables b.rows (standing_rows p)) store) (sym none)
       (holds_tables (standing_rows p) store (λ table. standing_formed p table spelled)
       (subst (AreRows (standing_rows p)) (sym (has.own 3 refl)) holds.rows_held));
 }
@@ -101,11 +102,11 @@ rows_filled {p} {m} {store} d sound spelled has =
     (with_formed rs (standing_rows p) d.fills.formed (λ table. standing_formed p table spelled)) has.rows)
 
 -- whatever a node does, its id, its cluster and the status of its log stay
-meta_done : (stamp xids numbers : ℕ) (p : Place) (n : Node) (doing : Doing) (key : ℕ) →
-    meta_at stamp xids numbers (Some (with_deeds (deed p [] [] doing ∷ []) n)) key
+meta_done : (stamp xids numbers : ℕ) (p : Place) (n : Node) (logs : List Logged) (doing : Doing) (key : ℕ) →
+    meta_at stamp xids numbers (Some (with_deeds (deed p [] logs doing ∷ []) n)) key
     ≡ meta_at stamp xids numbers (Some n) key
-meta_done stamp xids numbers p n (Commits xid) key = refl
-meta_done stamp xids numbers p n others key = refl
+meta_done stamp xids numbers p n logs (Commits xid) key = refl
+meta_done stamp xids numbers p n logs others key = refl
 
 pub holds_done : {p : Place} {b : Base} {store : Store} (at : UpAt p b) (d : Doer p) →
     HasFilled d at.ready.fits.held.0 store → Holds (committing (done_in d) p) (stamped_store p store)
@@ -117,7 +118,8 @@ holds_done {p} {b} {store} at d has =
           (subst (IsMeta p.stamp p.xids.ceiling p.numbers.ceiling p.node) (sym (has.own meta refl refl))
           holds.meta_numbers))
           (λ key one. ap (λ own. meta_at (p.stamp + 1) p.xids.ceiling p.numbers.ceiling own key) (after_is d)
-          ∙ meta_done (p.stamp + 1) p.xids.ceiling p.numbers.ceiling p d.node d.doing key
+          ∙ meta_done (p.stamp + 1) p.xids.ceiling p.numbers.ceiling p d.node (brought_in d.doing).logs d.doing
+          key
           ∙ sym (ap (λ own. meta_at (p.stamp + 1) p.xids.ceiling p.numbers.ceiling own key) d.is));
       table_rows = subst (AreTables p.tables) (sym (has.own 2 refl refl)) holds.table_rows;
       rows_held = rows_filled d at.ready.sound at.ready.spelled has;
@@ -183,7 +185,7 @@ pub record HasTaken (e : Event) (old new : Members) : Type 0 where
 
 pub known_applying : {p : Place} {m : Memory} {members : Members} (n : Node) (e : Event) (b : Brought) →
     p.node ≡ Some n → LearnsOfOther n e → HasTaken e m.members members → Runs p m →
-    IsKnown (Some (with_deeds (deed p [] [] (Applies e b) ∷ []) n)) m.identity members
+    IsKnown (Some (with_deeds (deed p [] b.logs (Applies e b) ∷ []) n)) m.identity members
 known_applying n e b is learns taken runs = record {
   identity_is = runs.known.identity_is ∙ ap identity_of is;
   members_are = λ name. taken.members name
@@ -249,7 +251,7 @@ next_stamp : {p : Place} {b : Base} (at : UpAt p b) (store : Store) (mid : Kept)
 next_stamp at store mid is =
     is ∙ ap (λ s. Some (Some (put_at meta stamp_key (number_bytes (s + 1)) store))) (running at).1.stamp
 
-pub is_written : {p : Place} {b : Base} {mid : Kept} (at : UpAt p b) (d : Doer p) → (brought_in d.doing).rows ≡ [] →
+pub is_written : {p : Place} {b : Base} {mid : Kept} (at : UpAt p b) (d : Doer p) → brought_in d.doing ≡ nothing_brought →
     WritesDone d.node at.ready.fits.held.0 d.doing (b.memory.stamp + 1) (Ok tt) mid → IsWritten at d mid
 is_written {mid = mid} at d none w = record {
   store = w.0;
@@ -288,7 +290,7 @@ brought_written {p} {mid = mid} at a w = record {
   store = w.0;
   pending = next_stamp at w.0 mid w.1;
   has = record {
-    held = w.2.held (deed p [] [] (Applies a.event a.brought)) refl refl;
+    held = w.2.held (deed p [] a.brought.logs (Applies a.event a.brought)) refl refl;
     own = w.2.own;
     rows = w.2.rows;
   };

@@ -2,9 +2,11 @@ pub mod Acting
 pub mod Becoming
 pub mod Chaining
 pub mod Committing
+pub mod Delta
 pub mod Emitted
 pub mod Emitting
 pub mod Filled
+pub mod Following
 pub mod Joiners
 pub mod Learning
 pub mod Lookups
@@ -13,6 +15,7 @@ pub mod Newcomers
 pub mod Outcomes
 pub mod Pairs
 pub mod Several
+pub mod Sifting
 pub mod Synced
 pub mod Tables
 pub mod Taking

@@ -13,18 +13,19 @@ use Rattle.store_rows.specs.declared.stop.Stop.TheVariants.{TooBig}
 use Rattle.node_store.specs.Midways.{of_event}
 use Rattle.slon_model.specs.Rows.{Rows}
 use Rattle.slon_model.specs.Events.{Event}
-use Rattle.slon_model.specs.Views.{View}
 use Rattle.slon_model.specs.Deeds.{Node, Deed, Brought, Applies, nothing_brought, with_deeds}
+use Rattle.event_store.specs.Kept.{seen_view}
 use Rattle.slon_laws.proofs.Opens.{or_parts}
 use Rattle.change_apply.specs.Applied.{HoldsRows, IsKey, OthersStay, row_key}
 use Rattle.change_apply.specs.Copied.{with_tables}
 use Rattle.node_state.specs.Held.{HoldsNode, is_own}
 use Rattle.node_state.proofs.Staying.{node_stays}
-use Rattle.node_change.specs.Done.{HasApplied, HasKept}
+use Rattle.node_change.specs.Done.{HasApplied, HasKept, with_view}
 use Rattle.node_change.proofs.Confirmed.{becomes_as}
 use Rattle.app_store.specs.Spelled.{meta, stamp_key}
 use Rattle.node_store.specs.Acting.{WritesAs}
-use Rattle.node_store.specs.Bringing.{HasBrought}
+use Rattle.node_store.specs.declared.bringing.SetCopy.{SetCopy}
+use Rattle.node_store.specs.Bringing.{HasBrought, HasSet}
 
 -- The stamp of a transaction, and how it is spelled.
 pub record Stamp : Type 0 where
@@ -75,19 +76,29 @@ becomes_plainly n e b tables m new result none holds p =
 
 -- What stands where a set was taken: the node keeps a view, and its tables are not filled yet.
 pub record HasTaken (n : Node) (e : Event) (b : Brought) (m mid : Store) : Type 0 where
-  pub held : (d : Deed) → d.doing ≡ Applies e b → d.logs ≡ [] → HoldsNode (Some (with_deeds (d ∷ []) n)) mid
+  pub held : (d : Deed) → d.doing ≡ Applies e b → d.logs ≡ b.logs → HoldsNode (Some (with_deeds (d ∷ []) n)) mid
   pub own : (space : ℕ) → is_own space ≡ true → mid space ≡ m space
 
-pub has_taken : (n : Node) (e : Event) (b : Brought) (kept : ℕ × View) (m mid : Store) → b.views ≡ kept ∷ [] →
-    HasKept n e kept m mid → HasTaken n e b m mid
-has_taken n e b kept m mid views has =
-    let one : Brought = record { views = kept ∷ []; rows = b.rows } in
-    let same : one ≡ b = λ i. record { views = sym views i; rows = b.rows } in
+pub has_taken : (n : Node) (e : Event) (b : Brought) (given : SetCopy) (m mid : Store) → HasSet b given →
+    HasKept n e (with_view (given.set, seen_view given.view) nothing_brought) m mid → HasTaken n e b m mid
+has_taken n e b given m mid set has =
+    let one : Brought = record {
+      views = (given.set, seen_view given.view) ∷ [];
+      rows = b.rows;
+      logs = [];
+      count = b.count;
+    } in
+    let same : one ≡ b =
+    λ i. record { views = sym set.views i; rows = b.rows; logs = sym set.logs i; count = b.count } in
     record {
-      held = subst (λ (c : Brought). (d : Deed) → d.doing ≡ Applies e c → d.logs ≡ [] →
-          HoldsNode (Some (with_deeds (d ∷ []) n)) mid) same (has b.rows).held;
-      own = (has b.rows).own;
+      held = subst (λ (c : Brought). (d : Deed) → d.doing ≡ Applies e c → d.logs ≡ c.logs →
+          HoldsNode (Some (with_deeds (d ∷ []) n)) mid) same (λ d is logs. has.held b.rows b.count d is logs);
+      own = has.own;
     }
+
+-- a space that is none of the database's is not that of the rows
+pub not_rows : (space : ℕ) → is_own space ≡ false → (space == 3) ≡ false
+not_rows space other = (or_parts (space == 1 || space == 2) (space == 3) other).1
 
 -- and then they are
 pub tables_taken : (n : Node) (e : Event) (b : Brought) (tables : List ℕ → Rows) (m mid new : Store) →
@@ -99,20 +110,16 @@ tables_taken n e b tables m mid new has stay rows = record {
   own = λ space one other. stay space other ∙ has.own space one;
   rows = rows;
 }
-  where
-    not_rows : (space : ℕ) → is_own space ≡ false → (space == 3) ≡ false
-    not_rows space other = (or_parts (space == 1 || space == 2) (space == 3) other).1
 
--- the last part of it
-pub becomes_taken : (n : Node) (e : Event) (b : Brought) (tables : List ℕ → Rows) (m mid : Store) (new : Kept)
-    (result : Result (Unit {0}) Stop) → HasTaken n e b m mid →
-    IfOk result (λ u. IsPending (OthersStay mid) new) × Becomes (HoldsRows (with_tables b.rows tables)) new result →
-    Becomes (HasBrought n e b tables m) new result
-becomes_taken n e b tables m mid new (Err stop) has (stay, rows) = rows
-becomes_taken n e b tables m mid new (Ok u) has (stay, rows) =
-    let one : stay.store ≡ rows.store = let other = rows.is in let is = stay.is in cc in
+-- what a part left of the other spaces and of the rows is one store
+pub becomes_both : {P Q : Store → Type 0} (mid : Store) (new : Kept) (result : Result (Unit {0}) Stop) →
+    ((store : Store) → OthersStay mid store → P store → Q store) →
+    IfOk result (λ u. IsPending (OthersStay mid) new) × Becomes P new result → Becomes Q new result
+becomes_both mid new (Err stop) on (stay, has) = has
+becomes_both mid new (Ok u) on (stay, has) =
+    let one : stay.store ≡ has.store = let other = has.is in let is = stay.is in cc in
     record {
-      store = rows.store;
-      is = rows.is;
-      has = tables_taken n e b tables m mid rows.store has (subst (OthersStay mid) one stay.has) rows.has;
+      store = has.store;
+      is = has.is;
+      has = on has.store (subst (OthersStay mid) one stay.has) has.has;
     }

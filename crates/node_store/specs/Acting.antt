@@ -16,7 +16,7 @@ use Rattle.slon_model.specs.declared.reply.Answered.TheVariants.{Sure, InDoubt}
 use Rattle.node_rows.specs.declared.body.Body.{Body}
 use Rattle.slon_model.specs.Snapshots.{Snapshot}
 use Rattle.slon_model.specs.Events.{Event}
-use Rattle.slon_model.specs.Deeds.{Node, Deed, Doing, Emits, Hears, knowledge, progress}
+use Rattle.slon_model.specs.Deeds.{Node, Deed, Doing, Emits, Hears, brought_in, knowledge, progress}
 use Rattle.slon_model.specs.Deeds.{with_deeds}
 use Rattle.slon_model.specs.Place.{Place, fallen, taken, deed}
 use Rattle.slon_model.specs.Moves.{is_last_stamp}
@@ -231,7 +231,7 @@ WritesEvents e stamp (Ok number) new =
 WritesEvents e stamp (Err (StopTooBig space)) new = (space ≡ 10) × (are_late e.place e.node e.parts ≡ true)
 WritesEvents e stamp (Err stop) new = IsOutside stop
 
--- ---- one thing that a node does, by which it gives tables no rows and logs nothing
+-- ---- one thing that a node does, by which it gives tables no rows of its own
 
 -- what is pending behind it, with the next stamp; or there was no memory, or the store failed
 abbrev pub WritesAs : (Store → Type 0) → ℕ → Result (Unit {0}) Stop → Kept → Type 0
@@ -243,7 +243,7 @@ abbrev pub WritesDone : Node → Store → Doing → ℕ → Result (Unit {0}) S
 WritesDone n m doing = WritesAs (HasDone n doing m)
 
 abbrev pub does : List ℕ → Place → Doing → Commit
-does name p doing = record { name = name; becomes = None; deeds = deed p [] [] doing ∷ [] }
+does name p doing = record { name = name; becomes = None; deeds = deed p [] (brought_in doing).logs doing ∷ [] }
 
 -- From every place that fits and is a node: it hears these confirmations, in one commit.
 abbrev pub HearsAll : List (ℕ × ℕ × ℕ) → Base → Result Answered DbFault → Base → Type 0

@@ -2,6 +2,7 @@ pub mod Acting
 pub mod Bringing
 pub mod Finishing
 pub mod Joining
+pub mod Logged
 pub mod Looking
 pub mod Midways
 pub mod Syncing

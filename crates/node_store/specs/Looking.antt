@@ -1,6 +1,7 @@
 -- What is looked up of what a node knows.
-use Rattle.std.specs.Prelude.{◌≡◌, ◌<◌, ◌^◌, Option, Some, option_map}
+use Rattle.std.specs.Prelude.{◌≡◌, ◌<◌, ◌^◌, Bool, false, Option, Some, option_map, unwrap_or}
 use Rattle.node_rows.specs.declared.rows.SetRow.{SetRow}
+use Rattle.node_rows.specs.declared.rows.Subscription.{Subscription}
 use Rattle.slon_model.specs.Config.{Config, live_set}
 use Rattle.slon_model.specs.Deeds.{Node, knowledge}
 use Rattle.slon_model.specs.Place.{Place}
@@ -21,3 +22,7 @@ live_reign row = option_map reign_of (live_set row)
 -- the number of its era can be stored
 abbrev pub IsSmall : Reign → Type 0
 IsSmall r = r.era < 2 ^ 63
+
+-- whether the node of a subscription forwards the set
+abbrev pub forwards_in : Option Subscription → Bool
+forwards_in row = unwrap_or (option_map (λ r. r.forward) row) false

@@ -1,7 +1,6 @@
 // The commit by which a database becomes a node, and a transaction that is not made.
 ghost use Rattle.std.specs.Prelude.{◌≡◌, ◌<◌, ◌^◌, true, is_some};
 ghost use Rattle.node_keeper.specs.Fused.{fuse_kept};
-ghost use Rattle.slon_base.specs.Keeper.{RollsBack};
 ghost use Rattle.app_store.specs.Base.{base_with};
 ghost use Rattle.node_store.specs.Finishing.{Becomes, GivesUp};
 

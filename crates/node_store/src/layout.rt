@@ -8,3 +8,6 @@ pub const EVENTS: u8 = 10;
 
 /// The key of the stamp.
 pub const STAMP: [u8; 1] = [1];
+
+/// The space of the log.
+pub const LOG: u8 = 15;

@@ -10,6 +10,7 @@ mod founding;
 mod hearing;
 mod joining;
 mod layout;
+mod logged;
 mod looking;
 mod polling;
 mod syncing;
@@ -18,14 +19,15 @@ mod writing;
 pub use announcing::{announce, stored_snapshot};
 pub use app_store::{Database, DbFault, Keeper};
 pub use applying::apply;
-pub use bringing::Brought;
+pub use bringing::{Brought, SetCopy, SetSync};
 pub use copying::read_tables;
 pub use founding::found;
 pub use hearing::hear;
 pub use joining::{Fell, Joined, join};
+pub use logged::{LoggedRows, read_log};
 pub use looking::{
-    Reign, first_receiver, has_table, is_dropped, knows_live, knows_node, knows_path,
-    knows_receiver, knows_set, knows_table, names_table, set_reign, width, writer,
+    Reign, first_receiver, has_table, is_dropped, knows_forwarder, knows_live, knows_node,
+    knows_path, knows_receiver, knows_set, knows_table, names_table, set_reign, width, writer,
 };
 pub use node_change::Side;
 pub use polling::news_among;

@@ -17,14 +17,15 @@ ghost use Rattle.app_store.specs.Base.{base_of};
 ghost use Rattle.app_store.specs.Parts.{Looks, Remembers};
 ghost use Rattle.app_store.specs.Serves.{halts};
 ghost use Rattle.node_store.specs.Acting.{Acts};
-ghost use Rattle.node_store.specs.Looking.{IsSmall, OfConfig, live_reign, reign_of};
+ghost use Rattle.node_store.specs.Looking.{IsSmall, OfConfig, forwards_in, live_reign, reign_of};
 
 use app_store::{Database, DbFault, fall};
 use node_change::{
-    find_node_row, find_set_row, has_path, has_subscription, has_table_row, is_known,
+    find_node_row, find_set_row, find_subscription, has_path, has_subscription, has_table_row,
+    is_known,
 };
 use node_keeper::Keeper;
-use node_rows::{NodeRow, SetRow};
+use node_rows::{NodeRow, SetRow, Subscription};
 use slon_base::Text;
 
 /// Whether the node knows of a node of this id, live or not.
@@ -200,6 +201,39 @@ pub fn knows_receiver<K: Keeper>(
 {
     match has_subscription(database.alloc, &mut database.keeper, set, receiver) {
         Ok(found) => Ok(found),
+        Err(stop) => Err(fall(database.alloc, &mut database.state, &database.keeper, stop)),
+    }
+}
+
+/// Whether the row of a subscription says that the node forwards the set.
+fn is_forwarded(row: &Option<Subscription>) -> bool
+    ensures { result ≡ forwards_in row.now }
+{
+    match row {
+        None => false,
+        Some(row) => row.forward,
+    }
+}
+
+/// Whether the node knows that a node receives a set and forwards it.
+///
+/// # Errors
+///
+/// What stopped the store; the database is down then.
+pub fn knows_forwarder<K: Keeper>(
+    database: &mut Database<K>,
+    set: u32,
+    receiver: u32,
+) -> Result<bool, DbFault>
+    requires up { database.old.state.up ≡ true }
+    requires ids { IsId set × IsId receiver }
+    ensures acts { Acts (halts result) (base_of K.kept database.old) (base_of K.kept database.new) }
+    ensures looks { Looks (OfConfig (λ c found. found ≡ config.forwards set receiver c))
+        (base_of K.kept database.old) result (base_of K.kept database.new) }
+    ensures same { Remembers (base_of K.kept database.old) result (base_of K.kept database.new) }
+{
+    match find_subscription(database.alloc, &mut database.keeper, set, receiver) {
+        Ok(row) => Ok(is_forwarded(&row)),
         Err(stop) => Err(fall(database.alloc, &mut database.state, &database.keeper, stop)),
     }
 }

@@ -15,30 +15,22 @@ ghost use Rattle.node_change.specs.Becoming.{IsNode};
 ghost use Rattle.slon_model.specs.Maps.{entry_at};
 ghost use Rattle.slon_model.specs.Deeds.{Node, Hears, knowledge};
 ghost use Rattle.slon_model.specs.Deeds.{Brought as Rules};
-ghost use Rattle.slon_model.specs.Rows.{Rows};
-ghost use Rattle.store_rows.specs.Space.{Becomes};
-ghost use Rattle.change_apply.specs.Applied.{HoldsRows};
-ghost use Rattle.node_store.specs.Bringing.{CanBring, CanKeep, HasBrought, HasSet, IsBrought};
-ghost use Rattle.node_store.specs.Bringing.{WritesBrought};
+ghost use Rattle.slon_model.specs.Place.{Place, standing_rows};
+ghost use Rattle.node_store.specs.Bringing.{CanBring, CanTake, IsBrought, WritesBrought};
 ghost use Rattle.event_store.specs.Keeping.{KeepsViews};
 ghost use Rattle.event_store.specs.Seen.{seen_event};
 ghost use Rattle.event_store.specs.Spellings.{CanSnapshot};
-ghost use Rattle.node_change.specs.Done.{CanApply};
 ghost use Rattle.node_state.specs.Held.{HoldsNode};
-ghost use Rattle.node_state.specs.Known.{IsHomed};
 ghost use Rattle.node_store.specs.Acting.{Emitter, IsTold, EmitsEach, WritesEvents, WritesDone, WritesNode, KeepsNode};
 ghost use Rattle.node_change.specs.Both.{stopped};
 ghost use Rattle.node_store.specs.Midways.{Enters, EntersSecond, EntersBoth, of_event};
 ghost use Rattle.node_store.specs.Joining.{WritesBoth};
 
-use crate::bringing::Brought;
+use crate::bringing::{Brought, take};
 use crate::layout::{EVENTS, META, STAMP};
 use app_store::begin;
-use change_apply::replace_tables;
 use event_store::{Confirmation, Event};
-use node_change::{
-    Failed, Side, announce, apply, apply_keeping, found_node, hear, join_node, sided,
-};
+use node_change::{Failed, Side, announce, found_node, hear, join_node, sided};
 use node_rows::Body;
 use node_state::{NodeMemory, find_node};
 use slon_base::{Keeper, Text};
@@ -250,53 +242,6 @@ pub(crate) fn write_heard<K: Keeper>(
     put_pair(keeper, META, &STAMP, stamp.as_slice())
 }
 
-/// The node applies an event of another node, and takes a set with it, in what is pending.
-fn take_set<K: Keeper>(
-    alloc: Global,
-    keeper: &mut K,
-    own: u32,
-    event: &Event,
-    brought: Brought,
-) -> Result<(), Stop>
-    requires opened { is_some (K.kept keeper.old).pending ≡ true }
-    requires own { IsId own }
-    requires keeps { KeepsViews event.now.body }
-    requires can { CanKeep brought }
-    ensures safe { Safe (K.kept keeper.old) (K.kept keeper.new) result }
-    ensures takes { (n : Node) (m : Store) (b : Rules) (tables : List ℕ → Rows) → n.id ≡ own →
-        (K.kept keeper.old).pending ≡ Some (Some m) → HoldsNode (Some n) m → HoldsRows tables m →
-        CanApply n (seen_event event.now) → IsHomed event.now.body (knowledge n).config → HasSet b brought →
-        Becomes (HasBrought n (seen_event event.now) b tables m) (K.kept keeper.new) result }
-{
-    let Brought { set, view, tables } = brought;
-    apply_keeping(alloc, keeper, own, event, set, &view)?;
-    replace_tables(alloc, keeper, tables)
-}
-
-/// The node applies an event of another node with what comes with it, in what is pending.
-fn take<K: Keeper>(
-    alloc: Global,
-    keeper: &mut K,
-    own: u32,
-    event: &Event,
-    brought: Option<Brought>,
-) -> Result<(), Stop>
-    requires opened { is_some (K.kept keeper.old).pending ≡ true }
-    requires own { IsId own }
-    requires keeps { KeepsViews event.now.body }
-    requires can { CanBring brought }
-    ensures safe { Safe (K.kept keeper.old) (K.kept keeper.new) result }
-    ensures takes { (n : Node) (m : Store) (b : Rules) (tables : List ℕ → Rows) → n.id ≡ own →
-        (K.kept keeper.old).pending ≡ Some (Some m) → HoldsNode (Some n) m → HoldsRows tables m →
-        CanApply n (seen_event event.now) → IsHomed event.now.body (knowledge n).config → IsBrought b brought →
-        Becomes (HasBrought n (seen_event event.now) b tables m) (K.kept keeper.new) result }
-{
-    match brought {
-        None => apply(alloc, keeper, own, event),
-        Some(brought) => take_set(alloc, keeper, own, event, brought),
-    }
-}
-
 /// Begins a transaction, and has the node apply an event of another node with what comes with it, with the stamp of the
 /// transaction.
 pub(crate) fn write_applied<K: Keeper>(
@@ -313,10 +258,10 @@ pub(crate) fn write_applied<K: Keeper>(
     requires can { CanBring brought }
     requires room { stamp < 2 ^ 63 }
     ensures enters { Enters (K.kept keeper.old) (K.kept keeper.new) result }
-    ensures writes { (n : Node) (m : Store) (b : Rules) (tables : List ℕ → Rows) → n.id ≡ own →
-        (K.kept keeper.old).held ≡ Some m → HoldsNode (Some n) m → HoldsRows tables m →
-        CanApply n (seen_event event.now) → IsHomed event.now.body (knowledge n).config → IsBrought b brought →
-        WritesBrought n (seen_event event.now) b tables m stamp result (K.kept keeper.new) }
+    ensures writes { (n : Node) (m : Store) (p : Place) (b : Rules) → n.id ≡ own →
+        (K.kept keeper.old).held ≡ Some m → CanTake n (seen_event event.now) p m →
+        IsBrought (seen_event event.now).origin p b brought →
+        WritesBrought n (seen_event event.now) b (standing_rows p) m stamp result (K.kept keeper.new) }
 {
     let stamp = spelling(alloc, &stamp)?;
     begin(keeper)?;

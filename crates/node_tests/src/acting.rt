@@ -105,17 +105,24 @@ fn expect_applied<K: Keeper>(
     expect("the rows", tell_rows(alloc, keeper)?.as_str(), wanted)
 }
 
+/// The store holds what all rows make of the table, one after the other, and all of them again.
+fn expect_all<K: Keeper>(alloc: Global, keeper: &mut K) -> Result<(), Fail>
+    requires { is_some (K.kept keeper.old).pending ≡ false }
+{
+    expect_applied(alloc, keeper, &LOGGED[0])?;
+    expect_applied(alloc, keeper, &LOGGED[1])?;
+    expect_applied(alloc, keeper, &LOGGED[2])?;
+    expect_applied(alloc, keeper, &LOGGED[3])?;
+    expect_applied(alloc, keeper, &LOGGED[4])?;
+    apply_from(alloc, keeper, 1)?;
+    expect("all again", tell_rows(alloc, keeper)?.as_str(), "p=7 ")
+}
+
 #[test]
 fn logged_rows_change_tables(rt: HostRuntime) -> Result<(), Fail> {
     let alloc = rt.alloc();
     let mut keeper = Fuse::new(MemKeeper::new(alloc, Vec::new(alloc), false)?);
-    expect_applied(alloc, &mut keeper, &LOGGED[0])?;
-    expect_applied(alloc, &mut keeper, &LOGGED[1])?;
-    expect_applied(alloc, &mut keeper, &LOGGED[2])?;
-    expect_applied(alloc, &mut keeper, &LOGGED[3])?;
-    expect_applied(alloc, &mut keeper, &LOGGED[4])?;
-    apply_from(alloc, &mut keeper, 1)?;
-    expect("all again", tell_rows(alloc, &mut keeper)?.as_str(), "p=7 ")
+    expect_all(alloc, &mut keeper)
 }
 
 /// The table is copied from one store to the other, in the place of what the other one has of it.
@@ -132,27 +139,40 @@ fn copy_table<F: Keeper, T: Keeper>(alloc: Global, from: &mut F, to: &mut T) -> 
     Ok(())
 }
 
+/// Behind two rows of the log of the first store the second one has these rows of the table.
+fn expect_copied<F: Keeper, T: Keeper>(
+    alloc: Global,
+    first: &mut F,
+    second: &mut T,
+    logged: [&(u32, &[u8], &str); 2],
+    wanted: &str,
+) -> Result<(), Fail>
+    requires first { is_some (F.kept first.old).pending ≡ false }
+    requires second { is_some (T.kept second.old).pending ≡ false }
+    ensures first { OnOk result (is_some (F.kept first.new).pending ≡ false) }
+    ensures second { OnOk result (is_some (T.kept second.new).pending ≡ false) }
+{
+    expect_applied(alloc, first, logged[0])?;
+    expect_applied(alloc, first, logged[1])?;
+    copy_table(alloc, first, second)?;
+    expect("a copy", tell_rows(alloc, second)?.as_str(), wanted)
+}
+
+/// The second store gets a copy of the table of the first one, and another one later.
+fn copy_twice<F: Keeper>(alloc: Global, first: &mut F) -> Result<(), Fail>
+    requires { is_some (F.kept first.old).pending ≡ false }
+{
+    let mut second = Fuse::new(MemKeeper::new(alloc, Vec::new(alloc), false)?);
+    let early = [&LOGGED[0], &LOGGED[1]];
+    expect_copied(alloc, first, &mut second, early, "p=5 q=6 ")?;
+    expect_copied(alloc, first, &mut second, [&LOGGED[2], &LOGGED[4]], "p=7 ")
+}
+
 #[test]
 fn tables_are_copied(rt: HostRuntime) -> Result<(), Fail> {
     let alloc = rt.alloc();
     let mut first = Fuse::new(MemKeeper::new(alloc, Vec::new(alloc), false)?);
-    let mut second = Fuse::new(MemKeeper::new(alloc, Vec::new(alloc), false)?);
-    expect_applied(alloc, &mut first, &LOGGED[0])?;
-    expect_applied(alloc, &mut first, &LOGGED[1])?;
-    copy_table(alloc, &mut first, &mut second)?;
-    expect(
-        "a copy",
-        tell_rows(alloc, &mut second)?.as_str(),
-        "p=5 q=6 ",
-    )?;
-    expect_applied(alloc, &mut first, &LOGGED[2])?;
-    expect_applied(alloc, &mut first, &LOGGED[4])?;
-    copy_table(alloc, &mut first, &mut second)?;
-    expect(
-        "a further copy",
-        tell_rows(alloc, &mut second)?.as_str(),
-        "p=7 ",
-    )
+    copy_twice(alloc, &mut first)
 }
 
 #[test]

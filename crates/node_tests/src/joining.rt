@@ -2,7 +2,7 @@
 ghost use Rattle.std.specs.Prelude.{◌≡◌, true, is_some, OnOk};
 ghost use Rattle.store_rows.specs.Rows.{IsId};
 
-use crate::nodes::{configure, create, found, obey_line, rise, status};
+use crate::nodes::{configure, create, expect_lines, found, obey_line, rise, status};
 use app_store::{Database, Fuse};
 use node_keeper::MemKeeper;
 use node_store::{
@@ -243,19 +243,24 @@ fn expect_writer(
     )
 }
 
+/// A transaction that stays open.
+const WRITTEN: &[(&str, &str)] = &[
+    ("table a public.t 2", "ok"),
+    ("table a public.u 2", "ok"),
+    ("begin a x", "ok xid 1"),
+    ("insert a x public.t k 1", "ok action 1"),
+];
+
+/// The database becomes the first node, and is asked what it knows.
+fn found_and_ask(alloc: Global, node: &mut Database<MemKeeper>) -> Result<(), Fail> {
+    require(found(alloc, node)? == Ok(false), "the node")?;
+    configure(alloc, node)?;
+    expect_lines(alloc, node, WRITTEN)?;
+    expect_knowledge(alloc, node)
+}
+
 #[test]
 fn nodes_are_asked(rt: HostRuntime) -> Result<(), Fail> {
-    let alloc = rt.alloc();
-    let mut node = create(alloc, 0, false)?;
-    require(found(alloc, &mut node)? == Ok(false), "the node")?;
-    configure(alloc, &mut node)?;
-    for (line, wanted) in [
-        ("table a public.t 2", "ok"),
-        ("table a public.u 2", "ok"),
-        ("begin a x", "ok xid 1"),
-        ("insert a x public.t k 1", "ok action 1"),
-    ] {
-        expect(line, obey_line(alloc, &mut node, line)?.as_str(), wanted)?;
-    }
-    expect_knowledge(alloc, &mut node)
+    let mut node = create(rt.alloc(), 0, false)?;
+    found_and_ask(rt.alloc(), &mut node)
 }

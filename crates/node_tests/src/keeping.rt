@@ -82,20 +82,37 @@ fn keeps_one<K: Keeper>(alloc: Global, keeper: &mut K) -> Result<(), Fail> {
     }
 }
 
+/// The second node keeps a set of which it was given nothing.
+fn keep_one<F: Keeper, T: Keeper>(
+    alloc: Global,
+    first: &mut F,
+    second: &mut T,
+    view: &View,
+) -> Result<(), Fail>
+    requires closed { is_some (T.kept second.old).pending ≡ false }
+    requires can { CanView (seen_view view.now) }
+{
+    put_log(second)?;
+    join_second(alloc, first, second)?;
+    keep(alloc, second, view)?;
+    let wanted = "ok node 2 log 0 progress 1 1 set 5 era 3 at 7:9:7,8";
+    told(alloc, second, wanted)?;
+    keeps_one(alloc, second)
+}
+
+/// The same of a second store that is made for it.
+fn keep_at_a_second<F: Keeper>(alloc: Global, first: &mut F, view: &View) -> Result<(), Fail>
+    requires { CanView (seen_view view.now) }
+{
+    let mut second = Fuse::new(MemKeeper::new(alloc, Vec::new(alloc), false)?);
+    keep_one(alloc, first, &mut second, view)
+}
+
 #[test]
 fn a_set_is_kept_with_the_event(rt: HostRuntime) -> Result<(), Fail> {
     let alloc = rt.alloc();
-    let mut first = Fuse::new(MemKeeper::new(alloc, Vec::new(alloc), false)?);
-    let mut second = Fuse::new(MemKeeper::new(alloc, Vec::new(alloc), false)?);
-    found_first(alloc, &mut first)?;
-    put_log(&mut second)?;
-    join_second(alloc, &mut first, &mut second)?;
     let view = some_view(alloc)?;
-    keep(alloc, &mut second, &view)?;
-    told(
-        alloc,
-        &mut second,
-        "ok node 2 log 0 progress 1 1 set 5 era 3 at 7:9:7,8",
-    )?;
-    keeps_one(alloc, &mut second)
+    let mut first = Fuse::new(MemKeeper::new(alloc, Vec::new(alloc), false)?);
+    found_first(alloc, &mut first)?;
+    keep_at_a_second(alloc, &mut first, &view)
 }

@@ -8,6 +8,8 @@ mod applied;
 #[cfg(test)]
 mod codec;
 #[cfg(test)]
+mod forwarding;
+#[cfg(test)]
 mod handing;
 #[cfg(test)]
 mod joining;
@@ -20,6 +22,8 @@ mod logged;
 #[cfg(test)]
 mod nodes;
 #[cfg(test)]
+mod reading_logs;
+#[cfg(test)]
 mod rows_of_nodes;
 #[cfg(test)]
 mod snapshots;
@@ -27,6 +31,8 @@ mod snapshots;
 mod stored_nodes;
 #[cfg(test)]
 mod stored_rows;
+#[cfg(test)]
+mod subscribed;
 #[cfg(test)]
 mod taking;
 #[cfg(test)]

@@ -148,20 +148,22 @@ const BEHIND: &[(&str, &str)] = &[
     ("rows a public.t", "ok rows 2 k=1 m=5"),
 ];
 
+const FOUNDED: &[(&str, &str)] = &[("status a", "ok node 1 log 0 progress 1 0")];
+
+/// The database becomes the first node and emits its events.
+fn begin(alloc: Global, database: &mut Database<MemKeeper>) -> Result<(), Fail> {
+    expect_lines(alloc, database, BEFORE)?;
+    require(found(alloc, database)? == Ok(false), "the node")?;
+    require(database.node_id() == Some(1), "its id")?;
+    expect_lines(alloc, database, FOUNDED)?;
+    configure(alloc, database)?;
+    expect_lines(alloc, database, BEHIND)
+}
+
 #[test]
 fn first_nodes_emit_events(rt: HostRuntime) -> Result<(), Fail> {
-    let alloc = rt.alloc();
-    let mut database = create(alloc, 0, false)?;
-    expect_lines(alloc, &mut database, BEFORE)?;
-    require(found(alloc, &mut database)? == Ok(false), "the node")?;
-    assert!(rt; database.node_id() == Some(1));
-    expect_lines(
-        alloc,
-        &mut database,
-        &[("status a", "ok node 1 log 0 progress 1 0")],
-    )?;
-    configure(alloc, &mut database)?;
-    expect_lines(alloc, &mut database, BEHIND)
+    let mut database = create(rt.alloc(), 0, false)?;
+    begin(rt.alloc(), &mut database)
 }
 
 /// The database comes up if it is down.

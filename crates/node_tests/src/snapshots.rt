@@ -44,6 +44,21 @@ fn snapshots_are_read_and_printed(rt: HostRuntime) -> Result<(), Fail> {
     Ok(())
 }
 
+/// A copy of the snapshot of this text, which is let go itself.
+fn copy_of(alloc: Global, text: &str) -> Result<Snapshot, Fail> {
+    let snapshot = Snapshot::parse(alloc, text.as_bytes())?;
+    Ok(snapshot.copy(alloc)?)
+}
+
+#[test]
+fn snapshots_are_copied(rt: HostRuntime) -> Result<(), Fail> {
+    for (text, _, _) in PAIRS {
+        let copy = copy_of(rt.alloc(), text)?;
+        expect("a copy", copy.print(rt.alloc())?.as_str(), text)?;
+    }
+    Ok(())
+}
+
 /// Texts that are no snapshots.
 const OTHER_TEXTS: &[&str] = &[
     "",

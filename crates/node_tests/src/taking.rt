@@ -125,26 +125,48 @@ const BEHIND: &str = "ok node 2 log 0 progress 1 2 progress 2 1";
 /// commit was in doubt.
 fn take_one(
     alloc: Global,
+    second: &mut Database<MemKeeper>,
+    queue: &Queue,
+    calls: u32,
+    keep: bool,
+) -> Result<bool, Fail> {
+    arm(alloc, second, calls, keep)?;
+    let taken = take(second, queue, 2)?;
+    rise(second)?;
+    let stands = taken == Ok(false) || keep && taken == Ok(true);
+    let wanted = if stands { BEHIND } else { BEFORE };
+    expect("the node", status(alloc, second)?.as_str(), wanted)?;
+    Ok(taken == Ok(true))
+}
+
+/// The same behind what node 1 emitted for it.
+fn make_and_take(
+    alloc: Global,
+    first: &mut Database<MemKeeper>,
+    second: &mut Database<MemKeeper>,
+    calls: u32,
+    keep: bool,
+) -> Result<bool, Fail> {
+    let mut queue = Queue::new(alloc);
+    make_events(alloc, first, second, &mut queue)?;
+    take_one(alloc, second, &queue, calls, keep)
+}
+
+/// The same over a second node that is made for it.
+fn walk_at_a_second(
+    alloc: Global,
     first: &mut Database<MemKeeper>,
     calls: u32,
     keep: bool,
 ) -> Result<bool, Fail> {
     let mut second = create(alloc, 0, false)?;
-    let mut queue = Queue::new(alloc);
-    make_events(alloc, first, &mut second, &mut queue)?;
-    arm(alloc, &mut second, calls, keep)?;
-    let taken = take(&mut second, &queue, 2)?;
-    rise(&mut second)?;
-    let stands = taken == Ok(false) || keep && taken == Ok(true);
-    let wanted = if stands { BEHIND } else { BEFORE };
-    expect("the node", status(alloc, &mut second)?.as_str(), wanted)?;
-    Ok(taken == Ok(true))
+    make_and_take(alloc, first, &mut second, calls, keep)
 }
 
 /// The same over a first node that is made for it.
 fn walk(alloc: Global, calls: u32, keep: bool) -> Result<bool, Fail> {
     let mut first = create(alloc, 0, false)?;
-    take_one(alloc, &mut first, calls, keep)
+    walk_at_a_second(alloc, &mut first, calls, keep)
 }
 
 #[test]

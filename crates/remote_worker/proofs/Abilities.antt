@@ -6,12 +6,12 @@ use Rattle.std.specs.Prelude.{◌==◌, ◌&&◌, if◌then◌else◌, option_ma
 use Rattle.std.specs.List.{find, list_all}
 use Rattle.store_rows.specs.Rows.{IsId}
 use Rattle.node_rows.specs.declared.body.Body.{Body}
-use Rattle.node_rows.specs.declared.body.Body.TheVariants.{DropSet, EnableSubscription, MoveSet, FailoverSet}
+use Rattle.node_rows.specs.declared.body.Body.TheVariants.{DropSet, EnableSubscription, MoveSet, FailoverSet, Sync}
 use Rattle.node_rows.specs.Spellings.{CanBody}
 use Rattle.slon_model.specs.declared.fault.DbFault.{DbFault}
 use Rattle.slon_model.specs.declared.reply.Answered.{Answered}
 use Rattle.slon_model.specs.Working as rules
-use Rattle.slon_model.specs.Working.{can_carry_out, copying_in}
+use Rattle.slon_model.specs.Working.{can_carry_out, errand_in}
 use Rattle.set_config.proofs.Entries.{eq_of}
 use Rattle.event_store.specs.declared.event.Event.{Event}
 use Rattle.event_store.specs.declared.queue.Queue.{Queue}
@@ -22,21 +22,23 @@ use Rattle.event_store.proofs.Queues.{waiting_of}
 use Rattle.app_store.specs.Base.{Base}
 use Rattle.node_store.specs.declared.bringing.Brought.{Brought}
 use Rattle.node_store.specs.Bringing.{AppliesWith}
-use Rattle.remote_worker.specs.declared.carrying.Copying.{Copying}
+use Rattle.remote_worker.specs.declared.carrying.Errand.{Errand}
+use Rattle.remote_worker.specs.declared.carrying.Errand.TheVariants.{Copy, Follow}
+use Rattle.remote_worker.specs.declared.worker.Ready.{Ready}
 use Rattle.remote_worker.specs.declared.worker.Taken.{Taken}
-use Rattle.remote_worker.specs.Fetching.{CanCopy}
-use Rattle.remote_worker.specs.Working.{Applies, IsAble, IsDue, seen_copying, waits_as}
+use Rattle.remote_worker.specs.declared.worker.Worker.{Worker}
+use Rattle.remote_worker.specs.Fetching.{CanBringBy}
+use Rattle.remote_worker.specs.Working.{Applies, IsAble, IsDue, seen_errand, waits_as}
 
-pub keeps : (receives : Bool) (body : Body) → can_carry_out receives body ≡ true → KeepsViews body
-keeps receives (DropSet set) can = absurd (false≢true can)
-keeps receives (MoveSet set old new era feeds) can = absurd (false≢true can)
-keeps receives (FailoverSet failed limit sets) can = absurd (false≢true can)
-keeps receives others can = tt
+pub keeps : (body : Body) → can_carry_out body ≡ true → KeepsViews body
+keeps (DropSet set) can = absurd (false≢true can)
+keeps (MoveSet set old new era feeds) can = absurd (false≢true can)
+keeps (FailoverSet failed limit sets) can = absurd (false≢true can)
+keeps others can = tt
 
 -- so what is due leaves it too
-pub able_of : {own : ℕ} {receives : Bool} {found : Option Event} {taken : Taken} → IsDue own receives found taken →
-    IsAble found
-able_of {receives = receives} due = (due.event, due.is, keeps receives due.event.body due.can)
+pub able_of : {ready : Worker Ready} {found : Option Event} {taken : Taken} → IsDue ready found taken → IsAble found
+able_of due = (due.event, due.is, keeps due.event.body due.can)
 
 -- ---- the event that was found
 
@@ -67,31 +69,43 @@ found_is origin number queue e found =
     let is = found_both number origin (waiting origin queue) e (waiting_of queue origin) found in
     (eq_of e.origin origin is.1, eq_of e.number number is.0)
 
--- a set that is copied by an event that can be spelled can be spelled
-copy_can : (own : ℕ) (body : Body) (c : Copying) → CanBody body → Some (seen_copying c) ≡ copying_in own body →
-    CanCopy c
-copy_can own (EnableSubscription set provider receiver forward era) c can is = by (receiver == own) is
-  where
-    by : (b : Bool) → Some (seen_copying c)
-        ≡ (if b then Some (record { set_id = set; provider = provider; era = era }) else None) → CanCopy c
-    by true is =
-        let same : seen_copying c ≡ record { set_id = set; provider = provider; era = era } = cc in
-        record {
-          set_id = subst IsId (sym (ap (λ (x : rules.Copying). x.set_id) same)) can.0;
-          provider = subst IsId (sym (ap (λ (x : rules.Copying). x.provider) same)) can.1;
-          era = subst (λ n. n < 2 ^ 63) (sym (ap (λ (x : rules.Copying). x.era) same)) can.3;
-        }
-    by false is = absurd cc
-copy_can own others c can is = absurd cc
+-- ---- what is to be brought
 
--- what is due with a set that is to be copied can be spelled, and the number of its event can be stored
-pub due_copies : {own : ℕ} {receives : Bool} (origin number : ℕ) (queue : Queue) {taken : Taken} {c : Copying} →
-    IsDue own receives (waits_as origin number queue) taken → taken.copying ≡ Some c → CanCopy c × (number < 2 ^ 63)
-due_copies {own} origin number queue {taken} {c} due is =
-    let e = due.event in (
-      copy_can own e.body c e.can.body (ap (option_map seen_copying) (sym is) ∙ due.copying),
-      subst (λ n. n < 2 ^ 63) (found_is origin number queue e due.is).1 e.can.numbered.1,
-    )
+abbrev CanBringRuled : rules.Errand → Type 0
+CanBringRuled (rules.ToCopy c) = IsId c.set_id × IsId c.provider × (c.era < 2 ^ 63)
+CanBringRuled (rules.ToFollow provider) = IsId provider
+
+abbrev CanBringIf : Option rules.Errand → Type 0
+CanBringIf None = Unit {0}
+CanBringIf (Some r) = CanBringRuled r
+
+-- what an event asks for that can be spelled can be spelled
+ruled_can : (own : ℕ) (receives : Bool) (origin : ℕ) (body : Body) (r : rules.Errand) → IsId origin → CanBody body →
+    errand_in own receives origin body ≡ Some r → CanBringRuled r
+ruled_can own receives origin (EnableSubscription set provider receiver forward era) r id can is =
+    by (receiver == own) is
+  where
+    by : (b : Bool) →
+        (if b then Some (rules.ToCopy (record { set_id = set; provider = provider; era = era })) else None)
+        ≡ Some r → CanBringRuled r
+    by true is = subst CanBringIf is (can.0, can.1, can.3)
+    by false is = absurd cc
+ruled_can own receives origin Sync r id can is = by receives is
+  where
+    by : (b : Bool) → (if b then Some (rules.ToFollow origin) else None) ≡ Some r → CanBringRuled r
+    by true is = subst CanBringIf is id
+    by false is = absurd cc
+ruled_can own receives origin others r id can is = absurd cc
+
+bringer_can : (x : Errand) → CanBringRuled (seen_errand x) → CanBringBy x
+bringer_can (Copy c) can = record { set_id = can.0; provider = can.1; era = can.2 }
+bringer_can (Follow provider) can = can
+
+pub due_brings : {ready : Worker Ready} {found : Option Event} {taken : Taken} {x : Errand} → IsId ready.origin →
+    IsDue ready found taken → taken.errand ≡ Some x → CanBringBy x
+due_brings {ready} {x = x} id due is =
+    bringer_can x (ruled_can ready.node ready.state.receives ready.origin due.event.body (seen_errand x) id
+    due.event.can.body (sym due.errand ∙ ap (option_map seen_errand) is))
 
 -- ---- where it is applied
 

@@ -1,5 +1,5 @@
--- What a node finds of a set that it is to copy.
-use Rattle.std.proofs.Common.{◌≡◌, ◌∙◌, ◌++◌, ℕ, Bool, true, false, List, [], ◌∷◌, map, Option, Some, None, Result}
+-- What a node finds of what it is to bring.
+use Rattle.std.proofs.Common.{◌≡◌, ◌∙◌, ◌++◌, ℕ, Bool, true, false, List, [], ◌∷◌, Option, Some, None, Result}
 use Rattle.std.proofs.Common.{Ok, Err, refl, sym, ap, subst}
 use Rattle.std.specs.Prelude.{◌==◌, ◌&&◌, if◌then◌else◌, not, is_none, unwrap_or, option_map}
 use Rattle.node_rows.specs.declared.rows.SetRow.{SetRow}
@@ -9,45 +9,40 @@ use Rattle.slon_model.specs.Names.{find_named}
 use Rattle.slon_model.specs.Config.{Config, is_known, leads_row, names_of, set_row}
 use Rattle.slon_model.specs.Events.{Event}
 use Rattle.slon_model.specs.Deeds.{Brought, Node, knowledge, nothing_brought}
-use Rattle.slon_model.specs.Place.{Place, standing_rows, taken}
+use Rattle.slon_model.specs.Place.{Place, taken}
 use Rattle.slon_model.specs.Sessions.{bind, checked, first_refusal, seat, unless_refused, when, writer_of}
 use Rattle.slon_model.specs.Views.{first_view}
 use Rattle.slon_model.specs.Working as rules
-use Rattle.slon_model.specs.Working.{copied, copy_checks, copy_of, width_checks, width_of}
-use Rattle.change_apply.specs.Copied.{AreListed, Listed}
-use Rattle.event_store.specs.declared.view.View.{View}
+use Rattle.slon_model.specs.Working.{brought_at, copy_checks, copy_of, rows_at, rows_in, width_checks, width_of}
+use Rattle.change_apply.specs.Copied.{AreListed}
 use Rattle.event_store.specs.Kept.{seen_view}
-use Rattle.node_store.specs.declared.bringing.Brought as declared
+use Rattle.node_store.specs.declared.bringing.Brought.TheVariants.{Copy as CopyOf}
+use Rattle.node_store.specs.declared.bringing.SetCopy.{SetCopy}
 use Rattle.node_store.specs.declared.looking.Reign.{Reign}
-use Rattle.node_store.specs.Bringing.{IsBrought}
+use Rattle.node_store.specs.Bringing.{IsBrought, rows_listed}
 use Rattle.node_store.specs.Looking.{reign_of}
+use Rattle.remote_worker.specs.declared.carrying.Copying.{Copying}
+use Rattle.remote_worker.specs.declared.carrying.Errand.TheVariants.{Copy, Follow}
 use Rattle.remote_worker.specs.declared.fetching.Found.{Found}
 use Rattle.remote_worker.specs.declared.fetching.Found.TheVariants as found
-use Rattle.remote_worker.specs.declared.fetching.Lead.TheVariants.{Unknown, Other, Leads}
 use Rattle.remote_worker.specs.declared.worker.Fetched.{Fetched}
 use Rattle.remote_worker.specs.declared.worker.Worker.{Worker}
-use Rattle.remote_worker.specs.Fetching.{Asked, Copies, CopyChecked, Fetches, IsFound, IsLead, TableChecked}
-use Rattle.remote_worker.specs.Fetching.{TablesChecked, fetched, lead_by, leads_in}
-use Rattle.remote_worker.specs.Working.{seen_copying}
+use Rattle.remote_worker.specs.Fetching.{Asked, Brings, Copies, CopyChecked, Fetches, Follows, IsFound, IsLed}
+use Rattle.remote_worker.specs.Fetching.{TableChecked, TablesChecked, leads_by, leads_in}
+use Rattle.remote_worker.specs.Working.{seen_copying, seen_errand}
 
 -- ---- who leads the set
 
-pub lead_is : (own : ℕ) (c : rules.Copying) (k : Config) (reign : Option Reign) → is_known own k ≡ true →
-    reign ≡ option_map reign_of (set_row c.set_id k) → IsLead own c k (lead_by c reign)
-lead_is own c k reign known is =
-    subst (λ o. IsLead own c k (lead_by c o)) (sym is) (by (set_row c.set_id k) refl)
+pub led_is : (c : rules.Copying) (k : Config) (reign : Option Reign) →
+    reign ≡ option_map reign_of (set_row c.set_id k) → IsLed c k (leads_by c reign)
+led_is c k reign is = subst (λ o. IsLed c k (leads_by c o)) (sym is) (by (set_row c.set_id k) refl)
   where
     leads_of : Option SetRow → Bool
     leads_of o = leads_row c.provider o && (unwrap_or (option_map (λ row. row.era) o) 0 == c.era)
 
-    at : (row : SetRow) (b : Bool) → (row.origin == c.provider && row.era == c.era) ≡ b →
-        set_row c.set_id k ≡ Some row → IsLead own c k (if b then Leads else Other)
-    at row true both some = (known, ap leads_of some ∙ both)
-    at row false both some = (known, ap leads_of some ∙ both)
-
-    by : (o : Option SetRow) → set_row c.set_id k ≡ o → IsLead own c k (lead_by c (option_map reign_of o))
-    by None none = (known, ap leads_of none)
-    by (Some row) some = at row (row.origin == c.provider && row.era == c.era) refl some
+    by : (o : Option SetRow) → set_row c.set_id k ≡ o → IsLed c k (leads_by c (option_map reign_of o))
+    by None none = ap leads_of (sym none)
+    by (Some row) some = ap leads_of (sym some)
 
 -- ---- checks in turn
 
@@ -137,100 +132,96 @@ copy_beyond p q names o writer none is wrote =
     first_beyond (width_checks p q names) (option_map refused.Busy (writer_of names p) ∷ []) (is ∙ none)
     ∙ only_first (option_map refused.Busy (writer_of names p)) ∙ ap (option_map refused.Busy) (sym wrote)
 
--- ---- what is found
+-- ---- what is found of a set that is copied
 
 -- the set is refused
-pub refused_copy : (a : Asked) (p q : Place) (names : List (List ℕ)) (r : Refusal) →
-    ((n : Node) → p.node ≡ Some n → names ≡ names_of a.copying.set (knowledge n).config) →
-    first_refusal (copy_checks p q names) ≡ Some r → Copies a p q (found.Refused r)
-refused_copy a p q names r are some n k name other e here there own provider number leads =
-    ap (λ b. if b then checked (copy_checks p q known) (copy_of c e.number (seat other q k) known)
-    else Ok nothing_brought) leads
-    ∙ ap (λ ns. checked (copy_checks p q ns) (copy_of c e.number (seat other q k) ns)) (sym (are n here))
-    ∙ ap (λ o. unless_refused o (copy_of c e.number (seat other q k) names)) some
-  where
-    c : rules.Copying
-    c = seen_copying a.copying
+pub refused_copy : (c : Copying) (a : Asked) (p q : Place) (names : List (List ℕ)) (r : Refusal) →
+    ((n : Node) → p.node ≡ Some n → names ≡ names_of c.set (knowledge n).config) →
+    first_refusal (copy_checks p q names) ≡ Some r → Copies c a p q (found.Refused r)
+refused_copy c a p q names r are some n k name other here there own provider =
+    ap (λ ns. checked (copy_checks p q ns) (copy_of (seen_copying c) a.event.number (seat other q k) ns))
+    (sym (are n here))
+    ∙ ap (λ o. unless_refused o (copy_of (seen_copying c) a.event.number (seat other q k) names)) some
 
-    known : List (List ℕ)
-    known = names_of a.copying.set (knowledge n).config
-
--- What was read of a set that is copied.
-pub record IsRead (a : Asked) (names : List (List ℕ)) (view : View) (tables : Listed) (p q : Place) : Type 0 where
-  pub names_are : (n : Node) → p.node ≡ Some n → names ≡ names_of a.copying.set (knowledge n).config
+-- What was read of a set that is copied with the event of this number.
+pub record IsRead (c : Copying) (number : ℕ) (names : List (List ℕ)) (given : SetCopy) (p q : Place) : Type 0 where
+  pub names_are : (n : Node) → p.node ≡ Some n → names ≡ names_of c.set (knowledge n).config
   pub passed : first_refusal (copy_checks p q names) ≡ None
-  pub view_is : seen_view view ≡ first_view a.copying.era a.copying.provider a.number (taken q)
-  pub rows : AreListed (map (λ name. (name, standing_rows q name)) names) tables
+  pub set_is : given.set ≡ c.set
+  pub view_is : seen_view given.view ≡ first_view c.era c.provider number (taken q)
+  pub rows : AreListed (rows_at q names) given.tables
+  pub counted : rows_in (rows_at q names) ≡ rows_listed given.tables
 
-abbrev pub brought_in : Asked → View → Listed → declared.Brought
-brought_in a view tables = record { set = a.copying.set; view = view; tables = tables }
+abbrev pub to_copy : Copying → ℕ → Event → Asked
+to_copy c own e = record { errand = Copy c; own = own; event = e }
 
-pub copied_found : (a : Asked) (p q : Place) (names : List (List ℕ)) (view : View) (tables : Listed)
-    (w : Worker Fetched) → IsRead a names view tables p q → w.state.brought ≡ Some (brought_in a view tables) →
-    Copies a p q (found.Brings w)
-copied_found a p q names view tables w r brings n k name other e here there own provider number leads = (
-  copy_of c e.number (seat other q k) names,
-  ap (λ b. if b then checked (copy_checks p q known) (copy_of c e.number (seat other q k) known)
-      else Ok nothing_brought) leads
-      ∙ ap (λ ns. checked (copy_checks p q ns) (copy_of c e.number (seat other q k) ns)) (sym (r.names_are n here))
-      ∙ ap (λ o. unless_refused o (copy_of c e.number (seat other q k) names)) r.passed,
-  subst (IsBrought (copy_of c e.number (seat other q k) names)) (sym brings) (record {
-    views = ap (λ id. (a.copying.set, first_view a.copying.era id e.number (taken q)) ∷ []) provider
-        ∙ ap (λ m. (a.copying.set, first_view a.copying.era a.copying.provider m (taken q)) ∷ []) number
-        ∙ ap (λ v. (a.copying.set, v) ∷ []) (sym r.view_is);
+pub copied_found : (c : Copying) (own : ℕ) (e : Event) (p q : Place) (names : List (List ℕ)) (given : SetCopy)
+    (w : Worker Fetched) → IsRead c e.number names given p q → w.state.brought ≡ Some (CopyOf given) →
+    Copies c (to_copy c own e) p q (found.Brings w)
+copied_found c own e p q names given w r brings n k name other here there is provider = (
+  copy_of (seen_copying c) e.number (seat other q k) names,
+  ap (λ ns. checked (copy_checks p q ns) (copy_of (seen_copying c) e.number (seat other q k) ns))
+      (sym (r.names_are n here))
+      ∙ ap (λ o. unless_refused o (copy_of (seen_copying c) e.number (seat other q k) names)) r.passed,
+  subst (IsBrought e.origin p (copy_of (seen_copying c) e.number (seat other q k) names)) (sym brings) (record {
+    views = ap (λ id. (c.set, first_view c.era id e.number (taken q)) ∷ []) provider
+        ∙ ap (λ v. (c.set, v) ∷ []) (sym r.view_is) ∙ ap (λ s. (s, seen_view given.view) ∷ []) (sym r.set_is);
     rows = r.rows;
+    logs = refl;
+    count = r.counted;
   }),
 )
-  where
-    c : rules.Copying
-    c = seen_copying a.copying
 
-    known : List (List ℕ)
-    known = names_of a.copying.set (knowledge n).config
+-- where the provider does not lead the set nothing is copied
+pub other_found : (c : Copying) (own : ℕ) (e : Event) (p q : Place) (w : Worker Fetched) →
+    ((k : Node) → q.node ≡ Some k → IsLed (seen_copying c) (knowledge k).config false) → w.state.brought ≡ None →
+    Brings (to_copy c own e) p q (found.Brings w)
+other_found c own e p q w led brings n k name other here there is provider =
+    let names = names_of c.set (knowledge n).config in (
+      nothing_brought,
+      ap (λ b. if b
+          then checked (copy_checks p q names) (copy_of (seen_copying c) e.number (seat other q k) names)
+          else Ok nothing_brought)
+          (ap (λ id. leads_in (seen_copying c) id (knowledge k).config) provider ∙ sym (led k there)),
+      subst (IsBrought e.origin p nothing_brought) (sym brings) refl,
+    )
+
+pub led_found : (c : Copying) (own : ℕ) (e : Event) (p q : Place) (given : Found) →
+    ((k : Node) → q.node ≡ Some k → IsLed (seen_copying c) (knowledge k).config true) →
+    Copies c (to_copy c own e) p q given → Brings (to_copy c own e) p q given
+led_found c own e p q given led copies n k name other here there is provider =
+    let names = names_of c.set (knowledge n).config in
+    subst (λ due. IsFound e.origin p due given)
+    (sym (ap (λ b. if b
+    then checked (copy_checks p q names) (copy_of (seen_copying c) e.number (seat other q k) names)
+    else Ok nothing_brought)
+    (ap (λ id. leads_in (seen_copying c) id (knowledge k).config) provider ∙ sym (led k there))))
+    (copies n k name other here there is provider)
 
 -- ---- what is fetched
 
 -- what comes of it, by whether the provider knows the node
-abbrev fetched_by : Asked → Event → Place → Place → List ℕ → List ℕ → Node → Node → Bool → Result Brought Refusal
-fetched_by a e p q name other n k knows =
+abbrev fetched_by : Asked → Place → Place → List ℕ → List ℕ → Node → Node → Bool → Result Brought Refusal
+fetched_by a p q name other n k knows =
     bind (checked (when (not knows) (refused.NotKnown n.id) ∷ []) (seat other q k))
-    (copied (seen_copying a.copying) (seat name p n) e)
+    (brought_at (seen_errand a.errand) (seat name p n) a.event)
 
-pub unknown_found : (a : Asked) (p q : Place) →
-    ((k : Node) → q.node ≡ Some k → IsLead a.own (seen_copying a.copying) (knowledge k).config Unknown) →
-    Fetches a p q (found.Refused (refused.NotKnown a.own))
-unknown_found a p q lead n k name other e here there own provider number =
-    ap (fetched_by a e p q name other n k)
-    (ap (λ id. is_known id (knowledge k).config) own ∙ lead k there)
+pub unknown_found : (a : Asked) (p q : Place) → ((k : Node) → q.node ≡ Some k →
+    is_known a.own (knowledge k).config ≡ false) → Fetches a p q (found.Refused (refused.NotKnown a.own))
+unknown_found a p q known n k name other here there own provider =
+    ap (fetched_by a p q name other n k) (ap (λ id. is_known id (knowledge k).config) own ∙ known k there)
     ∙ ap (λ id. Err (refused.NotKnown id)) own
 
 -- the provider knows the node
-pub known_found : (a : Asked) (p q : Place) (n k : Node) (name other : List ℕ) (e : Event) → n.id ≡ a.own →
-    is_known a.own (knowledge k).config ≡ true →
-    fetched (seen_copying a.copying) e (seat name p n) (seat other q k)
-    ≡ copied (seen_copying a.copying) (seat name p n) e (seat other q k)
-known_found a p q n k name other e own known =
-    ap (fetched_by a e p q name other n k) (ap (λ id. is_known id (knowledge k).config) own ∙ known)
+pub known_found : (a : Asked) (p q : Place) (given : Found) →
+    ((k : Node) → q.node ≡ Some k → is_known a.own (knowledge k).config ≡ true) → Brings a p q given →
+    Fetches a p q given
+known_found a p q given known brings n k name other here there own provider =
+    subst (λ due. IsFound a.event.origin p due given)
+    (sym (ap (fetched_by a p q name other n k) (ap (λ id. is_known id (knowledge k).config) own ∙ known k there)))
+    (brings n k name other here there own provider)
 
-pub other_found : (a : Asked) (p q : Place) (w : Worker Fetched) →
-    ((k : Node) → q.node ≡ Some k → IsLead a.own (seen_copying a.copying) (knowledge k).config Other) →
-    w.state.brought ≡ None → Fetches a p q (found.Brings w)
-other_found a p q w lead brings n k name other e here there own provider number =
-    let is = lead k there in
-    let c = seen_copying a.copying in
-    let names = names_of a.copying.set (knowledge n).config in (
-      nothing_brought,
-      known_found a p q n k name other e own is.0
-          ∙ ap (λ b. if b then checked (copy_checks p q names) (copy_of c e.number (seat other q k) names)
-          else Ok nothing_brought) (ap (λ id. leads_in c id (knowledge k).config) provider ∙ is.1),
-      subst (IsBrought nothing_brought) (sym brings) refl,
-    )
-
-pub leads_found : (a : Asked) (p q : Place) (given : Found) →
-    ((k : Node) → q.node ≡ Some k → IsLead a.own (seen_copying a.copying) (knowledge k).config Leads) →
-    Copies a p q given → Fetches a p q given
-leads_found a p q given lead copies n k name other e here there own provider number =
-    let is = lead k there in
-    let leads = ap (λ id. leads_in (seen_copying a.copying) id (knowledge k).config) provider ∙ is.1 in
-    subst (λ due. IsFound due given) (sym (known_found a p q n k name other e own is.0))
-    (copies n k name other e here there own provider number leads)
+-- what the provider logged is brought from it
+pub follow_found : (provider own : ℕ) (e : Event) (p q : Place) (given : Found) → Follows own e p q given →
+    Brings (record { errand = Follow provider; own = own; event = e }) p q given
+follow_found provider own e p q given follows n k name other here there is id = follows n k name here there is

@@ -1,7 +1,9 @@
 -- Looks at one database or at two of them, one after the other.
 use Rattle.std.proofs.Common.{◌≡◌, ◌∙◌, None, Result, Ok, Err, refl, sym, ap, subst}
+use Rattle.std.specs.Prelude.{IfOk}
 use Rattle.slon_model.specs.declared.fault.DbFault.{DbFault}
 use Rattle.slon_model.specs.Place.{Place}
+use Rattle.node_change.specs.declared.side.Side.{Side}
 use Rattle.node_change.specs.declared.side.Side.TheVariants.{From, To}
 use Rattle.app_store.specs.Base.{Base}
 use Rattle.app_store.specs.Fits.{Fits, Ready}
@@ -54,6 +56,15 @@ seen_so words seen = record {
   acts = seen.acts;
   looks = λ p here full. let a = seen.looks p here refl in (words p a.0, a.1);
   same = seen.same;
+}
+
+-- what is so of every place, with no look at it
+pub seen_none : {T : Type 0} (says : Place → T → Type 0) (b : Base) (x : T) → ((p : Place) → says p x) →
+    Seen says b (Ok x) b
+seen_none says b x so = record {
+  acts = acts_none b;
+  looks = λ p here full. (so p, here.fits);
+  same = refl;
 }
 
 -- a look that failed, whatever was sought
@@ -109,6 +120,14 @@ pub provider_look : {T : Type 0} (says : Place → T → Type 0) {old new : Base
 provider_look says {old} {new} other given result is seen =
     subst (λ r. Looking (λ p q x. says q x) (record { from = other; to = old }) r (record { from = other; to = new }))
     (sym is) (at_provider other given seen)
+
+-- what holds of what was found holds of it at its side
+pub found_at : {T : Type 0} (P : T → Type 0) (side : Side) (given : Result T DbFault) (x : T) →
+    Ok x ≡ sided side given → IfOk given P → P x
+found_at P side (Ok y) x is has =
+    let same : x ≡ y = cc in
+    subst P (sym same) has
+found_at P side (Err fault) x is has = absurd cc
 
 -- ---- at both
 

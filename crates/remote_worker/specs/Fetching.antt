@@ -1,34 +1,39 @@
--- What a node finds of a set that it is to copy: at its own database, and at that of the provider.
-use Rattle.std.specs.Prelude.{◌≡◌, ◌==◌, ◌&&◌, ◌<◌, ◌^◌, if◌then◌else◌, ℕ, Bool, true, false, not, List, [], ◌∷◌}
+-- What a node finds of what it is to bring: at its own database, and at that of the provider.
+use Rattle.std.specs.Prelude.{◌≡◌, ◌==◌, ◌&&◌, ◌<◌, ◌^◌, ℕ, Bool, true, false, not, List, [], ◌∷◌}
 use Rattle.std.specs.Prelude.{Option, Some, None, Result, Ok, Err, is_none}
 use Rattle.store_rows.specs.Rows.{IsId}
 use Rattle.slon_model.specs.declared.reply.Refusal.{Refusal}
 use Rattle.slon_model.specs.declared.reply.Refusal.TheVariants as refused
 use Rattle.slon_model.specs.Names.{find_named}
-use Rattle.slon_model.specs.Config.{Config, is_known, is_origin, era_of}
+use Rattle.slon_model.specs.Config.{Config, is_known, is_origin, era_of, names_of}
 use Rattle.slon_model.specs.Events.{Event}
-use Rattle.slon_model.specs.Deeds.{Node, Brought, knowledge}
+use Rattle.slon_model.specs.Deeds.{Node, Brought}
 use Rattle.slon_model.specs.Place.{Place}
 use Rattle.slon_model.specs.Sessions.{Seat, bind, seat, when, checked, first_refusal}
 use Rattle.slon_model.specs.Working as rules
-use Rattle.slon_model.specs.Working.{copied, width_checks, copy_checks, width_of}
+use Rattle.slon_model.specs.Logs.{logged}
+use Rattle.slon_model.specs.Working.{brought_at, copy_checks, copy_of, followed, provider_in, width_checks, width_of}
 use Rattle.node_store.specs.declared.looking.Reign.{Reign}
 use Rattle.node_store.specs.Bringing.{CanBring, IsBrought}
 use Rattle.remote_worker.specs.declared.carrying.Copying.{Copying}
+use Rattle.remote_worker.specs.declared.carrying.Errand.{Errand}
+use Rattle.remote_worker.specs.declared.carrying.Errand.TheVariants.{Copy, Follow}
 use Rattle.remote_worker.specs.declared.fetching.Found.{Found}
 use Rattle.remote_worker.specs.declared.fetching.Found.TheVariants as found
-use Rattle.remote_worker.specs.declared.fetching.Lead.{Lead}
-use Rattle.remote_worker.specs.declared.fetching.Lead.TheVariants.{Unknown, Other, Leads}
 use Rattle.remote_worker.specs.declared.worker.Taken.{Taken}
 use Rattle.remote_worker.specs.declared.worker.Worker.{Worker}
-use Rattle.remote_worker.specs.Working.{IsWith, seen_copying}
+use Rattle.remote_worker.specs.Working.{IsWith, seen_copying, seen_errand}
 
--- ---- what is copied
+-- ---- what is to be brought
 
 pub record CanCopy (c : Copying) : Type 0 where
   pub set_id : IsId c.set
   pub provider : IsId c.provider
   pub era : c.era < 2 ^ 63
+
+abbrev pub CanBringBy : Errand → Type 0
+CanBringBy (Copy c) = CanCopy c
+CanBringBy (Follow provider) = IsId provider
 
 -- ---- at the provider
 
@@ -37,15 +42,13 @@ abbrev pub leads_in : rules.Copying → ℕ → Config → Bool
 leads_in c id k = is_origin id c.set_id k && era_of c.set_id k == c.era
 
 -- the same of what is known of who leads it
-abbrev pub lead_by : rules.Copying → Option Reign → Lead
-lead_by c None = Other
-lead_by c (Some r) = if r.origin == c.provider && r.era == c.era then Leads else Other
+abbrev pub leads_by : rules.Copying → Option Reign → Bool
+leads_by c None = false
+leads_by c (Some r) = r.origin == c.provider && r.era == c.era
 
--- what the node of this id finds of the provider
-abbrev pub IsLead : ℕ → rules.Copying → Config → Lead → Type 0
-IsLead own c k Unknown = is_known own k ≡ false
-IsLead own c k Other = (is_known own k ≡ true) × (leads_in c c.provider k ≡ false)
-IsLead own c k Leads = (is_known own k ≡ true) × (leads_in c c.provider k ≡ true)
+-- what is found of that
+abbrev pub IsLed : rules.Copying → Config → Bool → Type 0
+IsLed c k led = led ≡ leads_in c c.provider k
 
 -- ---- at both
 
@@ -81,36 +84,47 @@ abbrev pub IsCalmFound : Found → Type 0
 IsCalmFound (found.Refused refusal) = is_fault refusal ≡ false
 IsCalmFound (found.Brings w) = Unit {0}
 
--- 62, 52, 57, 66: what a node at this seat brings from a provider at that one
-abbrev pub fetched : rules.Copying → Event → Seat → Seat → Result Brought Refusal
-fetched c e s p =
-    bind (checked (when (not (is_known s.node.id p.known.config)) (refused.NotKnown s.node.id) ∷ []) p) (copied c s e)
+-- 62, and what a node at this seat brings from a provider at that one
+abbrev pub fetched : rules.Errand → Event → Seat → Seat → Result Brought Refusal
+fetched a e s p =
+    bind (checked (when (not (is_known s.node.id p.known.config)) (refused.NotKnown s.node.id) ∷ []) p)
+    (brought_at a s e)
 
--- the node found this, by the rules
-abbrev pub IsFound : Result Brought Refusal → Found → Type 0
-IsFound due (found.Refused refusal) = due ≡ Err refusal
-IsFound due (found.Brings w) = (b : Brought) × (due ≡ Ok b) × IsBrought b w.state.brought
+-- the node, whose database is at this place, found this with an event of this origin, by the rules
+abbrev pub IsFound : ℕ → Place → Result Brought Refusal → Found → Type 0
+IsFound origin p due (found.Refused refusal) = due ≡ Err refusal
+IsFound origin p due (found.Brings w) = (b : Brought) × (due ≡ Ok b) × IsBrought origin p b w.state.brought
 
--- What the node is asked for: the set, its own id, and the number of the event.
+-- What the node is asked for: what it is to bring, its own id, and the event.
 pub record Asked : Type 0 where
-  pub copying : Copying
+  pub errand : Errand
   pub own : ℕ
-  pub number : ℕ
+  pub event : Event
 
--- So it is at all seats of the two nodes.
+-- So it is of what is due at all seats of the two nodes.
+abbrev pub IsAt : Asked → (Seat → Seat → Result Brought Refusal) → Place → Place → Found → Type 0
+IsAt a due p q given =
+    (n k : Node) (name other : List ℕ) → p.node ≡ Some n → q.node ≡ Some k → n.id ≡ a.own →
+    k.id ≡ provider_in (seen_errand a.errand) →
+    IsFound a.event.origin p (due (seat name p n) (seat other q k)) given
+
 abbrev pub Fetches : Asked → Place → Place → Found → Type 0
-Fetches a p q given =
-    (n k : Node) (name other : List ℕ) (e : Event) → p.node ≡ Some n → q.node ≡ Some k → n.id ≡ a.own →
-    k.id ≡ a.copying.provider → e.number ≡ a.number →
-    IsFound (fetched (seen_copying a.copying) e (seat name p n) (seat other q k)) given
+Fetches a = IsAt a (fetched (seen_errand a.errand) a.event)
 
--- the same where the provider knows the node and leads the set
-abbrev pub Copies : Asked → Place → Place → Found → Type 0
-Copies a p q given =
-    (n k : Node) (name other : List ℕ) (e : Event) → p.node ≡ Some n → q.node ≡ Some k → n.id ≡ a.own →
-    k.id ≡ a.copying.provider → e.number ≡ a.number →
-    leads_in (seen_copying a.copying) k.id (knowledge k).config ≡ true →
-    IsFound (copied (seen_copying a.copying) (seat name p n) e (seat other q k)) given
+-- the same where the provider knows the node
+abbrev pub Brings : Asked → Place → Place → Found → Type 0
+Brings a = IsAt a (λ s p. brought_at (seen_errand a.errand) s a.event p)
+
+-- and of a set that is copied, where it leads the set
+abbrev pub Copies : Copying → Asked → Place → Place → Found → Type 0
+Copies c a = IsAt a (λ s p. checked (copy_checks s.place p.place (names_of c.set s.known.config))
+    (copy_of (seen_copying c) a.event.number p (names_of c.set s.known.config)))
+
+-- and of what the provider logged
+abbrev pub Follows : ℕ → Event → Place → Place → Found → Type 0
+Follows own e p q given =
+    (n k : Node) (name : List ℕ) → p.node ≡ Some n → q.node ≡ Some k → n.id ≡ own →
+    IsFound e.origin p (followed (seat name p n) e (logged k)) given
 
 -- it is the same event
 abbrev pub IsOf : Worker Taken → Found → Type 0

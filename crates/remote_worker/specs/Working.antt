@@ -1,5 +1,6 @@
 -- What a node takes of what waits there, and what becomes of that where it is applied.
-use Rattle.std.specs.Prelude.{◌≡◌, ◌==◌, ◌+◌, ℕ, nat_lt, Bool, true, false, filter, length, sum_by, Option, Some, None}
+use Rattle.std.specs.Prelude.{◌≡◌, ◌==◌, ◌+◌, ℕ, nat_lt, Bool, true, false, List, filter, length, sum_by}
+use Rattle.std.specs.Prelude.{Option, Some, None}
 use Rattle.std.specs.Prelude.{option_map, Result}
 use Rattle.std.specs.List.{find}
 use Rattle.slon_model.specs.declared.fault.DbFault.{DbFault}
@@ -7,8 +8,7 @@ use Rattle.slon_model.specs.declared.reply.Answered.{Answered}
 use Rattle.slon_model.specs.Events.{kind_of}
 use Rattle.slon_model.specs.Deeds.{Node, knowledge, progress}
 use Rattle.slon_model.specs.Working as rules
-use Rattle.slon_model.specs.Working.{can_carry_out, copying_in, receives_from}
-use Rattle.change_apply.specs.Copied.{Listed}
+use Rattle.slon_model.specs.Working.{can_carry_out, errand_in, receives_from}
 use Rattle.event_store.specs.declared.event.Event.{Event}
 use Rattle.event_store.specs.declared.queue.Queue.{Queue}
 use Rattle.event_store.specs.Keeping.{KeepsViews}
@@ -16,8 +16,12 @@ use Rattle.event_store.specs.Queueing.{waiting}
 use Rattle.event_store.specs.Seen.{seen_event}
 use Rattle.app_store.specs.Base.{Base}
 use Rattle.node_store.specs.declared.bringing.Brought.{Brought}
-use Rattle.node_store.specs.Bringing.{AppliesWith}
+use Rattle.node_store.specs.declared.bringing.Brought.TheVariants.{Copy as CopyOf, Syncs}
+use Rattle.node_store.specs.declared.bringing.SetSync.{SetSync}
+use Rattle.node_store.specs.Bringing.{AppliesWith, rows_listed}
 use Rattle.remote_worker.specs.declared.carrying.Copying.{Copying}
+use Rattle.remote_worker.specs.declared.carrying.Errand.{Errand}
+use Rattle.remote_worker.specs.declared.carrying.Errand.TheVariants.{Copy, Follow}
 use Rattle.remote_worker.specs.declared.worker.Next.{Next}
 use Rattle.remote_worker.specs.declared.worker.Next.TheVariants.{Due, Missing, NotBuilt}
 use Rattle.remote_worker.specs.declared.worker.Fetched.{Fetched}
@@ -35,14 +39,19 @@ waits_as origin number queue = find (λ e. e.number == number) (waiting origin q
 abbrev pub seen_copying : Copying → rules.Copying
 seen_copying c = record { set_id = c.set; provider = c.provider; era = c.era }
 
--- It waits, a node that receives sets from its origin, or none, can carry it out, and this is known of it by the node
--- of this id.
-pub record IsDue (own : ℕ) (receives : Bool) (found : Option Event) (taken : Taken) : Type 0 where
+-- what is to be brought, by the rules
+abbrev pub seen_errand : Errand → rules.Errand
+seen_errand (Copy c) = rules.ToCopy (seen_copying c)
+seen_errand (Follow provider) = rules.ToFollow provider
+
+-- It waits, the node can carry it out, and this is known of it.
+pub record IsDue (ready : Worker Ready) (found : Option Event) (taken : Taken) : Type 0 where
   pub event : Event
   pub is : found ≡ Some event
-  pub can : can_carry_out receives event.body ≡ true
+  pub can : can_carry_out event.body ≡ true
   pub kind : taken.kind ≡ kind_of event.body
-  pub copying : option_map seen_copying taken.copying ≡ copying_in own event.body
+  pub errand : option_map seen_errand taken.errand
+      ≡ errand_in ready.node ready.state.receives ready.origin event.body
 
 -- which event of an origin comes next at a node
 pub record IsReady (origin : ℕ) (n : Node) (w : Worker Ready) : Type 0 where
@@ -62,23 +71,24 @@ pub record IsWith (taken : Worker Taken) (brought : Option Brought) (w : Worker 
   pub kind : w.state.kind ≡ taken.state.kind
   pub brought_is : w.state.brought ≡ brought
 
--- how many rows tables have
-abbrev pub rows_in : Listed → ℕ
-rows_in tables = sum_by (λ t. length t.1) tables
+-- how many rows were logged of these sets
+abbrev pub rows_logged : List SetSync → ℕ
+rows_logged syncs = sum_by (λ t. length t.rows) syncs
 
 abbrev pub rows_given : Option Brought → ℕ
 rows_given None = 0
-rows_given (Some brought) = rows_in brought.tables
+rows_given (Some (CopyOf copy)) = rows_listed copy.tables
+rows_given (Some (Syncs syncs)) = rows_logged syncs
 
 -- what the node of this id takes of the event of an origin with this number
 abbrev pub Takes : Worker Ready → Queue → Next → Type 0
 Takes ready queue (Due w) =
     (w.node ≡ ready.node) × (w.origin ≡ ready.origin) × (w.state.number ≡ ready.state.number)
-    × IsDue ready.node ready.state.receives (waits_as ready.origin ready.state.number queue) w.state
+    × IsDue ready (waits_as ready.origin ready.state.number queue) w.state
 Takes ready queue Missing = waits_as ready.origin ready.state.number queue ≡ None
 Takes ready queue NotBuilt =
     (e : Event) × (waits_as ready.origin ready.state.number queue ≡ Some e)
-    × (can_carry_out ready.state.receives e.body ≡ false)
+    × (can_carry_out e.body ≡ false)
 
 -- ---- where it is applied
 

@@ -2,7 +2,7 @@
 ghost use Rattle.std.specs.Prelude.{◌≡◌, option_map};
 ghost use Rattle.slon_model.specs.Events as events;
 ghost use Rattle.slon_model.specs.Working as rules;
-ghost use Rattle.remote_worker.specs.Working.{seen_copying};
+ghost use Rattle.remote_worker.specs.Working.{seen_errand};
 
 use node_rows::Body;
 use slon_model::EventKind;
@@ -29,13 +29,11 @@ pub fn kind_of(body: &Body) -> EventKind
     }
 }
 
-/// Whether a node can carry out what an event says of an origin of which it receives sets, or of which it receives
-/// none. It brings no rows with a SYNC yet, and takes over no set.
-pub fn can_carry_out(receives: bool, body: &Body) -> bool
-    ensures { result ≡ rules.can_carry_out receives body.now }
+/// Whether a node can carry out what an event says. It takes over no set yet.
+pub fn can_carry_out(body: &Body) -> bool
+    ensures { result ≡ rules.can_carry_out body.now }
 {
     match body {
-        Body::Sync => !receives,
         Body::DropSet { .. } => false,
         Body::MoveSet { .. } => false,
         Body::AcceptSet { .. } => false,
@@ -55,9 +53,32 @@ pub struct Copying {
     pub era: u64,
 }
 
-/// The set that the node of this id is to copy by an event, which is so where the event makes it a receiver of the set.
-pub fn copying_in(own: u32, body: &Body) -> Option<Copying>
-    ensures { option_map seen_copying result ≡ rules.copying_in own body.now }
+/// What a node is to bring with an event from another node.
+#[derive(Clone, Copy, Debug, Drop, PartialEq, Eq)]
+pub enum Errand {
+    /// A copy of a set.
+    Copy(Copying),
+    /// What the node of this id logged for the sets that the node keeps.
+    Follow {
+        /// The id of the node whose log is read.
+        provider: u32,
+    },
+}
+
+/// The id of the node from which it is to be brought.
+pub fn provider_of(errand: Errand) -> u32
+    ensures { result ≡ rules.provider_in (seen_errand errand) }
+{
+    match errand {
+        Errand::Copy(copying) => copying.provider,
+        Errand::Follow { provider } => provider,
+    }
+}
+
+/// What the node of this id is to bring with an event of this origin: a copy of a set of which the event makes it a
+/// receiver, and with a SYNC what was logged of the sets that it receives from the origin, if it receives one.
+pub fn errand_in(own: u32, receives: bool, origin: u32, body: &Body) -> Option<Errand>
+    ensures { option_map seen_errand result ≡ rules.errand_in own receives origin body.now }
 {
     match body {
         Body::EnableSubscription {
@@ -72,8 +93,9 @@ pub fn copying_in(own: u32, body: &Body) -> Option<Copying>
                 provider: *provider,
                 era: *era,
             };
-            (*receiver == own).then_some(copying)
+            (*receiver == own).then_some(Errand::Copy(copying))
         }
+        Body::Sync => receives.then_some(Errand::Follow { provider: origin }),
         _ => None,
     }
 }

@@ -1,5 +1,5 @@
-// What a node fetches of a set that it is to copy: it looks at its own database, and at that of the provider.
-ghost use Rattle.std.specs.Prelude.{◌≡◌, ◌==◌, ◌<◌, ◌^◌, not, true, option_map, unwrap_or, IfOk};
+// What a node brings with an event from another node: it looks at its own database, and at that of the provider.
+ghost use Rattle.std.specs.Prelude.{◌≡◌, ◌==◌, ◌<◌, ◌^◌, not, true, is_some, option_map, unwrap_or, IfOk};
 ghost use Rattle.slon_base.specs.Codec.{AllAre, IsText};
 ghost use Rattle.store_rows.specs.Rows.{IsId};
 ghost use Rattle.slon_model.specs.Config as config;
@@ -8,6 +8,7 @@ ghost use Rattle.slon_model.specs.Sessions.{when};
 ghost use Rattle.slon_model.specs.Views as views;
 ghost use Rattle.slon_model.specs.declared.reply.Refusal.TheVariants.{BadWidth, Busy};
 ghost use Rattle.event_store.specs.Kept.{seen_view};
+ghost use Rattle.event_store.specs.Seen.{seen_event};
 ghost use Rattle.event_store.specs.Spellings.{CanView};
 ghost use Rattle.app_store.specs.Base.{base_of};
 ghost use Rattle.app_store.specs.Fits.{Ready};
@@ -16,41 +17,35 @@ ghost use Rattle.app_store.specs.Serves.{halts};
 ghost use Rattle.node_store.specs.Acting.{Acts};
 ghost use Rattle.node_store.specs.Looking.{OfConfig};
 ghost use Rattle.remote_worker.specs.Looking.{Looking, Seen, sided};
-ghost use Rattle.remote_worker.specs.Fetching.{CanBringFound, CanCopy, Copies, CopyChecked, Fetches, IsCalm};
-ghost use Rattle.remote_worker.specs.Fetching.{IsCalmFound, IsLead, IsOf, TableChecked, TablesChecked, lead_by};
+ghost use Rattle.remote_worker.specs.declared.carrying.Errand.TheVariants.{Copy};
+ghost use Rattle.remote_worker.specs.Fetching.{Brings, CanBringBy, CanBringFound, CanCopy, Copies, CopyChecked};
+ghost use Rattle.remote_worker.specs.Fetching.{Fetches, Follows, IsCalm, IsCalmFound, IsLed, IsOf, TableChecked};
+ghost use Rattle.remote_worker.specs.Fetching.{TablesChecked, leads_by};
 ghost use Rattle.remote_worker.specs.Working.{seen_copying};
 
-use crate::carrying::Copying;
+use crate::carrying::{Copying, Errand};
+use crate::following::{sets_of, syncs_of};
+use crate::keeping::names_taken;
 use crate::reading::names_of_set;
 use crate::worker::{Fetched, Taken, Worker};
 use app_store::{Database, DbFault, fall};
-use event_store::View;
+use event_store::{Event, View};
 use node_keeper::Keeper;
 use node_store::{
-    Brought, Fell, Reign, Side, knows_live, read_tables, set_reign, stored_snapshot, width, writer,
+    Brought, Fell, Reign, SetCopy, Side, knows_live, read_tables, set_reign, stored_snapshot,
+    width, writer,
 };
 use slon_base::{Many, Text};
 use slon_model::Refusal;
 use std::alloc::AllocError;
 
-/// What a node found where it was to copy a set.
+/// What a node found where it was to bring something.
 #[derive(Drop)]
 pub enum Found {
-    /// It cannot copy the set, for this reason.
+    /// It cannot bring it, for this reason.
     Refused(Refusal),
     /// All is there that comes with the event.
     Brings(Worker<Fetched>),
-}
-
-/// What a node finds of the provider of a set.
-#[derive(Clone, Copy, Debug, Drop, PartialEq, Eq)]
-enum Lead {
-    /// The provider does not know the node.
-    Unknown,
-    /// The provider does not lead the set in that era.
-    Other,
-    /// It leads it.
-    Leads,
 }
 
 /// What a call on the database of the node, or of the provider, gave.
@@ -63,44 +58,25 @@ fn at<T: Drop>(side: Side, given: Result<T, DbFault>) -> Result<T, Fell>
     }
 }
 
-/// What a node that is to copy a set finds of a provider where that leads the set, as this says who does.
-fn lead_by(copying: Copying, reign: Option<Reign>) -> Lead
-    ensures { result ≡ lead_by (seen_copying copying) reign }
+/// Whether the provider leads the set that is to be copied in that era, where this says who leads it.
+fn leads_by(copying: Copying, reign: Option<Reign>) -> bool
+    ensures { result ≡ leads_by (seen_copying copying) reign }
 {
     match reign {
-        None => Lead::Other,
-        Some(reign) => {
-            if reign.origin == copying.provider && reign.era == copying.era {
-                Lead::Leads
-            } else {
-                Lead::Other
-            }
-        }
+        None => false,
+        Some(reign) => reign.origin == copying.provider && reign.era == copying.era,
     }
 }
 
-/// What the node `own` finds of the provider, whose database this is.
-fn lead_of<K: Keeper>(
-    provider: &mut Database<K>,
-    own: u32,
-    copying: Copying,
-) -> Result<Lead, DbFault>
+/// Whether the provider, whose database this is, leads the set that is to be copied in that era.
+fn leads<K: Keeper>(provider: &mut Database<K>, copying: Copying) -> Result<bool, DbFault>
     requires up { provider.old.state.up ≡ true }
-    requires own { IsId own }
     requires can { CanCopy copying }
-    ensures { Seen (OfConfig (IsLead own (seen_copying copying))) (base_of K.kept provider.old) result
+    ensures { Seen (OfConfig (IsLed (seen_copying copying))) (base_of K.kept provider.old) result
         (base_of K.kept provider.new) }
 {
-    match knows_live(provider, own) {
-        Ok(known) => {
-            if !known {
-                return Ok(Lead::Unknown);
-            }
-            match set_reign(provider, copying.set) {
-                Ok(reign) => Ok(lead_by(copying, reign)),
-                Err(fault) => Err(fault),
-            }
-        }
+    match set_reign(provider, copying.set) {
+        Ok(reign) => Ok(leads_by(copying, reign)),
         Err(fault) => Err(fault),
     }
 }
@@ -233,9 +209,10 @@ fn first_view<K: Keeper>(
 }
 
 impl Worker<Taken> {
-    /// Fetches the set that is to be copied with the event, at its provider: nothing where that does not lead the set
-    /// in that era. It is refused where 62 the provider does not know the node, 52 the node lacks a table of the set,
-    /// 57 it has another number of columns at the provider, and 66 an open transaction of the node wrote one.
+    /// Brings what comes with the event from its provider: a set that is to be copied, or nothing, where the provider
+    /// does not lead the set in that era; or what it logged of the sets that the node keeps. It is refused where 62 the
+    /// provider does not know the node and 66 an open transaction of the node wrote a table of these sets, and a copy
+    /// before that where 52 the node lacks a table of the set and 57 it has another number of columns at the provider.
     ///
     /// # Errors
     ///
@@ -244,38 +221,68 @@ impl Worker<Taken> {
         self,
         own: &mut Database<K>,
         provider: &mut Database<K>,
-        copying: Copying,
+        errand: Errand,
+        event: &Event,
     ) -> Result<Found, Fell>
         requires up { (own.old.state.up ≡ true) × (provider.old.state.up ≡ true) }
-        requires node { IsId self.node }
-        requires can { CanCopy copying × (self.state.number < 2 ^ 63) }
+        requires node { IsId self.node × (is_some own.old.state.node.identity ≡ true) }
+        requires can { CanBringBy errand }
         ensures can { IfOk result CanBringFound }
         ensures calm { IfOk result IsCalmFound }
         ensures same { IfOk result (IsOf self) }
-        ensures fetches { Looking (Fetches (record { copying = copying; own = self.node; number = self.state.number }))
+        ensures fetches { Looking
+            (Fetches (record { errand = errand; own = self.node; event = seen_event event.now }))
             (record { from = base_of K.kept own.old; to = base_of K.kept provider.old }) result
             (record { from = base_of K.kept own.new; to = base_of K.kept provider.new }) }
     {
-        match at(Side::To, lead_of(provider, self.node, copying))? {
-            Lead::Unknown => Ok(Found::Refused(Refusal::NotKnown { node: self.node })),
-            Lead::Other => Ok(Found::Brings(self.with(None))),
-            Lead::Leads => self.copy(own, provider, copying),
+        if !at(Side::To, knows_live(provider, self.node))? {
+            return Ok(Found::Refused(Refusal::NotKnown { node: self.node }));
+        }
+        match errand {
+            Errand::Copy(copying) => self.copy_led(own, provider, copying, event),
+            Errand::Follow { .. } => self.follow(own, provider, event),
         }
     }
 
-    /// The same from a provider that leads the set in that era.
+    /// Copies the set, unless the provider does not lead it in that era.
+    fn copy_led<K: Keeper>(
+        self,
+        own: &mut Database<K>,
+        provider: &mut Database<K>,
+        copying: Copying,
+        event: &Event,
+    ) -> Result<Found, Fell>
+        requires up { (own.old.state.up ≡ true) × (provider.old.state.up ≡ true) }
+        requires can { CanCopy copying }
+        ensures can { IfOk result CanBringFound }
+        ensures calm { IfOk result IsCalmFound }
+        ensures same { IfOk result (IsOf self) }
+        ensures brings { Looking
+            (Brings (record { errand = Copy copying; own = self.node; event = seen_event event.now }))
+            (record { from = base_of K.kept own.old; to = base_of K.kept provider.old }) result
+            (record { from = base_of K.kept own.new; to = base_of K.kept provider.new }) }
+    {
+        if at(Side::To, leads(provider, copying))? {
+            return self.copy(own, provider, copying, event);
+        }
+        Ok(Found::Brings(self.with(None)))
+    }
+
+    /// Copies the set from a provider that leads it in that era.
     fn copy<K: Keeper>(
         self,
         own: &mut Database<K>,
         provider: &mut Database<K>,
         copying: Copying,
+        event: &Event,
     ) -> Result<Found, Fell>
         requires up { (own.old.state.up ≡ true) × (provider.old.state.up ≡ true) }
-        requires can { CanCopy copying × (self.state.number < 2 ^ 63) }
+        requires can { CanCopy copying }
         ensures can { IfOk result CanBringFound }
         ensures calm { IfOk result IsCalmFound }
         ensures same { IfOk result (IsOf self) }
-        ensures copies { Looking (Copies (record { copying = copying; own = self.node; number = self.state.number }))
+        ensures copies { Looking
+            (Copies copying (record { errand = Copy copying; own = self.node; event = seen_event event.now }))
             (record { from = base_of K.kept own.old; to = base_of K.kept provider.old }) result
             (record { from = base_of K.kept own.new; to = base_of K.kept provider.new }) }
     {
@@ -283,9 +290,34 @@ impl Worker<Taken> {
         if let Some(refusal) = check_copy(own, provider, names.as_slice())? {
             return Ok(Found::Refused(refusal));
         }
-        let view = first_view(provider, copying, self.state.number)?;
+        let view = first_view(provider, copying, event.number)?;
         let tables = at(Side::To, read_tables(provider, names.as_slice()))?;
         let set = copying.set;
-        Ok(Found::Brings(self.with(Some(Brought { set, view, tables }))))
+        Ok(Found::Brings(self.with(Some(Brought::Copy(SetCopy { set, view, tables })))))
+    }
+
+    /// Takes what the provider logged of the sets that the node keeps.
+    fn follow<K: Keeper>(
+        self,
+        own: &mut Database<K>,
+        provider: &mut Database<K>,
+        event: &Event,
+    ) -> Result<Found, Fell>
+        requires up { (own.old.state.up ≡ true) × (provider.old.state.up ≡ true) }
+        requires node { IsId self.node × (is_some own.old.state.node.identity ≡ true) }
+        ensures can { IfOk result CanBringFound }
+        ensures calm { IfOk result IsCalmFound }
+        ensures same { IfOk result (IsOf self) }
+        ensures follows { Looking (Follows self.node (seen_event event.now))
+            (record { from = base_of K.kept own.old; to = base_of K.kept provider.old }) result
+            (record { from = base_of K.kept own.new; to = base_of K.kept provider.new }) }
+    {
+        let sets = at(Side::From, sets_of(own, self.node, event))?;
+        let names = names_taken(own.alloc, sets.as_slice())?;
+        if let Some(refusal) = busy(at(Side::From, writer(own, names.as_slice()))?) {
+            return Ok(Found::Refused(refusal));
+        }
+        let syncs = at(Side::To, syncs_of(provider, event, sets))?;
+        Ok(Found::Brings(self.with(Some(Brought::Syncs(syncs)))))
     }
 }

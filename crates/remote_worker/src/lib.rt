@@ -4,9 +4,11 @@
 
 mod carrying;
 mod fetching;
+mod following;
+mod keeping;
 mod reading;
 mod worker;
 
-pub use carrying::{Copying, can_carry_out, copying_in, kind_of};
+pub use carrying::{Copying, Errand, can_carry_out, errand_in, kind_of, provider_of};
 pub use fetching::Found;
 pub use worker::{Fetched, Next, Ready, Taken, Worker};

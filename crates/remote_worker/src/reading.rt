@@ -21,7 +21,7 @@ use std::alloc::{AllocError, Global};
 use store_rows::Stop;
 
 /// The space of the tables of sets.
-const TABLES: u8 = 7;
+pub(crate) const TABLES: u8 = 7;
 
 /// The number behind that of the last event of the origin that the node `own` has met.
 fn next_number<K: Keeper>(alloc: Global, keeper: &mut K, own: u32, origin: u32) -> Result<u64, Stop>

@@ -5,17 +5,18 @@ ghost use Rattle.app_store.specs.Base.{base_of};
 ghost use Rattle.app_store.specs.Parts.{Looks, Remembers};
 ghost use Rattle.app_store.specs.Serves.{answered, halts, trouble};
 ghost use Rattle.node_store.specs.Acting.{Acts, joined, own_id};
-ghost use Rattle.node_store.specs.Bringing.{CanBring};
+ghost use Rattle.node_store.specs.Bringing.{CanBring, rows_listed};
 ghost use Rattle.node_store.specs.Polling.{OfNode};
-ghost use Rattle.remote_worker.specs.Working.{waits_as, rows_given, rows_in, Applies, DropsUnless, IsAble, IsReady};
+ghost use Rattle.remote_worker.specs.Working.{waits_as, rows_given, rows_logged, Applies, DropsUnless, IsAble};
+ghost use Rattle.remote_worker.specs.Working.{IsReady};
 ghost use Rattle.remote_worker.specs.Working.{IsWith, Takes};
 
-use crate::carrying::{Copying, can_carry_out, copying_in, kind_of};
+use crate::carrying::{Errand, can_carry_out, errand_in, kind_of};
 use crate::reading::next_of;
 use app_store::{Database, DbFault, fall};
 use event_store::Queue;
 use node_keeper::Keeper;
-use node_store::{Brought, apply};
+use node_store::{Brought, SetSync, apply};
 use slon_base::{Many, Text, TextList};
 use slon_model::EventKind;
 use std::alloc::AllocError;
@@ -47,8 +48,8 @@ pub struct Taken {
     pub number: u64,
     /// Its kind.
     pub kind: EventKind,
-    /// The set that the node is to copy with it, if it is to copy one.
-    pub copying: Option<Copying>,
+    /// What the node is to bring with it from another node, if anything.
+    pub errand: Option<Errand>,
 }
 
 /// All is there that comes with the event.
@@ -114,13 +115,13 @@ impl Worker<Ready> {
         let Some(event) = queue.get(origin, number) else {
             return Next::Missing;
         };
-        if !can_carry_out(receives, &event.body) {
+        if !can_carry_out(&event.body) {
             return Next::NotBuilt;
         }
         let state = Taken {
             number,
             kind: kind_of(&event.body),
-            copying: copying_in(node, &event.body),
+            errand: errand_in(node, receives, origin, &event.body),
         };
         Next::Due(Worker {
             node,
@@ -131,7 +132,7 @@ impl Worker<Ready> {
 }
 
 impl Worker<Taken> {
-    /// Nothing comes with the event but what it says, or this set.
+    /// This comes with the event, or nothing but what it says.
     pub fn with(self, brought: Option<Brought>) -> Worker<Fetched>
         ensures { IsWith self brought result }
     {
@@ -155,11 +156,25 @@ impl Worker<Taken> {
 
 /// How many rows these tables have.
 fn count_rows(tables: &[(Text, Many<(Text, TextList)>)]) -> Result<u64, AllocError>
-    ensures { IfOk result (λ count. count ≡ rows_in tables.now) }
+    ensures { IfOk result (λ count. count ≡ rows_listed tables.now) }
 {
     let mut count: u64 = 0;
     for (_, rows) in tables {
         let Some(more) = count.checked_add(rows.len() as u64) else {
+            return Err(AllocError);
+        };
+        count = more;
+    }
+    Ok(count)
+}
+
+/// How many rows were logged of these sets.
+fn count_logged(syncs: &[SetSync]) -> Result<u64, AllocError>
+    ensures { IfOk result (λ count. count ≡ rows_logged syncs.now) }
+{
+    let mut count: u64 = 0;
+    for sync in syncs {
+        let Some(more) = count.checked_add(sync.rows.len() as u64) else {
             return Err(AllocError);
         };
         count = more;
@@ -178,7 +193,8 @@ impl Worker<Fetched> {
     {
         match &self.state.brought {
             None => Ok(0),
-            Some(brought) => count_rows(brought.tables.as_slice()),
+            Some(Brought::Copy(copy)) => count_rows(copy.tables.as_slice()),
+            Some(Brought::Syncs(syncs)) => count_logged(syncs.as_slice()),
         }
     }
 

@@ -1,16 +1,14 @@
 -- The events that nodes emit name tables by texts on one line, so every table that a node knows has such a name.
-use Rattle.std.proofs.Common.{◌≡◌, ℕ, true, List, [], ◌∷◌, ◌++◌, Option, Some, None, refl, sym, ap}
+use Rattle.std.proofs.Common.{◌≡◌, ℕ, true, List, [], ◌∷◌, ◌++◌, Option, Some, None, refl, sym}
 use Rattle.std.proofs.Common.{inl, inr, subst}
-use Rattle.std.specs.Prelude.{◌+◌, ◌||◌, filter_map, option_map}
+use Rattle.std.specs.Prelude.{◌+◌, filter_map, option_map}
 use Rattle.std.specs.Option.{option_or}
-use Rattle.std.specs.List.{AllByRecursion, cons_option, list_any}
+use Rattle.std.specs.List.{AllByRecursion, cons_option}
 use Rattle.std.specs.Str.{bytes_eq}
-use Rattle.std.proofs.lemmas.Bool.{false≢true, or_right}
-use Rattle.node_rows.specs.declared.rows.TableRow.{TableRow}
+use Rattle.std.proofs.lemmas.Bool.{false≢true}
 use Rattle.node_rows.specs.declared.body.Body.{Body}
 use Rattle.node_rows.specs.declared.body.Body.TheVariants.{SetAddTable}
 use Rattle.slon_model.specs.Names.{Named, find_named}
-use Rattle.slon_model.specs.Maps.{Map}
 use Rattle.slon_model.specs.Spoken.{IsLine}
 use Rattle.slon_model.specs.Config.{names_of}
 use Rattle.slon_model.specs.Deeds.{Node, Deed, Doing, Emits, Knowledge, emitted_by, knowledge, with_deeds}
@@ -27,6 +25,7 @@ use Rattle.stream_laws.specs.Nodes.{IsAmong, node_in, nodes_in}
 use Rattle.stream_laws.specs.Making.{OfName, IsMade, tells_of}
 use Rattle.stream_laws.specs.Facts.{IsRegular}
 use Rattle.stream_laws.proofs.Copies.{each_name}
+use Rattle.stream_laws.proofs.Lists.{among_any}
 use Rattle.stream_laws.proofs.Seats.{IsSeat, seat_node}
 use Rattle.stream_laws.proofs.Steps.{Logs, done_logs, prepared_node}
 
@@ -147,15 +146,6 @@ made_line w name all made = by (find_named made.name w.places) refl made.is
     by None found is = absurd cc
     by (Some p) found is = of p.node (all_found PlaceReads made.name p w.places all found) is
 
--- the name of a table is known
-name_known : (e : ℕ × TableRow) (tables : Map TableRow) → IsAmong e tables →
-    list_any (λ f. bytes_eq e.1.name f.1.name) tables ≡ true
-name_known e [] among = absurd among
-name_known e (f ∷ fs) (inl is) =
-    ap (λ b. b || list_any (λ f. bytes_eq e.1.name f.1.name) fs)
-    (subst (λ (g : ℕ × TableRow). bytes_eq e.1.name g.1.name ≡ true) is (bytes_itself e.1.name))
-name_known e (f ∷ fs) (inr there) = or_right (bytes_eq e.1.name f.1.name) _ (name_known e fs there)
-
 -- the names of the tables that a node knows are lines
 pub names_read : (w : World) → IsRegular w → AllPlaces PlaceReads w → (s : Seat) → IsSeat w.places s → (set : ℕ) →
     AllByRecursion IsLine (names_of set s.known.config)
@@ -164,4 +154,5 @@ names_read w regular all s is set =
     (each_name IsLine set (knowledge s.node).config.tables
     (λ e among on. made_line w e.1.name all
     ((regular.nodes.each s.name s.node (seat_node w.places s is)).marked.met (OfName e.1.name)
-    (name_known e (knowledge s.node).config.tables among)).made))
+    (among_any (λ f. bytes_eq e.1.name f.1.name) e (knowledge s.node).config.tables among
+    (bytes_itself e.1.name))).made))

@@ -1,7 +1,7 @@
 -- What a command about a script comes to is told in words that have their forms, and the scripts that run say lines.
 use Rattle.std.proofs.Common.{◌≡◌, ℕ, true, false, cond, not, List, [], ◌∷◌, Option, Some, None, refl, sym}
 use Rattle.std.proofs.Common.{subst}
-use Rattle.std.specs.Prelude.{◌==◌, ◌++◌, Bool, find, is_some, codes, option_map, Result, Ok, Err}
+use Rattle.std.specs.Prelude.{◌==◌, Bool, find, is_some, codes, option_map, Result, Ok, Err}
 use Rattle.std.specs.List.{AllByRecursion}
 use Rattle.std.specs.Str.{bytes_eq}
 use Rattle.slonik_script.specs.declared.script.Command.{Command as Order}
@@ -24,7 +24,7 @@ use Rattle.slon_model.specs.Tasks.{ToWork}
 use Rattle.slon_model.specs.Events.{Event}
 use Rattle.slon_model.specs.Config.{has_path, is_known, names_of}
 use Rattle.node_rows.specs.declared.body.Body.TheVariants.{Sync}
-use Rattle.slon_model.specs.Deeds.{Node, nothing_brought}
+use Rattle.slon_model.specs.Deeds.{Node, Logged, nothing_brought}
 use Rattle.slon_model.specs.Place.{Place, is_running, node_id}
 use Rattle.slon_model.specs.Sessions.{World, Memory, Running, Stated, Outcome, Excess, Seat, seat_of, excess_of}
 use Rattle.slon_model.specs.Sessions.{no_change, bind, checked, tells, when, writer_of}
@@ -34,9 +34,11 @@ use Rattle.slon_model.specs.Turns.{is_id, at_node, switched, switched_at, is_cut
 use Rattle.slon_model.specs.Turns.{turned, turned_by, taken_turn, is_synced, sync_turn}
 use Rattle.slon_model.specs.Polls.{Poll, poll_of, hears_none, linked, server_for, brings_nothing, polled, hearing}
 use Rattle.slon_model.specs.Polls.{stated_by, left_by}
-use Rattle.slon_model.specs.Working.{Carried, Copying, next_at, can_carry_out, receives_from, taken_up}
-use Rattle.slon_model.specs.Working.{width_checks, copy_checks}
-use Rattle.slon_model.specs.Working.{linked_to, provided, still_leads, copy_of, copied, copying_in, brought_by, worked}
+use Rattle.slon_model.specs.Logs.{logged}
+use Rattle.slon_model.specs.Following.{kept_from, set_syncs, with_syncs}
+use Rattle.slon_model.specs.Working.{Carried, Copying, Errand, ToCopy, ToFollow, next_at, can_carry_out, taken_up}
+use Rattle.slon_model.specs.Working.{width_checks, copy_checks, linked_to, provided, provider_in, still_leads, copy_of}
+use Rattle.slon_model.specs.Working.{copied, names_taken, followed, brought_at, brought_by, errand_of, worked}
 use Rattle.slon_model.specs.Working.{applied_by, taken_from}
 use Rattle.slon_model.specs.Membership.{synced}
 use Rattle.slon_model.specs.Rows.{member}
@@ -44,6 +46,7 @@ use Rattle.slon_model.specs.World.{outcome}
 use Rattle.slon_model.proofs.Names.{all_found}
 use Rattle.slon_laws.specs.Worlds.{AllPlaces}
 use Rattle.stream_laws.specs.Facts.{IsRegular}
+use Rattle.stream_laws.proofs.Lists.{all_appended}
 use Rattle.stream_laws.proofs.Seats as Seats
 use Rattle.stream_laws.proofs.Seats.{OnOk, turn_ok}
 use Rattle.reply_forms.proofs.Said.{PlaceReads, names_read}
@@ -278,22 +281,16 @@ left_scripts others b m = refl
 
 -- ---- events that are applied
 
-taken_gives : (origin : ℕ) (s : Seat) (o : Option Event) → IsSeat s → Gives (λ e. IsSeat s) (taken_up origin s o)
-taken_gives origin s None named = tt
-taken_gives origin s (Some e) named =
-    checked_gives (λ e. IsSeat s)
-    (when (not (can_carry_out (receives_from origin s.known) e.body)) (refused.NotBuilt (codes "work")) ∷ []) e
+taken_gives : (s : Seat) (o : Option Event) → IsSeat s → Gives (λ e. IsSeat s) (taken_up o)
+taken_gives s None named = tt
+taken_gives s (Some e) named =
+    checked_gives (λ e. IsSeat s) (when (not (can_carry_out e.body)) (refused.NotBuilt (codes "work")) ∷ []) e
     (when_tells _ (refused.NotBuilt (codes "work")) refl, tt) named
 
 -- what is given has this too, where all that is not refused has it
 also_gives : {A : Type 0} (P Q : A → Type 0) (r : Result A Refusal) → Gives P r → OnOk Q r → Gives (λ a. P a × Q a) r
 also_gives P Q (Ok a) reads is = (reads, is)
 also_gives P Q (Err refusal) reads is = reads
-
-appended : {X : Type 0} (P : X → Type 0) (xs : List X) (x : X) → AllByRecursion P xs → P x →
-    AllByRecursion P (xs ++ x ∷ [])
-appended P [] x all is = (is, tt)
-appended P (y ∷ ys) x all is = (all.0, appended P ys x all.1 is)
 
 widths_tell : (here there : Place) (names : List (List ℕ)) → AllByRecursion IsLine names →
     AllByRecursion Tells (width_checks here there names)
@@ -305,7 +302,7 @@ busy_tells : (o : Option ℕ) → Tells (option_map refused.Busy o)
 busy_tells None = tt
 busy_tells (Some xid) = tt
 
--- the provider of a copy
+-- the provider
 provided_gives : (provider : ℕ) (w : World) (s : Seat) → Known w →
     Gives IsSeat (provided provider w.memory s (at_node provider w))
 provided_gives provider w s known =
@@ -332,18 +329,30 @@ copied_gives c s e p lines =
     elim (still_leads c p) as (λ b. Gives (λ b. Unit {0})
     (cond b (checked (copy_checks s.place p.place names) (copy_of c e.number p names)) (Ok nothing_brought))) [
       | true ↦ checked_gives (λ b. Unit {0}) (copy_checks s.place p.place names) (copy_of c e.number p names)
-          (appended Tells (width_checks s.place p.place names) _ (widths_tell s.place p.place names lines)
-          (busy_tells (writer_of names s.place))) tt
+          (all_appended Tells (width_checks s.place p.place names) _ (widths_tell s.place p.place names lines)
+          (busy_tells (writer_of names s.place), tt)) tt
       | false ↦ tt
     ]
 
-brought_gives : (w : World) (s : Seat) (e : Event) (o : Option Copying) → Known w → Seats.IsSeat w.places s →
+followed_gives : (s : Seat) (e : Event) (logs : List Logged) → Gives (λ b. Unit {0}) (followed s e logs)
+followed_gives s e logs =
+    let names = names_taken s (kept_from e.origin s.known) in
+    checked_gives (λ b. Unit {0}) (option_map refused.Busy (writer_of names s.place) ∷ [])
+    (with_syncs s.place (set_syncs s.node.id s.known e logs) nothing_brought)
+    (busy_tells (writer_of names s.place), tt) tt
+
+at_gives : (w : World) (s : Seat) (e : Event) (a : Errand) → Known w → Seats.IsSeat w.places s → (p : Seat) →
+    Gives (λ b. Unit {0}) (brought_at a s e p)
+at_gives w s e (ToCopy c) known is p =
+    copied_gives c s e p (names_read w known.regular known.reads s is c.set_id)
+at_gives w s e (ToFollow provider) known is p = followed_gives s e (logged p.node)
+
+brought_gives : (w : World) (s : Seat) (e : Event) (o : Option Errand) → Known w → Seats.IsSeat w.places s →
     Gives (λ b. Unit {0}) (brought_by w s e o)
 brought_gives w s e None known is = tt
-brought_gives w s e (Some c) known is =
-    bind_gives IsSeat (λ b. Unit {0}) (provided c.provider w.memory s (at_node c.provider w)) _
-    (provided_gives c.provider w s known)
-    (λ p named. copied_gives c s e p (names_read w known.regular known.reads s is c.set_id))
+brought_gives w s e (Some a) known is =
+    bind_gives IsSeat (λ b. Unit {0}) (provided (provider_in a) w.memory s (at_node (provider_in a) w)) _
+    (provided_gives (provider_in a) w s known) (λ p named. at_gives w s e a known is p)
 
 -- the name of the database of the node that applies is a name
 abbrev IsWork : Carried → Type 0
@@ -354,10 +363,10 @@ worked_gives node origin w known =
     bind_gives (λ s. IsSeat s × Seats.IsSeat w.places s) IsWork (on_turn node w) _
     (also_gives IsSeat (Seats.IsSeat w.places) (on_turn node w) (turn_reads node w known)
     (turn_ok node w known.regular.once))
-    (λ s is. bind_gives (λ e. IsSeat s) IsWork (taken_up origin s (next_at w.memory s origin)) _
-    (taken_gives origin s (next_at w.memory s origin) is.0)
-    (λ e named. bind_gives (λ b. Unit {0}) IsWork (brought_by w s e (copying_in s.node.id e.body)) _
-    (brought_gives w s e (copying_in s.node.id e.body) known is.1) (λ b any. named)))
+    (λ s is. bind_gives (λ e. IsSeat s) IsWork (taken_up (next_at w.memory s origin)) _
+    (taken_gives s (next_at w.memory s origin) is.0)
+    (λ e named. bind_gives (λ b. Unit {0}) IsWork (brought_by w s e (errand_of s e)) _
+    (brought_gives w s e (errand_of s e) known is.1) (λ b any. named)))
 
 -- ---- each command
 

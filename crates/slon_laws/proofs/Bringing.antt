@@ -1,7 +1,8 @@
--- The commits of every command fill tables with rows that have their forms, where all databases hold such rows.
-use Rattle.std.proofs.Common.{ℕ, ◌+◌, Bool, true, false, cond, List, [], ◌∷◌, ◌++◌, Option, Some, None, Result, Ok, Err}
-use Rattle.std.proofs.Common.{map, is_some}
-use Rattle.std.specs.Prelude.{◌==◌, find, not}
+-- The commits of every command fill tables with rows that have their forms, and log such actions, where all databases
+-- hold such rows and have logged such actions.
+use Rattle.std.proofs.Common.{◌≡◌, refl, ℕ, ◌+◌, Bool, true, false, cond, List, [], ◌∷◌, Option, Some, None, Result, Ok}
+use Rattle.std.proofs.Common.{Err, is_some}
+use Rattle.std.specs.Prelude.{◌==◌, find, not, option_map, unwrap_or}
 use Rattle.std.specs.List.{AllByRecursion}
 use Rattle.slonik_script.specs.declared.script.Command.{Command as Order}
 use Rattle.slonik_script.specs.declared.script.Command.TheVariants as order
@@ -11,14 +12,14 @@ use Rattle.slon_model.specs.declared.reply.Answer.TheVariants.{Done}
 use Rattle.slon_model.specs.declared.reply.Refusal.{Refusal}
 use Rattle.slon_model.specs.declared.reply.Refusal.TheVariants as refused
 use Rattle.slon_model.specs.Names.{Named, find_named}
-use Rattle.slon_model.specs.Rows.{Rows}
+use Rattle.slon_model.specs.Rows.{Rows, member}
 use Rattle.slon_model.specs.Events.{Event}
 use Rattle.slon_model.specs.Config.{era_of, has_path, is_known, names_of}
-use Rattle.slon_model.specs.Deeds.{Node, Brought, brought_in, nothing_brought}
+use Rattle.slon_model.specs.Deeds.{Node, Brought, Logged, nothing_brought}
 use Rattle.slon_model.specs.Place.{Place, is_running, node_id, standing_rows}
 use Rattle.slon_model.specs.Maps.{entry_at}
 use Rattle.slon_model.specs.Sessions.{World, Memory, Running, Commit, Stated, Seat, Emission, emissions, seat_of}
-use Rattle.slon_model.specs.Sessions.{stood_at, checked, next_event, tells, when}
+use Rattle.slon_model.specs.Sessions.{stood_at, checked, next_event, tells, when, writer_of}
 use Rattle.slon_model.specs.Reaching.{any_down, database_of_line, down_among, emitting, known_somewhere, origin_of}
 use Rattle.slon_model.specs.Reaching.{owner}
 use Rattle.slon_model.specs.Reaching.{reach}
@@ -29,196 +30,242 @@ use Rattle.slon_model.specs.Scripts.{ordered}
 use Rattle.node_rows.specs.declared.body.Body.TheVariants.{Sync, StoreNode, StorePath, DropPath, StoreSet}
 use Rattle.slon_model.specs.Turns.{at_node, is_cut, is_synced, on_turn, seat_at}
 use Rattle.slon_model.specs.Polls.{Poll, brings_nothing, hearing, poll_of, served, stated_by}
-use Rattle.slon_model.specs.Working.{Copying, applied_by, brought_by, copied, copy_checks}
-use Rattle.slon_model.specs.Working.{copy_of, copying_in, linked_to, next_at, provided, still_leads, taken_up, worked}
+use Rattle.slon_model.specs.Following.{content, kept_from, set_syncs, with_syncs}
+use Rattle.slon_model.specs.Logs.{logged}
+use Rattle.slon_model.specs.Working.{Carried, Copying, Errand, ToCopy, ToFollow, applied_by, brought_at, brought_by}
+use Rattle.slon_model.specs.Working.{copied, copy_checks, copy_of, errand_of, followed, linked_to, names_taken, next_at}
+use Rattle.slon_model.specs.Working.{provided, provider_in, rows_at, still_leads, taken_up, worked}
+use Rattle.slon_model.proofs.Names.{all_found}
 use Rattle.slon_model.specs.Tasks.{Act}
 use Rattle.slon_model.specs.World.{outcome}
-use Rattle.slon_laws.specs.Spelled.{IsSpelled, AreFormed, FillsFormed}
+use Rattle.slon_laws.specs.Spelled.{IsSpelled, IsWritten, AreFilled, AreFormed, AreWritten, IsFormedCommit}
+use Rattle.slon_laws.specs.Spelled.{IsFormedDeed, logs_in}
 use Rattle.slon_laws.specs.Turning.{AllHold, HoldsAt, IsFormed, IsWithin}
 use Rattle.slon_laws.specs.Worlds.{AllPlaces}
-use Rattle.slon_laws.proofs.Formed.{standing_formed}
+use Rattle.slon_laws.proofs.Following.{Makes, syncs_have, taken_have}
+use Rattle.slon_laws.proofs.Formed.{applied_formed, standing_formed}
+use Rattle.slon_laws.proofs.Lists.{all_appended, all_each}
+use Rattle.slon_laws.proofs.Owners.{OnSome}
 use Rattle.slon_laws.proofs.Results.{OnOk, any_bind, bind_ok, kept_ok, ok_then}
 use Rattle.slon_laws.proofs.Leaves.{outcome_has}
 
--- ---- lists
-
-one_more : {X : Type 0} (P : X → Type 0) (xs : List X) (x : X) → AllByRecursion P xs → P x →
-    AllByRecursion P (xs ++ x ∷ [])
-one_more P [] x all is = (is, tt)
-one_more P (y ∷ ys) x all is = (all.0, one_more P ys x all.1 is)
-
--- P of what is found, where anything is
-abbrev OnFound : {X : Type 0} → (X → Type 0) → Option X → Type 0
-OnFound P None = Unit {0}
-OnFound P (Some x) = P x
-
-all_find : {X : Type 0} (P : X → Type 0) (test : X → Bool) (xs : List X) → AllByRecursion P xs →
-    OnFound P (find test xs)
+-- P of what is found among all that have it
+all_find : {X : Type 0} (P : X → Type 0) (test : X → Bool) (xs : List X) → AllByRecursion P xs → OnSome P (find test xs)
 all_find P test [] all = tt
 all_find P test (x ∷ xs) all =
     elim (test x)
-    as (λ b. OnFound P (cond b (Some x) (find test xs))) [ true ↦ all.0 | false ↦ all_find P test xs all.1 ]
+    as (λ b. OnSome P (cond b (Some x) (find test xs))) [ true ↦ all.0 | false ↦ all_find P test xs all.1 ]
 
 -- ---- what statements and other turns commit
 
-abbrev AreFilling : List Commit → Type 0
-AreFilling cs = AllByRecursion FillsFormed cs
+abbrev AreFormedCommits : List Commit → Type 0
+AreFormedCommits cs = AllByRecursion IsFormedCommit cs
 
-abbrev pub AreFilled : Named Rows → Type 0
-AreFilled rs = AllByRecursion (λ r. AreFormed r.1) rs
+-- events of a node bring nothing, and it logs nothing with them
+emissions_formed : (s : Seat) (number : ℕ) (ms : List Emission) → AllByRecursion IsFormedDeed (emissions s number ms)
+emissions_formed s number [] = tt
+emissions_formed s number (m ∷ ms) =
+    all_appended IsFormedDeed (emissions s (number + 1) ms) _ (emissions_formed s (number + 1) ms) ((tt, tt), tt)
 
--- events of a node bring nothing
-emissions_fill : (s : Seat) (number : ℕ) (ms : List Emission) →
-    AllByRecursion (λ d. AreFilled (brought_in d.doing).rows) (emissions s number ms)
-emissions_fill s number [] = tt
-emissions_fill s number (m ∷ ms) =
-    one_more (λ d. AreFilled (brought_in d.doing).rows) (emissions s (number + 1) ms) _
-    (emissions_fill s (number + 1) ms) tt
+abbrev IsFormedStated : Stated → Type 0
+IsFormedStated stated = AreFormedCommits stated.commits
 
-abbrev Fills : Result Stated Refusal → Type 0
-Fills = OnOk (λ stated. AreFilling stated.commits)
+abbrev AreFormedIn : Result Stated Refusal → Type 0
+AreFormedIn = OnOk IsFormedStated
 
-emitting_fills : (s : Seat) (ms : List Emission) → Fills (Ok (emitting s ms))
-emitting_fills s ms = (emissions_fill s _ ms, tt)
+emitting_formed : (s : Seat) (ms : List Emission) → AreFormedIn (Ok (emitting s ms))
+emitting_formed s ms = ((emissions_formed s _ ms, tt), tt)
 
-abbrev Filling : Stated → Type 0
-Filling stated = AreFilling stated.commits
-
-ordered_fills : (o : Order) (run : Running) (w : World) → Fills (ordered o run w)
-ordered_fills (order.InitCluster id comment) run w =
-    any_bind Filling (database_of_line run id w) _
-    (λ e. kept_ok Filling (down_among w.places ∷ already (first_node w) ∷ []) (record {
+ordered_formed : (o : Order) (run : Running) (w : World) → AreFormedIn (ordered o run w)
+ordered_formed (order.InitCluster id comment) run w =
+    any_bind IsFormedStated (database_of_line run id w) _
+    (λ e. kept_ok IsFormedStated (down_among w.places ∷ already (first_node w) ∷ []) (record {
       answer = Done;
       commits = becoming e.0 (first_of_cluster id (comment_of comment) run) ∷ [];
-    }) (tt, tt))
-ordered_fills (order.StoreNode id event_node comment) run w =
-    any_bind Filling (reach run event_node w) _ (λ s. any_bind Filling (database_of_line run id w) _
-    (λ e. kept_ok Filling
+    }) ((tt, tt), tt))
+ordered_formed (order.StoreNode id event_node comment) run w =
+    any_bind IsFormedStated (reach run event_node w) _ (λ s. any_bind IsFormedStated (database_of_line run id w) _
+    (λ e. kept_ok IsFormedStated
     (already (node_id e.1) ∷ any_down w
     ∷ when (known_somewhere (λ c. is_some (entry_at id c.nodes)) w) (refused.IdUsed id) ∷ [])
-    (stored_by s e.0 id (comment_of comment) run)
-    (emissions_fill s (next_event s) (tells (StoreNode id (comment_of comment)) ∷ []), (tt, tt))))
-ordered_fills (order.StorePath server client conninfo retry) run w =
-    any_bind Filling (reach run client w) _
-    (λ s. let done = emitting_fills s (tells (StorePath server client conninfo) ∷ []) in search (kept_ok Filling, done))
-ordered_fills (order.DropPath server client) run w =
-    any_bind Filling (reach run client w) _
-    (λ s. let done = emitting_fills s (tells (DropPath server client) ∷ []) in search (kept_ok Filling, done))
-ordered_fills (order.CreateSet id origin comment) run w =
-    any_bind Filling (reach run origin w) _
-    (λ s. let done = emitting_fills s (tells (StoreSet id origin (comment_of comment)) ∷ []) in
-    search (kept_ok Filling, done))
-ordered_fills (order.SetAddTable set origin id name key comment) run w =
-    any_bind Filling (origin_of run origin set w) _
+    (stored_by s e.0 id (comment_of comment) run) (
+      (emissions_formed s (next_event s) (tells (StoreNode id (comment_of comment)) ∷ []), tt),
+      ((tt, tt), tt),
+    )))
+ordered_formed (order.StorePath server client conninfo retry) run w =
+    any_bind IsFormedStated (reach run client w) _
+    (λ s. let done = emitting_formed s (tells (StorePath server client conninfo) ∷ []) in
+    search (kept_ok IsFormedStated, done))
+ordered_formed (order.DropPath server client) run w =
+    any_bind IsFormedStated (reach run client w) _
+    (λ s. let done = emitting_formed s (tells (DropPath server client) ∷ []) in
+    search (kept_ok IsFormedStated, done))
+ordered_formed (order.CreateSet id origin comment) run w =
+    any_bind IsFormedStated (reach run origin w) _
+    (λ s. let done = emitting_formed s (tells (StoreSet id origin (comment_of comment)) ∷ []) in
+    search (kept_ok IsFormedStated, done))
+ordered_formed (order.SetAddTable set origin id name key comment) run w =
+    any_bind IsFormedStated (origin_of run origin set w) _
     (λ s. let t : NewTable = record { set_id = set; id = id; name = name; comment = comment_of comment } in
-    let done = emitting_fills s (adding s t ∷ []) in search (kept_ok Filling, done))
-ordered_fills (order.SubscribeSet set provider receiver forward) run w =
-    any_bind Filling (owner run set w) _
+    let done = emitting_formed s (adding s t ∷ []) in
+    search (kept_ok IsFormedStated, done))
+ordered_formed (order.SubscribeSet set provider receiver forward) run w =
+    any_bind IsFormedStated (owner run set w) _
     (λ s. let f = subscribing set provider receiver forward in
-    let done = emitting_fills s (all_tell (feed_bodies (era_of set s.known.config) f)) in
-    search (kept_ok Filling, done))
-ordered_fills (order.Sync id) run w = any_bind Filling (reach run id w) _ (λ s. emitting_fills s (tells Sync ∷ []))
-ordered_fills others run w = tt
+    let done = emitting_formed s (all_tell (feed_bodies (era_of set s.known.config) f)) in
+    search (kept_ok IsFormedStated, done))
+ordered_formed (order.Sync id) run w =
+    any_bind IsFormedStated (reach run id w) _ (λ s. emitting_formed s (tells Sync ∷ []))
+ordered_formed others run w = tt
 
-poll_fills : (delivery : Delivery) (s : Seat) (confirms : List (ℕ × ℕ × ℕ)) → AreFilling (hearing s confirms)
-poll_fills delivery s [] = tt
-poll_fills delivery s (c ∷ cs) = ((tt, tt), tt)
+poll_formed : (delivery : Delivery) (s : Seat) (confirms : List (ℕ × ℕ × ℕ)) → AreFormedCommits (hearing s confirms)
+poll_formed delivery s [] = tt
+poll_formed delivery s (c ∷ cs) = ((((tt, tt), tt), tt), tt)
 
--- ---- a copy
+-- ---- what is brought
 
-seat_spelled : (node : ℕ) (found : Option (List ℕ × Place)) → OnFound (λ e. IsSpelled e.1) found →
-    OnOk (λ p. IsSpelled p.place) (seat_at node found)
+-- what a node holds is spelled, and what it has logged is such as writes make it
+pub record IsSpelledSeat (s : Seat) : Type 0 where
+  pub place : IsSpelled s.place
+  pub logged : AreWritten (logged s.node)
+
+seat_spelled : (node : ℕ) (found : Option (List ℕ × Place)) → OnSome (λ e. IsSpelled e.1) found →
+    OnOk IsSpelledSeat (seat_at node found)
 seat_spelled node None spelled = tt
 seat_spelled node (Some e) spelled =
-    elim (is_running e.1.standing) as (λ b. OnOk (λ p. IsSpelled p.place)
+    elim (is_running e.1.standing) as (λ b. OnOk IsSpelledSeat
     (cond b (seat_of (refused.NoNode node) e e.1.node) (Err (refused.Down e.0)))) [
-      | true ↦ by e.1.node
+      | true ↦ by e.1.node spelled.logged
       | false ↦ tt
     ]
   where
-    by : (n : Option Node) → OnOk (λ p. IsSpelled p.place) (seat_of (refused.NoNode node) e n)
-    by None = tt
-    by (Some n) = spelled
+    by : (n : Option Node) → AreWritten (logs_in n) → OnOk IsSpelledSeat (seat_of (refused.NoNode node) e n)
+    by None written = tt
+    by (Some n) written = record { place = spelled; logged = written }
+
+-- the database of a node that is found
+place_spelled : (w : World) → AllPlaces IsSpelled w → (node : ℕ) → OnSome (λ e. IsSpelled e.1) (at_node node w)
+place_spelled w all node = all_find (λ e. IsSpelled e.1) _ w.places all
+
+turn_spelled : (w : World) → AllPlaces IsSpelled w → (node : ℕ) → OnOk IsSpelledSeat (on_turn node w)
+turn_spelled w all node =
+    bind_ok IsSpelledSeat IsSpelledSeat (seat_at node (at_node node w)) _
+    (seat_spelled node (at_node node w) (place_spelled w all node))
+    (λ s is. kept_ok IsSpelledSeat (when (not (member node w.memory.started)) (refused.Off node) ∷ []) s is)
 
 provided_spelled : (provider : ℕ) (m : Memory) (s : Seat) (found : Option (List ℕ × Place)) →
-    OnFound (λ e. IsSpelled e.1) found → OnOk (λ p. IsSpelled p.place) (provided provider m s found)
+    OnSome (λ e. IsSpelled e.1) found → OnOk IsSpelledSeat (provided provider m s found)
 provided_spelled provider m s found spelled =
-    bind_ok (λ p. IsSpelled p.place) (λ p. IsSpelled p.place) _ _
-    (bind_ok (OnFound (λ e. IsSpelled e.1)) (λ p. IsSpelled p.place) (linked_to provider m s found) _
-    (kept_ok (OnFound (λ e. IsSpelled e.1))
+    bind_ok IsSpelledSeat IsSpelledSeat _ _
+    (bind_ok (OnSome (λ e. IsSpelled e.1)) IsSpelledSeat (linked_to provider m s found) _
+    (kept_ok (OnSome (λ e. IsSpelled e.1))
     (when (not (has_path s.node.id provider s.known.config)) (refused.NoPath provider)
     ∷ when (is_cut s.node.id provider m) (refused.Severed s.node.id provider)
     ∷ when (provider == s.node.id) (refused.NoNode provider) ∷ []) found spelled) (seat_spelled provider))
-    (λ p is. kept_ok (λ p. IsSpelled p.place)
+    (λ p is. kept_ok IsSpelledSeat
     (when (not (is_known s.node.id p.known.config)) (refused.NotKnown s.node.id) ∷ []) p is)
 
-tables_formed : (p : Place) → IsSpelled p → (names : List (List ℕ)) →
-    AreFilled (map (λ name. (name, standing_rows p name)) names)
+-- it fills tables with rows that have their forms, and such actions are logged with it
+abbrev pub IsFormedBrought : Brought → Type 0
+IsFormedBrought b = AreFilled b.rows × AreWritten b.logs
+
+tables_formed : (p : Place) → IsSpelled p → (names : List (List ℕ)) → AreFilled (rows_at p names)
 tables_formed p spelled [] = tt
 tables_formed p spelled (name ∷ more) = (standing_formed p name spelled, tables_formed p spelled more)
 
-copied_fills : (c : Copying) (s : Seat) (e : Event) (p : Seat) → IsSpelled p.place →
-    OnOk (λ b. AreFilled b.rows) (copied c s e p)
-copied_fills c s e p spelled =
+copied_formed : (c : Copying) (s : Seat) (e : Event) (p : Seat) → IsSpelled p.place →
+    OnOk IsFormedBrought (copied c s e p)
+copied_formed c s e p spelled =
     let names = names_of c.set_id s.known.config in
-    elim (still_leads c p) as (λ b. OnOk (λ b. AreFilled b.rows)
+    elim (still_leads c p) as (λ b. OnOk IsFormedBrought
     (cond b (checked (copy_checks s.place p.place names) (copy_of c e.number p names))
     (Ok nothing_brought))) [
-      | true ↦ kept_ok (λ (b : Brought). AreFilled b.rows) (copy_checks s.place p.place names)
-          (copy_of c e.number p names) (tables_formed p.place spelled names)
-      | false ↦ tt
+      | true ↦ kept_ok IsFormedBrought (copy_checks s.place p.place names)
+          (copy_of c e.number p names) (tables_formed p.place spelled names, tt)
+      | false ↦ (tt, tt)
     ]
 
-brought_fills : (w : World) → AllPlaces IsSpelled w → (s : Seat) (e : Event) (c : Option Copying) →
-    OnOk (λ b. AreFilled b.rows) (brought_by w s e c)
-brought_fills w all s e None = tt
-brought_fills w all s e (Some c) =
-    bind_ok (λ p. IsSpelled p.place) (λ b. AreFilled b.rows) (provided c.provider w.memory s (at_node c.provider w)) _
-    (provided_spelled c.provider w.memory s (at_node c.provider w)
-    (all_find (λ e. IsSpelled e.1) _ w.places all)) (copied_fills c s e)
+-- an action that a write made makes rows that have their forms
+makes_formed : (here : Place) → IsSpelled here → Makes here (λ r. AreFormed r.1) (λ l. IsWritten l.action)
+makes_formed here spelled rows l formed written =
+    applied_formed l.action.change (content here rows l.action.table) (written.change, written.formed)
+    (by (find_named l.action.table rows) refl)
+  where
+    by : (o : Option Rows) → find_named l.action.table rows ≡ o →
+        AreFormed (unwrap_or o (standing_rows here l.action.table))
+    by None none = standing_formed here l.action.table spelled
+    by (Some r) found = all_found AreFormed l.action.table r rows formed found
 
--- what a turn brings has rows that have their forms
+followed_formed : (s : Seat) (e : Event) (logs : List Logged) → IsSpelled s.place → AreWritten logs →
+    OnOk IsFormedBrought (followed s e logs)
+followed_formed s e logs spelled written =
+    kept_ok IsFormedBrought
+    (option_map refused.Busy (writer_of (names_taken s (kept_from e.origin s.known)) s.place) ∷ [])
+    (with_syncs s.place (set_syncs s.node.id s.known e logs) nothing_brought)
+    (syncs_have s.place (λ r. AreFormed r.1) (λ l. IsWritten l.action) (makes_formed s.place spelled)
+    (set_syncs s.node.id s.known e logs) nothing_brought
+    (taken_have s.node.id s.known e logs (λ l. IsWritten l.action) (λ l. IsWritten l.action) written
+    (kept_from e.origin s.known) (all_each _ (λ v l is on. is) (kept_from e.origin s.known))) (tt, tt))
+
+-- from a provider at this seat
+at_formed : (a : Errand) (s : Seat) (e : Event) (p : Seat) → IsSpelled s.place → IsSpelledSeat p →
+    OnOk IsFormedBrought (brought_at a s e p)
+at_formed (ToCopy c) s e p here there = copied_formed c s e p there.place
+at_formed (ToFollow provider) s e p here there = followed_formed s e (logged p.node) here there.logged
+
+brought_formed : (w : World) → AllPlaces IsSpelled w → (s : Seat) → IsSpelled s.place → (e : Event)
+    (a : Option Errand) → OnOk IsFormedBrought (brought_by w s e a)
+brought_formed w all s here e None = (tt, tt)
+brought_formed w all s here e (Some a) =
+    bind_ok IsSpelledSeat IsFormedBrought (provided (provider_in a) w.memory s (at_node (provider_in a) w)) _
+    (provided_spelled (provider_in a) w.memory s (at_node (provider_in a) w) (place_spelled w all (provider_in a)))
+    (λ p there. at_formed a s e p here there)
+
+-- what a turn brings has rows that have their forms, and logs actions that do
 pub work_brings : (w : World) → AllPlaces IsSpelled w → (node origin : ℕ) →
-    OnOk (λ c. AreFilled c.brought.rows) (worked node origin w)
+    OnOk (λ c. AreFilled c.brought.rows × AreWritten c.brought.logs) (worked node origin w)
 work_brings w all node origin =
-    any_bind _ (on_turn node w) _ (λ s. any_bind _ (taken_up origin s (next_at w.memory s origin)) _
-    (λ e. bind_ok (λ b. AreFilled b.rows) (λ c. AreFilled c.brought.rows)
-    (brought_by w s e (copying_in s.node.id e.body)) _ (brought_fills w all s e (copying_in s.node.id e.body))
-    (λ b is. is)))
+    bind_ok IsSpelledSeat IsFormedCarried (on_turn node w) _ (turn_spelled w all node)
+    (λ s here. any_bind IsFormedCarried (taken_up (next_at w.memory s origin)) _
+    (λ e. bind_ok IsFormedBrought IsFormedCarried (brought_by w s e (errand_of s e)) _
+    (brought_formed w all s here.place e (errand_of s e)) (λ b is. is)))
+  where
+    IsFormedCarried : Carried → Type 0
+    IsFormedCarried c = IsFormedBrought c.brought
 
-work_fills : (w : World) → AllPlaces IsSpelled w → (node origin : ℕ) →
-    OnOk (λ c. AreFilling (applied_by c).commits) (worked node origin w)
-work_fills w all node origin =
-    ok_then (λ c. AreFilled c.brought.rows) (λ c. AreFilling (applied_by c).commits) (worked node origin w)
-    (work_brings w all node origin) (λ c is. ((is, tt), tt))
+work_formed_commits : (w : World) → AllPlaces IsSpelled w → (node origin : ℕ) →
+    OnOk (λ c. AreFormedCommits (applied_by c).commits) (worked node origin w)
+work_formed_commits w all node origin =
+    ok_then (λ c. IsFormedBrought c.brought) (λ c. AreFormedCommits (applied_by c).commits) (worked node origin w)
+    (work_brings w all node origin) (λ c is. (((is, tt), tt), tt))
 
 -- ---- every command
 
-abbrev Told : Delivery → Poll → Type 0
-Told delivery b = AreFilling (stated_by delivery b).commits
+abbrev IsFormedPoll : Delivery → Poll → Type 0
+IsFormedPoll delivery b = AreFormedCommits (stated_by delivery b).commits
 
-outcome_fills : (w : World) → AllPlaces IsSpelled w → (act : Act) → AreFilling (outcome act w).commits
-outcome_fills w all act =
-    outcome_has w (λ cs queues. AreFilling cs) (record {
+outcome_is_formed : (w : World) → AllPlaces IsSpelled w → (act : Act) → AreFormedCommits (outcome act w).commits
+outcome_is_formed w all act =
+    outcome_has w (λ cs queues. AreFormedCommits cs) (record {
       nothing = tt;
       stops = λ name. tt;
-      orders = λ o run. ordered_fills o run w;
-      syncs = λ node. any_bind Filling (on_turn node w) _
-          (λ s. kept_ok Filling (when (is_synced s) refused.Nothing ∷ []) (synced s)
-          (emitting_fills s (tells Sync ∷ [])));
-      polls = λ node server delivery. any_bind (Told delivery) (on_turn node w) _
-          (λ s. any_bind (Told delivery) (served server w.memory s (at_node server w)) _
+      orders = λ o run. ordered_formed o run w;
+      syncs = λ node. any_bind IsFormedStated (on_turn node w) _
+          (λ s. kept_ok IsFormedStated (when (is_synced s) refused.Nothing ∷ []) (synced s)
+          (emitting_formed s (tells Sync ∷ [])));
+      polls = λ node server delivery. any_bind (IsFormedPoll delivery) (on_turn node w) _
+          (λ s. any_bind (IsFormedPoll delivery) (served server w.memory s (at_node server w)) _
           (λ p. let b = poll_of w.memory s p in
-          kept_ok (Told delivery) (when (brings_nothing b) refused.Nothing ∷ []) b (polled delivery b)));
-      works = work_fills w all;
+          kept_ok (IsFormedPoll delivery) (when (brings_nothing b) refused.Nothing ∷ []) b (polled delivery b)));
+      works = work_formed_commits w all;
     }) act
   where
-    polled : (delivery : Delivery) (b : Poll) → AreFilling (stated_by delivery b).commits
+    polled : (delivery : Delivery) (b : Poll) → AreFormedCommits (stated_by delivery b).commits
     polled Lost b = tt
-    polled Once b = poll_fills Once b.seat b.confirms
-    polled Again b = poll_fills Again b.seat b.confirms
+    polled Once b = poll_formed Once b.seat b.confirms
+    polled Again b = poll_formed Again b.seat b.confirms
 
-pub all_formed : (cs : List Commit) (ps : Named Place) → AllHold IsWithin cs ps → AllByRecursion FillsFormed cs →
+pub all_formed : (cs : List Commit) (ps : Named Place) → AllHold IsWithin cs ps → AllByRecursion IsFormedCommit cs →
     AllHold IsFormed cs ps
 all_formed [] ps within fills = tt
 all_formed (c ∷ cs) ps within fills = (
@@ -232,4 +279,4 @@ all_formed (c ∷ cs) ps within fills = (
 
 pub outcome_formed : (w : World) → AllPlaces IsSpelled w → (act : Act) →
     AllHold IsWithin (outcome act w).commits w.places → AllHold IsFormed (outcome act w).commits w.places
-outcome_formed w all act within = all_formed (outcome act w).commits w.places within (outcome_fills w all act)
+outcome_formed w all act within = all_formed (outcome act w).commits w.places within (outcome_is_formed w all act)

@@ -10,14 +10,14 @@ use Rattle.slon_base.specs.Keeper.{key_cmp}
 use Rattle.slon_base.specs.Codec.{IsText, AllTexts, AreTexts}
 use Rattle.slon_model.specs.Forms.{is_value}
 use Rattle.slon_model.specs.Names.{Named, find_named}
-use Rattle.slon_model.specs.Rows.{Row, Rows, Action, Change, Put, Set, Remove, member, touches, updated, play_rows}
-use Rattle.slon_model.specs.Rows.{with_columns, column_value}
+use Rattle.slon_model.specs.Rows.{Row, Rows, Action, Change, Put, Set, Remove, member, touches, updated, apply}
+use Rattle.slon_model.specs.Rows.{play_rows, with_columns, column_value}
 use Rattle.slon_model.specs.Spoken.{IsValue, AreValues, IsChange}
 use Rattle.slon_model.specs.Place.{Place, Filling, filling_of, rows_since, standing_rows}
 use Rattle.slon_model.proofs.Names.{all_found, bytes_same}
 use Rattle.slon_laws.specs.Keys.{change_at}
 use Rattle.slon_laws.specs.Spelled.{IsSpelled, IsWritten, CanSpell, IsRowFormed, AreFormed}
-use Rattle.slon_laws.proofs.Keys.{get-played}
+use Rattle.slon_laws.proofs.Keys.{get-apply}
 
 and_both : (a b : Bool) → a ≡ true → b ≡ true → (a && b) ≡ true
 and_both true b one other = other
@@ -98,23 +98,25 @@ changed_formed (Set k columns) key (Some r) row (can, formed) on before is =
     )
 changed_formed (Remove k) key old row can on before is = absurd cc
 
+-- what a change makes of such rows
+pub applied_formed : (c : Change) (rows : Rows) → CanSpell c × IsChange c → AreFormed rows → AreFormed (apply c rows)
+applied_formed c rows can formed key row is = by (touches key c) refl (sym (get-apply c rows key) ∙ is)
+  where
+    by : (b : Bool) → touches key c ≡ b → cond b (change_at c (get rows key)) (get rows key) ≡ Some row →
+        IsRowFormed key row
+    by true on has = changed_formed c key (get rows key) row can on (formed key) has
+    by false beside has = formed key row has
+
 played_formed : (test : Action → Bool) (table : List ℕ) (actions : List Action) (start : Rows) → AreFormed start →
     AllByRecursion IsWritten actions → AreFormed (play_rows test table actions start)
-played_formed test table [] start formed written key row is = formed key row is
-played_formed test table (a ∷ rest) start formed written key row is =
-    made (λ r has. played_formed test table rest start formed written.1 key r has)
-    ((test a && bytes_eq table a.table) && touches key a.change) refl
-    (sym (get-played test table key a rest start) ∙ is)
-  where
-    before : Option Row
-    before = get (play_rows test table rest start) key
-
-    made : ((r : Row) → before ≡ Some r → IsRowFormed key r) → (b : Bool) →
-        ((test a && bytes_eq table a.table) && touches key a.change) ≡ b →
-        cond b (change_at a.change before) before ≡ Some row → IsRowFormed key row
-    made was true hit has =
-        changed_formed a.change key before row (written.0.change, written.0.formed) (and_right _ _ hit) was has
-    made was false hit has = was row has
+played_formed test table [] start formed written = formed
+played_formed test table (a ∷ rest) start formed written =
+    let before = played_formed test table rest start formed written.1 in
+    elim (test a && bytes_eq table a.table) as (λ b.
+    AreFormed (cond b (apply a.change (play_rows test table rest start)) (play_rows test table rest start))) [
+      | true ↦ applied_formed a.change _ (written.0.change, written.0.formed) before
+      | false ↦ before
+    ]
 
 -- what a table was last filled with
 filling_formed : (table : List ℕ) (fillings : Named Filling) → AllByRecursion (λ f. AreFormed f.1.rows) fillings →

@@ -5,12 +5,14 @@ pub mod Covering
 pub mod Decides
 pub mod Drawing
 pub mod Fillable
+pub mod Following
 pub mod Formed
 pub mod Keeps
 pub mod Keys
 pub mod Later
 pub mod Laws
 pub mod Leaves
+pub mod Lists
 pub mod Locks
 pub mod Memories
 pub mod Opens

@@ -1,7 +1,8 @@
 -- Each change of a database keeps what it holds spelled.
 use Rattle.std.proofs.Common.{◌≡◌, ℕ, ◌+◌, ◌<◌, ◌≤◌, true, false, cond, List, [], ◌∷◌, length, refl}
-use Rattle.std.proofs.Common.{arith}
-use Rattle.std.specs.Prelude.{◌==◌, ◌&&◌, ◌||◌, not, nat_le, map}
+use Rattle.std.proofs.Common.{arith, Option, Some, None}
+use Rattle.std.specs.Prelude.{◌==◌, ◌&&◌, ◌||◌, not, nat_le, map, option_map}
+use Rattle.std.specs.Option.{option_or}
 use Rattle.std.specs.List.{list_all, AllByRecursion}
 use Rattle.std.proofs.lemmas.Bool.{eqb-true, and_parts, leb-false}
 use Rattle.slon_base.specs.Codec.{AllTexts}
@@ -9,22 +10,30 @@ use Rattle.slon_model.specs.declared.numbering.Numbering.{Numbering}
 use Rattle.slon_model.specs.declared.numbering.Numbering.TheVariants.{Xids, Actions}
 use Rattle.slon_model.specs.Forms.{is_value}
 use Rattle.slon_model.specs.Names.{Named}
-use Rattle.slon_model.specs.Rows.{Rows, Change, Put, Set, Remove}
-use Rattle.slon_model.specs.Deeds.{Deed, brought_in}
+use Rattle.slon_model.specs.Rows.{Action, Rows, Change, Put, Set, Remove}
+use Rattle.node_rows.specs.declared.rows.TableRow.{TableRow}
+use Rattle.slon_model.specs.Config.{is_origin, era_of, member_of}
+use Rattle.slon_model.specs.Deeds.{Deed, Knowledge, Logged, Node, brought_in, knowledge, with_deeds}
+use Rattle.slon_model.specs.Logs.{logged, logged_on, own_logs}
+use Rattle.slon_model.specs.Sessions.{Commit}
 use Rattle.slon_model.specs.Spoken.{IsTask, IsTableName, IsChange, most_columns}
 use Rattle.slon_model.specs.Tasks.{Task}
 use Rattle.slon_model.specs.Place.{Place, bare_place, block, counter, with_counter, lifted, stamped, raised, founded}
-use Rattle.slon_model.specs.Place.{Filling, filled, filled_by, has_writer, own_count}
+use Rattle.slon_model.specs.Place.{Filling, filled, filled_by, has_writer, own_actions, own_count}
 use Rattle.slon_model.specs.Moves.{Move, Stays, Founds, Tables, Begins, Writes, Commits, Aborts, Falls, Rises}
 use Rattle.slon_model.specs.Moves.{first_rows, prepared, done, stored_limit, is_last_stamp, is_last, is_beyond}
+use Rattle.slon_model.specs.Moves.{commit_deed, with_commit}
 use Rattle.slon_model.specs.Deciding.{fits}
-use Rattle.slon_model.proofs.Names.{all_found}
+use Rattle.slon_model.proofs.Names.{all_found, all_map}
 use Rattle.slon_model.proofs.Spoken.{value_text, value_texts, table_name_text}
 use Rattle.slon_laws.specs.Sound.{Sound}
-use Rattle.slon_laws.specs.Spelled.{IsSmall, IsSpelled, CanSpell, AreFormed}
+use Rattle.slon_laws.specs.Spelled.{IsSmall, IsSpelled, IsWritten, CanSpell, AreFormed, AreWritten, IsFormedDeed}
+use Rattle.slon_laws.specs.Spelled.{IsFormedCommit, logs_in}
 use Rattle.slon_laws.specs.Allowed.{MayWrite, MayMove}
 use Rattle.slon_laws.specs.Keeps.{Keeps}
 use Rattle.slon_laws.specs.Turning.{IsFormed}
+use Rattle.slon_laws.proofs.Lists.{all_appended, all_filtered, all_given}
+use Rattle.slon_laws.proofs.Owners.{OnSome}
 use Rattle.slon_laws.proofs.Opens.{or_parts}
 use Rattle.slon_laws.proofs.Sounds.{sound_prepared, keeps_sound}
 
@@ -33,6 +42,7 @@ spelled_bare = record {
   small = record { stamp = omega arith; xids = omega arith; numbers = omega arith };
   written = tt;
   filled = tt;
+  logged = tt;
   narrow = tt;
   few = omega arith;
   bare = λ none. (refl, refl);
@@ -40,11 +50,13 @@ spelled_bare = record {
 
 -- a transaction of the store stands
 spelled_stamped : (p q : Place) → q.actions ≡ p.actions → q.tables ≡ p.tables → q.numbers.next ≡ p.numbers.next →
-    AllByRecursion (λ f. AreFormed f.1.rows) q.fillings × (0 < q.stamp) → IsSmall q → IsSpelled p → IsSpelled q
-spelled_stamped p q actions tables next (filled, some) small s = record {
+    AllByRecursion (λ f. AreFormed f.1.rows) q.fillings × AreWritten (logs_in q.node) × (0 < q.stamp) → IsSmall q →
+    IsSpelled p → IsSpelled q
+spelled_stamped p q actions tables next (filled, logged, some) small s = record {
   small = small;
   written = rw actions s.written;
   filled = filled;
+  logged = logged;
   narrow = rw tables s.narrow;
   few = rw (actions, next) s.few;
   bare = λ none. absurd (omega (arith, none, some));
@@ -76,9 +88,9 @@ spelled_lifted : (kind : Numbering) (p : Place) →
     (is_last_stamp p || nat_le stored_limit ((counter kind p).ceiling + block)) ≡ false → IsSpelled p →
     IsSpelled (stamped (with_counter kind (lifted (counter kind p)) p))
 spelled_lifted Xids p not s =
-    spelled_stamped p _ refl refl refl (s.filled, omega arith) (lifted_small Xids p not s.small) s
+    spelled_stamped p _ refl refl refl (s.filled, s.logged, omega arith) (lifted_small Xids p not s.small) s
 spelled_lifted Actions p not s =
-    spelled_stamped p _ refl refl refl (s.filled, omega arith) (lifted_small Actions p not s.small) s
+    spelled_stamped p _ refl refl refl (s.filled, s.logged, omega arith) (lifted_small Actions p not s.small) s
 
 spelled_raised : (kind : Numbering) (p : Place) → is_last kind p ≡ false → IsSpelled p → IsSpelled (raised kind p)
 spelled_raised kind p not s =
@@ -94,7 +106,7 @@ spelled_founded p none s =
     let bare = s.bare none in
     let xids = bare.0 in
     let numbers = bare.1 in
-    spelled_stamped p (founded p) refl refl refl (s.filled, omega arith)
+    spelled_stamped p (founded p) refl refl refl (s.filled, s.logged, omega arith)
     (record { stamp = omega arith; xids = omega (arith, xids); numbers = omega (arith, numbers) }) s
 
 spelled_first : (p : Place) → IsSpelled p → IsSpelled (first_rows p)
@@ -109,12 +121,14 @@ abbrev StaysAs : Place → Place → Type 0
 StaysAs p q =
     (q.actions ≡ p.actions) × (q.tables ≡ p.tables) × (p.numbers.next ≤ q.numbers.next) × (q.stamp ≡ p.stamp)
     × (q.xids.ceiling ≡ p.xids.ceiling) × (q.numbers.ceiling ≡ p.numbers.ceiling) × (q.fillings ≡ p.fillings)
+    × (q.node ≡ p.node)
 
 spelled_same : (p q : Place) → StaysAs p q → IsSpelled p → IsSpelled q
-spelled_same p q (actions, tables, next, stamps, xids, numbers, fillings) s = record {
+spelled_same p q (actions, tables, next, stamps, xids, numbers, fillings, nodes) s = record {
   small = record { stamp = rw stamps s.small.stamp; xids = rw xids s.small.xids; numbers = rw numbers s.small.numbers };
   written = rw actions s.written;
   filled = rw fillings s.filled;
+  logged = rw nodes s.logged;
   narrow = rw tables s.narrow;
   few = let few = s.few in rw actions (omega (arith, few, next));
   bare = rw (stamps, xids, numbers) s.bare;
@@ -138,9 +152,9 @@ change_spelled (Set key columns) width fit narrow formed = (value_text key forme
 change_spelled (Remove key) width fit narrow formed = value_text key formed
 
 spelled_written : (task : Task) (xid : ℕ) (table : List ℕ) (change : Change) (p : Place) →
-    IsTask task × MayWrite task p xid table change → is_last Actions p ≡ false → IsSpelled p →
-    IsSpelled (done (Writes xid table change) p)
-spelled_written task xid table change p (formed, may) within s = record {
+    IsTask task × MayWrite task p xid table change → is_last Actions p ≡ false →
+    Sound (done (Writes xid table change) p) → IsSpelled p → IsSpelled (done (Writes xid table change) p)
+spelled_written task xid table change p (formed, may) within sound s = record {
   small =
       record {
         stamp = raised_spelled.small.stamp;
@@ -149,6 +163,7 @@ spelled_written task xid table change p (formed, may) within s = record {
       };
   written = (
     record {
+      number = omega (arith, sound.numbers_below, raised_spelled.small.numbers);
       table = table_name_text table parts.0;
       change =
           change_spelled change may.width may.fit
@@ -159,6 +174,7 @@ spelled_written task xid table change p (formed, may) within s = record {
     raised_spelled.written,
   );
   filled = raised_spelled.filled;
+  logged = raised_spelled.logged;
   narrow = raised_spelled.narrow;
   few = omega (arith, raised_spelled.few);
   bare = raised_spelled.bare;
@@ -182,13 +198,62 @@ rows_formed p (r ∷ rs) fillings new old =
       | false ↦ (new.0, rows_formed p rs fillings new.1 old)
     ]
 
-formed_by : (p : Place) (ds : List Deed) →
-    AllByRecursion (λ d. AllByRecursion (λ r. AreFormed r.1) (brought_in d.doing).rows) ds →
+formed_by : (p : Place) (ds : List Deed) → AllByRecursion IsFormedDeed ds →
     AllByRecursion (λ f. AreFormed f.1.rows) p.fillings →
     AllByRecursion (λ f. AreFormed f.1.rows) (filled_by p ds p.fillings)
 formed_by p [] new old = old
 formed_by p (d ∷ ds) new old =
-    rows_formed p (brought_in d.doing).rows (filled_by p ds p.fillings) new.0 (formed_by p ds new.1 old)
+    rows_formed p (brought_in d.doing).rows (filled_by p ds p.fillings) new.0.0 (formed_by p ds new.1 old)
+
+-- ---- actions are logged
+
+-- by these deeds of a node, and by those before them
+with_logs : (ds : List Deed) (n : Node) → AllByRecursion (λ d. AreWritten d.logs) ds → AreWritten (logged n) →
+    AreWritten (logged (with_deeds ds n))
+with_logs [] n new old = old
+with_logs (d ∷ ds) n new old =
+    all_appended (λ l. IsWritten l.action) d.logs (logged (with_deeds ds n)) new.0 (with_logs ds n new.1 old)
+
+logs_by : (c : Commit) → IsFormedCommit c → (o : Option Node) → AreWritten (logs_in o) →
+    AreWritten (logs_in (option_map (with_deeds c.deeds) (option_or c.becomes o)))
+logs_by c formed o old = by (option_or c.becomes o) (either c.becomes formed.1)
+  where
+    either : (new : Option Node) → AreWritten (logs_in new) → AreWritten (logs_in (option_or new o))
+    either None none = old
+    either (Some n) written = written
+
+    by : (o : Option Node) → AreWritten (logs_in o) → AreWritten (logs_in (option_map (with_deeds c.deeds) o))
+    by None written = tt
+    by (Some n) written =
+        with_logs c.deeds n
+        (all_map IsFormedDeed (λ d. AreWritten d.logs) (λ d is. is.1) c.deeds formed.0) written
+
+-- a transaction logs its own actions
+own_written : (own : ℕ) (k : Knowledge) (actions : List Action) → AllByRecursion IsWritten actions →
+    AreWritten (own_logs own k actions)
+own_written own k actions written =
+    all_given IsWritten (λ l. IsWritten l.action) (λ a. logged_on own k a (member_of a.table k.config))
+    (λ a is. by a is (member_of a.table k.config)) actions written
+  where
+    by : (a : Action) → IsWritten a → (o : Option (ℕ × TableRow)) →
+        OnSome (λ l. IsWritten l.action) (logged_on own k a o)
+    by a is None = tt
+    by a is (Some e) =
+        elim (is_origin own e.1.set_id k.config) as (λ b. OnSome (λ (l : Logged). IsWritten l.action)
+        (cond b (Some (record {
+          set_id = e.1.set_id;
+          table_id = e.0;
+          era = era_of e.1.set_id k.config;
+          origin = own;
+          action = a;
+        })) None)) [ true ↦ is | false ↦ tt ]
+
+logs_with_commit : (xid : ℕ) (p : Place) → AllByRecursion IsWritten p.actions → (o : Option Node) →
+    AreWritten (logs_in o) → AreWritten (logs_in (option_map (with_commit xid p) o))
+logs_with_commit xid p written None old = tt
+logs_with_commit xid p written (Some n) old =
+    with_logs (commit_deed xid p n ∷ []) n
+    (own_written n.id (knowledge n) (own_actions xid p) (all_filtered IsWritten _ p.actions written), tt) old
 
 -- ---- each move
 
@@ -203,10 +268,14 @@ spelled_committed : (name : List ℕ) (xid : ℕ) (p : Place) → is_beyond (Com
 spelled_committed name xid p within s =
     elim (own_count xid p == 0)
     as (λ b. (not b && is_last_stamp p) ≡ false →
-    IsSpelled (record (done (Commits name xid) p) { stamp = cond b p.stamp (p.stamp + 1) })) [
-      | true ↦ λ any. spelled_same p _ (refl, refl, omega arith, refl, refl, refl, refl) s
+    IsSpelled (record (done (Commits name xid) p) {
+      stamp = cond b p.stamp (p.stamp + 1);
+      node = cond b p.node (option_map (with_commit xid p) p.node);
+    })) [
+      | true ↦ λ any. spelled_same p _ (refl, refl, omega arith, refl, refl, refl, refl, refl) s
       | false ↦
-          λ less. spelled_stamped p _ refl refl refl (s.filled, omega arith)
+          λ less. spelled_stamped p _ refl refl refl
+          (s.filled, logs_with_commit xid p s.written p.node s.logged, omega arith)
           (record { stamp = below_limit (p.stamp + 1) less; xids = s.small.xids; numbers = s.small.numbers }) s
     ] within
 
@@ -214,28 +283,31 @@ spelled_done : (task : Task) (move : Move) (p : Place) → IsTask task → MayMo
     IsSpelled (done move p)
 spelled_done task Stays p formed may sound s = s
 spelled_done task Founds p formed may sound s =
-    spelled_same (first_rows p) (done Founds p) (refl, refl, omega arith, refl, refl, refl, refl) (spelled_first p s)
+    spelled_same (first_rows p) (done Founds p) (refl, refl, omega arith, refl, refl, refl, refl, refl)
+    (spelled_first p s)
 spelled_done task (Tables table columns) p formed may sound s = record {
   small = record { stamp = below_limit (p.stamp + 1) may.within; xids = s.small.xids; numbers = s.small.numbers };
   written = s.written;
   filled = s.filled;
+  logged = s.logged;
   narrow = ((may.allows formed).1, s.narrow);
   few = s.few;
   bare = λ none. absurd (omega (arith, none));
 }
 spelled_done task (Begins name) p formed may sound s =
-    spelled_same (raised Xids p) (done (Begins name) p) (refl, refl, omega arith, refl, refl, refl, refl)
+    spelled_same (raised Xids p) (done (Begins name) p) (refl, refl, omega arith, refl, refl, refl, refl, refl)
     (spelled_raised Xids p may.within s)
 spelled_done task (Writes xid table change) p formed may sound s =
-    spelled_written task xid table change p (formed, may.allows) may.within s
+    spelled_written task xid table change p (formed, may.allows) may.within
+    (keeps_sound.tasks.moves task (Writes xid table change) p tt may sound) s
 spelled_done task (Commits name xid) p formed may sound s = spelled_committed name xid p may.within s
 spelled_done task (Aborts name) p formed may sound s =
-    spelled_same p (done (Aborts name) p) (refl, refl, omega arith, refl, refl, refl, refl) s
+    spelled_same p (done (Aborts name) p) (refl, refl, omega arith, refl, refl, refl, refl, refl) s
 spelled_done task Falls p formed may sound s =
-    spelled_same p (done Falls p) (refl, refl, omega arith, refl, refl, refl, refl) s
+    spelled_same p (done Falls p) (refl, refl, omega arith, refl, refl, refl, refl, refl) s
 spelled_done task Rises p formed may sound s =
     spelled_same (prepared Rises p) (done Rises p)
-    (refl, refl, (sound_prepared Rises p sound).numbers_below, refl, refl, refl, refl)
+    (refl, refl, (sound_prepared Rises p sound).numbers_below, refl, refl, refl, refl, refl)
     (spelled_prepared Rises p may.within s)
 
 -- a sound database stays spelled
@@ -252,17 +324,18 @@ keeps_spelled = record {
     falls =
         λ count p s. (
           keeps_sound.tasks.falls count p s.0,
-          spelled_same p _ (refl, refl, omega arith, refl, refl, refl, refl) s.1,
+          spelled_same p _ (refl, refl, omega arith, refl, refl, refl, refl, refl) s.1,
         );
     wavers =
         λ stands p s. (
           keeps_sound.tasks.wavers stands p s.0,
-          spelled_same p _ (refl, refl, omega arith, refl, refl, refl, refl) s.1,
+          spelled_same p _ (refl, refl, omega arith, refl, refl, refl, refl, refl) s.1,
         );
   };
   commits = λ c p formed s. (
     keeps_sound.commits c p formed.0 s.0,
-    spelled_stamped p _ refl refl refl (formed_by p c.deeds formed.1 s.1.filled, omega arith)
+    spelled_stamped p _ refl refl refl
+        (formed_by p c.deeds formed.1.0 s.1.filled, logs_by c formed.1 p.node s.1.logged, omega arith)
         (record {
           stamp = below_limit (p.stamp + 1) formed.0;
           xids = s.1.small.xids;
@@ -272,6 +345,6 @@ keeps_spelled = record {
   promises =
       λ node p s. (
         keeps_sound.promises node p s.0,
-        spelled_same p _ (refl, refl, omega arith, refl, refl, refl, refl) s.1,
+        spelled_same p _ (refl, refl, omega arith, refl, refl, refl, refl, refl) s.1,
       );
 }

@@ -1,11 +1,13 @@
 -- What holds of every database that is reached by commands whose parts have their forms.
-use Rattle.std.specs.Prelude.{◌≡◌, ◌<◌, ◌≤◌, ℕ, List, length, map, Some}
+use Rattle.std.specs.Prelude.{◌≡◌, ◌<◌, ◌≤◌, ℕ, List, [], length, map, Option, Some, None}
 use Rattle.std.specs.FinMap.{get}
 use Rattle.std.specs.List.{AllByRecursion}
 use Rattle.slon_base.specs.Codec.{IsText, AllTexts, AreTexts}
+use Rattle.slon_model.specs.Names.{Named}
 use Rattle.slon_model.specs.Rows.{Row, Rows, Action, Change, Put, Set, Remove}
 use Rattle.slon_model.specs.Spoken.{IsTableName, IsChange, most_columns}
-use Rattle.slon_model.specs.Deeds.{brought_in}
+use Rattle.slon_model.specs.Deeds.{Deed, Logged, Node, brought_in}
+use Rattle.slon_model.specs.Logs.{logged}
 use Rattle.slon_model.specs.Place.{Place}
 use Rattle.slon_model.specs.Moves.{stored_limit}
 use Rattle.slon_model.specs.Sessions.{Commit}
@@ -18,6 +20,7 @@ CanSpell (Remove key) = IsText key
 
 -- an action has its forms, and can be spelled
 pub record IsWritten (a : Action) : Type 0 where
+  pub number : a.number < stored_limit
   pub table : IsText a.table
   pub change : CanSpell a.change
   pub named : IsTableName a.table
@@ -30,9 +33,26 @@ IsRowFormed key row = CanSpell (Put key row) × IsChange (Put key row)
 abbrev pub AreFormed : Rows → Type 0
 AreFormed rows = (key : List ℕ) (row : Row) → get rows key ≡ Some row → IsRowFormed key row
 
--- so are those that a commit fills tables with
-abbrev pub FillsFormed : Commit → Type 0
-FillsFormed c = AllByRecursion (λ d. AllByRecursion (λ r. AreFormed r.1) (brought_in d.doing).rows) c.deeds
+-- so are those that tables are filled with
+abbrev pub AreFilled : Named Rows → Type 0
+AreFilled rows = AllByRecursion (λ r. AreFormed r.1) rows
+
+-- each action in a log is such as a write makes it
+abbrev pub AreWritten : List Logged → Type 0
+AreWritten logs = AllByRecursion (λ l. IsWritten l.action) logs
+
+-- all that the node of a database has logged, if it is one
+abbrev pub logs_in : Option Node → List Logged
+logs_in None = []
+logs_in (Some n) = logged n
+
+-- a deed fills tables with such rows, and logs such actions
+abbrev pub IsFormedDeed : Deed → Type 0
+IsFormedDeed d = AreFilled (brought_in d.doing).rows × AreWritten d.logs
+
+-- so does each deed of a commit, and the node that it makes has logged such actions
+abbrev pub IsFormedCommit : Commit → Type 0
+IsFormedCommit c = AllByRecursion IsFormedDeed c.deeds × AreWritten (logs_in c.becomes)
 
 -- what is stored is at most the limit of stored numbers
 pub record IsSmall (p : Place) : Type 0 where
@@ -44,6 +64,7 @@ pub record IsSpelled (p : Place) : Type 0 where
   pub small : IsSmall p
   pub written : AllByRecursion IsWritten p.actions
   pub filled : AllByRecursion (λ f. AreFormed f.1.rows) p.fillings
+  pub logged : AllByRecursion (λ l. IsWritten l.action) (logs_in p.node)
   pub narrow : AllByRecursion (λ t. t.1 ≤ most_columns) p.tables
   -- each action has a number of its own
   pub few : length p.actions < p.numbers.next

@@ -4,7 +4,7 @@ use Rattle.slon_model.specs.Names.{Named, find_named, put_named}
 use Rattle.slon_model.specs.Place.{Place, fallen}
 use Rattle.slon_model.specs.Moves.{is_last_stamp}
 use Rattle.slon_model.specs.Sessions.{Commit, committing, in_doubt, stood_at}
-use Rattle.slon_laws.specs.Spelled.{FillsFormed}
+use Rattle.slon_laws.specs.Spelled.{IsFormedCommit}
 
 -- It makes a commit of which F holds, it goes down, or such a commit of it is in doubt.
 pub data Turned (F : Commit → Place → Type 0) (p q : Place) : Type 0 where
@@ -32,6 +32,6 @@ AllHold F (c ∷ cs) ps =
 abbrev pub IsWithin : Commit → Place → Type 0
 IsWithin c p = is_last_stamp p ≡ false
 
--- and the rows that it fills tables with have their forms
+-- and the rows that it fills tables with, and what it logs, have their forms
 abbrev pub IsFormed : Commit → Place → Type 0
-IsFormed c p = IsWithin c p × FillsFormed c
+IsFormed c p = IsWithin c p × IsFormedCommit c

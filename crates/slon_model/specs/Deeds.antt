@@ -8,14 +8,24 @@ use Rattle.slon_model.specs.Config.{Config, change}
 use Rattle.slon_model.specs.Names.{Named}
 use Rattle.slon_model.specs.Views.{View, Views, views_emitted, with_views}
 
--- What a node takes of sets as it applies an event: what it keeps of each from then on, and the rows with which it
--- fills tables.
+-- An action of the origin of an era on a table of its set, as a node logs it.
+pub record Logged : Type 0 where
+  pub set_id : ℕ
+  pub table_id : ℕ
+  pub era : ℕ
+  pub origin : ℕ
+  pub action : Action
+
+-- What a node takes of sets as it applies an event: what it keeps of each from then on, the rows with which it fills
+-- tables, what it logs, the newest action first, and how many rows came.
 pub record Brought : Type 0 where
   pub views : Map View
   pub rows : Named Rows
+  pub logs : List Logged
+  pub count : ℕ
 
 abbrev pub nothing_brought : Brought
-nothing_brought = record { views = []; rows = [] }
+nothing_brought = record { views = []; rows = []; logs = []; count = 0 }
 
 -- What a node does in one transaction of its store.
 pub data Doing : Type 0 where
@@ -26,14 +36,6 @@ pub data Doing : Type 0 where
   Commits : (xid : ℕ) → Doing
   -- confirmations: an origin, a node, and how far that node is
   Hears : (confirms : List (ℕ × ℕ × ℕ)) → Doing
-
--- An action of the origin of an era on a table of its set, as a node logs it.
-pub record Logged : Type 0 where
-  pub set_id : ℕ
-  pub table_id : ℕ
-  pub era : ℕ
-  pub origin : ℕ
-  pub action : Action
 
 -- A deed, with the number of the next action there as it was done, the rows that tables have as they come into a set by
 -- it, and what it logs, the newest action first.

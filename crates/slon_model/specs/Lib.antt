@@ -3,6 +3,7 @@ pub mod Deciding
 pub mod Deeds
 pub mod Eras
 pub mod Events
+pub mod Following
 pub mod Forms
 pub mod Lines
 pub mod Logs

@@ -1,7 +1,7 @@
 -- How far a node is in a set that it subscribes to: the era and the snapshot that it keeps of it.
-use Rattle.std.specs.Prelude.{ℕ, pred, List, [], ◌∷◌}
+use Rattle.std.specs.Prelude.{ℕ, pred, if◌then◌else◌, List, [], ◌∷◌}
 use Rattle.slon_model.specs.Maps.{Map, with_entry, without_entry}
-use Rattle.slon_model.specs.Snapshots.{Snapshot}
+use Rattle.slon_model.specs.Snapshots.{Snapshot, covers}
 use Rattle.node_rows.specs.declared.body.Body.{Body}
 use Rattle.node_rows.specs.declared.body.Body.TheVariants.{MoveSet, FailoverSet}
 use Rattle.slon_model.specs.Events.{Event, Taken}
@@ -23,6 +23,14 @@ Views = Map View
 abbrev pub first_view : ℕ → ℕ → ℕ → Snapshot → View
 first_view era origin number seen =
     record { era = era; origin = origin; number = number; seen = seen; base_era = era; base = seen }
+
+-- the second, where the first does not cover it
+abbrev pub later_of : Snapshot → Snapshot → Snapshot
+later_of a b = if covers a b then a else b
+
+-- behind a SYNC
+abbrev pub view_after : Event → View → View
+view_after e v = record v { number = e.number; seen = later_of v.seen e.taken }
 
 abbrev pub without_sets : List Taken → Views → Views
 without_sets [] views = views

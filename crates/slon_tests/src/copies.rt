@@ -1,16 +1,13 @@
 // A node that copies a set from its origin: what it has then, why it cannot, and what comes of it where a store fails.
-use crate::polls::{DATABASES, NODES, PAIR, expect_each, expect_lines};
-use crate::running::{NOTHING, run};
-use crate::wanted::{Step, is_among, nothing_wanted};
-use node_keeper::MemSink;
-use slon_main::Status;
-use std::alloc::Global;
+use crate::polls::{PAIR, expect_each, expect_lines};
+use crate::sweeps::Sweep;
+use crate::wanted::Step;
 use std::test::Fail;
-use test_words::{keeping, require};
+use test_words::require;
 
 /// Node 2 is to receive the set of `PAIR`. One transaction of the origin has committed a row by then, and another one
 /// is still open.
-const SUBSCRIBED: &[Step] = &[
+pub(crate) const SUBSCRIBED: &[Step] = &[
     (
         "slonik t <<\ncluster name = demo;\nnode 1 admin conninfo = 'dbname=a';\n\
         node 2 admin conninfo = 'dbname=b';\nsubscribe set (id = 1, provider = 1, receiver = 2);\n>>",
@@ -56,14 +53,15 @@ const COPIED: &[&[Step]] = &[
         ("work 2 1", "no 60 nothing"),
         ("listen 1 2", "ok events 1 confirms 1"),
     ],
-    // What comes with a SYNC of the origin is not built yet.
+    // What a transaction that was open at the copy wrote comes with the next SYNC.
     &[
         ("work 2 1", "ok ENABLE_SUBSCRIPTION 7 rows 1"),
         ("commit a x", "ok actions 1"),
+        ("rows b public.t", "ok rows 1 q=2"),
         ("sync 1", "ok event 1 8"),
         ("listen 2 1", "ok events 1 confirms 0"),
-        ("work 2 1", "no 98 notbuilt work"),
-        ("rows b public.t", "ok rows 1 q=2"),
+        ("work 2 1", "ok SYNC 8 rows 1"),
+        ("rows b public.t", "ok rows 2 p=1 q=2"),
     ],
     // Each refusal: the nodes are cut off from one another, the origin is down, and a transaction of the node wrote the
     // table. The event waits on.
@@ -137,85 +135,54 @@ fn tables_are_compared(rt: HostRuntime) -> Result<(), Fail> {
 
 // ---- where a store fails
 
-/// The replies to the copy while the store of a database fails behind this number of calls, and to the lines behind it.
-fn copied(alloc: Global, database: &str, calls: u32, keep: bool) -> Result<MemSink, Fail> {
-    let mut wanted = nothing_wanted(alloc);
-    wanted.push_all(DATABASES)?;
-    wanted.push_script(NODES, PAIR)?;
-    wanted.push_all(SUBSCRIBED)?;
-    let front = wanted.session.as_str();
-    let kept = keeping(keep);
-    let whole = format!(in alloc;
-        "{front}crash {database} after {calls} {kept}\nwork 2 1\ncrash {database}\nup {database}\nrows b public.t\n"
-    )?;
-    let (is, out) = run(alloc, Some("s"), whole.as_bytes(), NOTHING)?;
-    require(is == Status::Done, "a set that is copied")?;
-    Ok(out)
-}
+/// The set that is copied, over a store of the node that fails.
+const SWEPT: Sweep = Sweep {
+    front: &[SUBSCRIBED],
+    database: "b",
+    lines: "work 2 1\ncrash b\nup b\nrows b public.t\n",
+    done: &[
+        "ok ENABLE_SUBSCRIPTION 7 rows 1",
+        "ok",
+        "ok",
+        "ok rows 1 q=2",
+    ],
+    failed: &["no 10 fault b 1", "no 16 down b", "ok", "ok rows 0"],
+    kept: &[
+        "doubt b ok ENABLE_SUBSCRIPTION 7 rows 1",
+        "no 16 down b",
+        "ok kept",
+        "ok rows 1 q=2",
+    ],
+    lost: &[
+        "doubt b ok ENABLE_SUBSCRIPTION 7 rows 1",
+        "no 16 down b",
+        "ok lost",
+        "ok rows 0",
+    ],
+};
 
-const DONE: [&str; 4] = [
-    "ok ENABLE_SUBSCRIPTION 7 rows 1",
-    "ok",
-    "ok",
-    "ok rows 1 q=2",
-];
+const FAILED_AT_ORIGIN: &[&str] = &["no 10 fault a 1", "no 16 down a", "ok", "ok rows 0"];
 
-/// What may be replied to `work`, `crash`, `up` and `rows` where the store of the node fails: it is done; nothing of it
-/// stands; or the commit is in doubt, and all of it stands or nothing.
-fn outcomes(keep: bool) -> [[&'static str; 4]; 3] {
-    let down = "no 16 down b";
-    let doubt = "doubt b ok ENABLE_SUBSCRIPTION 7 rows 1";
-    [
-        DONE,
-        ["no 10 fault b 1", down, "ok", "ok rows 0"],
-        if keep {
-            [doubt, down, "ok kept", "ok rows 1 q=2"]
-        } else {
-            [doubt, down, "ok lost", "ok rows 0"]
-        },
-    ]
-}
-
-/// Whether the crash was told.
-fn is_told(alloc: Global, database: &str, calls: u32, keep: bool) -> Result<bool, Fail> {
-    let out = copied(alloc, database, calls, keep)?;
-    let text = str::from_utf8(out.written())?;
-    if database == "a" {
-        let failed = ["no 10 fault a 1", "no 16 down a", "ok", "ok rows 0"];
-        return is_among(
-            text,
-            [DONE.as_slice(), failed.as_slice(), failed.as_slice()],
-        );
-    }
-    let [done, failed, doubted] = outcomes(keep);
-    is_among(
-        text,
-        [done.as_slice(), failed.as_slice(), doubted.as_slice()],
-    )
-}
-
-/// A crash at each call: the first calls are told, and those behind are not reached. How many are told.
-fn told_at_each(alloc: Global, database: &str, keep: bool) -> Result<u32, Fail> {
-    let mut told = 0;
-    for calls in 0..80 {
-        if is_told(alloc, database, calls, keep)? {
-            require(told == calls, "a call that is not told")?;
-            told = calls + 1;
-        }
-    }
-    Ok(told)
-}
+/// The same over a store of the origin: nothing is done where it fails.
+const SWEPT_AT_ORIGIN: Sweep = Sweep {
+    database: "a",
+    lines: "work 2 1\ncrash a\nup a\nrows b public.t\n",
+    failed: FAILED_AT_ORIGIN,
+    kept: FAILED_AT_ORIGIN,
+    lost: FAILED_AT_ORIGIN,
+    ..SWEPT
+};
 
 #[test]
 fn copies_crash_at_every_call_of_the_node(rt: HostRuntime) -> Result<(), Fail> {
     let alloc = rt.alloc();
-    let told = told_at_each(alloc, "b", false)?;
-    require(told > 15 && told < 80, "the calls of the node")?;
-    require(told_at_each(alloc, "b", true)? == told, "kept at the node")
+    let told = SWEPT.told_at_each(alloc, false)?;
+    require(told > 15, "the calls of the node")?;
+    require(SWEPT.told_at_each(alloc, true)? == told, "kept at the node")
 }
 
 #[test]
 fn copies_crash_at_every_call_of_the_origin(rt: HostRuntime) -> Result<(), Fail> {
-    let told = told_at_each(rt.alloc(), "a", false)?;
-    require(told > 4 && told < 80, "the calls of the origin")
+    let told = SWEPT_AT_ORIGIN.told_at_each(rt.alloc(), false)?;
+    require(told > 4, "the calls of the origin")
 }

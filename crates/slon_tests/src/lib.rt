@@ -22,6 +22,10 @@ mod stores;
 #[cfg(test)]
 mod subscriptions;
 #[cfg(test)]
+mod sweeps;
+#[cfg(test)]
+mod syncs;
+#[cfg(test)]
 mod system;
 #[cfg(test)]
 mod wanted;

@@ -19,8 +19,8 @@ use Rattle.slon_model.specs.Deeds.{Brought, knowledge, progress}
 use Rattle.slon_model.specs.Sessions.{Memory, bind, checked, when}
 use Rattle.slon_model.specs.Polls.{line_of, queue_at}
 use Rattle.slon_model.specs.Tasks.{Words}
-use Rattle.slon_model.specs.Working.{Carried, can_carry_out, carried, copying_in, next_at, receives_from, taken_up}
-use Rattle.slon_model.specs.Working.{rows_in as rows_brought}
+use Rattle.slon_model.specs.Working.{Carried, can_carry_out, carried, errand_in, errand_of, next_at, receives_from}
+use Rattle.slon_model.specs.Working.{taken_up}
 use Rattle.slon_model.specs.World.{reply_of, refusal_of}
 use Rattle.set_config.proofs.Entries.{eq_of}
 use Rattle.event_store.specs.declared.event.Event as declared
@@ -32,7 +32,6 @@ use Rattle.app_store.specs.Fits.{Fits}
 use Rattle.app_store.specs.Parts.{FellTo, Fell}
 use Rattle.app_store.specs.Serves.{answered, is_memory, trouble}
 use Rattle.node_store.specs.Acting.{joined}
-use Rattle.node_store.specs.Bringing.{CanBring}
 use Rattle.remote_listener.specs.Queues.{FitsQueue}
 use Rattle.remote_listener.proofs.Lines.{line_with}
 use Rattle.remote_worker.specs.declared.worker.Fetched.{Fetched}
@@ -51,7 +50,7 @@ use Rattle.slon_turns.specs.Working.{stated_work, left_by_work}
 use Rattle.slon_turns.specs.Applying.{applied_as, brought_with, due_at, AppliesAt, Finder, Post, PostFits}
 use Rattle.slon_turns.specs.Applying.{seat_in, WorksHere}
 use Rattle.slon_turns.specs.Planning.{IsPlanned}
-use Rattle.slon_turns.proofs.Counted.{rows_counted}
+use Rattle.remote_worker.proofs.Counted.{rows_counted}
 use Rattle.slon_turns.proofs.Acted.{acts_as}
 use Rattle.slon_turns.proofs.Waiting.{queue_here}
 
@@ -119,38 +118,38 @@ next_is {s} {origin} {w} {old} next fits =
 -- what the node applies of an event, with what it brings
 abbrev brings_of : Post → Finder → Event → Result Carried Refusal
 brings_of s find e =
-    bind (brought_with s.memory (seat_in s) e find (copying_in s.node.id e.body)) (λ b. Ok (carried (seat_in s) e b))
+    bind (brought_with s.memory (seat_in s) e find (errand_of (seat_in s) e)) (λ b. Ok (carried (seat_in s) e b))
 
 -- it does not wait
 pub missing_due : {s : Post} {origin : ℕ} {w : Worker IsReady} {old : Base × Queue} → IsNext s origin w →
     PostFits s old → waits_as w.origin w.state.number old.1 ≡ None → (find : Finder) →
     due_at origin s.memory (seat_in s) find ≡ Err refused.Nothing
 missing_due {s} {origin} next fits none find =
-    ap (λ o. bind (taken_up origin (seat_in s) o) (brings_of s find))
+    ap (λ o. bind (taken_up o) (brings_of s find))
     (next_is next fits ∙ ap (option_map seen_event) none)
 
--- a node that receives sets of the origin or none can carry out what waits, or not
+-- the node can carry out what waits, or not
 abbrev pub due_by : Post → Finder → declared.Event → Bool → Result Carried Refusal
 due_by s find e can =
     bind (checked (when (not can) (refused.NotBuilt (codes "work")) ∷ []) (seen_event e)) (brings_of s find)
 
 pub found_due : {s : Post} {origin : ℕ} {w : Worker IsReady} {old : Base × Queue} {can : Bool} → IsNext s origin w →
     PostFits s old → (e : declared.Event) → waits_as w.origin w.state.number old.1 ≡ Some e →
-    can_carry_out w.state.receives e.body ≡ can → (find : Finder) →
+    can_carry_out e.body ≡ can → (find : Finder) →
     due_at origin s.memory (seat_in s) find ≡ due_by s find e can
 found_due {s} {origin} {w} next fits e found can find =
-    ap (λ o. bind (taken_up origin (seat_in s) o) (brings_of s find))
+    ap (λ o. bind (taken_up o) (brings_of s find))
     (next_is next fits ∙ ap (option_map seen_event) found)
-    ∙ ap (due_by s find e) (ap (λ r. can_carry_out r e.body) (sym next.receives) ∙ can)
+    ∙ ap (due_by s find e) can
 
 -- ---- what is taken
 
 -- what was taken is due
 pub due_taken : {w : Worker IsReady} (queue : Queue) (t : Worker Taken) → Takes w queue (Due t) →
-    IsDue w.node w.state.receives (waits_as t.origin t.state.number queue) t.state
+    IsDue w (waits_as t.origin t.state.number queue) t.state
 due_taken {w} queue t took =
-    subst (λ o. IsDue w.node w.state.receives (waits_as o t.state.number queue) t.state) (sym took.1)
-    (subst (λ n. IsDue w.node w.state.receives (waits_as w.origin n queue) t.state) (sym took.2) took.3)
+    subst (λ o. IsDue w (waits_as o t.state.number queue) t.state) (sym took.1)
+    (subst (λ n. IsDue w (waits_as w.origin n queue) t.state) (sym took.2) took.3)
 
 -- what was taken is what the node is to apply
 pub taken_planned : {s : Post} {origin : ℕ} {w : Worker IsReady} {old : Base × Queue} (t : Worker Taken) →
@@ -163,7 +162,13 @@ taken_planned {s} {w = w} {old} t next fits took =
             ∙ due.is;
         node = took.0 ∙ next.node;
         kind = due.kind;
-        copying = due.copying ∙ ap (λ k. copying_in k due.event.body) next.node;
+        errand = due.errand
+            ∙ ap (λ k. errand_in k w.state.receives w.origin due.event.body) next.node
+            ∙ ap (λ r. errand_in s.node.id r w.origin due.event.body) next.receives
+            ∙ ap (λ o. errand_in s.node.id (receives_from o (knowledge s.node)) w.origin due.event.body)
+            (sym next.origin_is)
+            ∙ ap (λ o. errand_in s.node.id (receives_from o (knowledge s.node)) o due.event.body)
+            (sym (found_is w.origin w.state.number old.1 due.event due.is).0);
       };
       next = next_is next fits ∙ ap (option_map seen_event) due.is;
       due = found_due next fits due.event due.is due.can;
@@ -233,7 +238,7 @@ carried_in l = carried (seat_in l.post) (seen_event l.event) l.brought
 abbrev told_of : Load → Result Bool DbFault → Reply
 told_of l result =
     reply_of (words_at l.post.name)
-    (answered (applied_as (kind_of l.event.body) l.event.number (rows_brought l.brought)) result)
+    (answered (applied_as (kind_of l.event.body) l.event.number l.brought.count) result)
 
 waits_by : (l : Load) (result : Result Bool DbFault) (old new : Queue) → Waits l.post.name l.post.memory old →
     Left l.event.origin l.event.number result old new →
@@ -257,7 +262,6 @@ pub record Doing (w : Worker Fetched) (name : List ℕ) (old : Base × Queue) (r
   pub told : reply ≡ reply_of (words_at name)
       (answered (applied_as w.state.kind w.state.number (rows_given w.state.brought)) result)
   pub full : is_memory (trouble (answered joined result)) ≡ false
-  pub can : CanBring w.state.brought
   pub applies : Applies (waits_as w.origin w.state.number old.1) w.state.brought old.0 (answered joined result) new.0
   pub queue : IfOk result (DropsUnless w.origin w.state.number old.1 new.1)
   pub stays : IfErr result (λ fault. new.1 ≡ old.1)
@@ -295,5 +299,5 @@ applies_at {w} {name} {old} {new} {reply} d s e b named for fits can = record {
         ∙ ap (λ n. said n w.state.kind w.state.number (rows_given w.state.brought)) (sym named)
         ∙ ap (λ k. said s.name k w.state.number (rows_given w.state.brought)) for.kind
         ∙ ap (λ k. said s.name (kind_of e.body) k (rows_given w.state.brought)) (sym is.1)
-        ∙ ap (said s.name (kind_of e.body) e.number) (sym (rows_counted b w.state.brought for.brings can.fills.formed
-        d.can))
+        ∙ ap (said s.name (kind_of e.body) e.number) (sym (rows_counted e.origin s.place b w.state.brought
+        for.brings))

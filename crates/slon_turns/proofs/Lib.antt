@@ -3,8 +3,7 @@ pub mod Answered
 pub mod Applying
 pub mod Between
 pub mod Brought
-pub mod Copied
-pub mod Counted
+pub mod Fetched
 pub mod Due
 pub mod Left
 pub mod Lifted

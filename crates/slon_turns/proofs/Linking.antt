@@ -1,4 +1,4 @@
--- A node that copies a set reaches the provider, or not.
+-- A node that is to bring something reaches the provider, or not.
 use Rattle.std.proofs.Common.{◌≡◌, ◌∙◌, ℕ, true, false, cond, not, List, [], ◌∷◌, Option, Some, None, Result, Ok}
 use Rattle.std.proofs.Common.{Err, sym, ap, subst}
 use Rattle.std.specs.Option.{option_map}
@@ -13,96 +13,97 @@ use Rattle.slon_model.specs.Deeds.{Node, nothing_brought}
 use Rattle.slon_model.specs.Place.{Place, fallen, is_running}
 use Rattle.slon_model.specs.Sessions.{Seat, bind, checked, first_refusal, seat, seat_of, unless_refused, when}
 use Rattle.slon_model.specs.Turns.{seat_at}
-use Rattle.slon_model.specs.Working.{Carried, Copying, carried, copied, copied_from}
+use Rattle.slon_model.specs.Working.{Carried, Errand, brought_at, brought_from, carried, provider_in}
 use Rattle.event_store.specs.declared.queue.Queue.{Queue}
 use Rattle.event_store.specs.Seen.{seen_event}
 use Rattle.app_store.specs.Base.{Base}
 use Rattle.app_store.specs.Fits.{Fits}
-use Rattle.remote_worker.specs.declared.carrying.Copying as declared
+use Rattle.remote_worker.specs.declared.carrying.Errand as declared
 use Rattle.remote_worker.specs.declared.worker.Taken.{Taken}
 use Rattle.remote_worker.specs.declared.worker.Worker.{Worker}
 use Rattle.remote_worker.specs.Fetching.{fetched}
-use Rattle.remote_worker.specs.Working.{seen_copying}
+use Rattle.remote_worker.specs.Working.{seen_errand}
 use Rattle.slonik_exec.specs.Answering.{EndsAt, RefusedAt, BrokenAt, BreaksAt}
 use Rattle.slon_turns.specs.Applying.{brought_with, due_at, Finder, Post, seat_in, WorksHere}
-use Rattle.slon_turns.specs.Planning.{IsPlanned, Reaches, link_checks}
+use Rattle.slon_turns.specs.Planning.{IsPlanned, Reaches, link_checks, provider_by}
 use Rattle.slon_turns.specs.Polling.{Waits}
 use Rattle.slon_turns.specs.Working.{left_by_work}
 use Rattle.slon_turns.proofs.Applying.{left_refused, refused_here}
 
 -- ---- what the node applies
 
--- where it copies this set, and the provider is found so
-abbrev pub copy_due : Post → Event → Copying → Option (List ℕ × Place) → Result Carried Refusal
-copy_due s e c found = bind (copied_from c s.memory (seat_in s) e found) (λ b. Ok (carried (seat_in s) e b))
+-- where it is to bring this, and the provider is found so
+abbrev pub fetch_due : Post → Event → Errand → Option (List ℕ × Place) → Result Carried Refusal
+fetch_due s e c found = bind (brought_from c s.memory (seat_in s) e found) (λ b. Ok (carried (seat_in s) e b))
 
 -- the same by the one of three refusals, if there is one
-abbrev linked_due : Post → Event → Copying → Option (List ℕ × Place) → Option Refusal → Result Carried Refusal
+abbrev linked_due : Post → Event → Errand → Option (List ℕ × Place) → Option Refusal → Result Carried Refusal
 linked_due s e c found refusal =
-    bind (bind (bind (bind (unless_refused refusal found) (λ f. seat_at c.provider f))
+    bind (bind (bind (bind (unless_refused refusal found) (λ f. seat_at (provider_in c) f))
     (λ p. checked (when (not (is_known s.node.id p.known.config)) (refused.NotKnown s.node.id) ∷ []) p))
-    (copied c (seat_in s) e)) (λ b. Ok (carried (seat_in s) e b))
+    (brought_at c (seat_in s) e)) (λ b. Ok (carried (seat_in s) e b))
 
 -- the provider at its seat, or why not
-abbrev seated_due : Post → Event → Copying → Result Seat Refusal → Result Carried Refusal
+abbrev seated_due : Post → Event → Errand → Result Seat Refusal → Result Carried Refusal
 seated_due s e c seated =
     bind (bind (bind seated
     (λ p. checked (when (not (is_known s.node.id p.known.config)) (refused.NotKnown s.node.id) ∷ []) p))
-    (copied c (seat_in s) e)) (λ b. Ok (carried (seat_in s) e b))
+    (brought_at c (seat_in s) e)) (λ b. Ok (carried (seat_in s) e b))
 
-pub copy_refused : (s : Post) (e : Event) (c : Copying) (found : Option (List ℕ × Place)) (refusal : Refusal) →
-    first_refusal (link_checks s.node.id c.provider s.memory.cuts (seat_in s)) ≡ Some refusal →
-    copy_due s e c found ≡ Err refusal
-copy_refused s e c found refusal first = ap (linked_due s e c found) first
+pub fetch_refused : (s : Post) (e : Event) (c : Errand) (found : Option (List ℕ × Place)) (refusal : Refusal) →
+    first_refusal (link_checks s.node.id (provider_in c) s.memory.cuts (seat_in s)) ≡ Some refusal →
+    fetch_due s e c found ≡ Err refusal
+fetch_refused s e c found refusal first = ap (linked_due s e c found) first
 
 -- no database is the provider
-pub copy_missed : (s : Post) (e : Event) (c : Copying) (found : Option (List ℕ × Place)) → Reaches s c.provider →
-    found ≡ None → copy_due s e c found ≡ Err (refused.NoNode c.provider)
-copy_missed s e c found none is =
-    ap (linked_due s e c found) none ∙ ap (λ f. seated_due s e c (seat_at c.provider f)) is
+pub fetch_missed : (s : Post) (e : Event) (c : Errand) (found : Option (List ℕ × Place)) → Reaches s (provider_in c) →
+    found ≡ None → fetch_due s e c found ≡ Err (refused.NoNode (provider_in c))
+fetch_missed s e c found none is =
+    ap (linked_due s e c found) none ∙ ap (λ f. seated_due s e c (seat_at (provider_in c) f)) is
 
 -- it is down
-pub copy_down : (s : Post) (e : Event) (c : Copying) (found : Option (List ℕ × Place)) (at : List ℕ × Place) →
-    Reaches s c.provider → found ≡ Some at → is_running at.1.standing ≡ false →
-    copy_due s e c found ≡ Err (refused.Down at.0)
-copy_down s e c found at none is down =
-    ap (linked_due s e c found) none ∙ ap (λ f. seated_due s e c (seat_at c.provider f)) is
+pub fetch_down : (s : Post) (e : Event) (c : Errand) (found : Option (List ℕ × Place)) (at : List ℕ × Place) →
+    Reaches s (provider_in c) → found ≡ Some at → is_running at.1.standing ≡ false →
+    fetch_due s e c found ≡ Err (refused.Down at.0)
+fetch_down s e c found at none is down =
+    ap (linked_due s e c found) none ∙ ap (λ f. seated_due s e c (seat_at (provider_in c) f)) is
     ∙ ap (λ b. seated_due s e c
-    (cond b (seat_of (refused.NoNode c.provider) at at.1.node) (Err (refused.Down at.0)))) down
+    (cond b (seat_of (refused.NoNode (provider_in c)) at at.1.node) (Err (refused.Down at.0)))) down
 
 -- it is up, and this node
-pub copy_reached : (s : Post) (e : Event) (c : Copying) (found : Option (List ℕ × Place)) (at : List ℕ × Place)
-    (n : Node) → Reaches s c.provider × (found ≡ Some at) → (is_running at.1.standing ≡ true) × (at.1.node ≡ Some n) →
-    copy_due s e c found
+pub fetch_reached : (s : Post) (e : Event) (c : Errand) (found : Option (List ℕ × Place)) (at : List ℕ × Place)
+    (n : Node) → Reaches s (provider_in c) × (found ≡ Some at) →
+    (is_running at.1.standing ≡ true) × (at.1.node ≡ Some n) →
+    fetch_due s e c found
     ≡ bind (fetched c e (seat_in s) (seat at.0 at.1 n)) (λ b. Ok (carried (seat_in s) e b))
-copy_reached s e c found at n (none, is) (up, own) =
-    ap (linked_due s e c found) none ∙ ap (λ f. seated_due s e c (seat_at c.provider f)) is
+fetch_reached s e c found at n (none, is) (up, own) =
+    ap (linked_due s e c found) none ∙ ap (λ f. seated_due s e c (seat_at (provider_in c) f)) is
     ∙ ap (λ b. seated_due s e c
-    (cond b (seat_of (refused.NoNode c.provider) at at.1.node) (Err (refused.Down at.0)))) up
-    ∙ ap (λ o. seated_due s e c (seat_of (refused.NoNode c.provider) at o)) own
+    (cond b (seat_of (refused.NoNode (provider_in c)) at at.1.node) (Err (refused.Down at.0)))) up
+    ∙ ap (λ o. seated_due s e c (seat_of (refused.NoNode (provider_in c)) at o)) own
 
 -- ---- what was planned
 
 -- nothing comes with the event
 pub planned_alone : {origin : ℕ} {s : Post} {w : Worker Taken} {queue : Queue} (p : IsPlanned origin s w queue) →
-    w.state.copying ≡ None → (find : Finder) →
+    w.state.errand ≡ None → (find : Finder) →
     due_at origin s.memory (seat_in s) find ≡ Ok (carried (seat_in s) (seen_event p.event) nothing_brought)
 planned_alone {s = s} p none find =
     p.due find
     ∙ ap (λ o. bind (brought_with s.memory (seat_in s) (seen_event p.event) find o)
     (λ b. Ok (carried (seat_in s) (seen_event p.event) b)))
-    (sym p.took.copying ∙ ap (option_map seen_copying) none)
+    (sym p.took.errand ∙ ap (option_map seen_errand) none)
 
--- or a set
-pub planned_copy : {origin : ℕ} {s : Post} {w : Worker Taken} {queue : Queue} (p : IsPlanned origin s w queue)
-    (c : declared.Copying) → w.state.copying ≡ Some c → (find : Finder) →
+-- or something that is brought
+pub planned_errand : {origin : ℕ} {s : Post} {w : Worker Taken} {queue : Queue} (p : IsPlanned origin s w queue)
+    (c : declared.Errand) → w.state.errand ≡ Some c → (find : Finder) →
     due_at origin s.memory (seat_in s) find
-    ≡ copy_due s (seen_event p.event) (seen_copying c) (find c.provider)
-planned_copy {s = s} p c some find =
+    ≡ fetch_due s (seen_event p.event) (seen_errand c) (find (provider_by c))
+planned_errand {s = s} p c some find =
     p.due find
     ∙ ap (λ o. bind (brought_with s.memory (seat_in s) (seen_event p.event) find o)
     (λ b. Ok (carried (seat_in s) (seen_event p.event) b)))
-    (sym p.took.copying ∙ ap (option_map seen_copying) some)
+    (sym p.took.errand ∙ ap (option_map seen_errand) some)
 
 -- ---- what is told of the link
 
@@ -131,36 +132,38 @@ link_ends {s} {reply} {new} due checks refuses (RefusedAt refusal first is fits)
 link_ends {s} due checks refuses (BrokenAt count is rose fits) waits =
     breaks_here due (record { count = count; is = is; rose = rose; fits = fits }) waits
 
--- What is told of the link of a node that is to copy this set is what its turn comes to.
+-- What is told of the link of a node that is to bring this is what its turn comes to.
 pub record Told {origin : ℕ} {s : Post} {w : Worker Taken} {queue : Queue} (plan : IsPlanned origin s w queue)
-    (c : declared.Copying) (name : List ℕ) (cuts : List (ℕ × ℕ)) : Type 0 where
-  pub some : w.state.copying ≡ Some c
+    (c : declared.Errand) (name : List ℕ) (cuts : List (ℕ × ℕ)) : Type 0 where
+  pub some : w.state.errand ≡ Some c
   pub named : s.name ≡ name
   pub cut : s.memory.cuts ≡ cuts
 
 checks_as : {origin : ℕ} {s : Post} {w : Worker Taken} {queue : Queue} {plan : IsPlanned origin s w queue}
-    {c : declared.Copying} {name : List ℕ} {cuts : List (ℕ × ℕ)} → Told plan c name cuts →
-    link_checks s.node.id c.provider s.memory.cuts (seat_in s)
-    ≡ link_checks w.node c.provider cuts (seat name s.place s.node)
+    {c : declared.Errand} {name : List ℕ} {cuts : List (ℕ × ℕ)} → Told plan c name cuts →
+    link_checks s.node.id (provider_by c) s.memory.cuts (seat_in s)
+    ≡ link_checks w.node (provider_by c) cuts (seat name s.place s.node)
 checks_as {s = s} {w} {plan = plan} {c} t =
-    ap (λ k. link_checks k c.provider s.memory.cuts (seat_in s)) (sym plan.took.node)
-    ∙ ap (λ x. link_checks w.node c.provider x (seat_in s)) t.cut
+    ap (λ k. link_checks k (provider_by c) s.memory.cuts (seat_in s)) (sym plan.took.node)
+    ∙ ap (λ x. link_checks w.node (provider_by c) x (seat_in s)) t.cut
 
 pub link_told : {origin : ℕ} {s : Post} {w : Worker Taken} {queue : Queue} {plan : IsPlanned origin s w queue}
-    {c : declared.Copying} {name : List ℕ} {cuts : List (ℕ × ℕ)} {reply : Reply} {new : Base × Queue} →
-    Told plan c name cuts → EndsAt name s.place (link_checks w.node c.provider cuts (seat name s.place s.node)) reply
+    {c : declared.Errand} {name : List ℕ} {cuts : List (ℕ × ℕ)} {reply : Reply} {new : Base × Queue} →
+    Told plan c name cuts →
+    EndsAt name s.place (link_checks w.node (provider_by c) cuts (seat name s.place s.node)) reply
     new.0 →
     Waits s.name s.memory new.1 → (find : Finder) → WorksHere s (due_at origin s.memory (seat_in s) find) reply new
 link_told {s = s} {plan = plan} {c} {name} {reply = reply} {new} t ends waits find =
-    subst (λ due. WorksHere s due reply new) (sym (planned_copy plan c t.some find))
-    (link_ends (copy_due s (seen_event plan.event) (seen_copying c) (find c.provider))
-    (link_checks s.node.id c.provider s.memory.cuts (seat_in s))
-    (copy_refused s (seen_event plan.event) (seen_copying c) (find c.provider))
-    (subst (λ m. EndsAt m s.place (link_checks s.node.id c.provider s.memory.cuts (seat_in s)) reply new.0)
+    subst (λ due. WorksHere s due reply new) (sym (planned_errand plan c t.some find))
+    (link_ends (fetch_due s (seen_event plan.event) (seen_errand c) (find (provider_by c)))
+    (link_checks s.node.id (provider_by c) s.memory.cuts (seat_in s))
+    (fetch_refused s (seen_event plan.event) (seen_errand c) (find (provider_by c)))
+    (subst (λ m. EndsAt m s.place (link_checks s.node.id (provider_by c) s.memory.cuts (seat_in s)) reply new.0)
     (sym t.named)
     (subst (λ checks. EndsAt name s.place checks reply new.0) (sym (checks_as t)) ends)) waits)
 
 pub link_reaches : {origin : ℕ} {s : Post} {w : Worker Taken} {queue : Queue} {plan : IsPlanned origin s w queue}
-    {c : declared.Copying} {name : List ℕ} {cuts : List (ℕ × ℕ)} → Told plan c name cuts →
-    first_refusal (link_checks w.node c.provider cuts (seat name s.place s.node)) ≡ None → Reaches s c.provider
+    {c : declared.Errand} {name : List ℕ} {cuts : List (ℕ × ℕ)} → Told plan c name cuts →
+    first_refusal (link_checks w.node (provider_by c) cuts (seat name s.place s.node)) ≡ None →
+    Reaches s (provider_by c)
 link_reaches t none = ap first_refusal (checks_as t) ∙ none

@@ -15,7 +15,7 @@ use Rattle.slon_model.specs.Deeds.{Brought, nothing_brought}
 use Rattle.slon_model.specs.Sessions.{World, Memory, Seat, bind}
 use Rattle.slon_model.specs.Turns.{Switches, at_node}
 use Rattle.slon_model.specs.Polls.{queue_at}
-use Rattle.slon_model.specs.Working.{Carried, Copying, carried, copying_in, next_at, source_at, source_by}
+use Rattle.slon_model.specs.Working.{Carried, Errand, carried, errand_of, next_at, source_at, source_by}
 use Rattle.slon_model.specs.Working.{source_for, source_of, taken_up}
 use Rattle.slon_model.specs.Working.{brought_by, worked}
 use Rattle.slon_model.specs.World.{is_of}
@@ -27,11 +27,11 @@ use Rattle.event_store.specs.declared.queue.Queue.{Queue}
 use Rattle.event_store.specs.Seen.{seen_event}
 use Rattle.app_store.specs.Base.{base_of}
 use Rattle.node_store.specs.Bringing.{IsBrought}
-use Rattle.remote_worker.specs.declared.carrying.Copying as declared
+use Rattle.remote_worker.specs.declared.carrying.Errand as declared
 use Rattle.remote_worker.specs.declared.worker.Fetched.{Fetched}
 use Rattle.remote_worker.specs.declared.worker.Taken.{Taken}
 use Rattle.remote_worker.specs.declared.worker.Worker.{Worker}
-use Rattle.remote_worker.specs.Working.{waits_as, IsWith, seen_copying}
+use Rattle.remote_worker.specs.Working.{waits_as, IsWith, seen_errand}
 use Rattle.slonik_exec.specs.declared.databases.Named.{Named as NamedDatabase}
 use Rattle.slonik_exec.specs.declared.reaching.Reached.TheVariants.{At, Refused}
 use Rattle.slonik_exec.specs.Answering.{Answers}
@@ -43,18 +43,18 @@ use Rattle.slonik_exec.proofs.Lifting.{put_worked, comes_at}
 use Rattle.slonik_exec.proofs.Stores.{ready_here}
 use Rattle.slon_turns.specs.declared.working.Work.{Work}
 use Rattle.slon_turns.specs.Applying.{due_at, Finder, PostFits, brought_with, seat_in, WorksHere}
-use Rattle.slon_turns.specs.Copying.{post_of}
+use Rattle.slon_turns.specs.Fetching.{post_of}
 use Rattle.slon_turns.specs.Turning.{Queues, WaitsIn, IsTaken, Kept}
 use Rattle.slon_turns.specs.Polling.{Waits}
 use Rattle.slon_turns.specs.Working.{CanCarry, CarriesOut, Carries, TakesUp, Turn, Works, left_by_work}
 use Rattle.slon_turns.specs.Working.{stated_work}
 use Rattle.slon_turns.proofs.Applying.{left_refused}
 use Rattle.slon_turns.specs.declared.planning.Plan.{Plan}
-use Rattle.slon_turns.specs.declared.planning.Plan.TheVariants.{Told, Alone, Copy}
+use Rattle.slon_turns.specs.declared.planning.Plan.TheVariants.{Told, Alone, Fetch}
 use Rattle.slon_turns.specs.Applying.{AppliesAt}
-use Rattle.slon_turns.specs.Copying.{CopiesFrom, Delivers, Sent, due_sent}
-use Rattle.slon_turns.specs.Planning.{IsPlanned, PlansAt, Reaches}
-use Rattle.slon_turns.proofs.Linking.{planned_alone, planned_copy}
+use Rattle.slon_turns.specs.Fetching.{BringsFrom, Delivers, Sent, due_sent}
+use Rattle.slon_turns.specs.Planning.{IsPlanned, PlansAt, Reaches, provider_by}
+use Rattle.slon_turns.proofs.Linking.{planned_alone, planned_errand}
 use Rattle.slon_turns.proofs.Mids.{LookedAt, found_here, mids_distinct, mids_inside, mids_ready, worked_here}
 use Rattle.slon_turns.proofs.Waiting.{taken_waits, queue_beside, waits_beside}
 
@@ -64,7 +64,7 @@ use Rattle.slon_turns.proofs.Waiting.{taken_waits, queue_beside, waits_beside}
 abbrev pub nodes_at : World → Finder
 nodes_at w id = at_node id w
 
-brought_so : (w : World) (s : Seat) (e : Event) (c : Option Copying) →
+brought_so : (w : World) (s : Seat) (e : Event) (c : Option Errand) →
     brought_by w s e c ≡ brought_with w.memory s e (nodes_at w) c
 brought_so w s e None = refl
 brought_so w s e (Some c) = refl
@@ -73,10 +73,10 @@ pub worked_due : {node : ℕ} {w : World} {name : List ℕ} (origin : ℕ) (s : 
     worked node origin w ≡ due_at origin w.memory (seat_in (post_of s)) (nodes_at w)
 worked_due {w = w} {name} origin s =
     let p = seat_in (post_of s) in
-    ap (λ r. bind r (λ z. bind (taken_up origin z (next_at w.memory z origin)) (λ e.
-    bind (brought_by w z e (copying_in z.node.id e.body)) (λ b. Ok (carried z e b))))) s.due
-    ∙ ap (bind (taken_up origin p (next_at w.memory p origin))) (λ i e.
-    bind (brought_so w p e (copying_in p.node.id e.body) i) (λ b. Ok (carried p e b)))
+    ap (λ r. bind r (λ z. bind (taken_up (next_at w.memory z origin)) (λ e.
+    bind (brought_by w z e (errand_of z e)) (λ b. Ok (carried z e b))))) s.due
+    ∙ ap (bind (taken_up (next_at w.memory p origin))) (λ i e.
+    bind (brought_so w p e (errand_of p e) i) (λ b. Ok (carried p e b)))
 
 -- it can carry that out
 pub can_carry : (node origin : ℕ) (w : World) (c : Carried) → TakesUp node origin w → AllPlaces IsSpelled w →
@@ -208,38 +208,38 @@ carries_alone {kept = kept} {ds} {x} {y} {reply} {queue} {left} {t} {w} z f p wi
       found = ap (λ o. waits_as o f.state.number queue) with.origin ∙ ap (λ n. waits_as w.origin n queue) with.number
           ∙ plan.0.took.found;
       kind = with.kind ∙ plan.0.took.kind;
-      brings = subst (IsBrought nothing_brought) (sym with.brought_is) refl;
+      brings = subst (IsBrought event.origin s.place nothing_brought) (sym with.brought_is) refl;
     }) (record {
       ready = record { fits = plan.2; sound = fits.ready.sound; spelled = fits.ready.spelled };
       is = s.is;
       waits = waits;
     }) (can_carry t.node t.origin v c takes ready.spelled (worked_due t.origin s ∙ due)))))
 
--- the database that a copy reads besides that of the node
+-- the database that is read besides that of the node
 source_is : {node : ℕ} {v : World} {name : List ℕ} {origin : ℕ} {w : Worker Taken} {queue : Queue}
-    (s : SitsOn node v name) (plan : IsPlanned origin (post_of s) w queue) (c : declared.Copying) →
-    w.state.copying ≡ Some c → source_of node origin v ≡ at_node c.provider v
+    (s : SitsOn node v name) (plan : IsPlanned origin (post_of s) w queue) (c : declared.Errand) →
+    w.state.errand ≡ Some c → source_of node origin v ≡ at_node (provider_by c) v
 source_is {v = v} {origin = origin} s plan c some =
     ap (source_at v origin) s.due ∙ ap (source_for v (seat_in (post_of s))) plan.next
-    ∙ ap (source_by v) (sym plan.took.copying ∙ ap (option_map seen_copying) some)
+    ∙ ap (source_by v) (sym plan.took.errand ∙ ap (option_map seen_errand) some)
 
--- What a node does that copies a set, in a session.
+-- What a node does that brings something, in a session.
 record Going {K : Type 0} {g : Ghosts K} (kept : K → KeptStore) (t : Turn) (v : World) (name : List ℕ)
-    (mids news : List (NamedDatabase K g)) (w : Worker Taken) (c : declared.Copying) : Type 0 where
+    (mids news : List (NamedDatabase K g)) (w : Worker Taken) (c : declared.Errand) : Type 0 where
   queue : Queue
   left : Queue
   reply : Reply
   sits : SitsOn t.node v name
   waits : Waits name v.memory queue
   plan : IsPlanned t.origin (post_of sits) w queue
-  some : w.state.copying ≡ Some c
-  reaches : Reaches (post_of sits) c.provider
+  some : w.state.errand ≡ Some c
+  reaches : Reaches (post_of sits) (provider_by c)
   takes : TakesUp t.node t.origin v
   spelled : AllPlaces IsSpelled v
 
 abbrev sent_by : {K : Type 0} {g : Ghosts K} {kept : K → KeptStore} {t : Turn} {v : World} {name : List ℕ}
-    {mids news : List (NamedDatabase K g)} {w : Worker Taken} {c : declared.Copying} →
-    (o : Going kept t v name mids news w c) → Sent (record { taken = w; copying = c }) v name o.queue
+    {mids news : List (NamedDatabase K g)} {w : Worker Taken} {c : declared.Errand} →
+    (o : Going kept t v name mids news w c) → Sent (record { taken = w; errand = c }) v name o.queue
 sent_by {t = t} o = record {
   id = t.node;
   sits = o.sits;
@@ -250,16 +250,16 @@ sent_by {t = t} o = record {
 }
 
 carries_going : {K : Type 0} {g : Ghosts K} {kept : K → KeptStore} {t : Turn} {v : World} {name : List ℕ}
-    {mids news : List (NamedDatabase K g)} {w : Worker Taken} {c : declared.Copying} →
+    {mids news : List (NamedDatabase K g)} {w : Worker Taken} {c : declared.Errand} →
     (o : Going kept t v name mids news w c) →
-    ((z : Sent (record { taken = w; copying = c }) v name o.queue) →
+    ((z : Sent (record { taken = w; errand = c }) v name o.queue) →
     ((x : Carried) → due_sent z ≡ Ok x → CanCarry x) → Delivers z o.reply (bases_of kept news) o.left) →
     Carries t.node t.origin v name o.reply (bases_of kept news) o.left
-carries_going {kept = kept} {t} {v} {name} {news = news} {w} {c} o copies =
+carries_going {kept = kept} {t} {v} {name} {news = news} {w} {c} o brings =
     let s = o.sits in
     let due : worked t.node t.origin v ≡ due_sent (sent_by o)
-    = worked_due t.origin s ∙ planned_copy o.plan c o.some (nodes_at v) in
-    let d = copies (sent_by o) (λ x is. can_carry t.node t.origin v x o.takes o.spelled (due ∙ is)) in
+    = worked_due t.origin s ∙ planned_errand o.plan c o.some (nodes_at v) in
+    let d = brings (sent_by o) (λ x is. can_carry t.node t.origin v x o.takes o.spelled (due ∙ is)) in
     record {
       comes = subst (λ r. Comes v (stated_work r) o.reply (bases_of kept news)) (sym due) d.comes;
       own = λ other halt told.
@@ -268,13 +268,13 @@ carries_going {kept = kept} {t} {v} {name} {news = news} {w} {c} o copies =
       waits = subst (λ r. Waits name (left_by_work r o.reply v.memory) o.left) (sym due) d.waits;
     }
 
--- it copied a set
-pub carries_copied : {K : Type 0} {g : Ghosts K} {kept : K → KeptStore} {ds : List (NamedDatabase K g)}
+-- it brought something
+pub carries_brought : {K : Type 0} {g : Ghosts K} {kept : K → KeptStore} {ds : List (NamedDatabase K g)}
     {x y : NamedDatabase K g} {reply : Reply} {queue left : Queue} {t : Turn} {w : Worker Taken}
-    {c : declared.Copying} (news : List (NamedDatabase K g)) → Planned kept t ds queue (Copy w c) x y →
-    CopiesFrom kept (record { taken = w; copying = c }) t.index (set ds t.index y, queue) reply (news, left) →
+    {c : declared.Errand} (news : List (NamedDatabase K g)) → Planned kept t ds queue (Fetch w c) x y →
+    BringsFrom kept (record { taken = w; errand = c }) t.index (set ds t.index y, queue) reply (news, left) →
     CarriesOut kept t (ds, queue) reply (news, left)
-carries_copied {kept = kept} {ds} {x} {y} {reply} {queue} {left} {t} {w} {c} news p copies v d ready cuts held =
+carries_brought {kept = kept} {ds} {x} {y} {reply} {queue} {left} {t} {w} {c} news p brings v d ready cuts held =
     subst (λ e. SitsOn t.node v e.name → Waits e.name v.memory queue → TakesUp t.node t.origin v →
     Carries t.node t.origin v e.name reply (bases_of kept news) left)
     (sym (one_here ds t.index x d (p.look.inside, p.look.held) held))
@@ -295,9 +295,9 @@ carries_copied {kept = kept} {ds} {x} {y} {reply} {queue} {left} {t} {w} {c} new
       spelled = ready.spelled;
     } in
     carries_going o
-    (subst (λ n. (z : Sent (record { taken = w; copying = c }) v n queue) →
+    (subst (λ n. (z : Sent (record { taken = w; errand = c }) v n queue) →
     ((q : Carried) → due_sent z ≡ Ok q → CanCarry q) → Delivers z reply (bases_of kept news) left) p.look.name
-    (copies v y mids (sym (get_or-set_same ds t.index y y p.look.inside)))))
+    (brings v y mids (sym (get_or-set_same ds t.index y y p.look.inside)))))
 
 -- ---- all turns
 
@@ -309,8 +309,8 @@ pub work_refused : {K : Type 0} {g : Ghosts K} (kept : K → KeptStore) (work : 
     Works work.node work.origin on old (replied.Refused refusal) old
 work_refused kept work on ds queues refusal (calm, turns) w ready started cuts waits takes =
     let is : worked work.node work.origin w ≡ Err refusal
-    = ap (λ r. bind r (λ z. bind (taken_up work.origin z (next_at w.memory z work.origin)) (λ e.
-    bind (brought_by w z e (copying_in z.node.id e.body)) (λ b. Ok (carried z e b))))) (turns w ready.fits started) in
+    = ap (λ r. bind r (λ z. bind (taken_up (next_at w.memory z work.origin)) (λ e.
+    bind (brought_by w z e (errand_of z e)) (λ b. Ok (carried z e b))))) (turns w ready.fits started) in
     record {
       comes = Refuses refusal (ap stated_work is) refl ready.fits;
       own = λ name halt told. let none = calm in absurd cc;
@@ -330,16 +330,16 @@ own_work (Err refusal) name reply m other own apart = refl
 -- what the node applies is its own
 own_due : (m : Memory) (find : Finder) (origin : ℕ) (s : Seat) (c : Carried) → due_at origin m s find ≡ Ok c →
     c.seat ≡ s
-own_due m find origin s c is = by (taken_up origin s (next_at m s origin)) is
+own_due m find origin s c is = by (taken_up (next_at m s origin)) is
   where
     more : (e : Event) (r : Result Brought Refusal) → bind r (λ b. Ok (carried s e b)) ≡ Ok c → c.seat ≡ s
     more e (Ok b) is = let same : carried s e b ≡ c = cc in ap (λ (x : Carried). x.seat) (sym same)
     more e (Err refusal) is = absurd cc
 
     by : (r : Result Event Refusal) →
-        bind r (λ e. bind (brought_with m s e find (copying_in s.node.id e.body)) (λ b. Ok (carried s e b))) ≡ Ok c →
+        bind r (λ e. bind (brought_with m s e find (errand_of s e)) (λ b. Ok (carried s e b))) ≡ Ok c →
         c.seat ≡ s
-    by (Ok e) is = more e (brought_with m s e find (copying_in s.node.id e.body)) is
+    by (Ok e) is = more e (brought_with m s e find (errand_of s e)) is
     by (Err refusal) is = absurd cc
 
 -- What came of a turn with the queue of the node taken out.

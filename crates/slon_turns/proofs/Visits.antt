@@ -1,4 +1,4 @@
--- What a copy comes to at the two databases that it concerns, by what was fetched.
+-- What a turn comes to that brings something, at the two databases that it concerns, by what was fetched.
 use Rattle.std.proofs.Common.{◌≡◌, ◌∙◌, true, false, None, Some, Result, Ok, Err, refl, sym, ap, subst}
 use Rattle.std.proofs.lemmas.Bool.{true≢false}
 use Rattle.slon_model.specs.declared.fault.DbFault.{DbFault}
@@ -10,6 +10,7 @@ use Rattle.slon_model.specs.Deeds.{Brought}
 use Rattle.slon_model.specs.Sessions.{bind, seat}
 use Rattle.slon_model.specs.Working.{Carried, carried}
 use Rattle.slon_model.specs.World.{refusal_of}
+use Rattle.event_store.specs.declared.event.Event.{Event}
 use Rattle.event_store.specs.declared.queue.Queue.{Queue}
 use Rattle.event_store.specs.Seen.{seen_event}
 use Rattle.app_store.specs.Fits.{Fits}
@@ -21,17 +22,16 @@ use Rattle.remote_worker.specs.declared.fetching.Found.{Found}
 use Rattle.remote_worker.specs.declared.fetching.Found.TheVariants.{Brings}
 use Rattle.remote_worker.specs.declared.worker.Fetched.{Fetched}
 use Rattle.remote_worker.specs.declared.worker.Worker.{Worker}
-use Rattle.remote_worker.specs.Fetching.{Fetches, IsFound, fetched, is_fault}
+use Rattle.remote_worker.specs.Fetching.{Asked, Fetches, IsFound, fetched, is_fault}
 use Rattle.remote_worker.specs.Looking.{FallsOne}
-use Rattle.remote_worker.specs.Working.{waits_as, IsWith, seen_copying}
-use Rattle.remote_worker.proofs.Abilities.{found_is}
+use Rattle.remote_worker.specs.Working.{waits_as, IsWith, seen_errand}
 use Rattle.slonik_exec.specs.Databases.{told_by}
 use Rattle.slonik_exec.specs.Stored.{Couple, name_at}
 use Rattle.slonik_exec.proofs.Asking.{one_place}
 use Rattle.slonik_exec.proofs.Seats.{same_up}
 use Rattle.slonik_exec.proofs.Telling.{words_at}
 use Rattle.slon_turns.specs.Applying.{AppliesAt, WorksHere, seat_in}
-use Rattle.slon_turns.specs.Copying.{Errand, Visit, WorksBetween, ByOwn, ByProvider, due_from}
+use Rattle.slon_turns.specs.Fetching.{Trip, Visit, WorksBetween, ByOwn, ByProvider, due_from}
 use Rattle.slon_turns.specs.Working.{CanCarry}
 use Rattle.slon_turns.proofs.Applying.{refused_here, stops_here}
 
@@ -40,25 +40,31 @@ pub calm_quiet : (refusal : Refusal) → is_fault refusal ≡ false → told_by 
 calm_quiet (refused.Fault database count) calm = absurd (true≢false calm)
 calm_quiet others calm = refl
 
+-- what is asked for
+abbrev pub asked_of : Trip → Event → Asked
+asked_of a e = record { errand = a.errand; own = a.taken.node; event = seen_event e }
+
 -- what was fetched is so at these two
-pub found_by : {a : Errand} {old : Couple} {queue : Queue} (v : Visit a old queue) (given : Found) →
-    Fetches (record { copying = a.copying; own = a.taken.node; number = a.taken.state.number }) v.post.place v.provider
-    given →
-    IsFound (fetched (seen_copying a.copying) (seen_event v.event) (seat_in v.post)
+pub found_by : {a : Trip} {old : Couple} {queue : Queue} (v : Visit a old queue) (e : Event) (given : Found) →
+    waits_as a.taken.origin a.taken.state.number queue ≡ Some e →
+    Fetches (asked_of a e) v.post.place v.provider given →
+    IsFound v.event.origin v.post.place (fetched (seen_errand a.errand) (seen_event v.event) (seat_in v.post)
     (seat old.names.to v.provider v.node)) given
-found_by {a} {old} {queue} v given fetches =
-    fetches v.post.node v.node v.post.name old.names.to (seen_event v.event) v.fits.is v.is (sym v.took.node) v.id
-    (found_is a.taken.origin a.taken.state.number queue v.event v.took.found).1
+found_by {a} {old} v e given is fetches =
+    let some : Some e ≡ Some v.event = sym is ∙ v.took.found in
+    let same : e ≡ v.event = cc in
+    subst (λ x. Fetches (asked_of a x) v.post.place v.provider given) same fetches v.post.node v.node v.post.name
+    old.names.to v.fits.is v.is (sym v.took.node) v.id
 
 -- what the node applies with this
-abbrev with_brought : {a : Errand} {old : Couple} {queue : Queue} → Visit a old queue → Result Brought Refusal →
+abbrev with_brought : {a : Trip} {old : Couple} {queue : Queue} → Visit a old queue → Result Brought Refusal →
     Result Carried Refusal
 with_brought v due = bind due (λ b. Ok (carried (seat_in v.post) (seen_event v.event) b))
 
 -- it is refused
-pub refused_between : {a : Errand} {old : Couple} {queue : Queue} (v : Visit a old queue) (refusal : Refusal)
+pub refused_between : {a : Trip} {old : Couple} {queue : Queue} (v : Visit a old queue) (refusal : Refusal)
     (new : Pair) →
-    fetched (seen_copying a.copying) (seen_event v.event) (seat_in v.post) (seat old.names.to v.provider v.node)
+    fetched (seen_errand a.errand) (seen_event v.event) (seat_in v.post) (seat old.names.to v.provider v.node)
     ≡ Err refusal →
     Fits v.post.place new.from × Fits v.provider new.to →
     WorksBetween v.post (old.names.to, v.provider) (due_from v) (replied.Refused refusal) new queue
@@ -67,9 +73,9 @@ refused_between {queue = queue} v refusal new is (own, other) =
     other
 
 -- the event is applied with what was fetched
-pub applied_between : {a : Errand} {old : Couple} {queue : Queue} {reply : Reply} (v : Visit a old queue)
+pub applied_between : {a : Trip} {old : Couple} {queue : Queue} {reply : Reply} (v : Visit a old queue)
     (w : Worker Fetched) (mid new : Pair) (left : Queue) →
-    IsFound (fetched (seen_copying a.copying) (seen_event v.event) (seat_in v.post)
+    IsFound v.event.origin v.post.place (fetched (seen_errand a.errand) (seen_event v.event) (seat_in v.post)
     (seat old.names.to v.provider v.node)) (Brings w) × IsWith a.taken w.state.brought w →
     (Fits v.post.place mid.from × Fits v.provider new.to)
     × ((c : Carried) → due_from v ≡ Ok c → CanCarry c) →
@@ -90,7 +96,7 @@ applied_between {a} {old} {queue} {reply} v w mid new left ((b, is, brings), sam
     }) (can (carried (seat_in v.post) (seen_event e) b) due))) other
 
 -- a store failed
-pub falls_between : {a : Errand} {old : Couple} {queue : Queue} {reply : Reply} (v : Visit a old queue) (side : Side)
+pub falls_between : {a : Trip} {old : Couple} {queue : Queue} {reply : Reply} (v : Visit a old queue) (side : Side)
     (fault : DbFault) (new : Pair) → FallsOne side v.post.place v.provider fault new →
     (reply ≡ refusal_of (words_at (name_at side old.names)) fault) × (old.bases.to.memory.up ≡ true) →
     WorksBetween v.post (old.names.to, v.provider) (due_from v) reply new queue

@@ -10,7 +10,7 @@ use Rattle.slon_model.specs.Events.{Event, kind_of}
 use Rattle.slon_model.specs.Deeds.{Node, Brought, nothing_brought}
 use Rattle.slon_model.specs.Place.{Place}
 use Rattle.slon_model.specs.Sessions.{Memory, Seat, bind, seat}
-use Rattle.slon_model.specs.Working.{Copying, Carried, carried, copied_from, copying_in, next_at, taken_up}
+use Rattle.slon_model.specs.Working.{Errand, Carried, carried, brought_from, errand_of, next_at, provider_in, taken_up}
 use Rattle.event_store.specs.declared.event.Event as declared
 use Rattle.event_store.specs.declared.queue.Queue.{Queue}
 use Rattle.event_store.specs.Seen.{seen_event}
@@ -34,15 +34,15 @@ abbrev pub Finder : Type 0
 Finder = ℕ → Option (List ℕ × Place)
 
 -- what comes with an event, where nodes are found so
-abbrev pub brought_with : Memory → Seat → Event → Finder → Option Copying → Result Brought Refusal
+abbrev pub brought_with : Memory → Seat → Event → Finder → Option Errand → Result Brought Refusal
 brought_with m s e find None = Ok nothing_brought
-brought_with m s e find (Some c) = copied_from c m s e (find c.provider)
+brought_with m s e find (Some c) = brought_from c m s e (find (provider_in c))
 
--- 60, 98, and the refusals of a copy: what the node at this seat is to apply
+-- 60, 98, and the refusals of what is brought: what the node at this seat is to apply
 abbrev pub due_at : ℕ → Memory → Seat → Finder → Result Carried Refusal
 due_at origin m s find =
-    bind (taken_up origin s (next_at m s origin)) (λ e.
-    bind (brought_with m s e find (copying_in s.node.id e.body)) (λ b. Ok (carried s e b)))
+    bind (taken_up (next_at m s origin)) (λ e.
+    bind (brought_with m s e find (errand_of s e)) (λ b. Ok (carried s e b)))
 
 -- Work under the rules: the database of the node, and what is in memory.
 pub record Post : Type 0 where
@@ -67,13 +67,13 @@ pub record WorksHere (s : Post) (due : Result Carried Refusal) (reply : Reply) (
   pub waits : Waits s.name (left_by_work due reply s.memory) new.1
 
 -- The event is the one that waits, and this comes with it by the rules.
-pub record IsFor (w : Worker Fetched) (queue : Queue) (e : declared.Event) (b : Brought) : Type 0 where
+pub record IsFor (s : Post) (w : Worker Fetched) (queue : Queue) (e : declared.Event) (b : Brought) : Type 0 where
   pub found : waits_as w.origin w.state.number queue ≡ Some e
   pub kind : w.state.kind ≡ kind_of e.body
-  pub brings : IsBrought b w.state.brought
+  pub brings : IsBrought e.origin s.place b w.state.brought
 
 -- from every place that fits and can apply the event, with what comes with it: it is applied
 abbrev pub AppliesAt : List ℕ → Worker Fetched → (Base × Queue) → Reply → (Base × Queue) → Type 0
 AppliesAt name w old reply new =
-    (s : Post) (e : declared.Event) (b : Brought) → s.name ≡ name → IsFor w old.1 e b → PostFits s old →
+    (s : Post) (e : declared.Event) (b : Brought) → s.name ≡ name → IsFor s w old.1 e b → PostFits s old →
     CanCarry (carried (seat_in s) (seen_event e) b) → WorksHere s (Ok (carried (seat_in s) (seen_event e) b)) reply new

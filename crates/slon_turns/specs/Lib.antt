@@ -1,5 +1,5 @@
 pub mod Applying
-pub mod Copying
+pub mod Fetching
 pub mod Pairing
 pub mod Planning
 pub mod Polling

@@ -1,5 +1,5 @@
 -- What a node is to do at its turn under the rules, as far as its own database tells.
-use Rattle.std.specs.Prelude.{◌≡◌, ◌==◌, ◌<◌, ◌^◌, ℕ, Bool, true, false, not, List, [], ◌∷◌, Option, Some, None, Ok}
+use Rattle.std.specs.Prelude.{◌≡◌, ◌==◌, ℕ, Bool, true, false, not, List, [], ◌∷◌, Option, Some, None, Ok}
 use Rattle.std.specs.Prelude.{option_map}
 use Rattle.store_rows.specs.Rows.{IsId}
 use Rattle.slon_model.specs.declared.reply.Refusal.{Refusal}
@@ -10,7 +10,7 @@ use Rattle.slon_model.specs.Config.{has_path}
 use Rattle.slon_model.specs.Events.{kind_of}
 use Rattle.slon_model.specs.Sessions.{Seat, bind, first_refusal, when}
 use Rattle.slon_model.specs.Turns.{are_cut}
-use Rattle.slon_model.specs.Working.{carried, copying_in, next_at}
+use Rattle.slon_model.specs.Working.{carried, errand_of, next_at, provider_in}
 use Rattle.event_store.specs.declared.event.Event.{Event}
 use Rattle.event_store.specs.declared.queue.Queue.{Queue}
 use Rattle.event_store.specs.Seen.{seen_event}
@@ -19,11 +19,12 @@ use Rattle.app_store.specs.Fits.{Fits}
 use Rattle.node_store.specs.Acting.{Acts}
 use Rattle.remote_worker.specs.declared.worker.Taken.{Taken}
 use Rattle.remote_worker.specs.declared.worker.Worker.{Worker}
-use Rattle.remote_worker.specs.Fetching.{CanCopy}
-use Rattle.remote_worker.specs.Working.{waits_as, IsAble, seen_copying}
+use Rattle.remote_worker.specs.declared.carrying.Errand.{Errand}
+use Rattle.remote_worker.specs.Fetching.{CanBringBy}
+use Rattle.remote_worker.specs.Working.{waits_as, IsAble, seen_errand}
 use Rattle.slonik_exec.specs.Answering.{Answers}
 use Rattle.slon_turns.specs.declared.planning.Plan.{Plan}
-use Rattle.slon_turns.specs.declared.planning.Plan.TheVariants.{Told, Alone, Copy}
+use Rattle.slon_turns.specs.declared.planning.Plan.TheVariants.{Told, Alone, Fetch}
 use Rattle.slon_turns.specs.Applying.{Finder, Post, PostFits, WorksHere, brought_with, due_at, seat_in}
 
 -- ---- over every store
@@ -33,19 +34,22 @@ abbrev pub PlanRuns : List ℕ → Base → Plan → Base → Type 0
 PlanRuns name old (Told reply) new = Answers name old reply new
 PlanRuns name old others new = Acts None old new × (new.memory ≡ old.memory)
 
+-- the node from which it is to be brought
+abbrev pub provider_by : Errand → ℕ
+provider_by x = provider_in (seen_errand x)
+
 -- what was planned can be carried out
 abbrev pub CanPlan : Queue → Plan → Type 0
 CanPlan queue (Told reply) = Unit {0}
 CanPlan queue (Alone w) = IsAble (waits_as w.origin w.state.number queue)
-CanPlan queue (Copy w c) =
-    IsAble (waits_as w.origin w.state.number queue) × IsId w.node × CanCopy c × (w.state.number < 2 ^ 63)
-    × (c.provider ≡ w.node → ⊥)
+CanPlan queue (Fetch w c) =
+    IsAble (waits_as w.origin w.state.number queue) × IsId w.node × CanBringBy c × (provider_by c ≡ w.node → ⊥)
 
 -- it is the node of this id
 abbrev pub PlansOwn : ℕ → Plan → Type 0
 PlansOwn own (Told reply) = Unit {0}
 PlansOwn own (Alone w) = w.node ≡ own
-PlansOwn own (Copy w c) = w.node ≡ own
+PlansOwn own (Fetch w c) = w.node ≡ own
 
 -- ---- by the rules
 
@@ -54,15 +58,15 @@ pub record TookUp (s : Post) (w : Worker Taken) (queue : Queue) (e : Event) : Ty
   pub found : waits_as w.origin w.state.number queue ≡ Some e
   pub node : w.node ≡ s.node.id
   pub kind : w.state.kind ≡ kind_of e.body
-  pub copying : option_map seen_copying w.state.copying ≡ copying_in s.node.id e.body
+  pub errand : option_map seen_errand w.state.errand ≡ errand_of (seat_in s) (seen_event e)
 
--- It is what the node is to apply, with what is copied for it.
+-- It is what the node is to apply, with what is brought for it.
 pub record IsPlanned (origin : ℕ) (s : Post) (w : Worker Taken) (queue : Queue) : Type 0 where
   pub event : Event
   pub took : TookUp s w queue event
   pub next : next_at s.memory (seat_in s) origin ≡ Some (seen_event event)
   pub due : (find : Finder) → due_at origin s.memory (seat_in s) find
-      ≡ bind (brought_with s.memory (seat_in s) (seen_event event) find (copying_in s.node.id event.body))
+      ≡ bind (brought_with s.memory (seat_in s) (seen_event event) find (errand_of (seat_in s) (seen_event event)))
       (λ b. Ok (carried (seat_in s) (seen_event event) b))
 
 -- 75, 68, 44
@@ -90,9 +94,9 @@ Reaches s provider = first_refusal (link_checks s.node.id provider s.memory.cuts
 abbrev pub Plans : ℕ → Post → Queue → Plan → Base → Type 0
 Plans origin s queue (Told reply) new =
     (find : Finder) → WorksHere s (due_at origin s.memory (seat_in s) find) reply (new, queue)
-Plans origin s queue (Alone w) new = IsPlanned origin s w queue × (w.state.copying ≡ None) × Fits s.place new
-Plans origin s queue (Copy w c) new =
-    IsPlanned origin s w queue × (w.state.copying ≡ Some c) × Reaches s c.provider × Fits s.place new
+Plans origin s queue (Alone w) new = IsPlanned origin s w queue × (w.state.errand ≡ None) × Fits s.place new
+Plans origin s queue (Fetch w c) new =
+    IsPlanned origin s w queue × (w.state.errand ≡ Some c) × Reaches s (provider_by c) × Fits s.place new
 
 -- from every place that fits, where these nodes are cut off from one another
 abbrev pub PlansAt : ℕ → List (ℕ × ℕ) → List ℕ → (Base × Queue) → Plan → Base → Type 0

@@ -1,7 +1,7 @@
 //! The turns of slons in which events are on their way: a node polls another one, and applies what waits there.
 #![tactic(auto)]
 
-mod copying;
+mod fetching;
 mod planning;
 mod polling;
 mod turn;

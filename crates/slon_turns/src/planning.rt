@@ -11,7 +11,7 @@ ghost use Rattle.slon_turns.specs.Planning.{link_checks};
 use event_store::Queue;
 use node_keeper::Keeper;
 use node_store::knows_path;
-use remote_worker::{Copying, Next, Taken, Worker};
+use remote_worker::{Errand, Next, Taken, Worker, provider_of};
 use slon_base::Text;
 use slon_model::{Refusal, Reply};
 use slonik_exec::{Named, NoMemory, told};
@@ -24,8 +24,8 @@ pub(crate) enum Plan {
     Told(Reply),
     /// It applies the event that it took, with which nothing comes.
     Alone(Worker<Taken>),
-    /// It copies this set first, which is at another node that it has a path to.
-    Copy(Worker<Taken>, Copying),
+    /// It brings this first, from another node that it has a path to.
+    Fetch(Worker<Taken>, Errand),
 }
 
 /// Whether a cut is between these two nodes, whichever of them it names first.
@@ -83,7 +83,7 @@ fn check_link<K: Keeper>(
 }
 
 /// The node of the database is to apply the next event of the origin, unless 60 that does not wait, 98 the node cannot
-/// carry it out, or it cannot reach the node that it is to copy a set from.
+/// carry it out, or it cannot reach the node from which it is to bring something.
 pub(crate) fn plan_at<K: Keeper>(
     alloc: Global,
     own: &mut Named<K>,
@@ -112,12 +112,12 @@ pub(crate) fn plan_at<K: Keeper>(
             let word = Text::from_str(alloc, "work")?;
             Ok(Plan::Told(Reply::Refused(Refusal::NotBuilt { word })))
         }
-        Next::Due(taken) => match taken.state.copying {
+        Next::Due(taken) => match taken.state.errand {
             None => Ok(Plan::Alone(taken)),
-            Some(copying) => {
-                match check_link(alloc, own, cuts, taken.node, copying.provider)? {
+            Some(errand) => {
+                match check_link(alloc, own, cuts, taken.node, provider_of(errand))? {
                     Some(reply) => Ok(Plan::Told(reply)),
-                    None => Ok(Plan::Copy(taken, copying)),
+                    None => Ok(Plan::Fetch(taken, errand)),
                 }
             }
         },

@@ -13,7 +13,7 @@ ghost use Rattle.slonik_exec.specs.declared.reaching.Reached.TheVariants.{At};
 ghost use Rattle.slon_turns.specs.Applying.{applied_as, AppliesAt};
 ghost use Rattle.slon_turns.specs.Working.{CarriesOut, Works};
 
-use crate::copying::copy_from;
+use crate::fetching::fetch_from;
 use crate::planning::{Plan, plan_at};
 use crate::turn::{key_of, take_queue};
 use event_store::Queue;
@@ -99,12 +99,12 @@ fn work_at<K: Keeper>(
     match plan_at(alloc, &mut databases[index], queue, cuts, work.origin)? {
         Plan::Told(reply) => Ok(reply),
         Plan::Alone(taken) => apply_at(alloc, &mut databases[index], queue, taken.with(None)),
-        Plan::Copy(taken, copying) => copy_from(alloc, databases, index, queue, taken, copying),
+        Plan::Fetch(taken, errand) => fetch_from(alloc, databases, index, queue, taken, errand),
     }
 }
 
 /// The slon of a node has its turn to apply the next event of an origin that waits there, and replies: 44, 16, 67 of
-/// the node, 60, 98, where it copies a set 75, 68, 44, 16, 62 of the provider, 52, 57, 66, or the event.
+/// the node, 60, 98, where it brings something 75, 68, 44, 16, 62 of the provider, 52, 57, 66, or the event.
 ///
 /// # Errors
 ///

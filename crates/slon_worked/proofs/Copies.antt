@@ -91,7 +91,7 @@ expected rows =
     ∷ Accepted (answer.Status 2 0 ((1, 7) ∷ (2, 3) ∷ []) ((1, 1, snapshot_text seen) ∷ [])) ∷ [])
 
 -- the row of the origin
-one_there : entries (insert no_rows (codes "p") (codes "1" ∷ [])) ≡ (codes "p", codes "1" ∷ []) ∷ []
+pub one_there : entries (insert no_rows (codes "p") (codes "1" ∷ [])) ≡ (codes "p", codes "1" ∷ []) ∷ []
 one_there =
     entries-insert nat_list_cmp_total no_rows (codes "p") (codes "1" ∷ [])
     ∙ ap (put key_cmp (codes "p") (codes "1" ∷ [])) none_there

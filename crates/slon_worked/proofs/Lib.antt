@@ -7,4 +7,5 @@ pub mod Refusals
 pub mod Running
 pub mod Streams
 pub mod Subscribing
+pub mod Syncs
 pub mod Works

@@ -131,7 +131,7 @@ refused_expected rows =
     ∷ Accepted (answer.Statements 1)
     ∷ emitted 1 8
     ∷ heard 1 0
-    ∷ Refused (refused.NotBuilt (codes "work")) ∷ [])
+    ∷ applied event.Sync 8 ∷ [])
 
 -- maps of rows do not compute, so that it is a lemma
 pub no_entries : {X : Type 0} (xs : List X) → length xs ≡ 0 → xs ≡ []

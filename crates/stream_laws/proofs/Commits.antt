@@ -193,7 +193,7 @@ applying_at ps c is one next = record {
   name = c.seat.name;
   node = c.seat.node;
   is = seat_node ps c.seat is;
-  deed = deed c.seat.place [] [] (Applies c.event c.brought);
+  deed = deed c.seat.place [] c.brought.logs (Applies c.event c.brought);
   event = c.event;
   brought = c.brought;
   one = one;
@@ -204,7 +204,7 @@ pub applies_all : (ps : Named Place) (c : Carried) → IsSeat ps c.seat → AreR
     IsEvent (nodes_in ps) c.event → IsNext (knowledge c.seat.node).progress c.event →
     AllGoOn (nodes_in ps) (applied_by c).commits ps
 applies_all ps c is regular one next =
-    deeds_all ps c.seat (deed c.seat.place [] [] (Applies c.event c.brought) ∷ []) is regular
+    deeds_all ps c.seat (deed c.seat.place [] c.brought.logs (Applies c.event c.brought) ∷ []) is regular
     (applied_on (nodes_in ps) (applying_at ps c is one next) regular)
 
 -- ---- a database becomes a node

@@ -1,10 +1,13 @@
--- What a turn brings with an event: a copy of a set, from the node that is its origin, which is another node.
+-- What a turn brings with an event: a copy of a set, or what its origin logged for the sets that the node keeps, from
+-- another node.
 use Rattle.std.proofs.Common.{◌≡◌, ◌≢◌, ℕ, Bool, true, false, cond, List, [], ◌∷◌, Option, Some, None, Ok, Err, refl}
 use Rattle.std.proofs.Common.{sym, ap, subst, ◌∙◌, not}
 use Rattle.std.specs.List.{AllByRecursion}
 use Rattle.std.specs.Prelude.{map, filter, ◌==◌, option_map}
 use Rattle.std.specs.Option.{option_or}
 use Rattle.std.proofs.lemmas.Bool.{false≢true, true≢false, false_from_ne_true, eqb-true, eq-eqb, and_parts}
+use Rattle.node_rows.specs.declared.body.Body.{Body}
+use Rattle.node_rows.specs.declared.body.Body.TheVariants.{EnableSubscription, Sync}
 use Rattle.node_rows.specs.declared.rows.SetRow.{SetRow}
 use Rattle.slon_model.specs.declared.reply.Refusal.{Refusal}
 use Rattle.slon_model.specs.declared.reply.Refusal.TheVariants as refused
@@ -15,9 +18,12 @@ use Rattle.slon_model.specs.Config.{Config, has_path, is_known, is_origin, era_o
 use Rattle.slon_model.specs.Config.{names_of}
 use Rattle.slon_model.specs.Deeds.{Node, Brought, Knowledge, knowledge, nothing_brought}
 use Rattle.slon_model.specs.Place.{Place, is_running}
-use Rattle.slon_model.specs.Sessions.{World, Seat, when, first_refusal, checked, seat_of}
+use Rattle.slon_model.specs.Sessions.{World, Seat, when, first_refusal, checked, seat_of, writer_of}
 use Rattle.slon_model.specs.Turns.{at_node, is_cut, is_id, seat_at}
-use Rattle.slon_model.specs.Working.{Copying, brought_by, copied, copy_checks, copy_of, copying_in, linked_to, provided}
+use Rattle.slon_model.specs.Logs.{logged}
+use Rattle.slon_model.specs.Following.{kept_from, set_syncs, with_syncs}
+use Rattle.slon_model.specs.Working.{Copying, Errand, ToCopy, ToFollow, brought_by, copied, copy_checks, copy_of}
+use Rattle.slon_model.specs.Working.{errand_in, errand_of, followed, linked_to, names_taken, provided, receives_from}
 use Rattle.slon_model.specs.Working.{still_leads}
 use Rattle.slon_model.proofs.Names.{one_found}
 use Rattle.stream_laws.specs.Nodes.{IsAmong, Nodes, nodes_in}
@@ -25,7 +31,7 @@ use Rattle.stream_laws.specs.Making.{OfSet}
 use Rattle.stream_laws.specs.Facts.{AreRegular, AreNamedOnce, IsRegular}
 use Rattle.stream_laws.proofs.Lists.{all_each, all_mapped, all_passed, among_all, found_all}
 use Rattle.stream_laws.proofs.Seats.{OnOk, IsSeat, IsReached, at_node_found, bind_ok, checked_ok, kept_ok}
-use Rattle.stream_laws.proofs.Seats.{ok_then, all_none, seat_node, when_none}
+use Rattle.stream_laws.proofs.Seats.{last_none, none_busy, ok_then, all_none, seat_node, when_none}
 use Rattle.stream_laws.proofs.Applies.{IsSetOf}
 
 -- ---- the origin of a set
@@ -138,7 +144,7 @@ provided_ok provider w s regular =
 -- A copy of a set that the node at its seat is to make by an event, from the origin of the set, which is another node.
 pub record IsCopy (w : World) (s : Seat) (e : Event) (b : Brought) : Type 0 where
   pub copying : Copying
-  pub asked : copying_in s.node.id e.body ≡ Some copying
+  pub asked : errand_of s e ≡ Some (ToCopy copying)
   pub provider : Seat
   pub seat : IsSeat w.places provider
   pub own : provider.node.id ≡ copying.provider
@@ -148,14 +154,26 @@ pub record IsCopy (w : World) (s : Seat) (e : Event) (b : Brought) : Type 0 wher
   pub free : first_refusal (copy_checks s.place provider.place (names_of copying.set_id s.known.config)) ≡ None
   pub is : b ≡ copy_of copying e.number provider (names_of copying.set_id s.known.config)
 
+-- What the origin of a SYNC, which is another node, logged for the sets that the node at its seat keeps of it. No open
+-- transaction there wrote one of their tables.
+pub record IsFollowed (w : World) (s : Seat) (e : Event) (b : Brought) : Type 0 where
+  pub body : e.body ≡ Sync
+  pub receives : receives_from e.origin s.known ≡ true
+  pub provider : Seat
+  pub seat : IsSeat w.places provider
+  pub own : provider.node.id ≡ e.origin
+  pub apart : e.origin ≢ s.node.id
+  pub free : writer_of (names_taken s (kept_from e.origin s.known)) s.place ≡ None
+  pub is : b ≡ with_syncs s.place (set_syncs s.node.id s.known e (logged provider.node)) nothing_brought
+
 -- what a turn brings with an event
 pub data IsBrought (w : World) (s : Seat) (e : Event) (b : Brought) : Type 0 where
   Nothing : b ≡ nothing_brought → IsBrought w s e b
   Copies : IsCopy w s e b → IsBrought w s e b
+  Brings : IsFollowed w s e b → IsBrought w s e b
 
 copied_ok : (w : World) (s : Seat) (e : Event) → IsRegular w → IsSeat w.places s → (k : Copying) →
-    copying_in s.node.id e.body ≡ Some k →
-    OnOk (IsBrought w s e) (brought_by w s e (Some k))
+    errand_of s e ≡ Some (ToCopy k) → OnOk (IsBrought w s e) (brought_by w s e (Some (ToCopy k)))
 copied_ok w s e regular is k asked =
     bind_ok (IsOther w k.provider s) (IsBrought w s e) (provided k.provider w.memory s (at_node k.provider w)) _
     (provided_ok k.provider w s regular) copies
@@ -197,10 +215,54 @@ copied_ok w s e regular is k asked =
           | false ↦ λ over. Nothing refl
         ] refl
 
-pub brought_ok : (w : World) → IsRegular w → (s : Seat) (e : Event) → IsSeat w.places s →
-    OnOk (IsBrought w s e) (brought_by w s e (copying_in s.node.id e.body))
-brought_ok w regular s e is = by (copying_in s.node.id e.body) refl
+-- what a node that keeps sets of the origin of a SYNC follows is that origin
+follows_by : (own : ℕ) (receives : Bool) (origin : ℕ) (body : Body) (provider : ℕ) →
+    errand_in own receives origin body ≡ Some (ToFollow provider) →
+    (body ≡ Sync) × (receives ≡ true) × (origin ≡ provider)
+follows_by own receives origin (EnableSubscription set provider receiver forward era) other asked =
+    by (receiver == own) asked
   where
-    by : (o : Option Copying) → copying_in s.node.id e.body ≡ o → OnOk (IsBrought w s e) (brought_by w s e o)
+    by : (b : Bool) →
+        cond b (Some (ToCopy (record { set_id = set; provider = provider; era = era }))) None ≡ Some (ToFollow other) →
+        (EnableSubscription set provider receiver forward era ≡ Sync) × (receives ≡ true) × (origin ≡ other)
+    by true is = absurd cc
+    by false is = absurd cc
+follows_by own true origin Sync provider asked = (refl, refl, cc)
+follows_by own false origin Sync provider asked = absurd cc
+follows_by own receives origin others provider asked = absurd cc
+
+followed_ok : (w : World) (s : Seat) (e : Event) → IsRegular w → (provider : ℕ) →
+    errand_of s e ≡ Some (ToFollow provider) → OnOk (IsBrought w s e) (brought_by w s e (Some (ToFollow provider)))
+followed_ok w s e regular provider asked =
+    bind_ok (IsOther w provider s) (IsBrought w s e) (provided provider w.memory s (at_node provider w)) _
+    (provided_ok provider w s regular) follows
+  where
+    names : List (List ℕ)
+    names = names_taken s (kept_from e.origin s.known)
+
+    asks : (e.body ≡ Sync) × (receives_from e.origin s.known ≡ true) × (e.origin ≡ provider)
+    asks = follows_by s.node.id (receives_from e.origin s.known) e.origin e.body provider asked
+
+    follows : (p : Seat) → IsOther w provider s p → OnOk (IsBrought w s e) (followed s e (logged p.node))
+    follows p at =
+        checked_ok (IsBrought w s e) (option_map refused.Busy (writer_of names s.place) ∷ [])
+        (with_syncs s.place (set_syncs s.node.id s.known e (logged p.node)) nothing_brought)
+        (λ none. Brings (record {
+          body = asks.0;
+          receives = asks.1;
+          provider = p;
+          seat = at.0.0;
+          own = at.0.1 ∙ sym asks.2;
+          apart = λ same. at.1 (sym asks.2 ∙ same);
+          free = none_busy (writer_of names s.place) (last_none [] _ none);
+          is = refl;
+        }))
+
+pub brought_ok : (w : World) → IsRegular w → (s : Seat) (e : Event) → IsSeat w.places s →
+    OnOk (IsBrought w s e) (brought_by w s e (errand_of s e))
+brought_ok w regular s e is = by (errand_of s e) refl
+  where
+    by : (a : Option Errand) → errand_of s e ≡ a → OnOk (IsBrought w s e) (brought_by w s e a)
     by None none = Nothing refl
-    by (Some k) asked = copied_ok w s e regular is k asked
+    by (Some (ToCopy k)) asked = copied_ok w s e regular is k asked
+    by (Some (ToFollow provider)) asked = followed_ok w s e regular provider asked

@@ -1,58 +1,19 @@
 -- What holds of all elements of a list, and what is found in a map.
-use Rattle.std.proofs.Common.{◌≡◌, ◌≢◌, inl, inr, ℕ, Bool, true, false, cond, List, [], ◌∷◌, ◌++◌, map, filter, reverse}
-use Rattle.std.proofs.Common.{flat_map, find, Some, refl, sym, ap, subst, ◌∙◌, is_some, unwrap_or, arith, eq-eqb}
+use Rattle.std.proofs.Common.{◌≡◌, ◌≢◌, inl, inr, ℕ, Bool, true, false, cond, List, [], ◌∷◌, ◌++◌}
+use Rattle.std.proofs.Common.{find, Some, refl, sym, ap, subst, ◌∙◌, is_some, unwrap_or, arith, eq-eqb}
 use Rattle.std.specs.Prelude.{◌==◌, ◌||◌, nat_lt}
 use Rattle.std.specs.List.{AllByRecursion, list_any}
 use Rattle.std.specs.Str.{bytes_eq}
-use Rattle.std.proofs.lemmas.Bool.{eqb-true, false_from_ne_true, or_right, true≢false}
+use Rattle.std.proofs.lemmas.Bool.{eqb-true, false≢true, false_from_ne_true, or_right, true≢false}
 use Rattle.std.proofs.lemmas.Grind.{common_steps}
-use Rattle.std.proofs.lemmas.List.{reverse-append}
 use Rattle.slon_model.specs.Names.{Named, find_named}
 use Rattle.slon_model.specs.Maps.{Map, entry_at, with_entry, number_at}
 use Rattle.slon_model.proofs.Names.{bytes_same}
+pub use Rattle.slon_laws.proofs.Lists.{all_appended, all_passed, all_filtered, all_reversed, all_mapped, all_flat}
+pub use Rattle.slon_laws.proofs.Lists.{all_each, all_with}
 use Rattle.stream_laws.specs.Nodes.{IsAmong}
 
 -- ---- all elements
-
-pub all_appended : {X : Type 0} (P : X → Type 0) (xs ys : List X) → AllByRecursion P xs → AllByRecursion P ys →
-    AllByRecursion P (xs ++ ys)
-all_appended P [] ys one two = two
-all_appended P (x ∷ xs) ys one two = (one.0, all_appended P xs ys one.1 two)
-
--- those that pass a test
-pub all_passed : {X : Type 0} (P Q : X → Type 0) (test : X → Bool) → ((x : X) → P x → test x ≡ true → Q x) →
-    (xs : List X) → AllByRecursion P xs → AllByRecursion Q (filter test xs)
-all_passed P Q test each [] all = tt
-all_passed P Q test each (x ∷ xs) all =
-    elim (test x) as (λ b. test x ≡ b → AllByRecursion Q (cond b (x ∷ filter test xs) (filter test xs))) [
-      | true ↦ λ passes. (each x all.0 passes, all_passed P Q test each xs all.1)
-      | false ↦ λ fails. all_passed P Q test each xs all.1
-    ] refl
-
-pub all_filtered : {X : Type 0} (P : X → Type 0) (test : X → Bool) (xs : List X) → AllByRecursion P xs →
-    AllByRecursion P (filter test xs)
-all_filtered P test xs all = all_passed P P test (λ x is passes. is) xs all
-
-pub all_reversed : {X : Type 0} (P : X → Type 0) (xs : List X) → AllByRecursion P xs → AllByRecursion P (reverse xs)
-all_reversed P [] all = tt
-all_reversed P (x ∷ xs) all =
-    subst (AllByRecursion P) (sym (reverse-append (x ∷ []) xs))
-    (all_appended P (reverse xs) (x ∷ []) (all_reversed P xs all.1) (all.0, tt))
-
-pub all_mapped : {X Y : Type 0} (P : X → Type 0) (Q : Y → Type 0) (f : X → Y) → ((x : X) → P x → Q (f x)) →
-    (xs : List X) → AllByRecursion P xs → AllByRecursion Q (map f xs)
-all_mapped P Q f each [] all = tt
-all_mapped P Q f each (x ∷ xs) all = (each x all.0, all_mapped P Q f each xs all.1)
-
-pub all_flat : {X Y : Type 0} (P : X → Type 0) (Q : Y → Type 0) (f : X → List Y) →
-    ((x : X) → P x → AllByRecursion Q (f x)) → (xs : List X) → AllByRecursion P xs → AllByRecursion Q (flat_map f xs)
-all_flat P Q f each [] all = tt
-all_flat P Q f each (x ∷ xs) all =
-    all_appended Q (f x) (flat_map f xs) (each x all.0) (all_flat P Q f each xs all.1)
-
-pub all_each : {X : Type 0} (P : X → Type 0) → ((x : X) → P x) → (xs : List X) → AllByRecursion P xs
-all_each P each [] = tt
-all_each P each (x ∷ xs) = (each x, all_each P each xs)
 
 pub all_among : {X : Type 0} (P : X → Type 0) (x : X) (xs : List X) → AllByRecursion P xs → IsAmong x xs → P x
 all_among P x [] all among = absurd among
@@ -77,6 +38,24 @@ pub among_behind : {X : Type 0} (x : X) (more xs : List X) → IsAmong x xs → 
 among_behind x [] xs among = among
 among_behind x (y ∷ ys) xs among = inr (among_behind x ys xs among)
 
+-- one that passes a test is among those of which some does
+pub among_any : {X : Type 0} (test : X → Bool) (x : X) (xs : List X) → IsAmong x xs → test x ≡ true →
+    list_any test xs ≡ true
+among_any test x [] among passes = absurd among
+among_any test x (y ∷ ys) (inl is) passes = ap (λ b. b || list_any test ys) (ap test (sym is) ∙ passes)
+among_any test x (y ∷ ys) (inr later) passes = or_right (test y) (list_any test ys) (among_any test x ys later passes)
+
+-- and where some does, there is one
+pub any_among : {X : Type 0} (test : X → Bool) (xs : List X) → list_any test xs ≡ true →
+    (x : X) × IsAmong x xs × (test x ≡ true)
+any_among test [] passes = absurd (false≢true passes)
+any_among {X = X} test (x ∷ xs) passes = by (test x) refl (any_among test xs) passes
+  where
+    by : (b : Bool) → test x ≡ b → (list_any test xs ≡ true → (y : X) × IsAmong y xs × (test y ≡ true)) →
+        (b || list_any test xs) ≡ true → (y : X) × IsAmong y (x ∷ xs) × (test y ≡ true)
+    by true is on some = (x, inl refl, is)
+    by false is on some = let later = on some in (later.0, inr later.1, later.2)
+
 -- ---- maps from names
 
 -- what all entries have, the one that is found has
@@ -92,20 +71,6 @@ all_named P name x (e ∷ es) all found =
     ] refl found
 
 -- ---- maps from ids
-
--- what all entries have, they have with one more
-pub all_with : {X : Type 0} (P : ℕ × X → Type 0) (id : ℕ) (x : X) (es : Map X) → P (id, x) → AllByRecursion P es →
-    AllByRecursion P (with_entry id x es)
-all_with P id x [] here all = (here, tt)
-all_with P id x (e ∷ es) here all =
-    elim (nat_lt id e.0) as (λ b. AllByRecursion P (cond b ((id, x) ∷ e ∷ es)
-    (cond (id == e.0) ((id, x) ∷ es) (e ∷ with_entry id x es)))) [
-      | true ↦ (here, all)
-      | false ↦ elim (id == e.0) as (λ b. AllByRecursion P (cond b ((id, x) ∷ es) (e ∷ with_entry id x es))) [
-        | true ↦ (here, all.1)
-        | false ↦ (all.0, all_with P id x es here all.1)
-      ]
-    ]
 
 -- what all entries have, the one that is found has
 pub all_entry : {X : Type 0} (P : ℕ × X → Type 0) (id : ℕ) (x : X) (es : Map X) → AllByRecursion P es →

@@ -21,6 +21,7 @@ use Rattle.slon_model.specs.Membership.{already, first_id}
 use Rattle.slon_model.specs.Turns.{at_node, seat_at, on_turn}
 use Rattle.slon_model.proofs.Names.{all_map, bytes_itself, bytes_same, one_found}
 pub use Rattle.slon_laws.proofs.Results.{OnOk, bind_ok, ok_then, checked_ok, kept_ok, none_first, all_none, when_none}
+pub use Rattle.slon_laws.proofs.Results.{last_none, none_busy}
 use Rattle.slon_laws.proofs.Owners.{OnSome, OfNode, owner_is}
 use Rattle.stream_laws.specs.Nodes.{nodes_in, node_in}
 use Rattle.stream_laws.specs.Facts.{AreNamedOnce}

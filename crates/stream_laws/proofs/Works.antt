@@ -10,8 +10,8 @@ use Rattle.slon_model.specs.Deeds.{knowledge, nothing_brought, progress}
 use Rattle.slon_model.specs.Sessions.{World, Seat, when}
 use Rattle.slon_model.specs.Turns.{on_turn}
 use Rattle.slon_model.specs.Polls.{queue_at, line_of}
-use Rattle.slon_model.specs.Working.{Carried, carried, next_at, can_carry_out, receives_from, taken_up, brought_by}
-use Rattle.slon_model.specs.Working.{copying_in, worked}
+use Rattle.slon_model.specs.Working.{Carried, carried, next_at, can_carry_out, taken_up, brought_by}
+use Rattle.slon_model.specs.Working.{errand_of, worked}
 use Rattle.slon_model.proofs.Names.{one_found}
 use Rattle.stream_laws.specs.Nodes.{nodes_in, IsEvent}
 use Rattle.stream_laws.specs.Facts.{WaitsIn, IsRegular}
@@ -27,7 +27,7 @@ use Rattle.stream_laws.proofs.Waiting.{waiting_in}
 -- a stream of the session, of another node that this one knows, and the next one of that stream.
 pub record IsWork (w : World) (origin : ℕ) (s : Seat) (e : Event) : Type 0 where
   pub seat : IsSeat w.places s
-  pub able : can_carry_out (receives_from origin s.known) e.body ≡ true
+  pub able : can_carry_out e.body ≡ true
   pub event : IsEvent (nodes_in w.places) e
   pub own : e.origin ≡ origin
   pub knows : is_some (entry_at e.origin (knowledge s.node).config.nodes) ≡ true
@@ -38,7 +38,7 @@ pub record IsWork (w : World) (origin : ℕ) (s : Seat) (e : Event) : Type 0 whe
   pub may : MayCome e.origin e.body (knowledge s.node).config
 
 next_work : (w : World) → IsRegular w → (s : Seat) (origin : ℕ) → IsSeat w.places s → (e : Event) →
-    next_at w.memory s origin ≡ Some e → can_carry_out (receives_from origin s.known) e.body ≡ true →
+    next_at w.memory s origin ≡ Some e → can_carry_out e.body ≡ true →
     IsWork w origin s e
 next_work w regular s origin is e found able = record {
   seat = is;
@@ -71,12 +71,12 @@ next_work w regular s origin is e found able = record {
     work : Applying (nodes_in w.places)
     work = applying_at w.places (carried s e nothing_brought) is waits.0.event next
 
-taken_ok : (P : Event → Type 0) (origin : ℕ) (s : Seat) (o : Option Event) →
-    ((e : Event) → o ≡ Some e → can_carry_out (receives_from origin s.known) e.body ≡ true → P e) →
-    OnOk P (taken_up origin s o)
-taken_ok P origin s None from = tt
-taken_ok P origin s (Some e) from =
-    let can = can_carry_out (receives_from origin s.known) e.body in
+taken_ok : (P : Event → Type 0) (o : Option Event) →
+    ((e : Event) → o ≡ Some e → can_carry_out e.body ≡ true → P e) →
+    OnOk P (taken_up o)
+taken_ok P None from = tt
+taken_ok P (Some e) from =
+    let can = can_carry_out e.body in
     let checks = when (not can) (refused.NotBuilt (codes "work")) ∷ [] in
     checked_ok P checks e
     (λ none. from e refl (not-false _ (when_none _ (refused.NotBuilt (codes "work")) (all_none checks none).0)))
@@ -89,9 +89,9 @@ pub record IsCarried (w : World) (origin : ℕ) (c : Carried) : Type 0 where
 pub worked_ok : (node origin : ℕ) (w : World) → IsRegular w → OnOk (IsCarried w origin) (worked node origin w)
 worked_ok node origin w regular =
     bind_ok (IsSeat w.places) (IsCarried w origin) (on_turn node w) _ (turn_ok node w regular.once)
-    (λ s is. bind_ok (IsWork w origin s) (IsCarried w origin) (taken_up origin s (next_at w.memory s origin)) _
-    (taken_ok (IsWork w origin s) origin s (next_at w.memory s origin) (next_work w regular s origin is))
-    (λ e work. bind_ok (IsBrought w s e) (IsCarried w origin) (brought_by w s e (copying_in s.node.id e.body)) _
+    (λ s is. bind_ok (IsWork w origin s) (IsCarried w origin) (taken_up (next_at w.memory s origin)) _
+    (taken_ok (IsWork w origin s) (next_at w.memory s origin) (next_work w regular s origin is))
+    (λ e work. bind_ok (IsBrought w s e) (IsCarried w origin) (brought_by w s e (errand_of s e)) _
     (brought_ok w regular s e is) (λ b brings. record { work = work; brings = brings })))
 
 -- what is known of the event that a turn applies

@@ -11,7 +11,7 @@ use Rattle.std.proofs.lemmas.List.{drop_all}
 use Rattle.std.specs.List.{AllByRecursion}
 use borrow.Author.Tests.{eqb-true, ltb-true, ltb-false}
 use Rattle.slon_model.specs.Rows.{member}
-use Rattle.slon_model.specs.Snapshots.{Snapshot, Rising, sees, Covers}
+use Rattle.slon_model.specs.Snapshots.{Snapshot, Rising, sees, Covers, covers, covers_below}
 
 not_below : (x y : ℕ) → y ≤ x → nat_lt x y ≡ false
 not_below x y h = by (nat_lt x y) refl
@@ -163,3 +163,53 @@ covered a b first last first_is last_is running later x s = by (sees a x) refl
       | inl m ↦ running x m (ap (λ t. not t && sees b x) unseen ∙ s)
       | inr le ↦ seen_later (nat_lt x last) refl le
     ])
+
+-- ---- the same as a test
+
+below_sound : (a b : Snapshot) (n : ℕ) → covers_below a b n ≡ true → (x : ℕ) → x < n → sees b x ≡ true →
+    sees a x ≡ true
+below_sound a b zero is x less s = absurd (omega (arith, less))
+below_sound a b (suc n) is x less s = by (below_sound a b n) (x == n) refl
+  where
+    both : (u v : Bool) → (u && v) ≡ true → (u ≡ true) × (v ≡ true)
+    both true v is = (refl, is)
+    both false v is = absurd (false≢true is)
+
+    here : (u : Bool) → sees a n ≡ u → (not (sees b n) || u) ≡ true → sees b n ≡ true → u ≡ true
+    here true at is seen = refl
+    here false at is seen = absurd (false≢true (sym (ap (λ t. not t || false) seen) ∙ is))
+
+    by : (covers_below a b n ≡ true → (x : ℕ) → x < n → sees b x ≡ true → sees a x ≡ true) → (t : Bool) →
+        (x == n) ≡ t → sees a x ≡ true
+    by more true same =
+        let one = eqb-true x n same in
+        subst (λ y. sees a y ≡ true) (sym one)
+        (here (sees a n) refl (both _ _ is).0 (subst (λ y. sees b y ≡ true) one s))
+    by more false other =
+        more (both _ _ is).1 x (let apart : x ≡ n → ⊥ = λ same. false≢true (sym other ∙ eq-eqb x n same) in
+        omega (arith, less, apart)) s
+
+below_whole : (a b : Snapshot) (n : ℕ) → Covers a b → covers_below a b n ≡ true
+below_whole a b zero all = refl
+below_whole a b (suc n) all = by (sees b n) refl ∙ below_whole a b n all
+  where
+    by : (t : Bool) → sees b n ≡ t → ((not (sees b n) || sees a n) && covers_below a b n) ≡ covers_below a b n
+    by true s =
+        ap (λ u. (not (sees b n) || u) && covers_below a b n) (all n s)
+        ∙ ap (λ u. (not u || true) && covers_below a b n) s
+    by false s = ap (λ u. (not u || sees a n) && covers_below a b n) s
+
+-- what is found of two snapshots is the test of the model
+pub covers_is : (a b : Snapshot) (r : Bool) → IsTrue r ↔ Covers a b → r ≡ covers a b
+covers_is a b true is = sym (below_whole a b (b.xmin + b.xmax) (is.0 refl))
+covers_is a b false is = by (covers a b) refl
+  where
+    within : (x : ℕ) → sees b x ≡ true → (t : Bool) → nat_lt x (b.xmin + b.xmax) ≡ t → x < b.xmin + b.xmax
+    within x s true less = ltb-true x (b.xmin + b.xmax) less
+    within x s false over =
+        let at = ltb-false x (b.xmin + b.xmax) over in
+        absurd (false≢true (sym (past b x (omega (arith, at)) (omega (arith, at))) ∙ s))
+
+    by : (t : Bool) → covers a b ≡ t → false ≡ t
+    by false none = refl
+    by true all = is.1 (λ x s. below_sound a b (b.xmin + b.xmax) all x (within x s (nat_lt x (b.xmin + b.xmax)) refl) s)

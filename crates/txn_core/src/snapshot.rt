@@ -1,10 +1,11 @@
 // Which transactions had ended when a snapshot was taken.
-ghost use Rattle.std.specs.Prelude.{◌≡◌};
+ghost use Rattle.std.specs.Prelude.{◌≡◌, IfOk};
 ghost use Rattle.slon_model.specs.Rows.{member};
 ghost use Rattle.slon_model.specs.Snapshots.{sees};
 ghost use Rattle.txn_core.specs.Snapshots.{seen_as};
 
 use crate::xid_list::XidList;
+use std::alloc::{AllocError, Global};
 
 /// The transactions that had ended when it was taken: all below `xmin`, and those below `xmax` that are not among the
 /// running ones.
@@ -30,6 +31,21 @@ impl Snapshot {
             return false;
         }
         !lists(self.running.as_slice(), xid)
+    }
+
+    /// The same snapshot, copied.
+    ///
+    /// # Errors
+    ///
+    /// `AllocError` where there is no memory.
+    pub fn copy(&self, alloc: Global) -> Result<Snapshot, AllocError>
+        ensures { IfOk result (λ s. seen_as s ≡ seen_as self.now) }
+    {
+        Ok(Snapshot {
+            xmin: self.xmin,
+            xmax: self.xmax,
+            running: self.running.copy(alloc)?,
+        })
     }
 }
 

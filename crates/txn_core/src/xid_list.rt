@@ -1,5 +1,5 @@
 // A list of the ids of transactions, seen as the list of its numbers.
-ghost use Rattle.std.specs.Prelude.{◌≡◌, ◌++◌, [], ◌∷◌, length, OnOk, OnErr};
+ghost use Rattle.std.specs.Prelude.{◌≡◌, ◌++◌, [], ◌∷◌, length, IfOk, OnOk, OnErr};
 
 use std::alloc::{AllocError, Global};
 use std::marker::Model;
@@ -33,6 +33,19 @@ impl XidList {
         ensures { result ≡ ids.items }
     {
         XidList { inner: ids }
+    }
+
+    /// The same ids, copied.
+    ///
+    /// # Errors
+    ///
+    /// `AllocError` where there is no memory.
+    pub fn copy(&self, alloc: Global) -> Result<XidList, AllocError>
+        ensures { IfOk result (λ l. l ≡ self.now) }
+    {
+        Ok(XidList {
+            inner: Vec::from_slice(alloc, self.inner.as_slice())?,
+        })
     }
 
     /// The ids in order.

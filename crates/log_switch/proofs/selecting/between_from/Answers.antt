@@ -1,4 +1,4 @@
-use Rattle.std.proofs.Common.{◌≡◌, ◌∙◌, Result, Err, sym, ap, subst}
+use Rattle.std.proofs.Common.{◌≡◌, ◌∙◌, ◌<◌, ◌^◌, Result, Err, sym, ap, subst}
 use Rattle.std.proofs.lemmas.Result.{err_from_is_err_and}
 use Rattle.slon_base.specs.Codec.{AllAre}
 use Rattle.store_rows.specs.Steps.{Gives, IsOutside}
@@ -6,7 +6,7 @@ use Rattle.store_rows.specs.declared.stop.Stop.{Stop}
 use Rattle.change_capture.specs.Spellings.{CanLogRow}
 use Rattle.txn_core.specs.Snapshots.{seen_as}
 use Rattle.log_switch.specs.Between.{is_between, passed, ArePassed}
-use Rattle.log_switch.proofs.Ranging.{selected, none_between, of_key, can_passed}
+use Rattle.log_switch.proofs.Ranging.{selected, none_between, of_key, can_passed, small_of, small_passed}
 use Rattle.log_switch.proofs.selecting.between_from.Goals as goal
 
 -- a stop for the store, or for want of memory, that is passed on
@@ -43,6 +43,12 @@ returns-clause-can g c =
     let p = is_between c.args.tables.now (seen_as c.args.old.now) (seen_as c.args.new.now) in
     subst (AllAre (λ r. CanLogRow r.1)) (sym c.in_ok-keep_between.ensures)
     (can_passed p c.in_ok-rows.rows c.in_ok-rows.ensures.can)
+
+pub returns-clause-numbers : goal.returns-clause-numbers
+returns-clause-numbers g c =
+    let p = is_between c.args.tables.now (seen_as c.args.old.now) (seen_as c.args.new.now) in
+    subst (AllAre (λ r. r.0 < 2 ^ 63)) (sym c.in_ok-keep_between.ensures)
+    (small_passed p c.in_ok-rows.rows (small_of c.in_ok-rows.rows c.in_ok-rows.ensures.can))
 
 pub returns-clause-gives : goal.returns-clause-gives
 returns-clause-gives g c m all seen are =

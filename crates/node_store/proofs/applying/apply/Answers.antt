@@ -3,7 +3,6 @@ use Rattle.std.proofs.lemmas.Result.{err_from_is_err_and}
 use Rattle.node_keeper.specs.Fused.{fuse_kept}
 use Rattle.event_store.specs.Seen.{seen_event}
 use Rattle.slon_model.specs.Deeds.{Applies}
-use Rattle.slon_model.specs.Place.{standing_rows}
 use Rattle.node_store.specs.Acting.{Stood, Wavered, Broke, Burst, does}
 use Rattle.app_store.specs.Base.{base_of, memory_of}
 use Rattle.node_store.proofs.Acting.{never_memory}
@@ -37,8 +36,8 @@ returns-in_ok-learn-in-Done-clause-applies g c p n ready is memory takes learns 
     let own = own_is n at is (sym c.in-Some.ensures.id) in
     let room = c.if-database-ge-STORED_LIMIT.false in
     let w = brought_written {mid = fuse_kept g.K.Keeper.kept c.write_applied.new.keeper} at a
-    (c.in-Ok.ensures.writes n ready.fits.held.0 b (standing_rows p) (sym own) ready.fits.held.1 (held_node n at is)
-    (tables_at at) takes learns.home brought) in
+    (c.in-Ok.ensures.writes n ready.fits.held.0 p b (sym own) ready.fits.held.1
+    (record { held = held_node n at is; rows = tables_at at; takes = takes; home = learns.home }) brought) in
     let done = rw c.in-Done.is at c.in-Ok-finish.ensures.ends in
     Stood refl (within_limit (done_in d) p
     (small_stamp p c.args.database.now.state.stamp (running at).1.stamp (omega (arith, room))) refl)
@@ -70,8 +69,8 @@ returns-in-InDoubt-clause-applies g c p n ready is memory takes learns b brought
     let own = own_is n at is (sym c.in-Some.ensures.id) in
     let room = c.if-database-ge-STORED_LIMIT.false in
     let w = brought_written {mid = fuse_kept g.K.Keeper.kept c.write_applied.new.keeper} at a
-    (c.in-Ok.ensures.writes n ready.fits.held.0 b (standing_rows p) (sym own) ready.fits.held.1 (held_node n at is)
-    (tables_at at) takes learns.home brought) in
+    (c.in-Ok.ensures.writes n ready.fits.held.0 p b (sym own) ready.fits.held.1
+    (record { held = held_node n at is; rows = tables_at at; takes = takes; home = learns.home }) brought) in
     let doubt = rw c.in-InDoubt.is at c.in-Ok-finish.ensures.ends in
     let fits = done_wavers at d w.store _ w.has (record {
       up = c.take_down.ensures.up;
@@ -107,8 +106,8 @@ returns-in-Err-clause-applies g c p n ready is memory takes learns b brought fil
     (stopped _ _ _ _ (is_down c.fall-in-Err.ensures.down) c.in-Err.ensures.enters.failed
     c.fall-in-Err.ensures.fault (
       memory,
-      c.in-Err.ensures.writes n ready.fits.held.0 b (standing_rows p) (sym own) ready.fits.held.1 (held_node n at is)
-          (tables_at at) takes learns.home brought,
+      c.in-Err.ensures.writes n ready.fits.held.0 p b (sym own) ready.fits.held.1
+          (record { held = held_node n at is; rows = tables_at at; takes = takes; home = learns.home }) brought,
     )))
 
 pub returns-in_err-learn-in-Done-clause-applies : goal.returns-in_err-learn-in-Done-clause-applies

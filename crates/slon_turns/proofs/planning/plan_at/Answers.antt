@@ -11,12 +11,12 @@ use Rattle.event_store.specs.declared.queue.Queue.{Queue}
 use Rattle.app_store.specs.Base.{Base, base_of}
 use Rattle.node_store.specs.Acting.{own_id}
 use Rattle.remote_worker.specs.Working.{Takes}
-use Rattle.remote_worker.proofs.Abilities.{able_of, due_copies}
+use Rattle.remote_worker.proofs.Abilities.{able_of, due_brings}
 use Rattle.slonik_exec.specs.Answering.{AtSeat}
 use Rattle.slonik_exec.proofs.Telling.{not_short, words_at}
 use Rattle.slonik_exec.proofs.Works.{ready_still, replied}
 use Rattle.slon_turns.specs.Applying.{due_at, seat_in, WorksHere}
-use Rattle.slon_turns.specs.Planning.{IsApart, link_checks}
+use Rattle.slon_turns.specs.Planning.{IsApart, link_checks, provider_by}
 use Rattle.slon_turns.proofs.Applying.{IsNext, due_taken, found_due, missing_due, refused_here, stops_here}
 use Rattle.slon_turns.proofs.Applying.{taken_planned}
 use Rattle.slon_turns.proofs.Linking.{Told, link_reaches, link_told}
@@ -102,27 +102,31 @@ returns-in-Some-2-clause-plans g c s named cuts fits find =
     } in
     let took = subst (Takes c.in-Ok.ready c.args.queue.now) c.in-Due.is c.take.ensures in
     let plan = taken_planned c.in-Due.taken next fits took in
-    let told : Told plan c.in-Some.copying c.args.own.now.name c.args.cuts.now =
+    let told : Told plan c.in-Some.errand c.args.own.now.name c.args.cuts.now =
     record { some = c.in-Some.is; named = named; cut = cuts } in
-    let checked = subst (λ o. AtSeat c.args.own.now.name
-    (link_checks c.in-Due.taken.node c.in-Some.copying.provider c.args.cuts.now)
+    let checked = subst (λ n. AtSeat c.args.own.now.name (link_checks c.in-Due.taken.node n c.args.cuts.now)
+    (base_of g.K.Keeper.kept c.resume.new.own) c.in_ok-reply-in-Some.field-0
+    (base_of g.K.Keeper.kept c.check_link.new.own.database)) c.provider_of.ensures
+    c.in_ok-reply-in-Some.ensures.refuses in
+    let told_so = subst (λ o. AtSeat c.args.own.now.name
+    (link_checks c.in-Due.taken.node (provider_by c.in-Some.errand) c.args.cuts.now)
     (base_of g.K.Keeper.kept c.resume.new.own) o
-    (base_of g.K.Keeper.kept c.check_link.new.own.database)) c.in-Some-2.is c.in_ok-reply-in-Some.ensures.refuses in
-    link_told told (checked s.place s.node (ready_still fits.ready look.1) fits.is) fits.waits find
+    (base_of g.K.Keeper.kept c.check_link.new.own.database)) c.in-Some-2.is checked in
+    link_told told (told_so s.place s.node (ready_still fits.ready look.1) fits.is) fits.waits find
 
 pub returns-in-None-2-clause-can : goal.returns-in-None-2-clause-can
 returns-in-None-2-clause-can g c =
     let took = subst (Takes c.in-Ok.ready c.args.queue.now) c.in-Due.is c.take.ensures in
     let t = c.in-Due.taken in
     let due = due_taken c.args.queue.now t took in
-    let copies = due_copies t.origin t.state.number c.args.queue.now due c.in-Some.is in
+    let brings = due_brings (subst IsId (sym c.in-Ok.ensures.own.1) c.requires.origin) due c.in-Some.is in
     let memory = c.args.own.now.database.state.node in (
       able_of due,
       subst IsId (sym (took.0 ∙ c.in-Ok.ensures.own.0))
           (own_small memory.identity memory.identified c.requires.node),
-      copies.0,
-      copies.1,
-      subst (IsApart t.node c.in-Some.copying.provider) c.in-None-2.is c.in_ok-reply-in-Some.ensures.apart,
+      brings,
+      subst (λ n. IsApart t.node n None) c.provider_of.ensures
+          (subst (IsApart t.node c.provider_of.result) c.in-None-2.is c.in_ok-reply-in-Some.ensures.apart),
     )
 
 pub returns-in-None-2-clause-plans : goal.returns-in-None-2-clause-plans
@@ -137,11 +141,15 @@ returns-in-None-2-clause-plans g c s named cuts fits =
     } in
     let took = subst (Takes c.in-Ok.ready c.args.queue.now) c.in-Due.is c.take.ensures in
     let plan = taken_planned c.in-Due.taken next fits took in
-    let told : Told plan c.in-Some.copying c.args.own.now.name c.args.cuts.now =
+    let told : Told plan c.in-Some.errand c.args.own.now.name c.args.cuts.now =
     record { some = c.in-Some.is; named = named; cut = cuts } in
-    let checked = subst (λ o. AtSeat c.args.own.now.name
-    (link_checks c.in-Due.taken.node c.in-Some.copying.provider c.args.cuts.now)
+    let checked = subst (λ n. AtSeat c.args.own.now.name (link_checks c.in-Due.taken.node n c.args.cuts.now)
+    (base_of g.K.Keeper.kept c.resume.new.own) c.in_ok-reply-in-Some.field-0
+    (base_of g.K.Keeper.kept c.check_link.new.own.database)) c.provider_of.ensures
+    c.in_ok-reply-in-Some.ensures.refuses in
+    let told_so = subst (λ o. AtSeat c.args.own.now.name
+    (link_checks c.in-Due.taken.node (provider_by c.in-Some.errand) c.args.cuts.now)
     (base_of g.K.Keeper.kept c.resume.new.own) o
-    (base_of g.K.Keeper.kept c.check_link.new.own.database)) c.in-None-2.is c.in_ok-reply-in-Some.ensures.refuses in
-    let here = checked s.place s.node (ready_still fits.ready look.1) fits.is in
+    (base_of g.K.Keeper.kept c.check_link.new.own.database)) c.in-None-2.is checked in
+    let here = told_so s.place s.node (ready_still fits.ready look.1) fits.is in
     (plan, c.in-Some.is, link_reaches told here.0, here.1)

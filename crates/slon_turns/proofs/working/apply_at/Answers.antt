@@ -16,7 +16,6 @@ returns-in-Ok-clause-applies g c =
       told = told ∙ ap (λ a. reply_of (words_at c.args.own.now.name) (Ok a))
           (c.applied.ensures ∙ ap (λ n. applied_as state.kind state.number n c.in-Ok.doubt) c.in_ok-rows.ensures);
       full = joined_full c.in-Ok.doubt;
-      can = c.requires.can;
       applies = c.in-Ok.ensures.applies;
       queue = c.in-Ok.ensures.queue;
       stays = tt;
@@ -35,7 +34,6 @@ returns-in-Err-clause-applies g c =
       result = Err c.in-Err.fault;
       told = told;
       full = full;
-      can = c.requires.can;
       applies = c.in-Err.ensures.applies;
       queue = tt;
       stays = c.in-Err.ensures.stays;

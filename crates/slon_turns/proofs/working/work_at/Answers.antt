@@ -12,7 +12,7 @@ use Rattle.slon_turns.specs.Planning.{CanPlan, PlanRuns, PlansAt}
 use Rattle.slon_turns.specs.Working.{Turn}
 use Rattle.slon_turns.proofs.Listens.{if_both}
 use Rattle.slon_turns.proofs.Mids.{LookedAt, mids_distinct, mids_inside, mids_seat, mids_try, worked_here}
-use Rattle.slon_turns.proofs.Taking.{carries_alone, carries_copied, carries_told}
+use Rattle.slon_turns.proofs.Taking.{carries_alone, carries_brought, carries_told}
 use Rattle.slon_turns.proofs.working.work_at.Goals as goal
 
 pub returns-in-Told : goal.returns-in-Told
@@ -132,8 +132,8 @@ returns-in-Alone-clause-carries g c =
     c.with.ensures
     name answers applies) answers applies
 
-pub copy_from-requires-clause-distinct : goal.copy_from-requires-clause-distinct
-copy_from-requires-clause-distinct g c =
+pub fetch_from-requires-clause-distinct : goal.fetch_from-requires-clause-distinct
+fetch_from-requires-clause-distinct g c =
     let kept = g.K.Keeper.kept in
     let items = c.args.databases.now in
     let i = c.args.index in
@@ -141,7 +141,7 @@ copy_from-requires-clause-distinct g c =
     let x = get_or items i c.index-databases-index.result in
     let y = c.plan_at.new.own in
     let held = get_or_default items i c.index-databases-index.result x inside in
-    let runs = subst (λ p. PlanRuns x.name (base_of kept x.database) p (base_of kept y.database)) c.in-Copy.is
+    let runs = subst (λ p. PlanRuns x.name (base_of kept x.database) p (base_of kept y.database)) c.in-Fetch.is
     c.in_ok-reply.ensures.runs in
     let look : LookedAt kept items i x y = record {
       distinct = c.requires.distinct;
@@ -153,8 +153,8 @@ copy_from-requires-clause-distinct g c =
     } in
     mids_distinct look
 
-pub copy_from-requires-clause-seat : goal.copy_from-requires-clause-seat
-copy_from-requires-clause-seat g c =
+pub fetch_from-requires-clause-seat : goal.fetch_from-requires-clause-seat
+fetch_from-requires-clause-seat g c =
     let kept = g.K.Keeper.kept in
     let items = c.args.databases.now in
     let i = c.args.index in
@@ -162,7 +162,7 @@ copy_from-requires-clause-seat g c =
     let x = get_or items i c.index-databases-index.result in
     let y = c.plan_at.new.own in
     let held = get_or_default items i c.index-databases-index.result x inside in
-    let runs = subst (λ p. PlanRuns x.name (base_of kept x.database) p (base_of kept y.database)) c.in-Copy.is
+    let runs = subst (λ p. PlanRuns x.name (base_of kept x.database) p (base_of kept y.database)) c.in-Fetch.is
     c.in_ok-reply.ensures.runs in
     let look : LookedAt kept items i x y = record {
       distinct = c.requires.distinct;
@@ -174,8 +174,8 @@ copy_from-requires-clause-seat g c =
     } in
     mids_seat look c.requires.seat
 
-pub returns-in-Copy-clause-runs : goal.returns-in-Copy-clause-runs
-returns-in-Copy-clause-runs g c =
+pub returns-in-Fetch-clause-runs : goal.returns-in-Fetch-clause-runs
+returns-in-Fetch-clause-runs g c =
     let kept = g.K.Keeper.kept in
     let items = c.args.databases.now in
     let i = c.args.index in
@@ -183,7 +183,7 @@ returns-in-Copy-clause-runs g c =
     let x = get_or items i c.index-databases-index.result in
     let y = c.plan_at.new.own in
     let held = get_or_default items i c.index-databases-index.result x inside in
-    let runs = subst (λ p. PlanRuns x.name (base_of kept x.database) p (base_of kept y.database)) c.in-Copy.is
+    let runs = subst (λ p. PlanRuns x.name (base_of kept x.database) p (base_of kept y.database)) c.in-Fetch.is
     c.in_ok-reply.ensures.runs in
     let look : LookedAt kept items i x y = record {
       distinct = c.requires.distinct;
@@ -193,12 +193,12 @@ returns-in-Copy-clause-runs g c =
       acts = runs.0;
       same = runs.1;
     } in
-    IfOk-weaker c.copy_from.result _ _ (λ reply runs.
-    runs_then reply (bases_of kept items) (bases_of kept (set items i y)) (bases_of kept c.copy_from.new.databases)
-    (mids_try look) runs) c.copy_from.ensures.runs
+    IfOk-weaker c.fetch_from.result _ _ (λ reply runs.
+    runs_then reply (bases_of kept items) (bases_of kept (set items i y)) (bases_of kept c.fetch_from.new.databases)
+    (mids_try look) runs) c.fetch_from.ensures.runs
 
-pub returns-in-Copy-clause-carries : goal.returns-in-Copy-clause-carries
-returns-in-Copy-clause-carries g c =
+pub returns-in-Fetch-clause-carries : goal.returns-in-Fetch-clause-carries
+returns-in-Fetch-clause-carries g c =
     let kept = g.K.Keeper.kept in
     let items = c.args.databases.now in
     let i = c.args.index in
@@ -213,7 +213,7 @@ returns-in-Copy-clause-carries g c =
       index = i;
       cuts = c.args.cuts.now;
     } in
-    let runs = subst (λ p. PlanRuns x.name (base_of kept x.database) p (base_of kept y.database)) c.in-Copy.is
+    let runs = subst (λ p. PlanRuns x.name (base_of kept x.database) p (base_of kept y.database)) c.in-Fetch.is
     c.in_ok-reply.ensures.runs in
     let look : LookedAt kept items i x y = record {
       distinct = c.requires.distinct;
@@ -224,8 +224,8 @@ returns-in-Copy-clause-carries g c =
       same = runs.1;
     } in
     let plans = subst (λ p. PlansAt t.origin t.cuts x.name (base_of kept x.database, queue) p
-    (base_of kept y.database)) c.in-Copy.is c.in_ok-reply.ensures.plans in
-    IfOk-weaker c.copy_from.result _ _ (λ reply copies.
-    carries_copied {kept = kept} {t = t} {w = c.in-Copy.taken} {c = c.in-Copy.copying} c.copy_from.new.databases
-    (record { look = look; plans = plans }) copies)
-    c.copy_from.ensures.copies
+    (base_of kept y.database)) c.in-Fetch.is c.in_ok-reply.ensures.plans in
+    IfOk-weaker c.fetch_from.result _ _ (λ reply brings.
+    carries_brought {kept = kept} {t = t} {w = c.in-Fetch.taken} {c = c.in-Fetch.errand} c.fetch_from.new.databases
+    (record { look = look; plans = plans }) brings)
+    c.fetch_from.ensures.brings

@@ -1,17 +1,23 @@
-use Rattle.std.proofs.Common.{◌≡◌, ◌∙◌, ap, map, List, ℕ, Ok, Err, sym, subst}
+use Rattle.std.proofs.Common.{◌≡◌, ◌∙◌, ap, map, refl, List, ℕ, Ok, Err, sym, subst}
 use Rattle.std.proofs.lemmas.Result.{err_from_is_err_and}
 use Rattle.slon_model.specs.Config.{names_of}
 use Rattle.slon_model.specs.Place.{Place, is_running, standing_rows, taken}
 use Rattle.slon_model.specs.Views.{first_view}
-use Rattle.change_apply.specs.Copied.{AreListed, Listed}
+use Rattle.slon_model.specs.Working.{rows_at, rows_in}
+use Rattle.change_apply.specs.Copied.{AreListed, CanCopyAll, Listed}
 use Rattle.event_store.specs.declared.view.View.{View}
+use Rattle.node_change.specs.declared.side.Side.TheVariants.{To}
 use Rattle.event_store.specs.Kept.{seen_view}
+use Rattle.event_store.specs.Seen.{seen_event}
 use Rattle.app_store.specs.Base.{base_of}
 use Rattle.app_store.proofs.Upright.{up_at, running}
+use Rattle.node_store.specs.declared.bringing.SetCopy.{SetCopy}
+use Rattle.node_store.specs.Bringing.{rows_listed}
+use Rattle.node_store.specs.Joining.{Pair}
 use Rattle.node_store.specs.Looking.{OfConfig}
-use Rattle.remote_worker.specs.Fetching.{Asked}
-use Rattle.remote_worker.proofs.Finding.{copied_found, refused_copy}
-use Rattle.remote_worker.proofs.Looking.{fails, looked_up, own_look, provider_look, so, then, unseen}
+use Rattle.remote_worker.proofs.Counted.{rows_read}
+use Rattle.remote_worker.proofs.Finding.{copied_found, refused_copy, to_copy}
+use Rattle.remote_worker.proofs.Looking.{fails, found_at, looked_up, own_look, provider_look, so, then, unseen}
 use Rattle.remote_worker.proofs.fetching.Worker+Taken.copy.Goals as goal
 
 -- what is looked up of the tables of a set
@@ -33,10 +39,10 @@ returns-in_err-names-clause-copies g c =
 
 pub returns-in-Some-clause-copies : goal.returns-in-Some-clause-copies
 returns-in-Some-clause-copies g c =
-    let set = c.args.copying.set in
-    let self = c.args.self in
-    let a : Asked = record { copying = c.args.copying; own = self.node; number = self.state.number } in
-    so (λ p q both. refused_copy a p q c.as_slice.result.now c.in-Some.refusal
+    let copying = c.args.copying in
+    let set = copying.set in
+    let a = to_copy copying c.args.self.node (seen_event c.args.event.now) in
+    so (λ p q both. refused_copy copying a p q c.as_slice.result.now c.in-Some.refusal
     (λ n is. c.as_slice.ensures.value ∙ both.0 n is) (both.1 ∙ c.in-Some.is))
     (then (Ok c.in_ok-refusal.field-0)
     (own_look (NamesAt set) (base_of g.K.Keeper.kept c.args.provider.now) c.tables_of.result
@@ -66,33 +72,43 @@ returns-in_err-tables-clause-copies g c =
 pub returns-clause-copies : goal.returns-clause-copies
 returns-clause-copies g c =
     let kept = g.K.Keeper.kept in
-    let asked = c.args.copying in
-    let set = asked.set in
-    let self = c.args.self in
-    let number = self.state.number in
-    let a : Asked = record { copying = asked; own = self.node; number = number } in
+    let copying = c.args.copying in
+    let e = seen_event c.args.event.now in
     let names = c.as_slice.result.now in
     let later = c.as_slice-2.result.now in
     let view = c.in_ok-view.view in
     let tables = c.in_ok-tables.tables in
+    let given : SetCopy = record { set = copying.set; view = view; tables = tables } in
     let up = ap (λ m. m.up) c.in_ok-refusal.ensures.looks.same.1 ∙ c.requires.up.1 in
-    so (λ p q all. copied_found a p q names view tables c.with.result (record {
+    let mid : Pair = record { from = base_of kept c.check_copy.new.own; to = base_of kept c.check_copy.new.provider } in
+    so (λ p q all.
+    let rows = subst (λ ns. RowsAt ns q tables) (c.as_slice-2.ensures.value ∙ sym c.as_slice.ensures.value) all.1 in
+    copied_found copying c.args.self.node e p q names given c.with.result (record {
       names_are = λ n is. c.as_slice.ensures.value ∙ all.0.0.0 n is;
       passed = all.0.0.1 ∙ c.in_default.is;
-      view_is = all.0.1;
-      rows = subst (λ ns. RowsAt ns q tables) (c.as_slice-2.ensures.value ∙ sym c.as_slice.ensures.value) all.1;
+      set_is = refl;
+      view_is = all.0.1.0;
+      rows = rows;
+      counted = all.0.1.1 names tables
+          (found_at CanCopyAll To c.read_tables.result tables c.in_ok-tables.ensures c.read_tables.ensures.can)
+          rows;
     }) c.with.ensures.brought_is)
     (then (Ok tables)
     (then (Ok view)
     (then (Ok c.in_ok-refusal.field-0)
-    (own_look (NamesAt set) (base_of g.K.Keeper.kept c.args.provider.now) c.tables_of.result
+    (own_look (NamesAt copying.set) (base_of kept c.args.provider.now) c.tables_of.result
     (Ok c.in_ok-names.names) c.in_ok-names.ensures
-    (looked_up (NamesAt set) c.tables_of.result c.tables_of.ensures.acts c.tables_of.ensures.looks
+    (looked_up (NamesAt copying.set) c.tables_of.result c.tables_of.ensures.acts c.tables_of.ensures.looks
     c.tables_of.ensures.same))
     c.in_ok-refusal.ensures.looks)
-    (unseen (λ p q (v : View). seen_view v ≡ first_view asked.era asked.provider number (taken q))
-    (record { from = base_of kept c.check_copy.new.own; to = base_of kept c.check_copy.new.provider }) view
-    (λ p q here there. c.in_ok-view.ensures.first q there (ap is_running (running (up_at there up)).0))))
+    (unseen (λ p q (v : View). (seen_view v ≡ first_view copying.era copying.provider e.number (taken q))
+    × ((ns : List (List ℕ)) (ts : Listed) → CanCopyAll ts → AreListed (rows_at q ns) ts →
+    rows_in (rows_at q ns) ≡ rows_listed ts))
+    mid view
+    (λ p q here there. (
+      c.in_ok-view.ensures.first q there (ap is_running (running (up_at there up)).0),
+      λ ns ts can are. rows_read q ns ts there.spelled can are,
+    ))))
     (provider_look (RowsAt later) (base_of kept c.check_copy.new.own) c.read_tables.result
     (Ok c.in_ok-tables.tables) c.in_ok-tables.ensures
     (looked_up (RowsAt later) c.read_tables.result c.read_tables.ensures.acts c.read_tables.ensures.looks

@@ -1,54 +1,82 @@
-use Rattle.std.proofs.Common.{Ok, Err, subst}
+use Rattle.std.proofs.Common.{◌≡◌, ◌∙◌, ℕ, Bool, Ok, Err, sym, subst}
 use Rattle.std.proofs.lemmas.Result.{err_from_is_err_and}
-use Rattle.slon_model.specs.Deeds.{knowledge}
+use Rattle.slon_model.specs.Config.{Config, is_known}
 use Rattle.slon_model.specs.Place.{Place}
+use Rattle.event_store.specs.Seen.{seen_event}
 use Rattle.app_store.specs.Base.{base_of}
+use Rattle.node_store.specs.Joining.{Pair}
 use Rattle.node_store.specs.Looking.{OfConfig}
-use Rattle.remote_worker.specs.declared.fetching.Lead.{Lead}
-use Rattle.remote_worker.specs.Fetching.{Asked, IsLead}
-use Rattle.remote_worker.specs.Working.{seen_copying}
-use Rattle.remote_worker.proofs.Finding.{leads_found, other_found, unknown_found}
-use Rattle.remote_worker.proofs.Looking.{fails, provider_look, so, so_each, then}
+use Rattle.remote_worker.specs.declared.carrying.Errand.{Errand}
+use Rattle.remote_worker.specs.declared.carrying.Errand.TheVariants.{Copy, Follow}
+use Rattle.remote_worker.specs.Fetching.{Asked, Fetches}
+use Rattle.remote_worker.specs.Looking.{Looking}
+use Rattle.remote_worker.proofs.Finding.{follow_found, known_found, unknown_found}
+use Rattle.remote_worker.proofs.Looking.{fails, looked_up, provider_look, so, so_each, then}
 use Rattle.remote_worker.proofs.fetching.Worker+Taken.fetch.Goals as goal
 
 -- what is found of the provider
-abbrev LeadAt : Asked → Place → Lead → Type 0
-LeadAt a = OfConfig (IsLead a.own (seen_copying a.copying))
+abbrev KnownAt : ℕ → Place → Bool → Type 0
+KnownAt own = OfConfig (λ (k : Config) (found : Bool). found ≡ is_known own k)
 
 pub returns-in_err-at-clause-fetches : goal.returns-in_err-at-clause-fetches
 returns-in_err-at-clause-fetches g c =
-    let self = c.args.self in
-    let a : Asked = record { copying = c.args.copying; own = self.node; number = self.state.number } in
+    let own = c.args.self.node in
     fails c.from_residual.result (err_from_is_err_and c.from_residual.result c.from_residual.ensures.1)
-    (provider_look (LeadAt a) (base_of g.K.Keeper.kept c.args.own.now) c.lead_of.result
-    (Err c.in_err-at.field-0.0) c.in_err-at.ensures c.lead_of.ensures)
+    (provider_look (KnownAt own) (base_of g.K.Keeper.kept c.args.own.now) c.knows_live.result
+    (Err c.in_err-at.field-0.0) c.in_err-at.ensures
+    (looked_up (KnownAt own) c.knows_live.result c.knows_live.ensures.acts c.knows_live.ensures.looks
+    c.knows_live.ensures.same))
 
-pub returns-in-Unknown-clause-fetches : goal.returns-in-Unknown-clause-fetches
-returns-in-Unknown-clause-fetches g c =
-    let self = c.args.self in
-    let a : Asked = record { copying = c.args.copying; own = self.node; number = self.state.number } in
-    so (λ p q lead. unknown_found a p q (λ k there.
-    subst (IsLead a.own (seen_copying a.copying) (knowledge k).config) c.in-Unknown.is (lead k there)))
-    (provider_look (LeadAt a) (base_of g.K.Keeper.kept c.args.own.now) c.lead_of.result (Ok c.in_ok-at.field-0)
-    c.in_ok-at.ensures c.lead_of.ensures)
+pub returns-then-not-branch-clause-fetches : goal.returns-then-not-branch-clause-fetches
+returns-then-not-branch-clause-fetches g c =
+    let own = c.args.self.node in
+    let a : Asked = record { errand = c.args.errand; own = own; event = seen_event c.args.event.now } in
+    so (λ p q says. unknown_found a p q (λ k there. sym (says k there) ∙ c.if-not-branch.true))
+    (provider_look (KnownAt own) (base_of g.K.Keeper.kept c.args.own.now) c.knows_live.result
+    (Ok c.in_ok-at.field-0) c.in_ok-at.ensures
+    (looked_up (KnownAt own) c.knows_live.result c.knows_live.ensures.acts c.knows_live.ensures.looks
+    c.knows_live.ensures.same))
 
-pub returns-in-Other-clause-fetches : goal.returns-in-Other-clause-fetches
-returns-in-Other-clause-fetches g c =
-    let self = c.args.self in
-    let a : Asked = record { copying = c.args.copying; own = self.node; number = self.state.number } in
-    so (λ p q lead. other_found a p q c.with.result (λ k there.
-    subst (IsLead a.own (seen_copying a.copying) (knowledge k).config) c.in-Other.is (lead k there))
-    c.with.ensures.brought_is)
-    (provider_look (LeadAt a) (base_of g.K.Keeper.kept c.args.own.now) c.lead_of.result (Ok c.in_ok-at.field-0)
-    c.in_ok-at.ensures c.lead_of.ensures)
+pub returns-in-Copy-clause-fetches : goal.returns-in-Copy-clause-fetches
+returns-in-Copy-clause-fetches g c =
+    let own = c.args.self.node in
+    let old : Pair = record {
+      from = base_of g.K.Keeper.kept c.args.own.now;
+      to = base_of g.K.Keeper.kept c.args.provider.now;
+    } in
+    let new : Pair = record {
+      from = base_of g.K.Keeper.kept c.copy_led.new.own;
+      to = base_of g.K.Keeper.kept c.copy_led.new.provider;
+    } in
+    let asked : Errand → Asked = λ x. record { errand = x; own = own; event = seen_event c.args.event.now } in
+    subst (λ x. Looking (Fetches (asked x)) old c.copy_led.result new) (sym c.in-Copy.is)
+    (so_each c.copy_led.result (λ p q given both. known_found (asked (Copy c.in-Copy.copying)) p q given
+    (λ k there. sym (both.0 k there) ∙ c.if-not-branch.false) both.1)
+    (then c.copy_led.result
+    (provider_look (KnownAt own) old.from c.knows_live.result (Ok c.in_ok-at.field-0) c.in_ok-at.ensures
+    (looked_up (KnownAt own) c.knows_live.result c.knows_live.ensures.acts c.knows_live.ensures.looks
+    c.knows_live.ensures.same))
+    c.copy_led.ensures.brings))
 
-pub returns-in-Leads-clause-fetches : goal.returns-in-Leads-clause-fetches
-returns-in-Leads-clause-fetches g c =
-    let self = c.args.self in
-    let a : Asked = record { copying = c.args.copying; own = self.node; number = self.state.number } in
-    so_each c.copy.result (λ p q given both. leads_found a p q given (λ k there.
-    subst (IsLead a.own (seen_copying a.copying) (knowledge k).config) c.in-Leads.is (both.0 k there)) both.1)
-    (then c.copy.result
-    (provider_look (LeadAt a) (base_of g.K.Keeper.kept c.args.own.now) c.lead_of.result (Ok c.in_ok-at.field-0)
-    c.in_ok-at.ensures c.lead_of.ensures)
-    c.copy.ensures.copies)
+pub returns-in-Follow-clause-fetches : goal.returns-in-Follow-clause-fetches
+returns-in-Follow-clause-fetches g c =
+    let own = c.args.self.node in
+    let e = seen_event c.args.event.now in
+    let old : Pair = record {
+      from = base_of g.K.Keeper.kept c.args.own.now;
+      to = base_of g.K.Keeper.kept c.args.provider.now;
+    } in
+    let new : Pair = record {
+      from = base_of g.K.Keeper.kept c.follow.new.own;
+      to = base_of g.K.Keeper.kept c.follow.new.provider;
+    } in
+    let asked : Errand → Asked = λ x. record { errand = x; own = own; event = e } in
+    let provider = c.in-Follow.provider in
+    subst (λ x. Looking (Fetches (asked x)) old c.follow.result new) (sym c.in-Follow.is)
+    (so_each c.follow.result (λ p q given both. known_found (asked (Follow provider)) p q given
+    (λ k there. sym (both.0 k there) ∙ c.if-not-branch.false) (follow_found provider own e p q given both.1))
+    (then c.follow.result
+    (provider_look (KnownAt own) old.from c.knows_live.result (Ok c.in_ok-at.field-0) c.in_ok-at.ensures
+    (looked_up (KnownAt own) c.knows_live.result c.knows_live.ensures.acts c.knows_live.ensures.looks
+    c.knows_live.ensures.same))
+    c.follow.ensures.follows))

@@ -19,6 +19,6 @@ returns c = (
     is = sym c.in-Some.ensures;
     can = sym c.can_carry_out.ensures ∙ c.if-not-can_carry_out.false;
     kind = c.kind_of.ensures;
-    copying = c.copying_in.ensures;
+    errand = c.errand_in.ensures;
   },
 )

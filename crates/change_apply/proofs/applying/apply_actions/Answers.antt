@@ -1,0 +1,66 @@
+use Rattle.std.proofs.Common.{◌≡◌, Some, List, ℕ, refl, rules, subst, sym, ◌∙◌}
+use Rattle.std.specs.Vec.Iter.{into_iter_items}
+use Rattle.std.proofs.lemmas.List.{nil_from_length}
+use Rattle.std.proofs.lemmas.Result.{err_from_is_err_and}
+use Rattle.slon_base.specs.Keeper.{Store}
+use Rattle.store_rows.specs.Space.{IsPending}
+use Rattle.store_rows.proofs.Spaces.{hands_stop}
+use Rattle.slon_model.specs.Rows.{Rows}
+use Rattle.change_apply.specs.Applied.{CanApplyAll, HoldsRows, OthersStay}
+use Rattle.change_apply.proofs.Logged.{IsToDo, all_to_do, one_done, none_to_do}
+use Rattle.change_apply.proofs.Replacing.{others_on}
+use Rattle.change_apply.proofs.applying.apply_actions.Goals as goal
+
+pub loop-action-init : goal.loop-action-init
+loop-action-init g c =
+    let old = g.K.Keeper.kept c.args.keeper.now in
+    let all = c.args.actions in
+    let items = c.into_iter-action-iterator.ensures.into_iter_gives.0 ∙ c.into_vec-action-items.ensures in
+    let can = subst CanApplyAll (sym items) c.requires.can in
+    let plays : (tables : List ℕ → Rows) → IsPending (HoldsRows tables) old →
+    IsPending (IsToDo (into_iter_items c.into_iter-action-iterator.result) all tables) old =
+    λ tables p. subst (λ rs. IsPending (IsToDo rs all tables) old) (sym items) (all_to_do p) in
+    let on : (m : Store) → old.pending ≡ Some (Some m) → IsPending (OthersStay m) old =
+    λ m is. record { store = m; is = is; has = λ space other. refl } in
+    search (rules, can, plays, on)
+
+pub returns-in_err-apply_action-clause-applies : goal.returns-in_err-apply_action-clause-applies
+returns-in_err-apply_action-clause-applies g c tables p =
+    let rest = c.loop-action.invariant.plays tables p in
+    let result = c.from_residual.result in
+    hands_stop _ _ result (err_from_is_err_and result c.from_residual.ensures.1)
+    (c.in_err-apply_action.ensures.applies rest.has.now
+    (record { store = rest.store; is = rest.is; has = rest.has.held }))
+
+pub apply_action-requires-clause-table : goal.apply_action-requires-clause-table
+apply_action-requires-clause-table g c =
+    (subst CanApplyAll c.in-Some.ensures.steps.0 c.loop-action.invariant.can).0.0
+
+pub apply_action-requires-clause-words : goal.apply_action-requires-clause-words
+apply_action-requires-clause-words g c =
+    (subst CanApplyAll c.in-Some.ensures.steps.0 c.loop-action.invariant.can).0.1
+
+pub loop-action-preserved : goal.loop-action-preserved
+loop-action-preserved g c =
+    let old = g.K.Keeper.kept c.args.keeper.now in
+    let mid = g.K.Keeper.kept c.loop-action.keeper in
+    let new = g.K.Keeper.kept c.apply_action.new.keeper in
+    let all = c.args.actions in
+    let before = c.loop-action.invariant in
+    let step = c.in-Some.ensures.steps.0 in
+    let can = (subst CanApplyAll step before.can).1 in
+    let plays : (tables : List ℕ → Rows) → IsPending (HoldsRows tables) old →
+    IsPending (IsToDo (into_iter_items c.next.new.self) all tables) new =
+    λ tables p. one_done
+    (subst (λ rs. IsPending (IsToDo rs all tables) mid) step (before.plays tables p))
+    c.in_ok-apply_action.ensures.applies in
+    let on : (m : Store) → old.pending ≡ Some (Some m) → IsPending (OthersStay m) new =
+    λ m is. others_on (before.on m is) c.in_ok-apply_action.ensures.changed in
+    search (rules, can, plays, on)
+
+pub returns-clause-applies : goal.returns-clause-applies
+returns-clause-applies g c tables p =
+    let end = nil_from_length (into_iter_items c.loop-action.action-iterator)
+    (sym c.loop-action.invariant.counted ∙ c.in-None.ensures.steps.0) in
+    none_to_do (subst (λ rs. IsPending (IsToDo rs c.args.actions tables) (g.K.Keeper.kept c.loop-action.keeper)) end
+    (c.loop-action.invariant.plays tables p))

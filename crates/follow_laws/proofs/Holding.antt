@@ -1,0 +1,460 @@
+-- Each table that a node keeps holds what the snapshot that the node keeps sees of it at the origin.
+use Rattle.std.proofs.Common.{◌≡◌, ◌≢◌, ◌⊎◌, inl, inr, ℕ, true, List, [], ◌∷◌, Option, Some, None}
+use Rattle.std.proofs.Common.{refl, sym, ap, subst, ◌∙◌, map}
+use Rattle.std.specs.Prelude.{◌==◌, ◌+◌, option_map}
+use Rattle.std.specs.Option.{option_or}
+use Rattle.std.specs.List.{AllByRecursion}
+use Rattle.std.proofs.lemmas.Bool.{true≢false, and_parts, eqb-true}
+use Rattle.node_rows.specs.declared.rows.TableRow.{TableRow}
+use Rattle.slon_model.specs.Maps.{Map, entry_at}
+use Rattle.slon_model.specs.Events.{Event}
+use Rattle.slon_model.specs.Config.{Config, era_of, is_origin, is_table_of, names_of, tables_of}
+use Rattle.slon_model.specs.Deciding.{closed_at, decide, move_of}
+use Rattle.slon_model.specs.Deeds.{Node, Brought, Emits, Hears as HearsOf, Knowledge, brought_in, knowledge}
+use Rattle.slon_model.specs.Deeds.{nothing_brought, view_of, with_deeds}
+use Rattle.slon_model.specs.Eras.{image_in}
+use Rattle.slon_model.specs.Following.{SetSync, content, kept_from, set_sync, set_syncs, with_sync, with_syncs}
+use Rattle.slon_model.specs.Logs.{logged}
+use Rattle.slon_model.specs.Moves.{Move, done, prepared, with_commit}
+use Rattle.slon_model.specs.Place.{Place, deed, doubted, fallen, filled_by, filling_of, standing_rows, taken}
+use Rattle.slon_model.specs.Tasks.{Task}
+use Rattle.slon_model.specs.Sessions.{World, Commit, Emission, Seat, committing, emissions, next_event}
+use Rattle.slon_model.specs.Views.{View, first_view, view_after}
+use Rattle.slon_model.specs.Working.{receives_from}
+use Rattle.slon_model.proofs.Names.{all_found, one_found}
+use Rattle.slon_laws.proofs.Later.{HoldsOf}
+use Rattle.stream_laws.specs.Nodes.{IsAmong, nodes_in, node_in}
+use Rattle.stream_laws.specs.Applied.{applied_events}
+use Rattle.stream_laws.proofs.Copies.{IsBrought, Nothing, Copies, Brings}
+use Rattle.stream_laws.proofs.Lists.{all_among, all_appended, all_mapped, among_all}
+use Rattle.stream_laws.proofs.Seats.{seat_node}
+use Rattle.stream_laws.proofs.Steps.{Logs, done_logs, prepared_node}
+use Rattle.image_laws.specs.Facts.{IsHeldBy}
+use Rattle.image_laws.proofs.Logging.{filtered_among}
+use Rattle.image_laws.proofs.Since.{prepared_fillings, prepared_same}
+use Rattle.follow_laws.specs.Known.{AreFilled, IsFilled}
+use Rattle.follow_laws.specs.Laws.{HoldsAsSeen, TablesFollow}
+use Rattle.follow_laws.specs.Past.{Past, past, WasBefore, WasUpTo}
+use Rattle.follow_laws.proofs.Doing.{Becomes, Does, DoesBecome, DoesHear, DoesTake, DoesTell, Hears, Takes, Tells}
+use Rattle.follow_laws.proofs.Doing.{taking}
+use Rattle.follow_laws.proofs.Contents.{AreBefore, filled_stands, none_filled}
+use Rattle.follow_laws.proofs.Filled.{Taking, copy_beside, copy_body, copy_filled, node_then, place_then, still_filled}
+use Rattle.follow_laws.proofs.Filled.{sync_content, sync_filled, syncing}
+use Rattle.follow_laws.proofs.Going.{rising_now, seen_now}
+use Rattle.follow_laws.proofs.Living.{does_node, event_of}
+use Rattle.follow_laws.proofs.Staying.{Stays}
+use Rattle.follow_laws.proofs.Kept.{IsAhead}
+use Rattle.follow_laws.proofs.Kept.{done_before, done_fillings, filled_later, kept_closed, other_leads, same_filled}
+use Rattle.follow_laws.proofs.Kept.{takes_known, tells_ahead}
+use Rattle.follow_laws.proofs.Moments.{NodeAt, now_stays}
+use Rattle.follow_laws.proofs.Numbered.{mapped_among}
+use Rattle.follow_laws.proofs.Opened.{open_move}
+use Rattle.follow_laws.proofs.Rising.{found_in, stands_found}
+use Rattle.follow_laws.proofs.Seen.{seen_more, syncs_seen}
+use Rattle.follow_laws.proofs.Synced.{Today, held_today, image_then, synced_nothing}
+use Rattle.follow_laws.proofs.Tables.{held_then}
+use Rattle.follow_laws.proofs.Walking.{IsHere, LivesOn, lives_in}
+
+-- ---- the views that are brought
+
+-- what holds of all views that a SYNC brings holds of each set that is synced
+views_before : (P : ℕ × View → Type 0) (here : Place) (ts : List SetSync) (b : Brought) →
+    AllByRecursion P (with_syncs here ts b).views → AllByRecursion P b.views
+views_before P here [] b all = all
+views_before P here (t ∷ more) b all = (views_before P here more (with_sync here t b) all).1
+
+pub views_synced : (P : ℕ × View → Type 0) (here : Place) (ts : List SetSync) (b : Brought) →
+    AllByRecursion P (with_syncs here ts b).views → AllByRecursion (λ t. P (t.set_id, t.view)) ts
+views_synced P here [] b all = tt
+views_synced P here (t ∷ more) b all =
+    ((views_before P here more (with_sync here t b) all).0, views_synced P here more (with_sync here t b) all)
+
+pub all_unmapped : {X Y : Type 0} (P : Y → Type 0) (f : X → Y) (xs : List X) → AllByRecursion P (map f xs) →
+    AllByRecursion (λ x. P (f x)) xs
+all_unmapped P f [] all = tt
+all_unmapped P f (x ∷ xs) all = (all.0, all_unmapped P f xs all.1)
+
+-- ---- an event
+
+-- the table was known, where the set was kept
+known_before : (t : Past) (k : Taking t) (e : ℕ × TableRow) (v : View) →
+    view_of e.1.set_id (knowledge k.carried.seat.node) ≡ Some v →
+    IsAmong e (knowledge (node_then k)).config.tables → IsAmong e (knowledge k.carried.seat.node).config.tables
+known_before t k e v found among = takes_known t k.carried k.origin k.is e v found among
+
+takes_filled : (t : Past) (k : Taking t) (e : ℕ × TableRow) → IsAmong e (knowledge (node_then k)).config.tables →
+    (v : View) → view_of e.1.set_id (knowledge (node_then k)) ≡ Some v →
+    IsFilled (WasUpTo t) (place_then k) (node_then k) e.1.set_id v e.1.name
+takes_filled t k e among v found =
+    by k.is.brings (found_in e.1.set_id v k.carried.brought.views (knowledge n).views found)
+  where
+    n : Node
+    n = k.carried.seat.node
+
+    event : Event
+    event = k.carried.event
+
+    Kept : Type 0
+    Kept = (entry_at e.1.set_id (knowledge n).views ≡ Some v)
+        × AllByRecursion (λ u. u.0 ≢ e.1.set_id) k.carried.brought.views
+
+    by : IsBrought t.world k.carried.seat event k.carried.brought →
+        IsAmong (e.1.set_id, v) k.carried.brought.views ⊎ Kept →
+        IsFilled (WasUpTo t) (place_then k) (node_then k) e.1.set_id v e.1.name
+    by (Nothing none) (inl new) =
+        absurd (subst (λ (b : Brought). IsAmong (e.1.set_id, v) b.views) none new)
+    by (Nothing none) (inr old) =
+        still_filled t k e (known_before t k e v old.0 among) v old.0
+        (ap (λ (b : Brought). content k.carried.seat.place b.rows e.1.name) none)
+    by (Copies c) (inl new) = copied (subst (λ (b : Brought). IsAmong (e.1.set_id, v) b.views) c.is new)
+      where
+        first : ℕ × View
+        first = (
+          c.copying.set_id,
+          first_view c.copying.era c.provider.node.id event.number (taken c.provider.place),
+        )
+
+        there : IsAmong e (knowledge n).config.tables
+        there =
+            subst (IsAmong e) (copy_body n.id (receives_from event.origin k.carried.seat.known) event.origin event.body
+            c.copying c.asked (knowledge n).config event.number) among
+
+        copied : IsAmong (e.1.set_id, v) (first ∷ []) →
+            IsFilled (WasUpTo t) (place_then k) (node_then k) e.1.set_id v e.1.name
+        copied (inl is) =
+            subst (λ (u : ℕ × View). IsFilled (WasUpTo t) (place_then k) (node_then k) u.0 u.1 e.1.name) (sym is)
+            (copy_filled t k c e there (ap (λ (u : ℕ × View). u.0) is))
+        copied (inr never) = absurd never
+    by (Copies c) (inr old) =
+        let there = known_before t k e v old.0 among in
+        let apart = subst (λ (b : Brought). AllByRecursion (λ u. u.0 ≢ e.1.set_id) b.views) c.is old.1 in
+        still_filled t k e there v old.0 (copy_beside t k c e there (λ same. apart.0 (sym same)))
+    by (Brings f) (inl new) =
+        let of = all_among P (e.1.set_id, v) k.carried.brought.views views new in
+        let was = filtered_among (λ u. u.1.origin == event.origin) (e.1.set_id, of.0) (knowledge n).views of.1 in
+        let here = stands_found e.1.set_id of.0 (knowledge n).views (rising_now t k.carried.seat.name n own) was.0 in
+        subst (λ u. IsFilled (WasUpTo t) (place_then k) (node_then k) e.1.set_id u e.1.name) (sym of.2)
+        (sync_filled t k f e (known_before t k e of.0 here among) of.0 here
+        (eqb-true of.0.origin event.origin was.1))
+      where
+        own : nodes_in t.world.places k.carried.seat.name ≡ Some n
+        own = seat_node t.world.places k.carried.seat k.is.work.seat
+
+        kept : Map View
+        kept = kept_from event.origin (knowledge n)
+
+        P : ℕ × View → Type 0
+        P u = (y : View) × IsAmong (u.0, y) kept × (u.1 ≡ view_after event y)
+
+        views : AllByRecursion P k.carried.brought.views
+        views =
+            subst (λ (b : Brought). AllByRecursion P b.views) (sym f.is)
+            (subst (λ (j : Knowledge). AllByRecursion P (with_syncs k.carried.seat.place
+            (set_syncs n.id j event (logged f.provider.node)) nothing_brought).views) (sym k.is.work.seat.known)
+            (syncs_seen P k.carried.seat.place (set_syncs n.id (knowledge n) event (logged f.provider.node))
+            nothing_brought (all_mapped (λ u. IsAmong u kept) (λ (s : SetSync). P (s.set_id, s.view))
+            (set_sync n.id (knowledge n) event (logged f.provider.node)) (λ u there. (u.1, there, refl)) kept
+            (among_all (λ u. IsAmong u kept) kept (λ u there. there))) tt))
+    by (Brings f) (inr old) =
+        let there = known_before t k e v old.0 among in
+        still_filled t k e there v old.0 (sync_content t k f e.1.name
+        ∙ synced_nothing t (syncing t k f e there v old.0) none (standing_rows k.carried.seat.place e.1.name))
+      where
+        none : AllByRecursion (λ u. u.0 ≢ e.1.set_id) (kept_from event.origin (knowledge n))
+        none =
+            all_unmapped (λ (s : SetSync). s.set_id ≢ e.1.set_id)
+            (set_sync n.id (knowledge n) event (logged f.provider.node)) (kept_from event.origin (knowledge n))
+            (views_synced (λ u. u.0 ≢ e.1.set_id) k.carried.seat.place
+            (set_syncs n.id (knowledge n) event (logged f.provider.node)) nothing_brought
+            (subst (λ (j : Knowledge). AllByRecursion (λ u. u.0 ≢ e.1.set_id) (with_syncs k.carried.seat.place
+            (set_syncs n.id j event (logged f.provider.node)) nothing_brought).views) k.is.work.seat.known
+            (subst (λ (b : Brought). AllByRecursion (λ u. u.0 ≢ e.1.set_id) b.views) f.is old.1)))
+
+-- ---- a task of the database
+
+done_filled : (t : Past) (task : Task) (p : Place) → IsHere t p → AreFilled (WasBefore t) p →
+    AreFilled (WasUpTo t) (done (move_of (decide task p)) p)
+done_filled t task p here was m at e among v found = by (done_logs move p)
+  where
+    move : Move
+    move = move_of (decide task p)
+
+    -- the node of before
+    from : (n : Node) → p.node ≡ Some n → (o : Node) → (o.id ≡ n.id) × ((knowledge o ≡ knowledge n)
+        × ((f : Event) → IsAmong f (applied_events n) → IsAmong f (applied_events o))) → m ≡ o →
+        IsFilled (WasUpTo t) (done move p) m e.1.set_id v e.1.name
+    from n is o same one =
+        let there = subst (λ (j : Knowledge). IsAmong e j.config.tables) (ap knowledge one ∙ same.1.0) among in
+        let view = ap (view_of e.1.set_id) (sym (ap knowledge one ∙ same.1.0)) ∙ found in
+        let f = filled_later t p n e.1.set_id v e.1.name (was n is e there v view) in
+        let name = here n is in
+        record {
+          seen = seen_more (WasUpTo t) n m (ap (λ (x : Node). x.id) one ∙ same.0)
+              (λ g in_n. subst (λ x. IsAmong g (applied_events x)) (sym one) (same.1.1 g in_n)) e.1.set_id v f.seen;
+          rows = ap (λ fillings. (filling_of e.1.name fillings).rows) (done_fillings move p) ∙ f.rows;
+          before =
+              subst (λ fillings. AreBefore e.1.name (filling_of e.1.name fillings).first (done move p).actions)
+              (sym (done_fillings move p))
+              (done_before move p e.1.name (filling_of e.1.name p.fillings).first (open_move task p)
+              (λ k named none. kept_closed t (record {
+                name = name.0;
+                node = n;
+                is = name.1;
+                entry = e;
+                among = there;
+              }) v view k named (ap (closed_at k) (sym is) ∙ none)) f.before);
+        }
+
+    made : (xid : ℕ) (o : Option Node) → p.node ≡ o → option_map (with_commit xid p) o ≡ Some m →
+        IsFilled (WasUpTo t) (done move p) m e.1.set_id v e.1.name
+    made xid None is none = absurd cc
+    made xid (Some n) is some =
+        from n is (with_commit xid p n) (refl, (refl, λ f in_n. in_n)) (sym (one_found (with_commit xid p n) m some))
+
+    by : Logs p (done move p).node → IsFilled (WasUpTo t) (done move p) m e.1.set_id v e.1.name
+    by (inl same) = from m (sym same ∙ at) m (refl, (refl, λ f in_n. in_n)) refl
+    by (inr (xid, log)) = made xid p.node refl (sym log ∙ at)
+
+-- ---- a commit
+
+pub emissions_bring : (s : Seat) (number : ℕ) (ms : List Emission) →
+    AllByRecursion (λ d. (brought_in d.doing).rows ≡ []) (emissions s number ms)
+emissions_bring s number [] = tt
+emissions_bring s number (m ∷ ms) =
+    all_appended (λ d. (brought_in d.doing).rows ≡ []) (emissions s (number + 1) ms)
+    (deed s.place m.rows [] (Emits (event_of s number m.body)) ∷ []) (emissions_bring s (number + 1) ms) (refl, tt)
+
+tells_filled : (t : Past) (c : Commit) (p : Place) → Tells t.world c p → AreFilled (WasBefore t) p →
+    AreFilled (WasUpTo t) (committing c p)
+tells_filled t c p d was m at e among v found = by (a.tables e there)
+  where
+    n : Node
+    n = d.seat.node
+
+    own : nodes_in t.world.places d.seat.name ≡ Some n
+    own = seat_node t.world.places d.seat d.is
+
+    here : p.node ≡ Some n
+    here = ap (λ (q : Place). q.node) (sym d.at) ∙ d.is.node
+
+    behind : Node
+    behind = with_deeds (emissions d.seat (next_event d.seat) d.emits) n
+
+    one : m ≡ behind
+    one =
+        one_found m behind (sym at ∙ does_node c p n (ap (λ (k : Commit). k.becomes) d.commit) here
+        ∙ ap (λ (k : Commit). Some (with_deeds k.deeds n)) d.commit)
+
+    a : IsAhead d.seat behind
+    a = tells_ahead d.seat d.emits d.may
+
+    there : IsAmong e (knowledge behind).config.tables
+    there = subst (λ x. IsAmong e (knowledge x).config.tables) one among
+
+    view : view_of e.1.set_id (knowledge n) ≡ Some v
+    view = ap (entry_at e.1.set_id) (sym (ap (λ x. (knowledge x).views) one ∙ a.views)) ∙ found
+
+    kept : IsAmong e (knowledge n).config.tables → IsFilled (WasUpTo t) (committing c p) m e.1.set_id v e.1.name
+    kept known =
+        same_filled (WasUpTo t) (record {
+          before = p;
+          behind = committing c p;
+          node = n;
+          later = m;
+          fillings =
+              ap (λ (k : Commit). filled_by p k.deeds p.fillings) d.commit
+              ∙ none_filled p (emissions d.seat (next_event d.seat) d.emits) p.fillings
+              (emissions_bring d.seat (next_event d.seat) d.emits);
+          actions = refl;
+          id = ap (λ (x : Node). x.id) one ∙ a.id;
+          more = λ f in_n. subst (λ x. IsAmong f (applied_events x)) (sym one)
+              (subst (IsAmong f) (sym a.applied) in_n);
+        }) e.1.set_id v e.1.name (filled_later t p n e.1.set_id v e.1.name (was n here e known v view))
+
+    by : IsAmong e (knowledge n).config.tables ⊎ (is_origin n.id e.1.set_id (knowledge n).config ≡ true) →
+        IsFilled (WasUpTo t) (committing c p) m e.1.set_id v e.1.name
+    by (inl known) = kept known
+    by (inr leads) =
+        absurd (true≢false (sym leads ∙ other_leads t d.seat.name n own e.1.set_id v
+        (seen_now t d.seat.name n own e.1.set_id v view)))
+
+takes_all : (t : Past) (c : Commit) (p : Place) → Takes t.world c p → AreFilled (WasBefore t) p →
+    AreFilled (WasUpTo t) (committing c p)
+takes_all t c p d was =
+    subst (λ c. AreFilled (WasUpTo t) (committing c p)) (sym d.commit)
+    (subst (λ p. AreFilled (WasUpTo t) (committing (taking d.carried) p)) d.at here)
+  where
+    k : Taking t
+    k = record {
+      carried = d.carried;
+      origin = d.origin;
+      is = d.is;
+      filled = subst (AreFilled (WasBefore t)) (sym d.at) was;
+    }
+
+    here : AreFilled (WasUpTo t) (place_then k)
+    here m at e among v found =
+        let one : node_then k ≡ m =
+        one_found (node_then k) m (sym (does_node (taking d.carried) d.carried.seat.place d.carried.seat.node refl
+        d.is.work.seat.node) ∙ at) in
+        subst (λ x. IsFilled (WasUpTo t) (place_then k) x e.1.set_id v e.1.name) one
+        (takes_filled t k e (subst (λ x. IsAmong e (knowledge x).config.tables) (sym one) among) v
+        (ap (λ x. view_of e.1.set_id (knowledge x)) one ∙ found))
+
+hears_filled : (t : Past) (c : Commit) (p : Place) → Hears t.world c p → AreFilled (WasBefore t) p →
+    AreFilled (WasUpTo t) (committing c p)
+hears_filled t c p d was m at e among v found =
+    same_filled (WasUpTo t) (record {
+      before = p;
+      behind = committing c p;
+      node = n;
+      later = m;
+      fillings = ap (λ (k : Commit). filled_by p k.deeds p.fillings) d.commit;
+      actions = refl;
+      id = ap (λ (x : Node). x.id) one;
+      more = λ f in_n. subst (λ x. IsAmong f (applied_events x)) (sym one) in_n;
+    }) e.1.set_id v e.1.name (filled_later t p n e.1.set_id v e.1.name (was n here e
+    (subst (λ x. IsAmong e (knowledge x).config.tables) one among) v
+    (ap (λ x. view_of e.1.set_id (knowledge x)) (sym one) ∙ found)))
+  where
+    n : Node
+    n = d.seat.node
+
+    here : p.node ≡ Some n
+    here = ap (λ (q : Place). q.node) (sym d.at) ∙ d.is.node
+
+    one : m ≡ with_deeds (deed d.seat.place [] [] (HearsOf d.confirms) ∷ []) n
+    one =
+        one_found m _ (sym at ∙ does_node c p n (ap (λ (k : Commit). k.becomes) d.commit) here
+        ∙ ap (λ (k : Commit). Some (with_deeds k.deeds n)) d.commit)
+
+becomes_filled : (t : Past) (c : Commit) (p : Place) → Becomes t.world c p → AreFilled (WasUpTo t) (committing c p)
+becomes_filled t c p d m at e among v found = never is
+  where
+    one : m ≡ d.node
+    one = one_found m d.node (sym at
+        ∙ ap (λ (k : Commit). option_map (with_deeds k.deeds) (option_or k.becomes p.node)) d.commit)
+
+    is : None ≡ Some v
+    is =
+        ap (entry_at e.1.set_id) (sym d.views)
+        ∙ ap (λ ds. view_of e.1.set_id (knowledge (record d.node { deeds = ds }))) (sym d.deeds)
+        ∙ ap (λ x. view_of e.1.set_id (knowledge x)) (sym one) ∙ found
+
+    never : None ≡ Some v → IsFilled (WasUpTo t) (committing c p) m e.1.set_id v e.1.name
+    never same = absurd cc
+
+commits_filled : (t : Past) (c : Commit) (p : Place) → Does t.world c p → AreFilled (WasBefore t) p →
+    AreFilled (WasUpTo t) (committing c p)
+commits_filled t c p (DoesTell d) was = tells_filled t c p d was
+commits_filled t c p (DoesTake d) was = takes_all t c p d was
+commits_filled t c p (DoesHear d) was = hears_filled t c p d was
+commits_filled t c p (DoesBecome d) was = becomes_filled t c p d
+
+-- ---- every session
+
+-- the database with the same node, fillings and actions
+alike_filled : (Was : World → Type 0) (p q : Place) → (q.node ≡ p.node) × ((q.fillings ≡ p.fillings)
+    × (q.actions ≡ p.actions)) → AreFilled Was p → AreFilled Was q
+alike_filled Was p q same was n is e among v found =
+    same_filled Was (record {
+      before = p;
+      behind = q;
+      node = n;
+      later = n;
+      fillings = same.1.0;
+      actions = same.1.1;
+      id = refl;
+      more = λ f in_n. in_n;
+    }) e.1.set_id v e.1.name
+    (was n (sym same.0 ∙ is) e among v found)
+
+tables_filled : LivesOn AreFilled
+tables_filled = record {
+  bare = λ t n is. absurd cc;
+  stays = λ t p was n is e among v found. filled_later t p n e.1.set_id v e.1.name (was n is e among v found);
+  passes = λ t all. record {
+    stays = λ p was n is e among v found. filled_later t p n e.1.set_id v e.1.name (was.1 n is e among v found);
+    prepares = λ move p was.
+        alike_filled (WasUpTo t) p (prepared move p)
+        (prepared_node move p, (prepared_fillings move p, (prepared_same move p).actions))
+        (λ n is e among v found. filled_later t p n e.1.set_id v e.1.name (was.1 n is e among v found));
+    moves = λ task p may was. done_filled t task p was.0 was.1;
+    falls = λ count p was. alike_filled (WasUpTo t) p (fallen count p) (refl, (refl, refl)) was;
+    wavers = λ stands p was. alike_filled (WasUpTo t) p (doubted stands p) (refl, (refl, refl)) was;
+    promises = λ node p was. alike_filled (WasUpTo t) p (record p { promised = node }) (refl, (refl, refl)) was;
+    commits = λ c p step was. commits_filled t c p step.does was.1;
+  };
+}
+
+-- a table that a node of the session keeps
+pub filled_now : (t : Past) (x : NodeAt t) (e : ℕ × TableRow) → IsAmong e (knowledge x.node).config.tables →
+    (v : View) → view_of e.1.set_id (knowledge x.node) ≡ Some v →
+    IsFilled (WasUpTo t) x.place x.node e.1.set_id v e.1.name
+filled_now t x e among v view =
+    filled_later t x.place x.node e.1.set_id v e.1.name
+    (all_found (AreFilled (WasBefore t)) x.name x.place t.world.places (lives_in tables_filled t) x.found x.node x.at e
+    among v view)
+
+-- ---- the law
+
+holds_as_seen : (t : Past) (x : NodeAt t) (e : ℕ × TableRow) → IsAmong e (knowledge x.node).config.tables →
+    (v : View) → view_of e.1.set_id (knowledge x.node) ≡ Some v →
+    HoldsAsSeen t.world x.place x.node e.1.set_id v e.1.name
+holds_as_seen t x e among v view = record {
+  name = f.seen.moment.name;
+  place = now.0;
+  found = now.1;
+  origin = now.2.node;
+  at = now.2.is;
+  own = now.2.id ∙ f.seen.own;
+  apart = f.seen.apart;
+  held = today_held.0;
+  rows =
+      filled_stands x.place e.1.name f.before ∙ f.rows
+      ∙ sym (image_then t f.seen.moment today e.1.set_id e.1.name held)
+      ∙ ap (λ era. image_in now.0 now.2.node e.1.set_id era e.1.name (taken f.seen.moment.place)) (sym f.seen.era)
+      ∙ ap (image_in now.0 now.2.node e.1.set_id v.era e.1.name) (sym f.seen.seen);
+}
+  where
+    f : IsFilled (WasUpTo t) x.place x.node e.1.set_id v e.1.name
+    f = filled_now t x e among v view
+
+    now : HoldsOf (Stays f.seen.moment.node) f.seen.moment.name t.world.places
+    now = now_stays t f.seen.moment.session f.seen.moment.was f.seen.moment.name f.seen.moment.place
+        f.seen.moment.node f.seen.moment.found f.seen.moment.at
+
+    today : Today t f.seen.moment
+    today = record {
+      name = f.seen.moment.name;
+      same = refl;
+      place = now.0;
+      found = now.1;
+      node = now.2.node;
+      at = now.2.is;
+    }
+
+    held : IsHeldBy f.seen.moment.node.id (knowledge f.seen.moment.node).config e.1.set_id e.1.name
+    held = held_then t
+        (record { name = x.name; node = x.node; is = ap node_in x.found ∙ x.at; entry = e; among = among }) v f.seen
+
+    today_held : IsHeldBy now.2.node.id (knowledge now.2.node).config e.1.set_id e.1.name
+        × (era_of e.1.set_id (knowledge now.2.node).config ≡ era_of e.1.set_id (knowledge f.seen.moment.node).config)
+    today_held = held_today t f.seen.moment today e.1.set_id e.1.name held
+
+-- a table of a set is a known one
+pub table_known : (set : ℕ) (c : Config) (table : List ℕ) → IsAmong table (names_of set c) →
+    (e : ℕ × TableRow) × IsAmong e c.tables × (e.1.set_id ≡ set) × (table ≡ e.1.name)
+table_known set c table among =
+    let made = mapped_among (λ (e : ℕ × TableRow). e.1.name) table (tables_of set c) among in
+    let there = filtered_among (is_table_of set) made.0 c.tables made.1 in
+    (made.0, there.0, eqb-true made.0.1.set_id set (and_parts made.0.1.live (made.0.1.set_id == set) there.1).1, made.2)
+
+pub tables_follow : TablesFollow
+tables_follow limit history w leads name p found n is set v view table among =
+    let e = table_known set (knowledge n).config table among in
+    subst (λ name. HoldsAsSeen w p n set v name) (sym e.3)
+    (subst (λ k. HoldsAsSeen w p n k v e.0.1.name) e.2
+    (holds_as_seen (past limit history w leads)
+    (record { name = name; place = p; found = found; node = n; at = is }) e.0 e.1 v
+    (ap (λ k. view_of k (knowledge n)) e.2 ∙ view)))

@@ -1,0 +1,305 @@
+-- Nothing but what comes with events changes the tables that a node keeps.
+use Rattle.std.proofs.Common.{◌≡◌, ◌≢◌, ◌⊎◌, inl, inr, ℕ, ◌<◌, ◌≤◌, Bool, true, false, cond, List, [], ◌∷◌}
+use Rattle.std.proofs.Common.{Some, None, refl, sym, ap, subst, ◌∙◌, arith, length, is_some}
+use Rattle.std.specs.Prelude.{◌==◌, ◌+◌, ◌&&◌, nat_lt}
+use Rattle.std.specs.Str.{bytes_eq}
+use Rattle.std.specs.List.{AllByRecursion}
+use Rattle.std.proofs.lemmas.Bool.{false≢true, true≢false, false_from_ne_true, eq-eqb}
+use Rattle.node_rows.specs.declared.body.Body.{Body}
+use Rattle.node_rows.specs.declared.body.Body.TheVariants.{SetAddTable, DropSet, MoveSet, FailoverSet}
+use Rattle.node_rows.specs.declared.rows.TableRow.{TableRow}
+use Rattle.slon_model.specs.declared.fault.DbFault.TheVariants.{NotOrigin, SetLocked}
+use Rattle.slon_model.specs.Maps.{Map, number_at, with_entry}
+use Rattle.slon_model.specs.Events.{Event}
+use Rattle.slon_model.specs.Config.{Config, change_by, is_locked, is_origin, set_of}
+use Rattle.slon_model.specs.Deciding.{closed_at, closed_set}
+use Rattle.slon_model.specs.Deeds.{Node, knowledge, progress, stream, view_of, with_deeds}
+use Rattle.slon_model.specs.Moves.{Move, Founds, Writes, done}
+use Rattle.slon_model.specs.Place.{Place, filling_of}
+use Rattle.slon_model.specs.Sessions.{World, Seat, Emission, emissions, next_event}
+use Rattle.slon_model.specs.Views.{View}
+use Rattle.slon_model.specs.Working.{Carried}
+use Rattle.slon_model.proofs.Names.{bytes_same}
+use Rattle.slon_laws.proofs.Later.{HoldsOf}
+use Rattle.stream_laws.specs.Nodes.{IsAmong, nodes_in, node_in}
+use Rattle.stream_laws.specs.Applied.{AreSuccessive, HasApplied, applied_events, of_origin}
+use Rattle.stream_laws.specs.Making.{is_emitted}
+use Rattle.stream_laws.specs.Making.{AreEmitted as AreNumbered}
+use Rattle.stream_laws.specs.Facts.{Facts}
+use Rattle.stream_laws.proofs.Copies.{one_leader}
+use Rattle.stream_laws.proofs.Lists.{all_among}
+use Rattle.stream_laws.proofs.Seats.{seat_node}
+use Rattle.stream_laws.proofs.Streams.{among_found, number_within}
+use Rattle.image_laws.proofs.Logging.{among_filtered}
+use Rattle.image_laws.proofs.Since.{first_fillings, first_same, prepared_fillings, prepared_same}
+use Rattle.follow_laws.proofs.Doing.{IsTaken}
+use Rattle.follow_laws.specs.Known.{AreUnfed, IsFilled, IsSeen, IsUnfed, feeds}
+use Rattle.follow_laws.specs.Past.{Past, WasBefore, WasUpTo}
+use Rattle.follow_laws.proofs.Doing.{AreAllowed, IsAllowed}
+use Rattle.follow_laws.proofs.Contents.{AreBefore}
+use Rattle.follow_laws.proofs.Going.{seen_now}
+use Rattle.follow_laws.proofs.Living.{IsOfFeed, Says, deed_of, event_of, tells_lives}
+use Rattle.follow_laws.proofs.Moments.{now_stays, past_of, reached_up_to, regular_now}
+use Rattle.follow_laws.proofs.Opened.{IsOpenMove}
+use Rattle.follow_laws.proofs.Seen.{same_views, seen_later, seen_more, stays_leading, unfed_now}
+use Rattle.follow_laws.proofs.Staying.{Stays}
+use Rattle.follow_laws.proofs.Tables.{KnownTable, Table, found_in_set, was_before}
+use Rattle.follow_laws.proofs.Unfed.{may_emitted, says_emitted}
+
+-- ---- the same fillings
+
+pub filled_later : (t : Past) (p : Place) (n : Node) (set : ℕ) (v : View) (table : List ℕ) →
+    IsFilled (WasBefore t) p n set v table → IsFilled (WasUpTo t) p n set v table
+filled_later t p n set v table f =
+    record { seen = seen_later t n set v f.seen; rows = f.rows; before = f.before }
+
+-- A database that is filled as before, and whose node applied no less.
+pub record Alike : Type 0 where
+  pub before : Place
+  pub behind : Place
+  pub node : Node
+  pub later : Node
+  pub fillings : behind.fillings ≡ before.fillings
+  pub actions : behind.actions ≡ before.actions
+  pub id : later.id ≡ node.id
+  pub more : (e : Event) → IsAmong e (applied_events node) → IsAmong e (applied_events later)
+
+pub same_filled : (Was : World → Type 0) (a : Alike) (set : ℕ) (v : View) (table : List ℕ) →
+    IsFilled Was a.before a.node set v table → IsFilled Was a.behind a.later set v table
+same_filled Was a set v table f = record {
+  seen = seen_more Was a.node a.later a.id a.more set v f.seen;
+  rows = ap (λ fillings. (filling_of table fillings).rows) a.fillings ∙ f.rows;
+  before =
+      subst (λ fillings. AreBefore table (filling_of table fillings).first a.behind.actions) (sym a.fillings)
+      (subst (AreBefore table (filling_of table a.before.fillings).first) (sym a.actions) f.before);
+}
+
+-- ---- a task of the database
+
+pub done_fillings : (move : Move) (p : Place) → (done move p).fillings ≡ p.fillings
+done_fillings Founds p = first_fillings p
+done_fillings others p = prepared_fillings others p
+
+-- no write comes on a table that is closed
+pub done_before : (move : Move) (p : Place) (table : List ℕ) (first : ℕ) → IsOpenMove p move →
+    ((name : List ℕ) → bytes_eq table name ≡ true → closed_at name p.node ≡ None → ⊥) →
+    AreBefore table first p.actions → AreBefore table first (done move p).actions
+done_before (Writes xid name change) p table first is_open never before = (
+  λ on. absurd (never name on is_open),
+  subst (AreBefore table first) (sym (prepared_same (Writes xid name change) p).actions) before,
+)
+done_before Founds p table first is_open never before =
+    subst (AreBefore table first) (sym (first_same p).actions) before
+done_before others p table first is_open never before =
+    subst (AreBefore table first) (sym (prepared_same others p).actions) before
+
+-- a table of a set that the node keeps is closed
+pub kept_closed : (t : Past) (k : KnownTable t) (v : View) → view_of k.entry.1.set_id (knowledge k.node) ≡ Some v →
+    (name : List ℕ) → bytes_eq k.entry.1.name name ≡ true → closed_at name (Some k.node) ≡ None → ⊥
+kept_closed t k v found name same none = never is
+  where
+    never : Some (NotOrigin k.entry.1.set_id) ≡ None → ⊥
+    never same = absurd cc
+
+    is : Some (NotOrigin k.entry.1.set_id) ≡ None
+    is =
+        sym (ap (closed_set k.node.id (knowledge k.node))
+        (ap (λ table. set_of table (knowledge k.node).config) (sym (bytes_same k.entry.1.name name same))
+        ∙ found_in_set t k)
+        ∙ ap (λ o. cond (is_some o) (Some (NotOrigin k.entry.1.set_id))
+        (cond (is_origin k.node.id k.entry.1.set_id (knowledge k.node).config
+        && is_locked k.entry.1.set_id (knowledge k.node).config) (Some (SetLocked k.entry.1.set_id)) None)) found)
+        ∙ none
+
+-- ---- tables that come
+
+with_among : {X : Type 0} (id : ℕ) (x : X) (es : Map X) (e : ℕ × X) → IsAmong e (with_entry id x es) →
+    (e ≡ (id, x)) ⊎ IsAmong e es
+with_among id x [] e (inl is) = inl is
+with_among id x [] e (inr never) = absurd never
+with_among {X} id x (f ∷ es) e among = by (nat_lt id f.0) (id == f.0) (with_among id x es e) among
+  where
+    by : (less same : Bool) → (IsAmong e (with_entry id x es) → (e ≡ (id, x)) ⊎ IsAmong e es) →
+        IsAmong e (cond less ((id, x) ∷ f ∷ es) (cond same ((id, x) ∷ es) (f ∷ with_entry id x es))) →
+        (e ≡ (id, x)) ⊎ IsAmong e (f ∷ es)
+    by true same rest (inl is) = inl is
+    by true same rest (inr later) = inr later
+    by false true rest (inl is) = inl is
+    by false true rest (inr later) = inr (inr later)
+    by false false rest (inl is) = inr (inl is)
+    by false false rest (inr later) = elim (rest later) [ inl is ↦ inl is | inr there ↦ inr (inr there) ]
+
+-- a table that is known behind an event was known, or comes by it
+comes_by : (origin number : ℕ) (body : Body) (c : Config) → is_emitted body ≡ true → (e : ℕ × TableRow) →
+    IsAmong e (change_by origin number body c).tables →
+    IsAmong e c.tables ⊎ (body ≡ SetAddTable e.1.set_id e.0 e.1.name e.1.comment)
+comes_by origin number (SetAddTable set table name comment) c may e among =
+    elim (with_among table _ c.tables e among) [
+      | inl is ↦ inr (ap (λ (f : ℕ × TableRow). SetAddTable f.1.set_id f.0 f.1.name f.1.comment) (sym is))
+      | inr there ↦ inl there
+    ]
+comes_by origin number (DropSet set) c may e among = absurd (false≢true may)
+comes_by origin number (MoveSet set old new era feeds) c may e among = absurd (false≢true may)
+comes_by origin number (FailoverSet failed limit sets) c may e among = absurd (false≢true may)
+comes_by origin number others c may e among = inl among
+
+-- ---- the origin of a set that a node keeps is another node
+
+pub other_leads : (t : Past) (name : List ℕ) (n : Node) → nodes_in t.world.places name ≡ Some n → (set : ℕ) (v : View) →
+    IsSeen (WasUpTo t) n set v → is_origin n.id set (knowledge n).config ≡ false
+other_leads t name n is set v seen =
+    false_from_ne_true _ (λ leads. seen.apart (sym seen.own ∙ sym now.2.id
+    ∙ one_leader (nodes_in t.world.places) (regular_now t).nodes set (record {
+      name = seen.moment.name;
+      node = now.2.node;
+      is = ap node_in now.1 ∙ now.2.is;
+      leads = (stays_leading then now.0 now.2.node now.2 now.2.is set seen.leads).0;
+    }) (record { name = name; node = n; is = is; leads = leads })))
+  where
+    then : Node
+    then = seen.moment.node
+
+    now : HoldsOf (Stays then) seen.moment.name t.world.places
+    now = now_stays t seen.moment.session seen.moment.was seen.moment.name seen.moment.place then seen.moment.found
+        seen.moment.at
+
+-- ---- a node emits events
+
+-- A node in the middle of its commit knows what it knew before, and tables of its own sets.
+pub record IsAhead (s : Seat) (n : Node) : Type 0 where
+  pub id : n.id ≡ s.node.id
+  pub views : (knowledge n).views ≡ (knowledge s.node).views
+  pub applied : applied_events n ≡ applied_events s.node
+  pub tables : (e : ℕ × TableRow) → IsAmong e (knowledge n).config.tables →
+      IsAmong e (knowledge s.node).config.tables ⊎ (is_origin s.node.id e.1.set_id (knowledge s.node).config ≡ true)
+
+allowed_own : (s : Seat) (n : Node) (m : Emission) → Says s n m → (e : ℕ × TableRow) →
+    m.body ≡ SetAddTable e.1.set_id e.0 e.1.name e.1.comment →
+    is_origin s.node.id e.1.set_id (knowledge s.node).config ≡ true
+allowed_own s n m (inl may) e is = (subst (IsAllowed s) is may.1).1
+allowed_own s n m (inr feed) e is = absurd (subst (IsOfFeed s.node.id (knowledge n).config) is feed)
+
+stays_ahead : (s : Seat) (number : ℕ) (m : Emission) (n : Node) → Says s n m → IsAhead s n →
+    IsAhead s (with_deeds (deed_of s number m ∷ []) n)
+stays_ahead s number m n says a = record {
+  id = a.id;
+  views = same_views (event_of s number m.body) m.body (knowledge n).views (says_emitted s n m says) ∙ a.views;
+  applied = a.applied;
+  tables = λ e among. elim (comes_by s.node.id number m.body (knowledge n).config (says_emitted s n m says) e among) [
+    | inl there ↦ a.tables e there
+    | inr is ↦ inr (allowed_own s n m says e is)
+  ];
+}
+
+pub tells_ahead : (s : Seat) (ms : List Emission) → AreAllowed s ms →
+    IsAhead s (with_deeds (emissions s (next_event s) ms) s.node)
+tells_ahead s ms may =
+    tells_lives (IsAhead s) s (λ number m n. stays_ahead s number m n) ms may
+    (record { id = refl; views = refl; applied = refl; tables = λ e among. inl among })
+
+-- ---- a node applies an event
+
+-- each event that was applied is one that the node is as far as
+applied_within : (before : ℕ) (es : List Event) (e : Event) → AreSuccessive before es → IsAmong e es →
+    e.number ≤ before + length es
+applied_within before [] e are among = absurd among
+applied_within before (f ∷ fs) e are (inl is) =
+    let same = ap (λ (g : Event). g.number) is in let number = are.0 in omega (arith, same, number)
+applied_within before (f ∷ fs) e are (inr later) =
+    let rest = applied_within before fs e are.1 later in omega (arith, rest)
+
+-- a table comes into a set by an event with a lower number than that of a subscription
+adds_before : (set own : ℕ) (es : List Event) (a f : Event) → AreNumbered own es × AreUnfed es →
+    IsAmong a es × IsAmong f es →
+    ((rest : List Event) → IsUnfed rest a.body → AllByRecursion (λ f. feeds set f.body ≡ false) rest) ×
+    (feeds set a.body ≡ false) × (feeds set f.body ≡ true) → a.number < f.number
+adds_before set own [] a f are among feed = absurd among.0
+adds_before set own (g ∷ es) a f are (inl is_a, inl is_f) feed =
+    absurd (true≢false (sym feed.2 ∙ ap (λ (h : Event). feeds set h.body) (is_f ∙ sym is_a) ∙ feed.1))
+adds_before set own (g ∷ es) a f are (inl is_a, inr later) feed =
+    absurd (true≢false (sym feed.2 ∙ all_among (λ f. feeds set f.body ≡ false) f es
+    (feed.0 es (subst (λ (h : Event). IsUnfed es h.body) (sym is_a) are.1.0)) later))
+adds_before set own (g ∷ es) a f are (inr later, inl is_f) feed =
+    let within = number_within own es a are.0.3 later in
+    let at = ap (λ (h : Event). h.number) is_f in
+    let number = are.0.1 in
+    omega (arith, within.1, at, number)
+adds_before set own (g ∷ es) a f are (inr later_a, inr later_f) feed =
+    adds_before set own es a f (are.0.3, are.1.1) (later_a, later_f) feed
+
+-- a node that keeps a set has applied each event by which a table came into it
+pub came_within : (t : Past) (name : List ℕ) (n : Node) → nodes_in t.world.places name ≡ Some n → (table : Table t)
+    (v : View) → IsSeen (WasUpTo t) n table.set_id v →
+    table.event.number < progress table.event.origin (knowledge n)
+came_within t name n is table v seen =
+    let less = adds_before table.set_id then.id (stream then) table.event seen.enabled
+    (facts.emitted, (unfed_now s seen.moment.name then there).unfed) (among, seen.before)
+    (λ rest unfed. subst (IsUnfed rest) table.body unfed, ap (feeds table.set_id) table.body, seen.feeds) in
+    let within = applied_within (number_at origin n.given.progress)
+    (of_origin origin (applied_events n)) seen.enabled (has.each origin apart)
+    (among_filtered (λ f. f.origin == origin) seen.enabled (applied_events n) seen.applied
+    (eq-eqb seen.enabled.origin origin (by ∙ sym from))) in
+    let far = has.all origin apart in
+    omega (arith, less, within, far)
+  where
+    origin : ℕ
+    origin = table.event.origin
+
+    then : Node
+    then = seen.moment.node
+
+    s : Past
+    s = past_of t seen.moment.session (reached_up_to t seen.moment.session seen.moment.was)
+
+    there : nodes_in seen.moment.session.places seen.moment.name ≡ Some then
+    there = ap node_in seen.moment.found ∙ seen.moment.at
+
+    facts : Facts (nodes_in seen.moment.session.places) then
+    facts = (regular_now s).nodes.each seen.moment.name then there
+
+    among : IsAmong table.event (stream then)
+    among = was_before t table n v seen
+
+    from : origin ≡ then.id
+    from = (among_found then.id (stream then) table.event facts.emitted among).are.0
+
+    by : seen.enabled.origin ≡ then.id
+    by = (among_found then.id (stream then) seen.enabled facts.emitted seen.before).are.0
+
+    apart : origin ≢ n.id
+    apart same = seen.apart (sym seen.own ∙ sym from ∙ same)
+
+    has : HasApplied n.id n.given.progress (knowledge n).progress (applied_events n)
+    has = ((regular_now t).nodes.each name n is).applied
+
+-- a table that is known behind an event of another node, of a set that the node keeps, was known before
+pub takes_known : (t : Past) (x : Carried) (origin : ℕ) → IsTaken t.world origin x → (e : ℕ × TableRow) (v : View) →
+    view_of e.1.set_id (knowledge x.seat.node) ≡ Some v →
+    IsAmong e (change_by x.event.origin x.event.number x.event.body (knowledge x.seat.node).config).tables →
+    IsAmong e (knowledge x.seat.node).config.tables
+takes_known t x origin is e v found among =
+    elim (comes_by x.event.origin x.event.number x.event.body (knowledge n).config
+    (may_emitted x.event.origin x.event.body (knowledge n).config is.work.may) e among) [
+      | inl there ↦ there
+      | inr adds ↦ absurd (never adds)
+    ]
+  where
+    n : Node
+    n = x.seat.node
+
+    own : nodes_in t.world.places x.seat.name ≡ Some n
+    own = seat_node t.world.places x.seat is.work.seat
+
+    never : x.event.body ≡ SetAddTable e.1.set_id e.0 e.1.name e.1.comment → ⊥
+    never adds =
+        let within = came_within t x.seat.name n own (record {
+          event = x.event;
+          is = is.work.event;
+          set_id = e.1.set_id;
+          id = e.0;
+          name = e.1.name;
+          comment = e.1.comment;
+          body = adds;
+        }) v (seen_now t x.seat.name n own e.1.set_id v found) in
+        let next = is.work.next in
+        omega (arith, within, next)

@@ -1,0 +1,20 @@
+use Rattle.std.proofs.Common.{Some, subst}
+use Rattle.event_store.specs.Seen.{seen_event}
+use Rattle.slon_model.specs.Place.{standing_rows}
+use Rattle.node_store.specs.Bringing.{IsBrought}
+use Rattle.node_store.proofs.Taking.{becomes_plainly}
+use Rattle.node_store.specs.declared.bringing.Brought.{Brought}
+use Rattle.node_store.proofs.bringing.take.Goals as goal
+
+pub returns-in-None-clause-takes : goal.returns-in-None-clause-takes
+returns-in-None-clause-takes g c n m p b own is can none =
+    becomes_plainly n (seen_event c.args.event.now) b (standing_rows p) m (g.K.Keeper.kept c.apply.new.keeper)
+    c.apply.result (subst (IsBrought (seen_event c.args.event.now).origin p b) c.in-None.is none) can.rows
+    (c.apply.ensures.turns n m own is can.held can.takes can.home)
+
+pub returns-in-Some-Syncs-clause-takes : goal.returns-in-Some-Syncs-clause-takes
+returns-in-Some-Syncs-clause-takes g c n m p b own is can brought =
+    let origin = (seen_event c.args.event.now).origin in
+    let some = subst (IsBrought origin p b) c.in-Some-Syncs.is brought in
+    c.take_syncs.ensures.takes n m p b own is can
+    (subst (λ (given : Brought). IsBrought origin p b (Some given)) c.in-Some-Syncs.field-0-is some)

@@ -1,0 +1,16 @@
+-- What is read of the log of a node.
+use Rattle.std.specs.Prelude.{◌≡◌, Bool, List, [], ◌∷◌, ◌++◌, filter, map}
+use Rattle.slon_model.specs.Deeds.{Logged}
+use Rattle.node_state.specs.Held.{action_as}
+use Rattle.node_change.specs.Done.{row_of}
+use Rattle.node_store.specs.declared.logged.LoggedRows.{LoggedRows}
+
+-- The rows and the actions became these by what was logged as this, if it passes the test.
+pub record IsAdded (test : Logged → Bool) (l : Logged) (old new : LoggedRows) : Type 0 where
+  pub rows_are : new.rows ≡ old.rows ++ map row_of (filter test (l ∷ []))
+  pub actions_are : new.actions ≡ old.actions ++ map (λ l. action_as l.action) (filter test (l ∷ []))
+
+-- These are the rows and the actions of what was logged as this and passes the test.
+pub record ArePassed (test : Logged → Bool) (logs : List Logged) (found : LoggedRows) : Type 0 where
+  pub rows_are : found.rows ≡ map row_of (filter test logs)
+  pub actions_are : found.actions ≡ map (λ l. action_as l.action) (filter test logs)

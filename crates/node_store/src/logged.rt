@@ -1,0 +1,179 @@
+// What another node reads of the log of a node.
+ghost use Rattle.std.specs.Prelude.{◌≡◌, ◌<◌, ◌==◌, ◌&&◌, ◌++◌, ◌∷◌, [], List, Some, false, true, IfErr, IfOk, OnOk, map};
+ghost use Rattle.std.specs.List.{AllByRecursion, list_any};
+ghost use Rattle.std.specs.Str.{bytes_eq};
+ghost use Rattle.slon_base.specs.Keeper.{Store, sight};
+ghost use Rattle.store_rows.specs.Rows.{IsId};
+ghost use Rattle.store_rows.specs.Steps.{Gives, IsWithinLimit, Safe, is_failed};
+ghost use Rattle.slon_model.specs.Deeds.{Logged as SeenLogged, Node};
+ghost use Rattle.slon_model.specs.Following.{delta, is_on_one};
+ghost use Rattle.slon_model.specs.Logs.{logged};
+ghost use Rattle.slon_model.specs.Maps.{ids};
+ghost use Rattle.slon_laws.specs.Spelled.{AreWritten, IsWritten};
+ghost use Rattle.txn_core.specs.Snapshots.{seen_as};
+ghost use Rattle.log_switch.specs.Between.{CanBeLogged};
+ghost use Rattle.log_switch.specs.Holds.{HoldsLog};
+ghost use Rattle.node_state.specs.Held.{items_of};
+ghost use Rattle.node_change.specs.Done.{row_of};
+ghost use Rattle.app_store.specs.Base.{base_of};
+ghost use Rattle.app_store.specs.Parts.{Looks, Remembers};
+ghost use Rattle.app_store.specs.Serves.{halts};
+ghost use Rattle.node_store.specs.Acting.{Acts};
+ghost use Rattle.node_store.specs.Bringing.{CanLogAll, HasLogged};
+ghost use Rattle.node_store.specs.Logged.{ArePassed, IsAdded};
+
+use crate::layout::LOG;
+use app_store::{Database, DbFault, fall};
+use change_capture::{Action, LogRow, action_of};
+use log_switch::between;
+use node_keeper::Keeper;
+use slon_base::{Many, Text};
+use std::alloc::{AllocError, Global};
+use store_rows::{Stop, row_stop};
+use txn_core::Snapshot;
+
+/// Rows of a log, and the actions that they are of.
+#[derive(Drop)]
+pub struct LoggedRows {
+    /// The rows, each with the number of its action, in the order of these numbers.
+    pub rows: Many<(u64, LogRow)>,
+    /// Their actions, in the same order.
+    pub actions: Many<Action>,
+}
+
+/// The ids of these tables.
+fn ids_of(alloc: Global, tables: &[(u32, Text)]) -> Result<Many<u32>, AllocError>
+    ensures { IfOk result (λ found. found ≡ ids tables.now) }
+{
+    let mut found = Many::new(alloc);
+    for (id, _) in tables {
+        found.push(*id)?;
+    }
+    Ok(found)
+}
+
+/// Whether a row of a table of this id and this name is on one of these tables.
+fn is_on_one(tables: &[(u32, Text)], table: u32, name: &Text) -> bool
+    ensures { result ≡ list_any (λ t. t.0 == table && bytes_eq name.now t.1) tables.now }
+{
+    tables.iter().any(|(id, other)| *id == table && name.as_slice() == other.as_slice())
+}
+
+/// Adds a row and its action.
+fn add(found: &mut LoggedRows, number: u64, row: LogRow, action: Action) -> Result<(), AllocError>
+    ensures rows { OnOk result (found.new.rows ≡ found.old.rows ++ (number, row) ∷ []) }
+    ensures actions { OnOk result (found.new.actions ≡ found.old.actions ++ action ∷ []) }
+{
+    found.rows.push((number, row))?;
+    found.actions.push(action)
+}
+
+/// Adds a row with its action, if it is on one of these tables.
+fn add_on(
+    alloc: Global,
+    tables: &[(u32, Text)],
+    found: &mut LoggedRows,
+    number: u64,
+    row: LogRow,
+) -> Result<(), Stop>
+    requires can { CanBeLogged (number, row) }
+    ensures never { is_failed result ≡ false }
+    ensures within { IfErr result IsWithinLimit }
+    ensures can { CanLogAll found.old.rows found.old.actions →
+        OnOk result (CanLogAll found.new.rows found.new.actions) }
+    ensures says { (l : SeenLogged) → IsWritten l.action → (number, row) ≡ row_of l →
+        Gives (λ u. IsAdded (is_on_one tables.now) l found.old found.new) result }
+{
+    match action_of(alloc, number, &row) {
+        Ok(action) => {
+            if is_on_one(tables, row.table, &action.table) {
+                Ok(add(found, number, row, action)?)
+            } else {
+                Ok(())
+            }
+        }
+        Err(fault) => Err(row_stop(LOG, fault)),
+    }
+}
+
+/// Those of these rows of a log that are on one of these tables, with their actions.
+fn rows_on(
+    alloc: Global,
+    tables: &[(u32, Text)],
+    rows: Many<(u64, LogRow)>,
+) -> Result<LoggedRows, Stop>
+    requires can { AllByRecursion CanBeLogged rows }
+    ensures never { is_failed result ≡ false }
+    ensures within { IfErr result IsWithinLimit }
+    ensures can { IfOk result (λ found. CanLogAll found.rows found.actions) }
+    ensures says { (logs : List SeenLogged) → AreWritten logs → rows ≡ map row_of logs →
+        Gives (ArePassed (is_on_one tables.now) logs) result }
+{
+    let mut found = LoggedRows {
+        rows: Many::new(alloc),
+        actions: Many::new(alloc),
+    };
+    for (number, row) in rows.into_vec() {
+        add_on(alloc, tables, &mut found, number, row)?;
+    }
+    Ok(found)
+}
+
+/// What a store has in its log of the actions of an origin on these tables, between two snapshots.
+fn find_logged<K: Keeper>(
+    alloc: Global,
+    keeper: &mut K,
+    origin: u32,
+    tables: &[(u32, Text)],
+    old: &Snapshot,
+    new: &Snapshot,
+) -> Result<LoggedRows, Stop>
+    requires origin { IsId origin }
+    ensures safe { Safe (K.kept keeper.old) (K.kept keeper.new) result }
+    ensures same { OnOk result ((K.kept keeper.new).pending ≡ (K.kept keeper.old).pending) }
+    ensures within { IfErr result IsWithinLimit }
+    ensures can { IfOk result (λ found. CanLogAll found.rows found.actions) }
+    ensures says { (m : Store) (logs : List SeenLogged) → sight (K.kept keeper.old) ≡ Some m →
+        HoldsLog (items_of logs) m → AreWritten logs →
+        Gives (λ found. HasLogged origin (delta origin tables.now (seen_as old.now) (seen_as new.now) logs) found.rows
+        found.actions) result }
+{
+    let wanted = ids_of(alloc, tables)?;
+    let rows = between(alloc, keeper, origin, wanted.as_slice(), old, new)?;
+    rows_on(alloc, tables, rows)
+}
+
+/// What the node has logged of the actions of an origin on these tables, each of which has this id and this name: those
+/// whose transactions the new snapshot sees and the old one does not.
+///
+/// # Errors
+///
+/// What stopped the store; the database is down then. A row of the log that is that of no action is not in its form.
+pub fn read_log<K: Keeper>(
+    database: &mut Database<K>,
+    origin: u32,
+    tables: &[(u32, Text)],
+    old: &Snapshot,
+    new: &Snapshot,
+) -> Result<LoggedRows, DbFault>
+    requires up { database.old.state.up ≡ true }
+    requires origin { IsId origin }
+    ensures can { IfOk result (λ found. CanLogAll found.rows found.actions) }
+    ensures acts { Acts (halts result) (base_of K.kept database.old) (base_of K.kept database.new) }
+    ensures looks { Looks (λ p found. (n : Node) → p.node ≡ Some n →
+        HasLogged origin (delta origin tables.now (seen_as old.now) (seen_as new.now) (logged n)) found.rows
+        found.actions) (base_of K.kept database.old) result (base_of K.kept database.new) }
+    ensures same { Remembers (base_of K.kept database.old) result (base_of K.kept database.new) }
+{
+    match find_logged(
+        database.alloc,
+        &mut database.keeper,
+        origin,
+        tables,
+        old,
+        new,
+    ) {
+        Ok(found) => Ok(found),
+        Err(stop) => Err(fall(database.alloc, &mut database.state, &database.keeper, stop)),
+    }
+}

@@ -1,0 +1,83 @@
+-- A set that a node keeps, as it is to take a SYNC.
+use Rattle.std.specs.Prelude.{ℕ, ◌==◌, ◌&&◌, Bool, false, List, filter, flat_map, map, Option, Some, None}
+use Rattle.store_rows.specs.Rows.{IsId}
+use Rattle.node_rows.specs.declared.rows.SetRow.{SetRow}
+use Rattle.node_rows.specs.declared.rows.Subscription.{Subscription}
+use Rattle.node_rows.specs.declared.rows.TableRow.{TableRow}
+use Rattle.slon_model.specs.Maps.{Map}
+use Rattle.slon_model.specs.Snapshots.{Snapshot}
+use Rattle.slon_model.specs.Events.{Event}
+use Rattle.slon_model.specs.Config.{Config, forwards, is_table_of}
+use Rattle.slon_model.specs.Views.{View, Views, view_after}
+use Rattle.slon_model.specs.Deeds.{Logged}
+use Rattle.slon_model.specs.Following.{SetSync, delta, tables_taken}
+use Rattle.event_store.specs.Kept.{seen_view}
+use Rattle.event_store.specs.Spellings.{CanView}
+use Rattle.txn_core.specs.Snapshots.{seen_as}
+use Rattle.remote_worker.specs.declared.keeping.KeptSet.{KeptSet}
+
+-- ---- by the rules
+
+-- What the tables of a set show so far, how far the node is in it behind the SYNC, to which tables it takes rows, and
+-- whether it logs them.
+pub record Kept : Type 0 where
+  pub set_id : ℕ
+  pub seen : Snapshot
+  pub view : View
+  pub tables : Map (List ℕ)
+  pub forwards : Bool
+
+-- of a set that the node of this id keeps
+abbrev pub kept_for : ℕ → Config → Event → ℕ × View → Kept
+kept_for own c e v = record {
+  set_id = v.0;
+  seen = v.1.seen;
+  view = view_after e v.1;
+  tables = tables_taken own v.0 c;
+  forwards = forwards v.0 own c;
+}
+
+-- of all that it keeps of the origin of the event
+abbrev pub kept_among : ℕ → Config → Event → Views → List Kept
+kept_among own c e views = map (kept_for own c e) (filter (λ v. v.1.origin == e.origin) views)
+
+-- what it takes of it from a provider that has logged this
+abbrev pub taken_of : Event → List Logged → Kept → SetSync
+taken_of e logs k = record {
+  set_id = k.set_id;
+  view = k.view;
+  rows = delta e.origin k.tables k.seen e.taken logs;
+  forwards = k.forwards;
+}
+
+-- the names of all these tables
+abbrev pub names_among : List Kept → List (List ℕ)
+names_among sets = flat_map (λ k. map (λ t. t.1) k.tables) sets
+
+-- ---- in the code
+
+abbrev pub seen_kept : KeptSet → Kept
+seen_kept k = record {
+  set_id = k.set;
+  seen = seen_as k.seen;
+  view = seen_view k.view;
+  tables = k.tables;
+  forwards = k.forwards;
+}
+
+pub record CanFollow (k : KeptSet) : Type 0 where
+  pub set_id : IsId k.set
+  pub view : CanView (seen_view k.view)
+
+-- the node of this id is the origin of the set of a row, which is live
+abbrev pub leads_in : ℕ → Option SetRow → Bool
+leads_in own None = false
+leads_in own (Some row) = row.live && row.origin == own
+
+abbrev pub forwards_in : Option Subscription → Bool
+forwards_in None = false
+forwards_in (Some row) = row.forward
+
+-- those of these tables that are live and in this set
+abbrev pub tables_among : ℕ → List (ℕ × TableRow) → Map (List ℕ)
+tables_among set rows = map (λ e. (e.0, e.1.name)) (filter (is_table_of set) rows)

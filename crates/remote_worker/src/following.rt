@@ -1,0 +1,106 @@
+// What a node brings with a SYNC: for each set that it keeps, what its provider logged between two snapshots.
+ghost use Rattle.std.specs.Prelude.{◌≡◌, true, is_some, IfOk, map};
+ghost use Rattle.std.specs.List.{AllByRecursion};
+ghost use Rattle.slon_base.specs.Codec.{AllAre};
+ghost use Rattle.store_rows.specs.Rows.{IsId};
+ghost use Rattle.slon_model.specs.Deeds.{knowledge};
+ghost use Rattle.slon_model.specs.Logs.{logged};
+ghost use Rattle.event_store.specs.Seen.{seen_event};
+ghost use Rattle.app_store.specs.Base.{base_of};
+ghost use Rattle.app_store.specs.Parts.{Looks, Remembers};
+ghost use Rattle.app_store.specs.Serves.{halts};
+ghost use Rattle.node_store.specs.Acting.{Acts};
+ghost use Rattle.node_store.specs.Bringing.{CanSync, HasSync, HaveSyncs};
+ghost use Rattle.node_store.specs.Polling.{OfNode};
+ghost use Rattle.remote_worker.specs.Keeping.{CanFollow, kept_among, seen_kept, taken_of};
+ghost use Rattle.remote_worker.specs.Looking.{Seen};
+
+use crate::keeping::{KeptSet, kept_sets};
+use app_store::{Database, DbFault, fall};
+use event_store::Event;
+use node_keeper::Keeper;
+use node_store::{LoggedRows, SetSync, read_log};
+use slon_base::Many;
+
+/// The sets of the event's origin that the node `own`, whose database this is, keeps, as it is to take the SYNC.
+pub(crate) fn sets_of<K: Keeper>(
+    database: &mut Database<K>,
+    own: u32,
+    event: &Event,
+) -> Result<Many<KeptSet>, DbFault>
+    requires up { database.old.state.up ≡ true }
+    requires node { is_some database.old.state.node.identity ≡ true }
+    requires own { IsId own }
+    ensures can { IfOk result (AllAre CanFollow) }
+    ensures acts { Acts (halts result) (base_of K.kept database.old) (base_of K.kept database.new) }
+    ensures looks { Looks (OfNode (λ n sets. map seen_kept sets
+        ≡ kept_among own (knowledge n).config (seen_event event.now) (knowledge n).views))
+        (base_of K.kept database.old) result (base_of K.kept database.new) }
+    ensures same { Remembers (base_of K.kept database.old) result (base_of K.kept database.new) }
+{
+    match kept_sets(database.alloc, &mut database.keeper, own, event) {
+        Ok(sets) => Ok(sets),
+        Err(stop) => Err(fall(database.alloc, &mut database.state, &database.keeper, stop)),
+    }
+}
+
+/// What the node takes of one set, from a provider whose database this is.
+fn sync_of<K: Keeper>(
+    provider: &mut Database<K>,
+    event: &Event,
+    kept: KeptSet,
+) -> Result<SetSync, DbFault>
+    requires up { provider.old.state.up ≡ true }
+    requires can { CanFollow kept }
+    ensures can { IfOk result CanSync }
+    ensures looks { Seen (OfNode (λ n sync.
+        HasSync event.now.origin (taken_of (seen_event event.now) (logged n) (seen_kept kept)) sync))
+        (base_of K.kept provider.old) result (base_of K.kept provider.new) }
+{
+    let KeptSet {
+        set,
+        seen,
+        view,
+        tables,
+        forwards,
+    } = kept;
+    match read_log(
+        provider,
+        event.origin,
+        tables.as_slice(),
+        &seen,
+        &event.taken,
+    ) {
+        Ok(found) => {
+            let LoggedRows { rows, actions } = found;
+            Ok(SetSync {
+                set,
+                view,
+                rows,
+                actions,
+                forwards,
+            })
+        }
+        Err(fault) => Err(fault),
+    }
+}
+
+/// What the node takes of each of these sets, from a provider whose database this is.
+pub(crate) fn syncs_of<K: Keeper>(
+    provider: &mut Database<K>,
+    event: &Event,
+    sets: Many<KeptSet>,
+) -> Result<Many<SetSync>, DbFault>
+    requires up { provider.old.state.up ≡ true }
+    requires can { AllAre CanFollow sets }
+    ensures can { IfOk result (AllByRecursion CanSync) }
+    ensures looks { Seen (OfNode (λ n syncs.
+        HaveSyncs event.now.origin (map (taken_of (seen_event event.now) (logged n)) (map seen_kept sets)) syncs))
+        (base_of K.kept provider.old) result (base_of K.kept provider.new) }
+{
+    let mut syncs = Many::new(provider.alloc);
+    for kept in sets.into_vec() {
+        syncs.push(sync_of(provider, event, kept)?)?;
+    }
+    Ok(syncs)
+}

@@ -1,0 +1,134 @@
+-- What a node takes with a SYNC: what all that is logged has, and the tables to which it takes rows.
+use Rattle.std.proofs.Common.{◌≡◌, ℕ, Bool, true, false, cond, List, [], ◌∷◌, map, flat_map, refl, ap, ◌∙◌}
+use Rattle.std.specs.Prelude.{◌==◌, ◌&&◌, ◌||◌}
+use Rattle.std.specs.List.{AllByRecursion}
+use Rattle.std.specs.Str.{bytes_eq}
+use Rattle.std.proofs.lemmas.Bool.{and_parts, or_right}
+use Rattle.std.proofs.lemmas.List.Folds.{list_any-append}
+use Rattle.slon_model.specs.Names.{Named}
+use Rattle.slon_model.specs.Maps.{Map, with_entry}
+use Rattle.slon_model.specs.Rows.{Rows, apply}
+use Rattle.slon_model.specs.Snapshots.{Snapshot}
+use Rattle.slon_model.specs.Events.{Event}
+use Rattle.slon_model.specs.Views.{View}
+use Rattle.slon_model.specs.Deeds.{Brought, Knowledge, Logged}
+use Rattle.slon_model.specs.Logs.{named}
+use Rattle.slon_model.specs.Place.{Place}
+use Rattle.slon_model.specs.Following.{SetSync, content, delta, is_new, is_on_one, numbered, onto, set_sync}
+use Rattle.slon_model.specs.Following.{tables_taken, with_actions, with_sync, with_syncs}
+use Rattle.slon_model.proofs.Names.{all_map}
+use Rattle.slon_laws.proofs.Lists.{all_mapped, all_passed, all_with}
+
+-- ---- what is read of a log
+
+numbered_have : (P : Logged → Type 0) (origin : ℕ) (logs : List Logged) → AllByRecursion P logs →
+    AllByRecursion (λ e. P e.1) (numbered origin logs)
+numbered_have P origin [] all = tt
+numbered_have P origin (l ∷ logs) all =
+    elim (l.origin == origin)
+    as (λ b. AllByRecursion (λ e. P e.1) (cond b (with_entry l.action.number l (numbered origin logs))
+    (numbered origin logs))) [
+      | true ↦ all_with (λ e. P e.1) l.action.number l (numbered origin logs) all.0
+          (numbered_have P origin logs all.1)
+      | false ↦ numbered_have P origin logs all.1
+    ]
+
+-- What all that is logged has, and each action on one of these tables: Q of what is read of the log.
+pub delta_has : (P Q : Logged → Type 0) (tables : Map (List ℕ)) →
+    ((l : Logged) → P l → is_on_one tables l ≡ true → Q l) →
+    (origin : ℕ) (old new : Snapshot) (logs : List Logged) → AllByRecursion P logs →
+    AllByRecursion Q (delta origin tables old new logs)
+delta_has P Q tables each origin old new logs all =
+    all_passed P Q (λ l. is_on_one tables l && is_new old new l)
+    (λ l has passes. each l has (and_parts (is_on_one tables l) (is_new old new l) passes).0)
+    (map (λ e. e.1) (numbered origin logs))
+    (all_mapped (λ (e : ℕ × Logged). P e.1) P (λ e. e.1) (λ e has. has) (numbered origin logs)
+    (numbered_have P origin logs all))
+
+-- an action on one of several tables is on a table of such a name
+on_named : (tables : Map (List ℕ)) (l : Logged) → is_on_one tables l ≡ true →
+    named l.action.table (map (λ t. t.1) tables) ≡ true
+on_named [] l is = is
+on_named (t ∷ more) l is = by (t.0 == l.table_id) (bytes_eq l.action.table t.1) (on_named more l) is
+  where
+    by : (id same : Bool) → (is_on_one more l ≡ true → named l.action.table (map (λ t. t.1) more) ≡ true) →
+        ((id && same) || is_on_one more l) ≡ true → (same || named l.action.table (map (λ t. t.1) more)) ≡ true
+    by id true later is = refl
+    by true false later is = later is
+    by false false later is = later is
+
+-- ---- what is brought
+
+-- Q of each action that is taken of sets
+abbrev pub AllTaken : (Logged → Type 0) → List SetSync → Type 0
+AllTaken Q ts = AllByRecursion (λ t. AllByRecursion Q t.rows) ts
+
+-- R of the rows of each table, and Q of each action that is logged
+abbrev pub AllBrought : (List ℕ × Rows → Type 0) → (Logged → Type 0) → Brought → Type 0
+AllBrought R Q b = AllByRecursion R b.rows × AllByRecursion Q b.logs
+
+-- an action of which Q holds makes of rows of which R holds such rows
+abbrev pub Makes : Place → (List ℕ × Rows → Type 0) → (Logged → Type 0) → Type 0
+Makes here R Q =
+    (rows : Named Rows) (l : Logged) → AllByRecursion R rows → Q l →
+    R (l.action.table, apply l.action.change (content here rows l.action.table))
+
+onto_has : {X : Type 0} (P : X → Type 0) (xs others : List X) → AllByRecursion P xs → AllByRecursion P others →
+    AllByRecursion P (onto xs others)
+onto_has P [] others new old = old
+onto_has P (x ∷ xs) others new old = onto_has P xs (x ∷ others) new.1 (new.0, old)
+
+actions_have : (here : Place) (R : List ℕ × Rows → Type 0) (Q : Logged → Type 0) → Makes here R Q →
+    (ls : List Logged) (rows : Named Rows) → AllByRecursion Q ls → AllByRecursion R rows →
+    AllByRecursion R (with_actions here ls rows)
+actions_have here R Q makes [] rows new old = old
+actions_have here R Q makes (l ∷ more) rows new old =
+    actions_have here R Q makes more _ new.1 (makes rows l old new.0, old)
+
+sync_has : (here : Place) (R : List ℕ × Rows → Type 0) (Q : Logged → Type 0) → Makes here R Q → (t : SetSync)
+    (b : Brought) → AllByRecursion Q t.rows → AllBrought R Q b → AllBrought R Q (with_sync here t b)
+sync_has here R Q makes t b new old = (
+  actions_have here R Q makes t.rows b.rows new old.0,
+  elim t.forwards as (λ f. AllByRecursion Q (cond f (onto t.rows b.logs) b.logs)) [
+    | true ↦ onto_has Q t.rows b.logs new old.1
+    | false ↦ old.1
+  ],
+)
+
+pub syncs_have : (here : Place) (R : List ℕ × Rows → Type 0) (Q : Logged → Type 0) → Makes here R Q →
+    (ts : List SetSync) (b : Brought) → AllTaken Q ts → AllBrought R Q b → AllBrought R Q (with_syncs here ts b)
+syncs_have here R Q makes [] b new old = old
+syncs_have here R Q makes (t ∷ more) b new old =
+    syncs_have here R Q makes more (with_sync here t b) new.1 (sync_has here R Q makes t b new.0 old)
+
+-- ---- what is taken of the sets that a node keeps
+
+-- an action of which P holds, on a table of the set to which the node takes rows, is one of which Q holds
+abbrev pub TakesOf : ℕ → Knowledge → (Logged → Type 0) → (Logged → Type 0) → ℕ × View → Type 0
+TakesOf own k P Q v = (l : Logged) → P l → is_on_one (tables_taken own v.0 k.config) l ≡ true → Q l
+
+pub taken_have : (own : ℕ) (k : Knowledge) (e : Event) (logs : List Logged) (P Q : Logged → Type 0) →
+    AllByRecursion P logs → (vs : Map View) → AllByRecursion (TakesOf own k P Q) vs →
+    AllTaken Q (map (set_sync own k e logs) vs)
+taken_have own k e logs P Q all vs each =
+    all_mapped (TakesOf own k P Q) (λ (t : SetSync). AllByRecursion Q t.rows) (set_sync own k e logs)
+    (λ v takes. delta_has P Q (tables_taken own v.0 k.config) takes e.origin v.1.seen e.taken logs all) vs each
+
+-- the names of the tables of these sets
+abbrev names_in : ℕ → Knowledge → ℕ × View → List (List ℕ)
+names_in own k v = map (λ t. t.1) (tables_taken own v.0 k.config)
+
+-- what is taken of them is on a table of these names
+pub all_takes_named : (own : ℕ) (k : Knowledge) (P : Logged → Type 0) (vs : Map View) →
+    AllByRecursion (TakesOf own k P (λ l. named l.action.table (flat_map (names_in own k) vs) ≡ true)) vs
+all_takes_named own k P [] = tt
+all_takes_named own k P (v ∷ vs) = (
+  λ l has on. list_any-append (bytes_eq l.action.table) (names_in own k v) (flat_map (names_in own k) vs)
+      ∙ ap (λ b. b || named l.action.table (flat_map (names_in own k) vs))
+      (on_named (tables_taken own v.0 k.config) l on),
+  all_map (TakesOf own k P (λ l. named l.action.table (flat_map (names_in own k) vs) ≡ true))
+      (TakesOf own k P (λ l. named l.action.table (flat_map (names_in own k) (v ∷ vs)) ≡ true))
+      (λ w takes l has on. list_any-append (bytes_eq l.action.table) (names_in own k v) (flat_map (names_in own k) vs)
+      ∙ or_right (named l.action.table (names_in own k v)) _ (takes l has on))
+      vs (all_takes_named own k P vs),
+)
