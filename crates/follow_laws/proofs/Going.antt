@@ -218,7 +218,7 @@ goes_same set before n m same on = record {
   covers = on.covers;
 }
 
-takes_on : (t : Past) (x : Carried) (origin : ℕ) → IsTaken t.world origin x → (set : ℕ) (before : View) →
+pub takes_on : (t : Past) (x : Carried) (origin : ℕ) → IsTaken t.world origin x → (set : ℕ) (before : View) →
     GoesOn set before x.seat.node → GoesOn set before (with_deeds (taking x).deeds x.seat.node)
 takes_on t x origin is set before on =
     by (found_in set there.0 x.brought.views (knowledge x.seat.node).views there.1)

@@ -1,36 +1,29 @@
 -- Each entry of a node's own in its log is an action of its database.
-use Rattle.std.proofs.Common.{◌≡◌, inl, inr, ℕ, true, false, cond, List, [], Option, Some, None, refl}
+use Rattle.std.proofs.Common.{◌≡◌, inl, inr, ℕ, List, [], Option, Some, None, refl}
 use Rattle.std.proofs.Common.{sym, ap, subst, ◌∙◌}
-use Rattle.std.specs.Prelude.{◌==◌, ◌&&◌, map, option_map}
+use Rattle.std.specs.Prelude.{◌==◌, option_map}
 use Rattle.std.specs.Option.{option_or}
 use Rattle.std.specs.List.{AllByRecursion}
-use Rattle.node_rows.specs.declared.rows.TableRow.{TableRow}
 use Rattle.slon_model.specs.Names.{find_named}
 use Rattle.slon_model.specs.Rows.{Action}
 use Rattle.slon_model.specs.Events.{Event}
-use Rattle.slon_model.specs.Config.{era_of, is_origin, member_of}
-use Rattle.slon_model.specs.Deeds.{Node, Brought, Knowledge, Logged, knowledge, nothing_brought, with_deeds}
-use Rattle.slon_model.specs.Following.{is_new, is_on_one, kept_from, numbered, set_sync, set_syncs}
-use Rattle.slon_model.specs.Following.{SetSync, tables_taken}
-use Rattle.slon_model.specs.Logs.{logged, logged_on, own_logs}
+use Rattle.slon_model.specs.Deeds.{Node, Brought, knowledge, with_deeds}
+use Rattle.slon_model.specs.Logs.{logged, own_logs}
 use Rattle.slon_model.specs.Deciding.{decide, move_of}
 use Rattle.slon_model.specs.Moves.{Move, Founds, Writes, prepared, done, with_commit}
 use Rattle.slon_model.specs.Place.{Place, own_actions}
 use Rattle.slon_model.specs.Sessions.{World, Commit, Seat, committing}
-use Rattle.slon_model.specs.Views.{View}
 use Rattle.slon_model.proofs.Names.{all_found, all_map, one_found}
-use Rattle.slon_laws.proofs.Following.{syncs_have}
-use Rattle.slon_laws.proofs.Lists.{all_given}
-use Rattle.slon_laws.proofs.Owners.{OnSome}
+use Rattle.slon_laws.proofs.Following.{syncs_own}
+use Rattle.slon_laws.proofs.Spells.{own_logs_have}
 use Rattle.stream_laws.specs.Nodes.{IsAmong}
 use Rattle.stream_laws.proofs.Copies.{IsBrought, Nothing, Copies, Brings}
-use Rattle.stream_laws.proofs.Lists.{all_appended, all_each, all_filtered, all_mapped, among_all}
+use Rattle.stream_laws.proofs.Lists.{all_appended, all_filtered, among_all}
 use Rattle.stream_laws.proofs.Steps.{Logs, prepared_node, done_logs}
 use Rattle.image_laws.proofs.Since.{first_same, prepared_same}
 use Rattle.follow_laws.specs.Past.{Past, WasBefore}
 use Rattle.follow_laws.proofs.Doing.{DoesTell, DoesTake, DoesHear, DoesBecome, Does}
 use Rattle.follow_laws.proofs.Living.{NodeDoes, commits_goes}
-use Rattle.follow_laws.proofs.Numbered.{IsNumbered, are_numbered}
 use Rattle.follow_laws.proofs.Walking.{LivesOn, lives_in}
 
 -- what it logged of its own is one of these actions
@@ -48,28 +41,6 @@ more_owned old new more n owned =
 
 -- ---- a commit of rows
 
-own_among : (own : ℕ) (k : Knowledge) (all : List Action) (actions : List Action) →
-    AllByRecursion (λ a. IsAmong a all) actions → AllByRecursion (λ l. IsAmong l.action all) (own_logs own k actions)
-own_among own k all actions are =
-    all_given (λ a. IsAmong a all) (λ l. IsAmong l.action all) (λ a. logged_on own k a (member_of a.table k.config))
-    (λ a among. by a among (member_of a.table k.config)) actions are
-  where
-    by : (a : Action) → IsAmong a all → (o : Option (ℕ × TableRow)) →
-        OnSome (λ (l : Logged). IsAmong l.action all) (logged_on own k a o)
-    by a among None = tt
-    by a among (Some e) =
-        elim (is_origin own e.1.set_id k.config)
-        as (λ b. OnSome (λ (l : Logged). IsAmong l.action all) (cond b (Some (record {
-          set_id = e.1.set_id;
-          table_id = e.0;
-          era = era_of e.1.set_id k.config;
-          origin = own;
-          action = a;
-        })) None)) [
-          | true ↦ among
-          | false ↦ tt
-        ]
-
 commit_owned : (n : Node) (p : Place) (xid : ℕ) → IsOwned p.actions n → IsOwned p.actions (with_commit xid p n)
 commit_owned n p xid owned =
     all_appended (λ l. l.origin ≡ n.id → IsAmong l.action p.actions) (own_logs n.id (knowledge n) (own_actions xid p))
@@ -77,7 +48,7 @@ commit_owned n p xid owned =
     (all_map (λ l. IsAmong l.action p.actions) (λ l. l.origin ≡ n.id → IsAmong l.action p.actions)
     (λ l among own. among)
     (own_logs n.id (knowledge n) (own_actions xid p))
-    (own_among n.id (knowledge n) p.actions (own_actions xid p)
+    (own_logs_have (λ a. IsAmong a p.actions) n.id (knowledge n) (own_actions xid p)
     (all_filtered (λ a. IsAmong a p.actions) (λ a. a.xid == xid) p.actions
     (among_all (λ a. IsAmong a p.actions) p.actions (λ a among. among))))) owned
 
@@ -107,18 +78,8 @@ done_owned move p owned m at =
 
 -- ---- what is brought
 
--- what is read of a log is of the origin
-delta_own : (e : Event) (own : ℕ) (k : Knowledge) (logs : List Logged) (v : ℕ × View) →
-    AllByRecursion (λ l. l.origin ≡ e.origin) (set_sync own k e logs v).rows
-delta_own e own k logs v =
-    all_filtered (λ l. l.origin ≡ e.origin)
-    (λ l. is_on_one (tables_taken own v.0 k.config) l && is_new v.1.seen e.taken l)
-    (map (λ e. e.1) (numbered e.origin logs))
-    (all_mapped (IsNumbered e.origin logs) (λ (l : Logged). l.origin ≡ e.origin) (λ (f : ℕ × Logged). f.1)
-    (λ f is. is.own) (numbered e.origin logs) (are_numbered e.origin logs))
-
--- so is what is logged with an event
-brought_own : (w : World) (s : Seat) (e : Event) (b : Brought) → IsBrought w s e b →
+-- what is logged with an event is of its origin
+pub brought_own : (w : World) (s : Seat) (e : Event) (b : Brought) → IsBrought w s e b →
     AllByRecursion (λ l. l.origin ≡ e.origin) b.logs
 brought_own w s e b (Nothing none) =
     subst (λ (c : Brought). AllByRecursion (λ l. l.origin ≡ e.origin) c.logs) (sym none) tt
@@ -126,12 +87,7 @@ brought_own w s e b (Copies k) =
     subst (λ (c : Brought). AllByRecursion (λ l. l.origin ≡ e.origin) c.logs) (sym k.is) tt
 brought_own w s e b (Brings f) =
     subst (λ (c : Brought). AllByRecursion (λ l. l.origin ≡ e.origin) c.logs) (sym f.is)
-    (syncs_have s.place (λ r. Unit {0}) (λ l. l.origin ≡ e.origin) (λ rows l old is. tt)
-    (set_syncs s.node.id s.known e (logged f.provider.node)) nothing_brought
-    (all_mapped (λ v. Unit {0}) (λ (t : SetSync). AllByRecursion (λ l. l.origin ≡ e.origin) t.rows)
-    (set_sync s.node.id s.known e (logged f.provider.node))
-    (λ v any. delta_own e s.node.id s.known (logged f.provider.node) v) (kept_from e.origin s.known)
-    (all_each (λ v. Unit {0}) (λ v. tt) (kept_from e.origin s.known))) (tt, tt)).1
+    (syncs_own s.place s.node.id s.known e (logged f.provider.node))
 
 does_owned : (t : Past) (actions : List Action) → NodeDoes t (IsOwned actions)
 does_owned t actions = record {

@@ -49,7 +49,7 @@ use Rattle.follow_laws.proofs.Walking.{lives_in}
 -- ---- a SYNC is followed
 
 -- what a turn brings
-turn_brings : (w : World) (by origin : ℕ) (x : Carried) → worked by origin w ≡ Ok x →
+pub turn_brings : (w : World) (by origin : ℕ) (x : Carried) → worked by origin w ≡ Ok x →
     brought_by w x.seat x.event (errand_of x.seat x.event) ≡ Ok x.brought
 turn_brings w by origin x turn =
     subst (OnOk Is) turn (any_bind Is (on_turn by w) _ (λ s. any_bind Is (taken_up (next_at w.memory s origin)) _
@@ -63,7 +63,7 @@ turn_brings w by origin x turn =
     of s e (Ok b) is = is
     of s e (Err refusal) is = tt
 
-sync_body : (body : Body) → is_sync body ≡ true → body ≡ Sync
+pub sync_body : (body : Body) → is_sync body ≡ true → body ≡ Sync
 sync_body Sync is = refl
 sync_body others is = absurd (false≢true is)
 
@@ -101,7 +101,7 @@ sync_brings w origin x is sync v among from =
         ∙ ap (λ b. cond b (Some (ToFollow x.event.origin)) None) receives
 
 -- so a view that is not brought is of another origin
-not_brought : (w : World) (origin : ℕ) (x : Carried) → IsTaken w origin x → (set : ℕ) (v : View) →
+pub not_brought : (w : World) (origin : ℕ) (x : Carried) → IsTaken w origin x → (set : ℕ) (v : View) →
     (view_of set (knowledge x.seat.node) ≡ Some v) × AllByRecursion (λ u. u.0 ≢ set) x.brought.views →
     (is_sync x.event.body ≡ true) × (x.event.origin ≡ v.origin) → ⊥
 not_brought w origin x is set v kept sync =

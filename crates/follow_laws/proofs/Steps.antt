@@ -242,7 +242,7 @@ poll_step w Lost b is = tt
 poll_step w others b is = hears_step w b.seat b.confirms is.seat
 
 -- what was not refused
-ok_is : {A : Type 0} (P Q : A → Type 0) (r : Result A Refusal) → OnOk P r → ((a : A) → r ≡ Ok a → P a → Q a) → OnOk Q r
+pub ok_is : {A : Type 0} (P Q : A → Type 0) (r : Result A Refusal) → OnOk P r → ((a : A) → r ≡ Ok a → P a → Q a) → OnOk Q r
 ok_is P Q (Ok a) is on = on a refl is
 ok_is P Q (Err refusal) is on = tt
 

@@ -45,7 +45,7 @@ ClockAt p ended = Clock p.xids.next (open_xids p) ended
 abbrev pub TickedAt : Place → List ℕ → Type 0
 TickedAt p ended = Ticked p.xids.next (open_xids p) ended
 
-same_clock : (p q : Place) (ended : List ℕ) → IsSame p q → ClockAt p ended → ClockAt q ended
+pub same_clock : (p q : Place) (ended : List ℕ) → IsSame p q → ClockAt p ended → ClockAt q ended
 same_clock p q ended same c =
     subst (λ next. Clock next (open_xids q) ended) (sym same.xid)
     (subst (λ os. Clock p.xids.next (ids_of os) ended) (sym same.opens) c)
@@ -86,7 +86,7 @@ risen_ticks p ended s c =
     subst (λ n. Ticked n [] ended) (omega (arith, below))
     (ticked_on closed.more refl (clock_skips_all (p.xids.ceiling - p.xids.next) closed.clock))
 
-done_ticks : (task : Task) (move : Move) (p : Place) (ended : List ℕ) → MayMove task p move → Sound p →
+pub done_ticks : (task : Task) (move : Move) (p : Place) (ended : List ℕ) → MayMove task p move → Sound p →
     Sound (prepared move p) → ClockAt p ended → TickedAt (done move p) ended
 done_ticks task (Begins name) p ended may s r c =
     let q = prepared (Begins name) p in
@@ -128,7 +128,7 @@ taken_on more ended k t = record {
   sees = t.sees;
 }
 
-seen_now : (p : Place) → Sound p → (x : ℕ) →
+pub seen_now : (p : Place) → Sound p → (x : ℕ) →
     sees (taken p) x ≡ (nat_lt x p.xids.next && not (member x (open_xids p)))
 seen_now p s x = by (nat_lt x p.xids.next && not (member x (open_xids p))) refl
   where

@@ -3,7 +3,7 @@ use Rattle.std.proofs.Common.{◌≡◌, ℕ, Bool, true, false, cond, List, [],
 use Rattle.std.specs.Prelude.{◌==◌, ◌&&◌, ◌||◌}
 use Rattle.std.specs.List.{AllByRecursion}
 use Rattle.std.specs.Str.{bytes_eq}
-use Rattle.std.proofs.lemmas.Bool.{and_parts, or_right}
+use Rattle.std.proofs.lemmas.Bool.{and_parts, eqb-true, or_right}
 use Rattle.std.proofs.lemmas.List.Folds.{list_any-append}
 use Rattle.slon_model.specs.Names.{Named}
 use Rattle.slon_model.specs.Maps.{Map, with_entry}
@@ -11,13 +11,13 @@ use Rattle.slon_model.specs.Rows.{Rows, apply}
 use Rattle.slon_model.specs.Snapshots.{Snapshot}
 use Rattle.slon_model.specs.Events.{Event}
 use Rattle.slon_model.specs.Views.{View}
-use Rattle.slon_model.specs.Deeds.{Brought, Knowledge, Logged}
+use Rattle.slon_model.specs.Deeds.{Brought, Knowledge, Logged, nothing_brought}
 use Rattle.slon_model.specs.Logs.{named}
 use Rattle.slon_model.specs.Place.{Place}
-use Rattle.slon_model.specs.Following.{SetSync, content, delta, is_new, is_on_one, numbered, onto, set_sync}
-use Rattle.slon_model.specs.Following.{tables_taken, with_actions, with_sync, with_syncs}
+use Rattle.slon_model.specs.Following.{SetSync, content, delta, is_new, is_on_one, kept_from, numbered, onto, set_sync}
+use Rattle.slon_model.specs.Following.{set_syncs, tables_taken, with_actions, with_sync, with_syncs}
 use Rattle.slon_model.proofs.Names.{all_map}
-use Rattle.slon_laws.proofs.Lists.{all_mapped, all_passed, all_with}
+use Rattle.slon_laws.proofs.Lists.{all_each, all_filtered, all_mapped, all_passed, all_with}
 
 -- ---- what is read of a log
 
@@ -132,3 +132,38 @@ all_takes_named own k P (v ∷ vs) = (
       ∙ or_right (named l.action.table (names_in own k v)) _ (takes l has on))
       vs (all_takes_named own k P vs),
 )
+
+-- ---- whose rows they are
+
+-- what is read of a log is of the origin
+numbered_own : (origin : ℕ) (logs : List Logged) → AllByRecursion (λ e. e.1.origin ≡ origin) (numbered origin logs)
+numbered_own origin [] = tt
+numbered_own origin (l ∷ logs) =
+    elim (l.origin == origin)
+    as (λ b. (l.origin == origin) ≡ b → AllByRecursion (λ e. e.1.origin ≡ origin)
+    (cond b (with_entry l.action.number l (numbered origin logs)) (numbered origin logs))) [
+      | true ↦
+          λ same. all_with (λ e. e.1.origin ≡ origin) l.action.number l (numbered origin logs)
+          (eqb-true l.origin origin same) (numbered_own origin logs)
+      | false ↦ λ other. numbered_own origin logs
+    ] refl
+
+-- so is what is taken of a set
+rows_own : (own : ℕ) (k : Knowledge) (e : Event) (logs : List Logged) (v : ℕ × View) →
+    AllByRecursion (λ l. l.origin ≡ e.origin) (set_sync own k e logs v).rows
+rows_own own k e logs v =
+    all_filtered (λ l. l.origin ≡ e.origin)
+    (λ l. is_on_one (tables_taken own v.0 k.config) l && is_new v.1.seen e.taken l)
+    (map (λ e. e.1) (numbered e.origin logs))
+    (all_mapped (λ (f : ℕ × Logged). f.1.origin ≡ e.origin) (λ l. l.origin ≡ e.origin) (λ f. f.1) (λ f is. is)
+    (numbered e.origin logs) (numbered_own e.origin logs))
+
+-- and what the node logs of it
+pub syncs_own : (here : Place) (own : ℕ) (k : Knowledge) (e : Event) (logs : List Logged) →
+    AllByRecursion (λ l. l.origin ≡ e.origin) (with_syncs here (set_syncs own k e logs) nothing_brought).logs
+syncs_own here own k e logs =
+    (syncs_have here (λ r. Unit {0}) (λ l. l.origin ≡ e.origin) (λ rows l old is. tt) (set_syncs own k e logs)
+    nothing_brought
+    (all_mapped (λ v. Unit {0}) (λ (t : SetSync). AllByRecursion (λ l. l.origin ≡ e.origin) t.rows)
+    (set_sync own k e logs) (λ v any. rows_own own k e logs v) (kept_from e.origin k)
+    (all_each (λ v. Unit {0}) (λ v. tt) (kept_from e.origin k))) (tt, tt)).1

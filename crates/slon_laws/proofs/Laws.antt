@@ -1,12 +1,13 @@
 -- The laws, for every database of a legal history.
 use Rattle.std.proofs.Common.{◌≡◌, ◌<◌, List, [], ◌∷◌, sym, ap, subst, ◌∙◌, arith, inl, inr}
-use Rattle.std.specs.List.{AllByRecursion}
 use Rattle.slon_model.specs.Rows.{Action}
 use Rattle.slon_model.specs.Place.{Place, open_xids}
+use Rattle.slon_laws.specs.Lists.{IsAmong}
 use Rattle.slon_laws.specs.Sound.{Sound, Pairs, IsOrdered}
-use Rattle.slon_laws.specs.Laws.{HoldsOfEach, IsAmong, AreNumbered, NumbersRise, LocksOrder, LocksOrderActions}
+use Rattle.slon_laws.specs.Laws.{HoldsOfEach, AreNumbered, NumbersRise, LocksOrder, LocksOrderActions}
 use Rattle.slon_laws.specs.Laws.{OwnActionsApply, CommitApplies, IsBounded, CeilingsBound}
 use Rattle.slon_model.proofs.Names.{all_map, all_found}
+use Rattle.slon_laws.proofs.Lists.{all_among}
 use Rattle.slon_laws.proofs.Opens.{all_member}
 use Rattle.slon_laws.proofs.Worlds.{sound_world}
 use Rattle.slon_laws.proofs.Committing.{own_actions_apply}
@@ -17,12 +18,6 @@ of_each P from limit history w leads name p found =
     from p (all_found Sound name p w.places (sound_world limit history w leads) found)
 
 -- ---- locks
-
-all_among : (P : Action → Type 0) (a : Action) (actions : List Action) → AllByRecursion P actions → IsAmong a actions →
-    P a
-all_among P a [] all among = absurd among
-all_among P a (b ∷ rest) all (inl is) = subst P (sym is) all.0
-all_among P a (b ∷ rest) all (inr more) = all_among P a rest all.1 more
 
 -- two actions are a pair, by their numbers
 pub pair_among : (P : Action → Action → Type 0) (a b : Action) (actions : List Action) →

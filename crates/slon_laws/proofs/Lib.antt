@@ -6,6 +6,7 @@ pub mod Decides
 pub mod Drawing
 pub mod Fillable
 pub mod Following
+pub mod Foreign
 pub mod Formed
 pub mod Keeps
 pub mod Keys
@@ -15,10 +16,12 @@ pub mod Leaves
 pub mod Lists
 pub mod Locks
 pub mod Memories
+pub mod Named
 pub mod Opens
 pub mod Owners
 pub mod Played
 pub mod Results
+pub mod Seats
 pub mod Sounds
 pub mod Spells
 pub mod Worlds

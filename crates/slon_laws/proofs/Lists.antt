@@ -1,11 +1,21 @@
 -- What holds of all elements of a list.
 use Rattle.std.proofs.Common.{◌≡◌, ℕ, Bool, true, false, cond, List, [], ◌∷◌, ◌++◌, map, filter, reverse, flat_map}
-use Rattle.std.proofs.Common.{refl, sym, subst, Option, Some, None}
+use Rattle.std.proofs.Common.{refl, sym, subst, inl, inr, Option, Some, None}
 use Rattle.std.specs.Prelude.{◌==◌, nat_lt, filter_map}
 use Rattle.std.specs.List.{AllByRecursion, cons_option}
 use Rattle.std.proofs.lemmas.List.{reverse-append}
 use Rattle.slon_model.specs.Maps.{Map, with_entry}
+use Rattle.slon_laws.specs.Lists.{IsAmong}
 use Rattle.slon_laws.proofs.Owners.{OnSome}
+
+pub all_among : {X : Type 0} (P : X → Type 0) (x : X) (xs : List X) → AllByRecursion P xs → IsAmong x xs → P x
+all_among P x [] all among = absurd among
+all_among P x (y ∷ ys) all (inl is) = subst P (sym is) all.0
+all_among P x (y ∷ ys) all (inr later) = all_among P x ys all.1 later
+
+pub among_all : {X : Type 0} (P : X → Type 0) (xs : List X) → ((x : X) → IsAmong x xs → P x) → AllByRecursion P xs
+among_all P [] each = tt
+among_all P (x ∷ xs) each = (each x (inl refl), among_all P xs (λ y later. each y (inr later)))
 
 pub all_appended : {X : Type 0} (P : X → Type 0) (xs ys : List X) → AllByRecursion P xs → AllByRecursion P ys →
     AllByRecursion P (xs ++ ys)

@@ -75,17 +75,17 @@ unnamed_behind {X} k name x (o ∷ os) other none =
       | false ↦ λ absent. unnamed_behind k name x os other absent
     ] none
 
-pub named_behind : (name : List ℕ) (n : ℕ) (os : Named ℕ) → find_named name os ≡ None → AreNamedOnce os →
-    AreNamedOnce (os ++ (name, n) ∷ [])
-named_behind name n [] none named = (refl, tt)
-named_behind name n (o ∷ os) none named =
-    elim (bytes_eq name o.0) as (λ b. bytes_eq name o.0 ≡ b → cond b (Some o.1) (find_named name os) ≡ None →
-    AreNamedOnce ((o ∷ os) ++ (name, n) ∷ [])) [
+pub named_behind : {X : Type 0} (name : List ℕ) (x : X) (es : Named X) → find_named name es ≡ None → AreNamedOnce es →
+    AreNamedOnce (es ++ (name, x) ∷ [])
+named_behind name x [] none named = (refl, tt)
+named_behind name x (e ∷ es) none named =
+    elim (bytes_eq name e.0) as (λ b. bytes_eq name e.0 ≡ b → cond b (Some e.1) (find_named name es) ≡ None →
+    AreNamedOnce ((e ∷ es) ++ (name, x) ∷ [])) [
       | true ↦ λ same found. absurd cc
       | false ↦
           λ other absent. (
-            unnamed_behind o.0 name n os (bytes_turned_false name o.0 other) named.0,
-            named_behind name n os absent named.1,
+            unnamed_behind e.0 name x es (bytes_turned_false name e.0 other) named.0,
+            named_behind name x es absent named.1,
           )
     ] refl none
 

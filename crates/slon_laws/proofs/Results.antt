@@ -22,9 +22,18 @@ pub any_bind : {A B : Type 0} (Q : B → Type 0) (r : Result A Refusal) (f : A �
 any_bind Q (Ok a) f on = on a
 any_bind Q (Err refusal) f on = tt
 
+-- what holds of whatever there is
+pub any_ok : {A : Type 0} (P : A → Type 0) (r : Result A Refusal) → ((a : A) → P a) → OnOk P r
+any_ok P (Ok a) each = each a
+any_ok P (Err refusal) each = tt
+
 pub ok_then : {A : Type 0} (P Q : A → Type 0) (r : Result A Refusal) → OnOk P r → ((a : A) → P a → Q a) → OnOk Q r
 ok_then P Q (Ok a) is on = on a is
 ok_then P Q (Err refusal) is on = tt
+
+pub both_ok : {A : Type 0} (P Q : A → Type 0) (r : Result A Refusal) → OnOk P r → OnOk Q r → OnOk (λ a. P a × Q a) r
+both_ok P Q (Ok a) one other = (one, other)
+both_ok P Q (Err refusal) one other = tt
 
 -- where none of these looks at something that refuses
 pub checked_ok : {A : Type 0} (P : A → Type 0) (checks : List (Option Refusal)) (a : A) →

@@ -1,6 +1,6 @@
 -- Each change of a database keeps what it holds spelled.
 use Rattle.std.proofs.Common.{◌≡◌, ℕ, ◌+◌, ◌<◌, ◌≤◌, true, false, cond, List, [], ◌∷◌, length, refl}
-use Rattle.std.proofs.Common.{arith, Option, Some, None}
+use Rattle.std.proofs.Common.{arith, Option, Some, None, inr, subst, sym}
 use Rattle.std.specs.Prelude.{◌==◌, ◌&&◌, ◌||◌, not, nat_le, map, option_map}
 use Rattle.std.specs.Option.{option_or}
 use Rattle.std.specs.List.{list_all, AllByRecursion}
@@ -15,7 +15,7 @@ use Rattle.node_rows.specs.declared.rows.TableRow.{TableRow}
 use Rattle.slon_model.specs.Config.{is_origin, era_of, member_of}
 use Rattle.slon_model.specs.Deeds.{Deed, Knowledge, Logged, Node, brought_in, knowledge, with_deeds}
 use Rattle.slon_model.specs.Logs.{logged, logged_on, own_logs}
-use Rattle.slon_model.specs.Sessions.{Commit}
+use Rattle.slon_model.specs.Sessions.{Commit, committing}
 use Rattle.slon_model.specs.Spoken.{IsTask, IsTableName, IsChange, most_columns}
 use Rattle.slon_model.specs.Tasks.{Task}
 use Rattle.slon_model.specs.Place.{Place, bare_place, block, counter, with_counter, lifted, stamped, raised, founded}
@@ -26,13 +26,14 @@ use Rattle.slon_model.specs.Moves.{commit_deed, with_commit}
 use Rattle.slon_model.specs.Deciding.{fits}
 use Rattle.slon_model.proofs.Names.{all_found, all_map}
 use Rattle.slon_model.proofs.Spoken.{value_text, value_texts, table_name_text}
+use Rattle.slon_laws.specs.Lists.{IsAmong}
 use Rattle.slon_laws.specs.Sound.{Sound}
 use Rattle.slon_laws.specs.Spelled.{IsSmall, IsSpelled, IsWritten, CanSpell, AreFormed, AreWritten, IsFormedDeed}
-use Rattle.slon_laws.specs.Spelled.{IsFormedCommit, logs_in}
+use Rattle.slon_laws.specs.Spelled.{AreForeign, AreOwn, IsFormedCommit, logs_in}
 use Rattle.slon_laws.specs.Allowed.{MayWrite, MayMove}
 use Rattle.slon_laws.specs.Keeps.{Keeps}
 use Rattle.slon_laws.specs.Turning.{IsFormed}
-use Rattle.slon_laws.proofs.Lists.{all_appended, all_filtered, all_given}
+use Rattle.slon_laws.proofs.Lists.{all_appended, all_filtered, all_given, among_all}
 use Rattle.slon_laws.proofs.Owners.{OnSome}
 use Rattle.slon_laws.proofs.Opens.{or_parts}
 use Rattle.slon_laws.proofs.Sounds.{sound_prepared, keeps_sound}
@@ -43,6 +44,7 @@ spelled_bare = record {
   written = tt;
   filled = tt;
   logged = tt;
+  owned = tt;
   narrow = tt;
   few = omega arith;
   bare = λ none. (refl, refl);
@@ -50,13 +52,14 @@ spelled_bare = record {
 
 -- a transaction of the store stands
 spelled_stamped : (p q : Place) → q.actions ≡ p.actions → q.tables ≡ p.tables → q.numbers.next ≡ p.numbers.next →
-    AllByRecursion (λ f. AreFormed f.1.rows) q.fillings × AreWritten (logs_in q.node) × (0 < q.stamp) → IsSmall q →
-    IsSpelled p → IsSpelled q
-spelled_stamped p q actions tables next (filled, logged, some) small s = record {
+    AllByRecursion (λ f. AreFormed f.1.rows) q.fillings × AreWritten (logs_in q.node) × AreOwn p.actions q.node
+    × (0 < q.stamp) → IsSmall q → IsSpelled p → IsSpelled q
+spelled_stamped p q actions tables next (filled, logged, owned, some) small s = record {
   small = small;
   written = rw actions s.written;
   filled = filled;
   logged = logged;
+  owned = rw actions owned;
   narrow = rw tables s.narrow;
   few = rw (actions, next) s.few;
   bare = λ none. absurd (omega (arith, none, some));
@@ -88,9 +91,9 @@ spelled_lifted : (kind : Numbering) (p : Place) →
     (is_last_stamp p || nat_le stored_limit ((counter kind p).ceiling + block)) ≡ false → IsSpelled p →
     IsSpelled (stamped (with_counter kind (lifted (counter kind p)) p))
 spelled_lifted Xids p not s =
-    spelled_stamped p _ refl refl refl (s.filled, s.logged, omega arith) (lifted_small Xids p not s.small) s
+    spelled_stamped p _ refl refl refl (s.filled, s.logged, s.owned, omega arith) (lifted_small Xids p not s.small) s
 spelled_lifted Actions p not s =
-    spelled_stamped p _ refl refl refl (s.filled, s.logged, omega arith) (lifted_small Actions p not s.small) s
+    spelled_stamped p _ refl refl refl (s.filled, s.logged, s.owned, omega arith) (lifted_small Actions p not s.small) s
 
 spelled_raised : (kind : Numbering) (p : Place) → is_last kind p ≡ false → IsSpelled p → IsSpelled (raised kind p)
 spelled_raised kind p not s =
@@ -106,7 +109,7 @@ spelled_founded p none s =
     let bare = s.bare none in
     let xids = bare.0 in
     let numbers = bare.1 in
-    spelled_stamped p (founded p) refl refl refl (s.filled, s.logged, omega arith)
+    spelled_stamped p (founded p) refl refl refl (s.filled, s.logged, s.owned, omega arith)
     (record { stamp = omega arith; xids = omega (arith, xids); numbers = omega (arith, numbers) }) s
 
 spelled_first : (p : Place) → IsSpelled p → IsSpelled (first_rows p)
@@ -129,6 +132,7 @@ spelled_same p q (actions, tables, next, stamps, xids, numbers, fillings, nodes)
   written = rw actions s.written;
   filled = rw fillings s.filled;
   logged = rw nodes s.logged;
+  owned = rw (actions, nodes) s.owned;
   narrow = rw tables s.narrow;
   few = let few = s.few in rw actions (omega (arith, few, next));
   bare = rw (stamps, xids, numbers) s.bare;
@@ -150,6 +154,13 @@ change_spelled (Put key row) width fit narrow formed =
     (value_text key formed.0, record { few = omega (arith, same, narrow); each = value_texts row formed.1 })
 change_spelled (Set key columns) width fit narrow formed = (value_text key formed.0, column_texts columns formed.1)
 change_spelled (Remove key) width fit narrow formed = value_text key formed
+
+-- with one more action
+own_before : (a : Action) (actions : List Action) (o : Option Node) → AreOwn actions o → AreOwn (a ∷ actions) o
+own_before a actions None owned = tt
+own_before a actions (Some n) owned =
+    all_map (λ l. l.origin ≡ n.id → IsAmong l.action actions) (λ l. l.origin ≡ n.id → IsAmong l.action (a ∷ actions))
+    (λ l is own. inr (is own)) (logged n) owned
 
 spelled_written : (task : Task) (xid : ℕ) (table : List ℕ) (change : Change) (p : Place) →
     IsTask task × MayWrite task p xid table change → is_last Actions p ≡ false →
@@ -175,6 +186,7 @@ spelled_written task xid table change p (formed, may) within sound s = record {
   );
   filled = raised_spelled.filled;
   logged = raised_spelled.logged;
+  owned = own_before _ (raised Actions p).actions (raised Actions p).node raised_spelled.owned;
   narrow = raised_spelled.narrow;
   few = omega (arith, raised_spelled.few);
   bare = raised_spelled.bare;
@@ -207,39 +219,65 @@ formed_by p (d ∷ ds) new old =
 
 -- ---- actions are logged
 
--- by these deeds of a node, and by those before them
-with_logs : (ds : List Deed) (n : Node) → AllByRecursion (λ d. AreWritten d.logs) ds → AreWritten (logged n) →
-    AreWritten (logged (with_deeds ds n))
-with_logs [] n new old = old
-with_logs (d ∷ ds) n new old =
-    all_appended (λ l. IsWritten l.action) d.logs (logged (with_deeds ds n)) new.0 (with_logs ds n new.1 old)
+-- P of what these deeds of a node log, and of what those before them did
+with_logs : (P : Logged → Type 0) (ds : List Deed) (n : Node) → AllByRecursion (λ d. AllByRecursion P d.logs) ds →
+    AllByRecursion P (logged n) → AllByRecursion P (logged (with_deeds ds n))
+with_logs P [] n new old = old
+with_logs P (d ∷ ds) n new old =
+    all_appended P d.logs (logged (with_deeds ds n)) new.0 (with_logs P ds n new.1 old)
 
-logs_by : (c : Commit) → IsFormedCommit c → (o : Option Node) → AreWritten (logs_in o) →
-    AreWritten (logs_in (option_map (with_deeds c.deeds) (option_or c.becomes o)))
-logs_by c formed o old = by (option_or c.becomes o) (either c.becomes formed.1)
+-- after a commit, where R holds of a node that has logged nothing, and the deeds keep it
+logs_by : (R : Option Node → Type 0) (c : Commit) (old : Option Node) → R old →
+    ((n : Node) → logged n ≡ [] → R (Some n)) →
+    ((o : Option Node) → option_or c.becomes old ≡ o → R o → R (option_map (with_deeds c.deeds) o)) →
+    logs_in c.becomes ≡ [] → R (option_map (with_deeds c.deeds) (option_or c.becomes old))
+logs_by R c old before fresh goes none = goes (option_or c.becomes old) refl (by c.becomes none)
   where
-    either : (new : Option Node) → AreWritten (logs_in new) → AreWritten (logs_in (option_or new o))
-    either None none = old
-    either (Some n) written = written
+    by : (new : Option Node) → logs_in new ≡ [] → R (option_or new old)
+    by None none = before
+    by (Some n) none = fresh n none
 
-    by : (o : Option Node) → AreWritten (logs_in o) → AreWritten (logs_in (option_map (with_deeds c.deeds) o))
-    by None written = tt
-    by (Some n) written =
-        with_logs c.deeds n
-        (all_map IsFormedDeed (λ d. AreWritten d.logs) (λ d is. is.1) c.deeds formed.0) written
-
--- a transaction logs its own actions
-own_written : (own : ℕ) (k : Knowledge) (actions : List Action) → AllByRecursion IsWritten actions →
-    AreWritten (own_logs own k actions)
-own_written own k actions written =
-    all_given IsWritten (λ l. IsWritten l.action) (λ a. logged_on own k a (member_of a.table k.config))
-    (λ a is. by a is (member_of a.table k.config)) actions written
+written_by : (c : Commit) (p : Place) → IsFormedCommit c p → AreWritten (logs_in p.node) →
+    AreWritten (logs_in (committing c p).node)
+written_by c p formed old =
+    logs_by (λ o. AreWritten (logs_in o)) c p.node old (λ n none. subst AreWritten (sym none) tt) by formed.fresh
   where
-    by : (a : Action) → IsWritten a → (o : Option (ℕ × TableRow)) →
-        OnSome (λ l. IsWritten l.action) (logged_on own k a o)
+    by : (o : Option Node) → option_or c.becomes p.node ≡ o → AreWritten (logs_in o) →
+        AreWritten (logs_in (option_map (with_deeds c.deeds) o))
+    by None is written = tt
+    by (Some n) is written =
+        with_logs (λ l. IsWritten l.action) c.deeds n
+        (all_map IsFormedDeed (λ d. AreWritten d.logs) (λ d is. is.1) c.deeds formed.deeds) written
+
+owned_by : (c : Commit) (p : Place) → IsFormedCommit c p → AreOwn p.actions p.node →
+    AreOwn p.actions (committing c p).node
+owned_by c p formed old =
+    logs_by (AreOwn p.actions) c p.node old
+    (λ n none. subst (AllByRecursion (λ (l : Logged). l.origin ≡ n.id → IsAmong l.action p.actions)) (sym none) tt)
+    by formed.fresh
+  where
+    by : (o : Option Node) → option_or c.becomes p.node ≡ o → AreOwn p.actions o →
+        AreOwn p.actions (option_map (with_deeds c.deeds) o)
+    by None is owned = tt
+    by (Some n) is owned =
+        with_logs (λ l. l.origin ≡ n.id → IsAmong l.action p.actions) c.deeds n
+        (all_map (λ d. AllByRecursion (λ l. l.origin ≡ n.id → ⊥) d.logs)
+        (λ d. AllByRecursion (λ l. l.origin ≡ n.id → IsAmong l.action p.actions) d.logs)
+        (λ d foreign. all_map (λ l. l.origin ≡ n.id → ⊥) (λ l. l.origin ≡ n.id → IsAmong l.action p.actions)
+        (λ l other own. absurd (other own)) d.logs foreign) c.deeds
+        (subst (AreForeign c.deeds) is formed.foreign)) owned
+
+-- P of the actions of a transaction, of which it logs some
+pub own_logs_have : (P : Action → Type 0) (own : ℕ) (k : Knowledge) (actions : List Action) →
+    AllByRecursion P actions → AllByRecursion (λ l. P l.action) (own_logs own k actions)
+own_logs_have P own k actions all =
+    all_given P (λ l. P l.action) (λ a. logged_on own k a (member_of a.table k.config))
+    (λ a is. by a is (member_of a.table k.config)) actions all
+  where
+    by : (a : Action) → P a → (o : Option (ℕ × TableRow)) → OnSome (λ l. P l.action) (logged_on own k a o)
     by a is None = tt
     by a is (Some e) =
-        elim (is_origin own e.1.set_id k.config) as (λ b. OnSome (λ (l : Logged). IsWritten l.action)
+        elim (is_origin own e.1.set_id k.config) as (λ b. OnSome (λ (l : Logged). P l.action)
         (cond b (Some (record {
           set_id = e.1.set_id;
           table_id = e.0;
@@ -252,8 +290,23 @@ logs_with_commit : (xid : ℕ) (p : Place) → AllByRecursion IsWritten p.action
     AreWritten (logs_in o) → AreWritten (logs_in (option_map (with_commit xid p) o))
 logs_with_commit xid p written None old = tt
 logs_with_commit xid p written (Some n) old =
-    with_logs (commit_deed xid p n ∷ []) n
-    (own_written n.id (knowledge n) (own_actions xid p) (all_filtered IsWritten _ p.actions written), tt) old
+    with_logs (λ l. IsWritten l.action) (commit_deed xid p n ∷ []) n
+    (own_logs_have IsWritten n.id (knowledge n) (own_actions xid p) (all_filtered IsWritten _ p.actions written), tt)
+    old
+
+-- the transaction's own actions are among those of the database
+own_with_commit : (xid : ℕ) (p : Place) (o : Option Node) → AreOwn p.actions o →
+    AreOwn p.actions (option_map (with_commit xid p) o)
+own_with_commit xid p None old = tt
+own_with_commit xid p (Some n) old =
+    with_logs (λ l. l.origin ≡ n.id → IsAmong l.action p.actions) (commit_deed xid p n ∷ []) n (
+      all_map (λ l. IsAmong l.action p.actions) (λ l. l.origin ≡ n.id → IsAmong l.action p.actions)
+          (λ l among own. among) (own_logs n.id (knowledge n) (own_actions xid p))
+          (own_logs_have (λ a. IsAmong a p.actions) n.id (knowledge n) (own_actions xid p)
+          (all_filtered (λ a. IsAmong a p.actions) _ p.actions
+          (among_all (λ a. IsAmong a p.actions) p.actions (λ a among. among)))),
+      tt,
+    ) old
 
 -- ---- each move
 
@@ -274,8 +327,12 @@ spelled_committed name xid p within s =
     })) [
       | true ↦ λ any. spelled_same p _ (refl, refl, omega arith, refl, refl, refl, refl, refl) s
       | false ↦
-          λ less. spelled_stamped p _ refl refl refl
-          (s.filled, logs_with_commit xid p s.written p.node s.logged, omega arith)
+          λ less. spelled_stamped p _ refl refl refl (
+            s.filled,
+            logs_with_commit xid p s.written p.node s.logged,
+            own_with_commit xid p p.node s.owned,
+            omega arith,
+          )
           (record { stamp = below_limit (p.stamp + 1) less; xids = s.small.xids; numbers = s.small.numbers }) s
     ] within
 
@@ -290,6 +347,7 @@ spelled_done task (Tables table columns) p formed may sound s = record {
   written = s.written;
   filled = s.filled;
   logged = s.logged;
+  owned = s.owned;
   narrow = ((may.allows formed).1, s.narrow);
   few = s.few;
   bare = λ none. absurd (omega (arith, none));
@@ -334,8 +392,12 @@ keeps_spelled = record {
   };
   commits = λ c p formed s. (
     keeps_sound.commits c p formed.0 s.0,
-    spelled_stamped p _ refl refl refl
-        (formed_by p c.deeds formed.1.0 s.1.filled, logs_by c formed.1 p.node s.1.logged, omega arith)
+    spelled_stamped p _ refl refl refl (
+      formed_by p c.deeds formed.1.deeds s.1.filled,
+      written_by c p formed.1 s.1.logged,
+      owned_by c p formed.1 s.1.owned,
+      omega arith,
+    )
         (record {
           stamp = below_limit (p.stamp + 1) formed.0;
           xids = s.1.small.xids;

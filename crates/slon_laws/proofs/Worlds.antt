@@ -7,7 +7,7 @@ use Rattle.slon_model.specs.Spoken.{IsTask, IsSubject, IsSpoken}
 use Rattle.slon_model.specs.Place.{Place, bare_place}
 use Rattle.slon_model.specs.World.{World, start, Happening, Step, Grants, Denies, Misses, Asks, Acts, Leads, outcome}
 use Rattle.slon_model.proofs.Names.{all_map, all_put, all_behind, all_found}
-use Rattle.slon_laws.specs.Sound.{Sound}
+use Rattle.slon_laws.specs.Sound.{AreNamedOnce, Sound}
 use Rattle.slon_laws.specs.Spelled.{IsSpelled}
 use Rattle.slon_laws.specs.Keeps.{Keeps}
 use Rattle.slon_laws.specs.Turning.{AllHold, IsFormed, IsWithin}
@@ -15,13 +15,13 @@ use Rattle.slon_laws.specs.Worlds.{AllPlaces, AllSpoken}
 use Rattle.slon_laws.proofs.Keeps.{kept, carried}
 use Rattle.slon_laws.proofs.Acting.{acting_turns, outcome_all}
 use Rattle.slon_laws.proofs.Bringing.{outcome_formed}
+use Rattle.slon_laws.proofs.Named.{named_world}
 use Rattle.slon_laws.proofs.Sounds.{sound_bare, keeps_sound}
 use Rattle.slon_laws.proofs.Spells.{spelled_bare, keeps_spelled}
 
 -- What every step keeps of one database, from the first on.
 pub record Lasts (F : Commit → Place → Type 0) (IsOne : Task → Type 0) (P Q : Place → Type 0) : Type 0 where
   pub keeps : Keeps F IsOne P Q
-  pub acts : (w : World) → AllPlaces P w → (act : Act) → AllHold F (outcome act w).commits w.places
   pub first : P bare_place
   pub founds : IsOne ToFound
 
@@ -35,12 +35,12 @@ pub record Stepped : Type 0 where
 abbrev pub stepped : (w v : World) (h : Happening) → Step w h v → Stepped
 stepped w v h step = record { old = w; new = v; happening = h; step = step }
 
--- it is kept of all databases of a session
+-- It is kept of all databases of a session, where F holds of each commit of a script or a turn.
 pub all_step : {F : Commit → Place → Type 0} {IsOne : Task → Type 0} {P Q : Place → Type 0} → Lasts F IsOne P Q →
     (s : Stepped) →
     ((name : List ℕ) (task : Task) → subject_of s.happening.command ≡ OnOne name task → IsOne task) →
-    AllPlaces P s.old → AllPlaces Q s.new
-all_step {P = P} {Q = Q} l s one all = by s.step
+    ((act : Act) → AllHold F (outcome act s.old).commits s.old.places) → AllPlaces P s.old → AllPlaces Q s.new
+all_step {P = P} {Q = Q} l s one acts all = by s.step
   where
     still : AllPlaces Q s.old
     still = all_map (λ e. P e.1) (λ e. Q e.1) (λ e. l.keeps.tasks.stays e.1) s.old.places all
@@ -57,15 +57,16 @@ all_step {P = P} {Q = Q} l s one all = by s.step
         (all_put Q t.name _ s.old.places
         (kept l.keeps t.task t.place s.happening.choice
         (one t.name t.task t.about, all_found P t.name t.place s.old.places all t.found)) still)
-    by (Acts t) = acting_turns (carried l.keeps) s.old s.new s.happening t (l.acts s.old all t.act) still
+    by (Acts t) = acting_turns (carried l.keeps) s.old s.new s.happening t (acts t.act) still
 
 -- ---- sound
 
 lasts_sound : Lasts IsWithin (λ task. Unit {0}) Sound Sound
-lasts_sound = record { keeps = keeps_sound; acts = λ w all act. outcome_all act w; first = sound_bare; founds = tt }
+lasts_sound = record { keeps = keeps_sound; first = sound_bare; founds = tt }
 
 pub sound_world_step : (w v : World) (h : Happening) → Step w h v → AllPlaces Sound w → AllPlaces Sound v
-sound_world_step w v h step all = all_step lasts_sound (stepped w v h step) (λ name task about. tt) all
+sound_world_step w v h step all =
+    all_step lasts_sound (stepped w v h step) (λ name task about. tt) (λ act. outcome_all act w) all
 
 pub sound_world : (limit : ℕ) (history : List Happening) (w : World) → Leads (start limit) history w → AllPlaces Sound w
 sound_world limit [] w is = subst (AllPlaces Sound) (sym is) tt
@@ -76,9 +77,6 @@ sound_world limit (h ∷ hs) w leads = sound_world_step leads.0 w h leads.2 (sou
 lasts_spelled : Lasts IsFormed IsTask (λ p. Sound p × IsSpelled p) (λ p. Sound p × IsSpelled p)
 lasts_spelled = record {
   keeps = keeps_spelled;
-  acts = λ w all act.
-      outcome_formed w (all_map (λ e. Sound e.1 × IsSpelled e.1) (λ e. IsSpelled e.1) (λ e s. s.1) w.places all) act
-      (outcome_all act w);
   first = (sound_bare, spelled_bare);
   founds = tt;
 }
@@ -87,21 +85,25 @@ formed_task : (h : Happening) → IsSpoken h.command → (name : List ℕ) (task
     subject_of h.command ≡ OnOne name task → IsTask task
 formed_task h spoken name task about = (subst IsSubject about spoken).1
 
-fit_world_step : (w v : World) (h : Happening) → IsSpoken h.command → Step w h v →
+fit_world_step : (w v : World) (h : Happening) → IsSpoken h.command → Step w h v → AreNamedOnce w.places →
     AllPlaces (λ p. Sound p × IsSpelled p) w → AllPlaces (λ p. Sound p × IsSpelled p) v
-fit_world_step w v h spoken step all = all_step lasts_spelled (stepped w v h step) (formed_task h spoken) all
+fit_world_step w v h spoken step once all =
+    let spelled = all_map (λ e. Sound e.1 × IsSpelled e.1) (λ e. IsSpelled e.1) (λ e s. s.1) w.places all in
+    all_step lasts_spelled (stepped w v h step) (formed_task h spoken)
+    (λ act. outcome_formed w once spelled act (outcome_all act w)) all
 
 pub fit_world : (limit : ℕ) (history : List Happening) (w : World) → AllSpoken history → Leads (start limit) history w →
     AllPlaces (λ p. Sound p × IsSpelled p) w
 fit_world limit [] w spoken is = subst (AllPlaces (λ p. Sound p × IsSpelled p)) (sym is) tt
 fit_world limit (h ∷ hs) w spoken leads =
-    fit_world_step leads.0 w h spoken.0 leads.2 (fit_world limit hs leads.0 spoken.1 leads.1)
+    fit_world_step leads.0 w h spoken.0 leads.2 (named_world limit hs leads.0 leads.1)
+    (fit_world limit hs leads.0 spoken.1 leads.1)
 
-pub spelled_world_step : (w v : World) (h : Happening) → IsSpoken h.command → Step w h v → AllPlaces Sound w →
-    AllPlaces IsSpelled w → AllPlaces IsSpelled v
-spelled_world_step w v h spoken step sound all =
+pub spelled_world_step : (w v : World) (h : Happening) → IsSpoken h.command → Step w h v → AreNamedOnce w.places →
+    AllPlaces Sound w → AllPlaces IsSpelled w → AllPlaces IsSpelled v
+spelled_world_step w v h spoken step once sound all =
     all_map (λ e. Sound e.1 × IsSpelled e.1) (λ e. IsSpelled e.1) (λ e s. s.1) v.places
-    (fit_world_step w v h spoken step (both w.places sound all))
+    (fit_world_step w v h spoken step once (both w.places sound all))
   where
     both : (es : List (List ℕ × Place)) → AllByRecursion (λ e. Sound e.1) es → AllByRecursion (λ e. IsSpelled e.1) es →
         AllByRecursion (λ e. Sound e.1 × IsSpelled e.1) es

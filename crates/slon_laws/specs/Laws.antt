@@ -1,5 +1,5 @@
 -- The laws of every database that a legal history leads to.
-use Rattle.std.specs.Prelude.{◌≡◌, ℕ, ◌<◌, ◌≤◌, ◌⊎◌, ◌==◌, true, List, [], ◌∷◌, Some}
+use Rattle.std.specs.Prelude.{◌≡◌, ℕ, ◌<◌, ◌≤◌, ◌==◌, true, List, ◌∷◌, Some}
 use Rattle.std.specs.List.{AllByRecursion}
 use Rattle.slon_model.specs.declared.reply.Answer.{Answer}
 use Rattle.slon_model.specs.declared.reply.Answer.TheVariants.{Opened, Acted}
@@ -12,6 +12,7 @@ use Rattle.slon_model.specs.Place.{Place, open_xids, standing_rows, taken}
 use Rattle.slon_model.specs.Moves.{committed}
 use Rattle.slon_model.specs.Snapshots.{Covers}
 use Rattle.slon_model.specs.World.{World, start, Happening, Leads}
+use Rattle.slon_laws.specs.Lists.{IsAmong}
 use Rattle.slon_laws.specs.Sound.{conflicts, before, Pairs}
 
 -- P holds of each database of each session that a legal history leads to
@@ -19,11 +20,6 @@ abbrev pub HoldsOfEach : (Place → Type 0) → Type 0
 HoldsOfEach P =
     (limit : ℕ) (history : List Happening) (w : World) → Leads (start limit) history w →
     (name : List ℕ) (p : Place) → find_named name w.places ≡ Some p → P p
-
--- the action is one of these
-abbrev pub IsAmong : Action → List Action → Type 0
-IsAmong a [] = ⊥
-IsAmong a (b ∷ bs) = (a ≡ b) ⊎ IsAmong a bs
 
 -- Of two committed actions on one row by two transactions, that of the lower number committed first.
 abbrev pub LocksOrder : Place → Type 0

@@ -2,6 +2,7 @@ pub mod Allowed
 pub mod Keeps
 pub mod Keys
 pub mod Laws
+pub mod Lists
 pub mod Sound
 pub mod Spelled
 pub mod Turning

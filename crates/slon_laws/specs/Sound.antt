@@ -40,9 +40,9 @@ abbrev pub ids_of : Named ℕ → List ℕ
 ids_of os = map (λ o. o.1) os
 
 -- no name stands twice
-abbrev pub AreNamedOnce : Named ℕ → Type 0
+abbrev pub AreNamedOnce : {X : Type 0} → Named X → Type 0
 AreNamedOnce [] = Unit {0}
-AreNamedOnce (o ∷ os) = (find_named o.0 os ≡ None) × AreNamedOnce os
+AreNamedOnce (e ∷ es) = (find_named e.0 es ≡ None) × AreNamedOnce es
 
 -- What holds of the actions, the commits, what tables were filled with, the open transactions and the counters.
 pub record SoundOf (actions : List Action) (commits : List ℕ) (fillings : Named Filling) (opens : Named ℕ)

@@ -2,6 +2,7 @@
 use Rattle.std.specs.Prelude.{◌≡◌, ◌<◌, ◌≤◌, ℕ, List, [], length, map, Option, Some, None}
 use Rattle.std.specs.FinMap.{get}
 use Rattle.std.specs.List.{AllByRecursion}
+use Rattle.std.specs.Option.{option_or}
 use Rattle.slon_base.specs.Codec.{IsText, AllTexts, AreTexts}
 use Rattle.slon_model.specs.Names.{Named}
 use Rattle.slon_model.specs.Rows.{Row, Rows, Action, Change, Put, Set, Remove}
@@ -11,6 +12,7 @@ use Rattle.slon_model.specs.Logs.{logged}
 use Rattle.slon_model.specs.Place.{Place}
 use Rattle.slon_model.specs.Moves.{stored_limit}
 use Rattle.slon_model.specs.Sessions.{Commit}
+use Rattle.slon_laws.specs.Lists.{IsAmong}
 
 -- the parts of a change can be spelled
 abbrev pub CanSpell : Change → Type 0
@@ -46,13 +48,26 @@ abbrev pub logs_in : Option Node → List Logged
 logs_in None = []
 logs_in (Some n) = logged n
 
+-- what the node of a database has logged of its own are some of these actions
+abbrev pub AreOwn : List Action → Option Node → Type 0
+AreOwn actions None = Unit {0}
+AreOwn actions (Some n) = AllByRecursion (λ l. l.origin ≡ n.id → IsAmong l.action actions) (logged n)
+
 -- a deed fills tables with such rows, and logs such actions
 abbrev pub IsFormedDeed : Deed → Type 0
 IsFormedDeed d = AreFilled (brought_in d.doing).rows × AreWritten d.logs
 
--- so does each deed of a commit, and the node that it makes has logged such actions
-abbrev pub IsFormedCommit : Commit → Type 0
-IsFormedCommit c = AllByRecursion IsFormedDeed c.deeds × AreWritten (logs_in c.becomes)
+-- what a node logs by these deeds is of other origins
+abbrev pub AreForeign : List Deed → Option Node → Type 0
+AreForeign deeds None = Unit {0}
+AreForeign deeds (Some n) = AllByRecursion (λ d. AllByRecursion (λ l. l.origin ≡ n.id → ⊥) d.logs) deeds
+
+-- A commit of a database: each deed is formed, a node that the database becomes has logged nothing, and the deeds log
+-- nothing of the node's own.
+pub record IsFormedCommit (c : Commit) (p : Place) : Type 0 where
+  pub deeds : AllByRecursion IsFormedDeed c.deeds
+  pub fresh : logs_in c.becomes ≡ []
+  pub foreign : AreForeign c.deeds (option_or c.becomes p.node)
 
 -- what is stored is at most the limit of stored numbers
 pub record IsSmall (p : Place) : Type 0 where
@@ -65,6 +80,8 @@ pub record IsSpelled (p : Place) : Type 0 where
   pub written : AllByRecursion IsWritten p.actions
   pub filled : AllByRecursion (λ f. AreFormed f.1.rows) p.fillings
   pub logged : AllByRecursion (λ l. IsWritten l.action) (logs_in p.node)
+  -- what the node of the database logged of its own are actions of the database
+  pub owned : AreOwn p.actions p.node
   pub narrow : AllByRecursion (λ t. t.1 ≤ most_columns) p.tables
   -- each action has a number of its own
   pub few : length p.actions < p.numbers.next

@@ -34,4 +34,4 @@ IsWithin c p = is_last_stamp p ≡ false
 
 -- and the rows that it fills tables with, and what it logs, have their forms
 abbrev pub IsFormed : Commit → Place → Type 0
-IsFormed c p = IsWithin c p × IsFormedCommit c
+IsFormed c p = IsWithin c p × IsFormedCommit c p

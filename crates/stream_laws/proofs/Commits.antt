@@ -230,7 +230,7 @@ pub record Newcomer (ps : Named Place) : Type 0 where
       is_some (entry_at id (knowledge n).config.nodes) ≡ false
 
 -- the id is of no node, as each one knows itself
-free_id : (ps : Named Place) (c : Newcomer ps) → AreRegular (nodes_in ps) → IsFree c.id (nodes_in ps)
+pub free_id : (ps : Named Place) (c : Newcomer ps) → AreRegular (nodes_in ps) → IsFree c.id (nodes_in ps)
 free_id ps c regular k n is one =
     false≢true
     (sym (c.unknown k n is) ∙ ap (λ id. is_some (entry_at id (knowledge n).config.nodes)) (sym one)

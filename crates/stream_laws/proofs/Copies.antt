@@ -28,7 +28,8 @@ use Rattle.slon_model.specs.Working.{still_leads}
 use Rattle.slon_model.proofs.Names.{one_found}
 use Rattle.stream_laws.specs.Nodes.{IsAmong, Nodes, nodes_in}
 use Rattle.stream_laws.specs.Making.{OfSet}
-use Rattle.stream_laws.specs.Facts.{AreRegular, AreNamedOnce, IsRegular}
+use Rattle.slon_laws.specs.Sound.{AreNamedOnce}
+use Rattle.stream_laws.specs.Facts.{AreRegular, IsRegular}
 use Rattle.stream_laws.proofs.Lists.{all_each, all_mapped, all_passed, among_all, found_all}
 use Rattle.stream_laws.proofs.Seats.{OnOk, IsSeat, IsReached, at_node_found, bind_ok, checked_ok, kept_ok}
 use Rattle.stream_laws.proofs.Seats.{last_none, none_busy, ok_then, all_none, seat_node, when_none}

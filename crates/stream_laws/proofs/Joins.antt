@@ -42,7 +42,7 @@ abbrev pub newcomer : {nodes : Nodes} → Joining nodes → Node
 newcomer j = joining j.id j.giver j.run
 
 -- no node has met an event of it
-none_emitted : (id : ℕ) (nodes : Nodes) (c : Config) (reached : Map ℕ) → IsFree id nodes →
+pub none_emitted : (id : ℕ) (nodes : Nodes) (c : Config) (reached : Map ℕ) → IsFree id nodes →
     AllByRecursion (HasEmitted nodes c) reached → number_at id reached ≡ 0
 none_emitted id nodes c reached free all = by (entry_at id reached) refl
   where

@@ -10,19 +10,10 @@ use Rattle.slon_model.specs.Names.{Named, find_named}
 use Rattle.slon_model.specs.Maps.{Map, entry_at, with_entry, number_at}
 use Rattle.slon_model.proofs.Names.{bytes_same}
 pub use Rattle.slon_laws.proofs.Lists.{all_appended, all_passed, all_filtered, all_reversed, all_mapped, all_flat}
-pub use Rattle.slon_laws.proofs.Lists.{all_each, all_with}
+pub use Rattle.slon_laws.proofs.Lists.{all_among, all_each, all_with, among_all}
 use Rattle.stream_laws.specs.Nodes.{IsAmong}
 
 -- ---- all elements
-
-pub all_among : {X : Type 0} (P : X → Type 0) (x : X) (xs : List X) → AllByRecursion P xs → IsAmong x xs → P x
-all_among P x [] all among = absurd among
-all_among P x (y ∷ ys) all (inl is) = subst P (sym is) all.0
-all_among P x (y ∷ ys) all (inr later) = all_among P x ys all.1 later
-
-pub among_all : {X : Type 0} (P : X → Type 0) (xs : List X) → ((x : X) → IsAmong x xs → P x) → AllByRecursion P xs
-among_all P [] each = tt
-among_all P (x ∷ xs) each = (each x (inl refl), among_all P xs (λ y later. each y (inr later)))
 
 -- one that is found by a test has what all have, and passes
 pub found_all : {X : Type 0} (P : X → Type 0) (test : X → Bool) (xs : List X) (x : X) → AllByRecursion P xs →

@@ -1,30 +1,29 @@
 -- What a script or a turn reaches is a node of the session, and what it was not refused for is not so.
 use Rattle.std.proofs.Common.{◌≡◌, ℕ, Bool, true, false, cond, List, [], ◌∷◌, Option, Some, None, Ok, Err, refl}
 use Rattle.std.proofs.Common.{sym, ap, subst, ◌∙◌, not}
-use Rattle.std.specs.Prelude.{◌==◌, ◌||◌, filter_map, option_map, find}
+use Rattle.std.specs.Prelude.{◌==◌, ◌||◌, filter_map, option_map}
 use Rattle.std.specs.Option.{option_or}
-use Rattle.std.specs.List.{list_any, cons_option, AllByRecursion}
+use Rattle.std.specs.List.{list_any, cons_option}
 use Rattle.std.specs.Str.{bytes_eq}
 use Rattle.std.proofs.lemmas.Bool.{false≢true, eqb-true, not-false, and_parts}
-use Rattle.slon_model.specs.declared.reply.Refusal.{Refusal}
 use Rattle.slon_model.specs.declared.reply.Refusal.TheVariants as refused
 use Rattle.slon_model.specs.Names.{Named, find_named}
-use Rattle.slon_model.specs.Rows.{member}
 use Rattle.slon_model.specs.Maps.{entry_at}
 use Rattle.slon_model.specs.Config.{Config, is_origin}
 use Rattle.slon_model.specs.Deeds.{Node, knowledge}
 use Rattle.slon_model.specs.Place.{Place, is_running, node_id}
-use Rattle.slon_model.specs.Sessions.{World, Running, Seat, when, seat_of}
+use Rattle.slon_model.specs.Sessions.{World, Running, Seat, when}
 use Rattle.slon_model.specs.Reaching.{database_up, database_by, database_of_line, is_node_of, reach, origin_checks}
 use Rattle.slon_model.specs.Reaching.{origin_of, best_of, found_owner, owner}
 use Rattle.slon_model.specs.Membership.{already, first_id}
-use Rattle.slon_model.specs.Turns.{at_node, seat_at, on_turn}
-use Rattle.slon_model.proofs.Names.{all_map, bytes_itself, bytes_same, one_found}
+use Rattle.slon_model.proofs.Names.{all_map, one_found}
 pub use Rattle.slon_laws.proofs.Results.{OnOk, bind_ok, ok_then, checked_ok, kept_ok, none_first, all_none, when_none}
 pub use Rattle.slon_laws.proofs.Results.{last_none, none_busy}
+pub use Rattle.slon_laws.proofs.Seats.{IsSeat, IsFound, at_node_found, seat_at_ok, turn_ok}
+use Rattle.slon_laws.specs.Sound.{AreNamedOnce}
 use Rattle.slon_laws.proofs.Owners.{OnSome, OfNode, owner_is}
+use Rattle.slon_laws.proofs.Seats.{all_once, seat_of_ok}
 use Rattle.stream_laws.specs.Nodes.{nodes_in, node_in}
-use Rattle.stream_laws.specs.Facts.{AreNamedOnce}
 
 -- ---- results
 
@@ -34,27 +33,9 @@ already_none (Some node) none = absurd cc
 
 -- ---- seats
 
--- The seat is that of a node of the session, with what that knows.
-pub record IsSeat (ps : Named Place) (s : Seat) : Type 0 where
-  pub found : find_named s.name ps ≡ Some s.place
-  pub node : s.place.node ≡ Some s.node
-  pub known : s.known ≡ knowledge s.node
-
 -- the node of a seat, by the name of its database
 pub seat_node : (ps : Named Place) (s : Seat) → IsSeat ps s → nodes_in ps s.name ≡ Some s.node
 seat_node ps s is = ap node_in is.found ∙ is.node
-
--- the database is one of the session
-abbrev pub IsFound : Named Place → List ℕ × Place → Type 0
-IsFound ps e = find_named e.0 ps ≡ Some e.1
-
-seat_of_ok : (ps : Named Place) (none : Refusal) (e : List ℕ × Place) → IsFound ps e →
-    OnOk (IsSeat ps) (seat_of none e e.1.node)
-seat_of_ok ps none e found = by e.1.node refl
-  where
-    by : (o : Option Node) → e.1.node ≡ o → OnOk (IsSeat ps) (seat_of none e o)
-    by None is = tt
-    by (Some n) is = record { found = found; node = is; known = refl }
 
 up_ok : (w : World) (name : List ℕ) → OnOk (IsFound w.places) (database_up name (find_named name w.places))
 up_ok w name = by (find_named name w.places) refl
@@ -103,65 +84,6 @@ origin_ok run origin set w =
           ∙ not-false (is_origin s.node.id set s.known.config)
           (when_none _ (refused.NotOrigin set) (all_none (origin_checks s set) none).1.0),
     )))
-
--- ---- what is found by its name
-
--- what is found behind another one, where no name stands twice
-found_behind : {X : Type 0} (f : List ℕ × X) (es : Named X) (e : List ℕ × X) → find_named f.0 es ≡ None →
-    find_named e.0 es ≡ Some e.1 → find_named e.0 (f ∷ es) ≡ Some e.1
-found_behind f es e once there = by (bytes_eq e.0 f.0) refl
-  where
-    by : (b : Bool) → bytes_eq e.0 f.0 ≡ b → cond b (Some f.1) (find_named e.0 es) ≡ Some e.1
-    by true same =
-        let none : find_named e.0 es ≡ None = ap (λ k. find_named k es) (bytes_same e.0 f.0 same) ∙ once in
-        absurd cc
-    by false other = there
-
-found_first : {X : Type 0} (e : List ℕ × X) (es : Named X) → find_named e.0 (e ∷ es) ≡ Some e.1
-found_first e es = ap (λ b. cond b (Some e.1) (find_named e.0 es)) (bytes_itself e.0)
-
--- each database of a session is found by its name
-all_once : (ps : Named Place) → AreNamedOnce ps → AllByRecursion (IsFound ps) ps
-all_once [] once = tt
-all_once (p ∷ ps) once = (
-  found_first p ps,
-  all_map (IsFound ps) (IsFound (p ∷ ps)) (λ e found. found_behind p ps e once.0 found) ps (all_once ps once.1),
-)
-
--- ---- seats of turns
-
--- what is found by a test is found by its name, where no name stands twice
-found_once : {X : Type 0} (test : List ℕ × X → Bool) (es : Named X) (e : List ℕ × X) → AreNamedOnce es →
-    find test es ≡ Some e → find_named e.0 es ≡ Some e.1
-found_once test [] e once is = absurd cc
-found_once {X} test (f ∷ fs) e once is = by (found_once test fs e once.1) (test f) is
-  where
-    by : (find test fs ≡ Some e → find_named e.0 fs ≡ Some e.1) → (b : Bool) → cond b (Some f) (find test fs) ≡ Some e →
-        find_named e.0 (f ∷ fs) ≡ Some e.1
-    by later true here =
-        subst (λ (g : List ℕ × X). find_named g.0 (f ∷ fs) ≡ Some g.1) (one_found f e here) (found_first f fs)
-    by later false there = found_behind f fs e once.0 (later there)
-
-pub at_node_found : (node : ℕ) (w : World) (e : List ℕ × Place) → AreNamedOnce w.places → at_node node w ≡ Some e →
-    IsFound w.places e
-at_node_found node w e once is = found_once _ w.places e once is
-
-pub seat_at_ok : (node : ℕ) (w : World) (o : Option (List ℕ × Place)) →
-    ((e : List ℕ × Place) → o ≡ Some e → IsFound w.places e) → OnOk (IsSeat w.places) (seat_at node o)
-seat_at_ok node w None found = tt
-seat_at_ok node w (Some e) found =
-    elim (is_running e.1.standing)
-    as (λ b. OnOk (IsSeat w.places)
-    (cond b (seat_of (refused.NoNode node) e e.1.node) (Err (refused.Down e.0)))) [
-      | true ↦ seat_of_ok w.places (refused.NoNode node) e (found e refl)
-      | false ↦ tt
-    ]
-
-pub turn_ok : (node : ℕ) (w : World) → AreNamedOnce w.places → OnOk (IsSeat w.places) (on_turn node w)
-turn_ok node w once =
-    bind_ok (IsSeat w.places) (IsSeat w.places) (seat_at node (at_node node w)) _
-    (seat_at_ok node w (at_node node w) (λ e is. at_node_found node w e once is))
-    (λ s is. kept_ok (IsSeat w.places) (when (not (member node w.memory.started)) (refused.Off node) ∷ []) s is)
 
 -- ---- the owner of a set
 

@@ -161,7 +161,7 @@ origin_row own set c leads = by (entry_at set c.sets) refl leads
     by (Some row) is leads = (row, is, live row row.live leads)
 
 -- the node that is the origin of a set has stored it
-has_stored : (nodes : Nodes) → AreRegular nodes → (name : List ℕ) (n : Node) → nodes name ≡ Some n → (set : ℕ) →
+pub has_stored : (nodes : Nodes) → AreRegular nodes → (name : List ℕ) (n : Node) → nodes name ≡ Some n → (set : ℕ) →
     is_origin n.id set (knowledge n).config ≡ true → HasStored set (stream n)
 has_stored nodes regular name n is set leads =
     let row = origin_row n.id set (knowledge n).config leads in

@@ -1,15 +1,10 @@
 -- Every step of a history leaves a session as it should be.
 use Rattle.std.proofs.Common.{◌≡◌, ◌⊎◌, inl, inr, ℕ, Bool, true, false, cond, List, [], ◌∷◌, ◌++◌, Option, Some, None}
 use Rattle.std.proofs.Common.{refl, sym, ap, subst, ◌∙◌, arith, is_some}
-use Rattle.std.specs.Prelude.{◌==◌, option_map, nat_lt, length, drop}
+use Rattle.std.specs.Prelude.{◌==◌, option_map, drop}
 use Rattle.std.specs.Str.{bytes_eq}
-use Rattle.std.proofs.lemmas.Bool.{false≢true, false_from_ne_true}
-use Rattle.slon_lemmas.proofs.Tests.{none_of}
 use Rattle.slon_model.specs.declared.numbering.Numbering.{Numbering}
 use Rattle.slon_model.specs.declared.numbering.Numbering.TheVariants.{Xids, Actions}
-use Rattle.slon_model.specs.declared.reply.Answer.TheVariants.{Done}
-use Rattle.slon_model.specs.declared.reply.Refusal.TheVariants as refused
-use Rattle.slon_model.specs.declared.reply.Reply.TheVariants.{Accepted, Refused}
 use Rattle.slon_model.specs.Names.{Named, find_named, put_named}
 use Rattle.slon_model.specs.Tasks.{Task, ToFound, Act, ToStep}
 use Rattle.slon_model.specs.Deeds.{Node}
@@ -20,62 +15,18 @@ use Rattle.slon_model.specs.Deciding.{Choice, AtFault, Wavers, Fate, AllStand, B
 use Rattle.slon_model.specs.Deciding.{place_by}
 use Rattle.slon_model.specs.Sessions.{World, Memory}
 use Rattle.slon_model.specs.World.{Happening, Step, Grants, Denies, Misses, Asks, Acts, Serving, Acting, Leads, start}
-use Rattle.slon_model.specs.World.{outcome, memory_after, database_due, world_by}
-use Rattle.slon_model.proofs.Names.{find-behind, bytes_turned}
-use Rattle.slon_laws.specs.Turning.{Carries, IsWithin}
+use Rattle.slon_model.specs.World.{outcome, memory_after, world_by}
+use Rattle.slon_model.proofs.Names.{find-behind}
+use Rattle.slon_laws.specs.Sound.{AreNamedOnce}
 use Rattle.slon_laws.proofs.Acting.{acting_carries}
+use Rattle.slon_laws.proofs.Named.{granted_free, once_carries, once_put}
+use Rattle.slon_laws.proofs.Opens.{named_behind}
 use Rattle.stream_laws.specs.Nodes.{Nodes, nodes_in, node_in}
-use Rattle.stream_laws.specs.Facts.{Facts, AreRegular, AreNamedOnce, AllWait, IsRegular}
+use Rattle.stream_laws.specs.Facts.{Facts, AreRegular, AllWait, IsRegular}
 use Rattle.stream_laws.proofs.Growing.{GoOn, placed, staying, go_nowhere, go_same, facts_grown, waits_grown}
 use Rattle.stream_laws.proofs.Commits.{nodes_put, put_same, all_stand, wavers_on, felled_on, broken_on}
 use Rattle.stream_laws.proofs.Waiting.{changed_waits, felled_waits, broken_waits, wavers_waits}
 use Rattle.stream_laws.proofs.Outcomes.{IsOutcome, act_outcome}
-
--- ---- names
-
-none_by : {X : Type 0} (b : Bool) (x y : X) (o n : Option X) → cond b (Some x) o ≡ None → (o ≡ None → n ≡ None) →
-    cond b (Some y) n ≡ None
-none_by true x y o n none on = absurd cc
-none_by false x y o n none on = on none
-
-none_put : {X : Type 0} (k name : List ℕ) (x : X) (es : Named X) → find_named k es ≡ None →
-    find_named k (put_named name x es) ≡ None
-none_put k name x [] none = refl
-none_put k name x (e ∷ es) none =
-    elim (bytes_eq name e.0)
-    as (λ b. find_named k (cond b ((e.0, x) ∷ es) (e ∷ put_named name x es)) ≡ None) [
-      | true ↦ none_by (bytes_eq k e.0) e.1 x (find_named k es) (find_named k es) none (λ still. still)
-      | false ↦ none_by (bytes_eq k e.0) e.1 e.1 (find_named k es) (find_named k (put_named name x es)) none
-          (none_put k name x es)
-    ]
-
-once_put : {X : Type 0} (name : List ℕ) (x : X) (es : Named X) → AreNamedOnce es → AreNamedOnce (put_named name x es)
-once_put name x [] once = tt
-once_put name x (e ∷ es) once =
-    elim (bytes_eq name e.0) as (λ b. AreNamedOnce (cond b ((e.0, x) ∷ es) (e ∷ put_named name x es))) [
-      | true ↦ once
-      | false ↦ (none_put e.0 name x es once.0, once_put name x es once.1)
-    ]
-
-once_carries : Carries IsWithin AreNamedOnce
-once_carries name p q ps found turned once = once_put name q ps once
-
--- none is found under a name of which the test says so
-passed_by : {X : Type 0} (b : Bool) (x : X) (o : Option X) → cond b (Some x) o ≡ None → (b ≡ false) × (o ≡ None)
-passed_by true x o none = absurd cc
-passed_by false x o none = (refl, none)
-
-once_behind : {X : Type 0} (name : List ℕ) (x : X) (es : Named X) → find_named name es ≡ None → AreNamedOnce es →
-    AreNamedOnce (es ++ (name, x) ∷ [])
-once_behind name x [] none once = (refl, tt)
-once_behind name x (e ∷ es) none once =
-    let parts = passed_by (bytes_eq name e.0) e.1 (find_named name es) none in
-    let other = false_from_ne_true (bytes_eq e.0 name) (λ same.
-    false≢true (sym parts.0 ∙ bytes_turned e.0 name same)) in (
-      find-behind e.0 name x es ∙ ap (λ o. cond (is_some o) o (cond (bytes_eq e.0 name) (Some x) None)) once.0
-          ∙ ap (λ b. cond b (Some x) None) other,
-      once_behind name x es parts.1 once.1,
-    )
 
 -- ---- one database goes on
 
@@ -189,15 +140,6 @@ behind_same name q ps none k =
     by None true = none
     by None false = refl
 
-granted_free : (name : List ℕ) (w : World) → database_due name w ≡ Accepted Done → find_named name w.places ≡ None
-granted_free name w granted = none_of (find_named name w.places) (by (is_some (find_named name w.places)) granted)
-  where
-    by : (b : Bool) → cond b (Refused (refused.NameUsed name))
-        (cond (nat_lt (length w.places) w.limit) (Accepted Done) (Refused (refused.Full w.limit))) ≡ Accepted Done →
-        b ≡ false
-    by true refusal = absurd cc
-    by false due = refl
-
 -- ---- a session
 
 -- where the nodes went on, and what waits was of the streams before
@@ -252,7 +194,8 @@ serving_regular w v h t regular =
 
 step_regular : (w v : World) (h : Happening) → Step w h v → IsRegular w → IsRegular v
 step_regular w v h (Grants name result about granted takes told is) regular =
-    subst IsRegular (sym is) (regular_again w _ (once_behind name q w.places (granted_free name w granted) regular.once)
+    subst IsRegular (sym is) (regular_again w _
+    (named_behind name q w.places (granted_free name w granted) regular.once)
     (go_same (behind_same name q w.places (bare_none q.node (place_logs ToFound bare_place h.choice)))
     (go_nowhere (nodes_in w.places) regular.nodes)) regular.waits)
   where

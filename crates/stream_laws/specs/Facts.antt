@@ -1,11 +1,12 @@
 -- What holds of every node of a session that is reached by steps.
-use Rattle.std.specs.Prelude.{◌≡◌, ℕ, ◌≤◌, List, [], ◌∷◌, length, Some, None}
+use Rattle.std.specs.Prelude.{◌≡◌, ℕ, ◌≤◌, List, length, Some}
 use Rattle.std.specs.List.{AllByRecursion}
-use Rattle.slon_model.specs.Names.{Named, find_named}
+use Rattle.slon_model.specs.Names.{Named}
 use Rattle.slon_model.specs.Maps.{Map, number_at}
 use Rattle.slon_model.specs.Events.{Event}
 use Rattle.slon_model.specs.Deeds.{Node, knowledge, stream, met, progress}
 use Rattle.slon_model.specs.Sessions.{World}
+use Rattle.slon_laws.specs.Sound.{AreNamedOnce}
 use Rattle.stream_laws.specs.Nodes.{Nodes, nodes_in, IsKnown, IsEvent, HasConfirmed, WaitsAt}
 use Rattle.stream_laws.specs.Making.{Mark, IsMade, AreEmitted, IsMarked}
 use Rattle.stream_laws.specs.Applied.{applied_events, HasApplied}
@@ -42,11 +43,6 @@ pub record AreRegular (nodes : Nodes) : Type 0 where
   pub once : (mark : Mark) (x y : IsMade nodes mark) → (x.name ≡ y.name) × (x.event.number ≡ y.event.number)
 
 -- ---- a session
-
--- no name stands twice
-abbrev pub AreNamedOnce : {X : Type 0} → Named X → Type 0
-AreNamedOnce [] = Unit {0}
-AreNamedOnce (e ∷ es) = (find_named e.0 es ≡ None) × AreNamedOnce es
 
 -- an event that waits in the line of an origin is one of the stream of that origin, which is known where it waits
 abbrev pub WaitsIn : Nodes → List ℕ → ℕ → Event → Type 0

@@ -1,16 +1,12 @@
 -- Which node each database of a session is, and what may be said of the streams of all of them.
-use Rattle.std.specs.Prelude.{◌≡◌, ℕ, ◌≤◌, ◌⊎◌, is_some, true, List, [], ◌∷◌, Option, Some, None}
+use Rattle.std.specs.Prelude.{◌≡◌, ℕ, ◌≤◌, is_some, true, List, Option, Some, None}
 use Rattle.slon_model.specs.Names.{Named, find_named}
 use Rattle.slon_model.specs.Maps.{entry_at}
 use Rattle.slon_model.specs.Events.{Event}
 use Rattle.slon_model.specs.Config.{Config}
 use Rattle.slon_model.specs.Deeds.{Node, knowledge, stream, progress}
 use Rattle.slon_model.specs.Place.{Place}
-
--- it is one of these
-abbrev pub IsAmong : {X : Type 0} → X → List X → Type 0
-IsAmong x [] = ⊥
-IsAmong x (y ∷ ys) = (x ≡ y) ⊎ IsAmong x ys
+pub use Rattle.slon_laws.specs.Lists.{IsAmong}
 
 -- the node of each database, by the name of the database
 abbrev pub Nodes : Type 0
