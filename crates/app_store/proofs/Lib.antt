@@ -13,6 +13,7 @@ pub mod Rising
 pub mod Scanning
 pub mod Serving
 pub mod Standing
+pub mod Starting
 pub mod Taking
 pub mod Telling
 pub mod Transacting

@@ -57,6 +57,7 @@ lifted_runs Xids p m d stamp runs is same = record {
       λ name. opens_same p (lifted_place Xids p) (find_named name p.opens)
       (Rattle.std.specs.FinMap.get m.opens name) (refl, refl, refl) (runs.opened name);
   locked = runs.locked;
+  begun = runs.begun;
   known = runs.known;
   unpromised = runs.unpromised;
 }
@@ -71,6 +72,7 @@ lifted_runs Actions p m d stamp runs is same = record {
       λ name. opens_same p (lifted_place Actions p) (find_named name p.opens)
       (Rattle.std.specs.FinMap.get m.opens name) (refl, refl, refl) (runs.opened name);
   locked = runs.locked;
+  begun = runs.begun;
   known = runs.known;
   unpromised = runs.unpromised;
 }

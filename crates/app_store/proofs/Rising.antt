@@ -48,6 +48,7 @@ use Rattle.store_rows.proofs.Causes.{stays}
 use Rattle.store_rows.proofs.Spaces.{empty_space}
 use Rattle.app_store.proofs.Standing.{fits_running, looked, carried, fell, wavers, decided_up, rose_from}
 use Rattle.app_store.proofs.Standing.{is_down, crashed_fits, named_as, Stopped}
+use Rattle.app_store.specs.Begun.{AreBegun}
 use Rattle.app_store.proofs.Upright.{UpAt, DownAt, running, WentDown, is_up}
 
 -- the first rows, over what was there
@@ -80,6 +81,7 @@ fresh_runs m fresh = record {
       λ name. subst (λ o. OpensAs (done Founds bare_place) None o)
       (sym (ap (λ o. get o name) fresh.closed.opens_are ∙ get-empty key_cmp name)) tt;
   locked = λ table key text. fresh.closed.locks_are table key;
+  begun = subst (AreBegun (done Founds bare_place)) (sym fresh.begun) tt;
   known = fresh.nobody;
   unpromised = refl;
 }
@@ -245,6 +247,7 @@ starts_fits p n node new starts are stands =
           λ name. subst (λ o. OpensAs (risen p) None o)
           (sym (ap (λ o. get o name) starts.closed.opens_are ∙ get-empty key_cmp name)) tt;
       locked = λ table key text. starts.closed.locks_are table key ∙ sym (no_holder table key p.actions);
+      begun = subst (AreBegun (risen p)) (sym starts.begun) tt;
       known = known_as starts.identity starts.members stands.known;
       unpromised = refl;
     }

@@ -43,7 +43,7 @@ use Rattle.slon_laws.proofs.Opens.{found_member, member_taken}
 use Rattle.slon_laws.proofs.Sounds.{sound_raised}
 use Rattle.txn_core.specs.Locks.{holder_of, Locks, without as without_xid}
 use Rattle.app_store.specs.declared.opens.Transaction.{Transaction}
-use Rattle.app_store.specs.Base.{Memory, Base}
+use Rattle.app_store.specs.Base.{with_opened, Memory, Base}
 use Rattle.app_store.specs.Fits.{Fits, Runs, OpensAs, IsOpened}
 use Rattle.app_store.specs.Serves.{Comes}
 use Rattle.app_store.specs.Parts.{FellTo, RaisedTo, Raises, Bursts, StopsRaise}
@@ -57,6 +57,7 @@ use Rattle.app_store.proofs.Places.{ended_names}
 use Rattle.app_store.proofs.Standing.{up_running, fits_running, carried, fell, wavers, looked, opens_same}
 use Rattle.app_store.proofs.Standing.{named_as, named_up}
 use Rattle.app_store.proofs.Standing.{is_down, crashed_fits}
+use Rattle.app_store.proofs.Starting.{begun_next, begun_same}
 use Rattle.app_store.proofs.Upright.{UpAt, running, IsLooked, WentDown, IsChanged, LeftInDoubt, is_up}
 
 -- what the decision on a task is, of a database that is up
@@ -117,6 +118,7 @@ table_runs table columns stamp p m runs is = record {
   opened = λ q. opens_same p (tabled table columns p) (find_named q p.opens) (get m.opens q) (refl, refl, refl)
       (runs.opened q);
   locked = runs.locked;
+  begun = runs.begun;
   known = runs.known;
   unpromised = runs.unpromised;
 }
@@ -259,16 +261,12 @@ name_used {p} {b} name at there =
     carried (ToOpen name) p (Refuses NameUsed) b
     (decided _ _ (Refuses NameUsed) at (begin_decision name p true (ap is_some named.1)) refl) at.ready.fits
 
--- the memory with a transaction more
-abbrev pub with_opened : List ℕ → ℕ → Memory → Memory
-with_opened name xid m =
-    record m {
-      xids = drawn m.xids;
-      opens = insert m.opens name (record { xid = xid; actions = []; writes = empty });
-    }
+-- the memory with a transaction more, whose id was drawn
+abbrev pub with_begun : List ℕ → ℕ → Memory → Memory
+with_begun name xid m = with_opened name xid (record m { xids = drawn m.xids })
 
 begun_runs : {p : Place} {m : Memory} (name : List ℕ) (xid : ℕ) → Sound p → Runs p m →
-    find_named name p.opens ≡ None → xid ≡ m.xids.next → Runs (begun name p) (with_opened name xid m)
+    find_named name p.opens ≡ None → xid ≡ m.xids.next → Runs (begun name p) (with_begun name xid m)
 begun_runs {p} {m} name xid sound runs none xid_is = record {
   up = runs.up;
   stamp = runs.stamp;
@@ -286,6 +284,8 @@ begun_runs {p} {m} name xid sound runs none xid_is = record {
   locked =
       λ table key text. runs.locked table key text
       ∙ holders_agree table key (open_xids p) (open_xids (begun name p)) p.actions (older p.actions sound.known);
+  begun = begun_next p m.begun (record { xid = xid; number = m.numbers.next }) sound
+      (xid_is ∙ ap (λ c. c.next) runs.xids, ap (λ c. c.next) runs.numbers) runs.begun;
   known = runs.known;
   unpromised = runs.unpromised;
 }
@@ -331,7 +331,7 @@ begun_runs {p} {m} name xid sound runs none xid_is = record {
 pub record HasOpened (name : List ℕ) (xid : ℕ) (mid new : Base) : Type 0 where
   pub up : mid.memory.up ≡ true
   pub drawn : xid ≡ mid.memory.xids.next
-  pub new_is : new ≡ record mid { memory = with_opened name xid mid.memory }
+  pub new_is : new ≡ record mid { memory = with_begun name xid mid.memory }
 
 -- what comes of the ceiling that rises first
 pub begins_on : {p : Place} {b mid : Base} (name : List ℕ) (new : Base) (xid : ℕ) → UpAt p b →
@@ -393,6 +393,7 @@ same_opens p m name runs none = record {
       (sym (get-remove nat_list_cmp_total m.opens name q ∙ ap (λ t. cond t None (get m.opens q)) (key_test q name)
       ∙ unchanged q (bytes_eq q name) refl)) (runs.opened q);
   locked = runs.locked;
+  begun = runs.begun;
   known = runs.known;
   unpromised = runs.unpromised;
 }
@@ -490,6 +491,7 @@ ended_runs {p} {m} {name} q stamp ends sound runs e ended stamp_is = record {
       (ended_names e.xid name p.opens sound.named sound.running e.named) sound.locked)
       ∙ ap (λ os. holder_in table key (ids_of os) p.actions) (sym ended.opens)
       ∙ ap (holder_in table key (open_xids q)) (sym ended.actions);
+  begun = begun_same p q m.begun ended.actions ended.numbers runs.begun;
   known = ended.known m.identity m.members runs.known;
   unpromised = ended.promised ∙ runs.unpromised;
 }

@@ -71,6 +71,7 @@ use Rattle.app_store.proofs.Holding.{holds_same, stored_of}
 use Rattle.app_store.proofs.Openings.{IsWrite, opened_other, opened_own}
 use Rattle.app_store.proofs.Places.{bytes_symmetric}
 use Rattle.app_store.proofs.Standing.{up_running, fits_running, looked, followed, fell_plain, decided_up, IsUp}
+use Rattle.app_store.proofs.Starting.{begun_written}
 use Rattle.app_store.proofs.Transacting.{is_named, ids_differ}
 
 -- an open transaction of the rules is one of the code
@@ -236,6 +237,7 @@ wrote_runs {s} {change} {value} {t} {p} {m} locks a locks_are = record {
       ∙ ap (cond (bytes_eq s.table u && bytes_eq s.key k) (Some s.xid)) (a.runs.locked u k text)
       ∙ ap (λ x. cond x (Some s.xid) (holder u k p)) (on u k ∙ sym (and_true (is_on u k action))
       ∙ ap (λ b. is_on u k action && b) (sym (found_member s.name s.xid p.opens a.named)));
+  begun = begun_written s.xid s.table change p m.begun a.runs.begun;
   known = a.runs.known;
   unpromised = a.runs.unpromised;
 }

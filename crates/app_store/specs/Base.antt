@@ -1,5 +1,6 @@
 -- What the code keeps of a database, read off it.
-use Rattle.std.specs.Prelude.{◌≡◌, ℕ, Bool, false, Option, None}
+use Rattle.std.specs.Prelude.{◌≡◌, ℕ, Bool, false, List, [], ◌∷◌, ◌++◌, Option, None}
+use Rattle.std.specs.FinMap.{insert, empty}
 use Rattle.slon_base.specs.Keeper.{Kept}
 use Rattle.slon_base.specs.declared.keeper.Keeper.{Ghosts}
 use Rattle.slon_model.specs.Place.{Counter}
@@ -8,6 +9,7 @@ use Rattle.txn_core.specs.Locks.{Locks}
 use Rattle.node_state.specs.declared.memory.Identity.{Identity}
 use Rattle.node_state.specs.declared.memory.Members.{Members}
 use Rattle.node_state.specs.Known.{IsKnown}
+use Rattle.app_store.specs.declared.begun.Begun.{Begun}
 use Rattle.app_store.specs.declared.database.Database.{Database}
 use Rattle.app_store.specs.declared.state.State.{State}
 use Rattle.app_store.specs.Closed.{Opens, IsClosed}
@@ -22,6 +24,8 @@ pub record Memory : Type 0 where
   pub numbers : Counter
   pub opens : Opens
   pub locks : Locks
+  -- the transactions that began since it came up
+  pub begun : List Begun
   -- which node it is, and the tables of its sets
   pub identity : Option Identity
   pub members : Members
@@ -36,8 +40,17 @@ memory_of s =
       numbers = s.numbers;
       opens = s.opens;
       locks = s.locks;
+      begun = s.begun;
       identity = s.node.identity;
       members = s.node.members;
+    }
+
+-- the memory with a transaction more, which begins with the action that comes next
+abbrev pub with_opened : List ℕ → ℕ → Memory → Memory
+with_opened name xid m =
+    record m {
+      opens = insert m.opens name (record { xid = xid; actions = []; writes = empty });
+      begun = m.begun ++ record { xid = xid; number = m.numbers.next } ∷ [];
     }
 
 -- What the code keeps of a database: its store and its memory.
@@ -59,6 +72,7 @@ pub record IsFresh (up : Bool) (doubt : Option ℕ) (m : Memory) : Type 0 where
   pub xids : m.xids ≡ record { next = 1; ceiling = 65 }
   pub numbers : m.numbers ≡ record { next = 1; ceiling = 65 }
   pub closed : IsClosed m.opens m.locks
+  pub begun : m.begun ≡ []
   pub nobody : IsKnown None m.identity m.members
 
 -- a database that goes down forgets what was open, and nothing else

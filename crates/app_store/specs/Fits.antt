@@ -17,6 +17,7 @@ use Rattle.slon_laws.specs.Spelled.{IsSpelled}
 use Rattle.txn_core.specs.Locks.{holder_of}
 use Rattle.app_store.specs.declared.opens.Transaction.{Transaction}
 use Rattle.app_store.specs.Base.{Memory, Base}
+use Rattle.app_store.specs.Begun.{AreBegun}
 use Rattle.app_store.specs.Spelled.{Holds, IsRowKey, over, row_key}
 
 -- the transaction wrote the row
@@ -53,6 +54,7 @@ pub record Runs (p : Place) (m : Memory) : Type 0 where
   pub numbers : m.numbers ≡ p.numbers
   pub opened : (name : List ℕ) → OpensAs p (find_named name p.opens) (get m.opens name)
   pub locked : (table key : List ℕ) → IsText table → holder_of table key m.locks ≡ holder table key p
+  pub begun : AreBegun p m.begun
   pub known : IsKnown p.node m.identity m.members
   -- no commit in doubt is to make it a node
   pub unpromised : p.promised ≡ None

@@ -1,5 +1,6 @@
 pub mod Answers
 pub mod Base
+pub mod Begun
 pub mod Closed
 pub mod Finds
 pub mod Fits

@@ -1,5 +1,5 @@
 -- What the parts of a task do to a database that is up.
-use Rattle.std.specs.Prelude.{◌≡◌, ℕ, ◌≤◌, if◌then◌else◌, Bool, true, false, Option, Some, None, Result, Ok, Err}
+use Rattle.std.specs.Prelude.{◌≡◌, ℕ, ◌≤◌, if◌then◌else◌, Bool, true, false, [], Option, Some, None, Result, Ok, Err}
 use Rattle.slon_base.specs.Counts.{Rose}
 use Rattle.slon_base.specs.Keeper.{Kept}
 use Rattle.slon_base.specs.declared.fault.Halt.{Halt as HaltOf}
@@ -67,6 +67,7 @@ pub record StartsWith (n : Numbers) (node : NodeMemory) (new : Memory) : Type 0 
   pub xids : new.xids ≡ record { next = n.xid_ceiling; ceiling = n.xid_ceiling }
   pub numbers : new.numbers ≡ record { next = n.number_ceiling; ceiling = n.number_ceiling }
   pub closed : IsClosed new.opens new.locks
+  pub begun : new.begun ≡ []
   pub identity : new.identity ≡ node.identity
   pub members : new.members ≡ node.members
 

@@ -1,5 +1,5 @@
 // The tasks of a database on its tables and its transactions.
-ghost use Rattle.std.specs.Prelude.{◌≡◌, ◌≤◌, ◌+◌, ℕ, List, IfOk, true, false, []};
+ghost use Rattle.std.specs.Prelude.{◌≡◌, ◌≤◌, ◌<◌, ◌+◌, ◌^◌, ℕ, List, IfOk, true, false, []};
 ghost use Rattle.slon_base.specs.Codec.{IsText};
 ghost use Rattle.slon_model.specs.Tasks.{ToMake, ToOpen, ToCommit, ToAbort, ToList};
 ghost use Rattle.slon_model.specs.Moves.{stored_limit};
@@ -8,16 +8,18 @@ ghost use Rattle.slon_model.specs.Place.{Place, is_running, taken};
 ghost use Rattle.slon_model.specs.Snapshots.{first_or, IsSnapshot};
 ghost use Rattle.txn_core.specs.Snapshots.{seen_as};
 ghost use Rattle.app_store.specs.Base.{base_of, memory_of};
+ghost use Rattle.app_store.specs.Begun.{AreOlder, start_at};
 ghost use Rattle.app_store.specs.Fits.{Ready};
 ghost use Rattle.app_store.specs.Handed.{Hands};
 ghost use Rattle.app_store.specs.Serves.{Serves, answered, settled};
 ghost use Rattle.app_store.specs.Answers.{opened, committed, listed};
 ghost use Rattle.app_store.specs.Taking.{IsTakenOf};
 
+use crate::begun::number_at;
 use crate::database::Database;
 use crate::falls::{fall, overflow};
 use crate::look::find_columns;
-use crate::opens::{open, open_xids};
+use crate::opens::open_xids;
 use crate::spelling::spell_table;
 use crate::transact::Made;
 use crate::work::{list_rows, make_rows, make_table};
@@ -114,7 +116,7 @@ impl<K: Keeper> Database<K> {
         match self.raise(Numbering::Xids) {
             Ok(()) => {
                 let xid = self.state.xids.draw();
-                open(self.alloc, &mut self.state.opens, name.as_slice(), xid)?;
+                self.state.open(self.alloc, name.as_slice(), xid)?;
                 Ok(xid)
             }
             Err(fault) => Err(fault),
@@ -232,5 +234,17 @@ impl<K: Keeper> Database<K> {
             xmax,
             running,
         })
+    }
+
+    /// The number of an action such that all actions with lower numbers are of transactions below this id: the number of
+    /// the action that came next as the last transaction up to this id began since the database came up, or 0 where none
+    /// did. A snapshot below whose `xmin` all transactions have ended needs to look at no action below it.
+    pub fn first_number(&self, xid: u64) -> u64
+        requires up { self.now.state.up ≡ true }
+        ensures is { result ≡ start_at xid self.now.state.begun }
+        ensures small { result < 2 ^ 63 }
+        ensures older { (p : Place) → Ready p (base_of K.kept self.now) → AreOlder result xid p.actions }
+    {
+        number_at(self.state.begun.as_slice(), xid)
     }
 }

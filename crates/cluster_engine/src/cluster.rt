@@ -1,5 +1,5 @@
 // The databases of a session, and what each command does with them.
-ghost use Rattle.std.specs.Prelude.{None, ◌≡◌, length, true, false, Some, IfOk, is_ok};
+ghost use Rattle.std.specs.Prelude.{None, ◌≡◌, ◌++◌, [], ◌∷◌, length, true, false, Some, IfOk, OnOk, is_ok};
 ghost use Rattle.std.specs.List.{position};
 ghost use Rattle.std.specs.Str.{bytes_eq};
 ghost use Rattle.slon_base.specs.Keeper.{nothing};
@@ -30,7 +30,7 @@ use slon_turns::{Listen, Switched, Work, are_cut, take_poll, take_work};
 use slonik_exec::{
     Named, NoMemory, answered, has_node, index_of, index_of_node, refused, take_sync,
 };
-use std::alloc::Global;
+use std::alloc::{AllocError, Global};
 
 /// The databases of a session, in the order of their making, the scripts that run, which slons are on, which nodes are
 /// cut off from one another, and the events that wait at nodes.
@@ -55,6 +55,14 @@ fn is_not_empty(fault: DbFault) -> bool
     ensures { result ≡ calls.is_not_empty fault }
 {
     matches!(fault, DbFault::NotEmpty)
+}
+
+/// Adds a database behind the others.
+fn add_database<K: Keeper>(databases: &mut Vec<Named<K>>, named: Named<K>) -> Result<(), AllocError>
+    ensures { OnOk result (databases.new.items ≡ databases.old.items ++ named ∷ []) }
+{
+    databases.push(named)?;
+    Ok(())
 }
 
 impl<K: Keeper> Cluster<K> {
@@ -331,10 +339,8 @@ impl<K: Keeper> Cluster<K> {
         ensures { IfOk result (λ _. cluster_of K.kept self.new ≡ calls.with_base_behind name
             (base_of K.kept database) (cluster_of K.kept self.old)) }
     {
-        match self.databases.push(Named { name, database }) {
-            Ok(()) => Ok(()),
-            Err(_) => Err(NoMemory),
-        }
+        add_database(&mut self.databases, Named { name, database })?;
+        Ok(())
     }
 
     /// Makes a database of this name over its store, which begins empty, and replies. Where the store fails, the

@@ -143,6 +143,7 @@ becoming_stands {p} {b} at n name new none fresh s =
       opened = λ key. opens_same p q (find_named key p.opens) (get b.memory.opens key) (refl, refl, refl)
           (runs.1.opened key);
       locked = runs.1.locked;
+      begun = runs.1.begun;
       known = s.known;
       unpromised = runs.1.unpromised;
     } in

@@ -165,6 +165,7 @@ runs_done {p} {m} d members sound known runs = record {
   numbers = runs.numbers;
   opened = λ name. opens_done d name (get m.opens name) sound (find_named name p.opens) refl (runs.opened name);
   locked = runs.locked;
+  begun = runs.begun;
   known = subst (λ own. IsKnown own m.identity members) (sym (after_is d)) known;
   unpromised = runs.unpromised;
 }

@@ -103,6 +103,7 @@ runs_emitted {p} {m} a members runs learned learns = record {
   opened = λ name. opens_same p (committing (commit_in a) p) (find_named name p.opens) (get m.opens name)
       (refl, refl, fillings_stay a) (runs.opened name);
   locked = runs.locked;
+  begun = runs.begun;
   known = subst (λ own. IsKnown own m.identity members) (sym (after_is a)) (record {
     identity_is = runs.known.identity_is ∙ ap identity_of a.is ∙ sym (identity_behind p a.node a.parts);
     members_are = λ name. learned.members name

@@ -16,6 +16,7 @@ pub mod Outcomes
 pub mod Pairs
 pub mod Several
 pub mod Sifting
+pub mod Skipping
 pub mod Synced
 pub mod Tables
 pub mod Taking

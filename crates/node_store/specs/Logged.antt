@@ -1,9 +1,15 @@
 -- What is read of the log of a node.
-use Rattle.std.specs.Prelude.{◌≡◌, Bool, List, [], ◌∷◌, ◌++◌, filter, map}
+use Rattle.std.specs.Prelude.{◌≡◌, ◌<◌, ℕ, Bool, List, [], ◌∷◌, ◌++◌, filter, map}
+use Rattle.std.specs.List.{AllByRecursion}
 use Rattle.slon_model.specs.Deeds.{Logged}
 use Rattle.node_state.specs.Held.{action_as}
 use Rattle.node_change.specs.Done.{row_of}
 use Rattle.node_store.specs.declared.logged.LoggedRows.{LoggedRows}
+
+-- What was logged of the origin below this number is of transactions below this id.
+abbrev pub HaveEnded : ℕ → ℕ → ℕ → List Logged → Type 0
+HaveEnded origin first xmin logs =
+    AllByRecursion (λ l. l.origin ≡ origin → l.action.number < first → l.action.xid < xmin) logs
 
 -- The rows and the actions became these by what was logged as this, if it passes the test.
 pub record IsAdded (test : Logged → Bool) (l : Logged) (old new : LoggedRows) : Type 0 where

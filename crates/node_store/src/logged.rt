@@ -1,5 +1,6 @@
 // What another node reads of the log of a node.
-ghost use Rattle.std.specs.Prelude.{◌≡◌, ◌<◌, ◌==◌, ◌&&◌, ◌++◌, ◌∷◌, [], List, Some, false, true, IfErr, IfOk, OnOk, map};
+ghost use Rattle.std.specs.Prelude.{◌≡◌, ◌<◌, ◌^◌, ◌==◌, ◌&&◌, ◌++◌, ◌∷◌, [], List, Some, false, true, IfErr, IfOk, OnOk};
+ghost use Rattle.std.specs.Prelude.{map};
 ghost use Rattle.std.specs.List.{AllByRecursion, list_any};
 ghost use Rattle.std.specs.Str.{bytes_eq};
 ghost use Rattle.slon_base.specs.Keeper.{Store, sight};
@@ -9,23 +10,25 @@ ghost use Rattle.slon_model.specs.Deeds.{Logged as SeenLogged, Node};
 ghost use Rattle.slon_model.specs.Following.{delta, is_on_one};
 ghost use Rattle.slon_model.specs.Logs.{logged};
 ghost use Rattle.slon_model.specs.Maps.{ids};
-ghost use Rattle.slon_laws.specs.Spelled.{AreWritten, IsWritten};
+ghost use Rattle.slon_model.specs.Place.{Place};
+ghost use Rattle.slon_laws.specs.Spelled.{AreWritten, IsWritten, logs_in};
 ghost use Rattle.txn_core.specs.Snapshots.{seen_as};
 ghost use Rattle.log_switch.specs.Between.{CanBeLogged};
 ghost use Rattle.log_switch.specs.Holds.{HoldsLog};
 ghost use Rattle.node_state.specs.Held.{items_of};
 ghost use Rattle.node_change.specs.Done.{row_of};
 ghost use Rattle.app_store.specs.Base.{base_of};
+ghost use Rattle.app_store.specs.Fits.{Ready};
 ghost use Rattle.app_store.specs.Parts.{Looks, Remembers};
 ghost use Rattle.app_store.specs.Serves.{halts};
 ghost use Rattle.node_store.specs.Acting.{Acts};
 ghost use Rattle.node_store.specs.Bringing.{CanLogAll, HasLogged};
-ghost use Rattle.node_store.specs.Logged.{ArePassed, IsAdded};
+ghost use Rattle.node_store.specs.Logged.{ArePassed, HaveEnded, IsAdded};
 
 use crate::layout::LOG;
 use app_store::{Database, DbFault, fall};
 use change_capture::{Action, LogRow, action_of};
-use log_switch::between;
+use log_switch::between_from;
 use node_keeper::Keeper;
 use slon_base::{Many, Text};
 use std::alloc::{AllocError, Global};
@@ -119,32 +122,49 @@ fn rows_on(
     Ok(found)
 }
 
-/// What a store has in its log of the actions of an origin on these tables, between two snapshots.
+/// The number of the action from which on what the node logged of the origin is to be read for a snapshot with this
+/// `xmin`. Of its own actions the node knows where transactions began.
+fn first_of<K: Keeper>(database: &Database<K>, origin: u32, xmin: u64) -> u64
+    requires up { database.now.state.up ≡ true }
+    ensures small { result < 2 ^ 63 }
+    ensures ended { (p : Place) → Ready p (base_of K.kept database.now) → HaveEnded origin result xmin (logs_in p.node) }
+{
+    match database.node_id() {
+        Some(own) if own == origin => database.first_number(xmin),
+        _ => 0,
+    }
+}
+
+/// What a store has in its log of the actions of an origin on these tables, between two snapshots, where the old one
+/// sees what was logged of the actions below the number `first`.
 fn find_logged<K: Keeper>(
     alloc: Global,
     keeper: &mut K,
     origin: u32,
+    first: u64,
     tables: &[(u32, Text)],
     old: &Snapshot,
     new: &Snapshot,
 ) -> Result<LoggedRows, Stop>
     requires origin { IsId origin }
+    requires small { first < 2 ^ 63 }
     ensures safe { Safe (K.kept keeper.old) (K.kept keeper.new) result }
     ensures same { OnOk result ((K.kept keeper.new).pending ≡ (K.kept keeper.old).pending) }
     ensures within { IfErr result IsWithinLimit }
     ensures can { IfOk result (λ found. CanLogAll found.rows found.actions) }
     ensures says { (m : Store) (logs : List SeenLogged) → sight (K.kept keeper.old) ≡ Some m →
-        HoldsLog (items_of logs) m → AreWritten logs →
+        HoldsLog (items_of logs) m → AreWritten logs → HaveEnded origin first (seen_as old.now).xmin logs →
         Gives (λ found. HasLogged origin (delta origin tables.now (seen_as old.now) (seen_as new.now) logs) found.rows
         found.actions) result }
 {
     let wanted = ids_of(alloc, tables)?;
-    let rows = between(alloc, keeper, origin, wanted.as_slice(), old, new)?;
+    let rows = between_from(alloc, keeper, origin, first, wanted.as_slice(), old, new)?;
     rows_on(alloc, tables, rows)
 }
 
 /// What the node has logged of the actions of an origin on these tables, each of which has this id and this name: those
-/// whose transactions the new snapshot sees and the old one does not.
+/// whose transactions the new snapshot sees and the old one does not. Of its own actions it reads those from where the
+/// first transaction began that the old snapshot may not see; of others it reads all.
 ///
 /// # Errors
 ///
@@ -165,10 +185,12 @@ pub fn read_log<K: Keeper>(
         found.actions) (base_of K.kept database.old) result (base_of K.kept database.new) }
     ensures same { Remembers (base_of K.kept database.old) result (base_of K.kept database.new) }
 {
+    let first = first_of(database, origin, old.xmin);
     match find_logged(
         database.alloc,
         &mut database.keeper,
         origin,
+        first,
         tables,
         old,
         new,

@@ -69,7 +69,7 @@ invariant_of-self-in-Ok-take-2 g c = (
             }) ≡ true) (sym c.in_ok-copy-in-Ok-take.ensures)
             (action_captured c.args.table.now c.draw-number.result c.args.addition.change c.requires.named
             c.draw-number.ensures.small c.requires.formed)),
-        tt,
+        (c.raise.new.self.state.marked, tt),
       ),
     ),
   ),

@@ -1,8 +1,7 @@
-use Rattle.std.proofs.Common.{◌∙◌, []}
+use Rattle.std.proofs.Common.{◌∙◌}
 use Rattle.std.proofs.Common.{Ok, Err, is_some, refl, sym, ap}
-use Rattle.std.proofs.lemmas.Bool.{false≢true}
-use Rattle.std.specs.FinMap.{get, insert, empty}
-use Rattle.app_store.specs.Base.{base_of, memory_of}
+use Rattle.std.specs.FinMap.{get}
+use Rattle.app_store.specs.Base.{base_of, memory_of, with_opened}
 use Rattle.slon_model.specs.Tasks.{ToOpen}
 use Rattle.app_store.proofs.Upright.{up_at}
 use Rattle.app_store.proofs.Transacting.{begins_on, begin_stopped, name_used, none_at}
@@ -31,17 +30,13 @@ returns-in_ok-open-in-Ok-clause-serves g c =
     (record {
       up = c.in-Ok.ensures.up;
       drawn = c.draw-xid.ensures.value;
-      new_is = λ i. record (base_of g.K.Keeper.kept c.raise.new.self) {
-        memory = record (memory_of c.raise.new.self.state) {
-          xids = record { next = c.draw-xid.ensures.next i; ceiling = c.draw-xid.ensures.ceiling i };
-          opens =
-              (c.in_ok-open-in-Ok.ensures.opened
-              ∙ ap
-              (λ k. insert c.raise.new.self.state.opens k
-              (record { xid = c.draw-xid.result; actions = []; writes = empty }))
-              c.as_slice-in-Ok.ensures.value) i;
-        };
-      };
+      new_is =
+          ap (λ m. record (base_of g.K.Keeper.kept c.raise.new.self) { memory = m })
+          (c.in_ok-open-in-Ok.ensures
+          ∙ (λ i. with_opened (c.as_slice-in-Ok.ensures.value i) c.draw-xid.result
+          (record (memory_of c.raise.new.self.state) {
+            xids = record { next = c.draw-xid.ensures.next i; ceiling = c.draw-xid.ensures.ceiling i };
+          })));
     }))
 
 pub returns-in-Err-clause-serves : goal.returns-in-Err-clause-serves
@@ -52,15 +47,3 @@ returns-in-Err-clause-serves g c =
     begin_stopped c.args.name.now _ c.in-Err.fault (up_at ready c.if-not-self.false)
     (none_at _ (ap (λ k. is_some (get c.args.self.now.state.opens k)) (sym c.as_slice.ensures.value)
     ∙ sym c.contains_key.ensures ∙ c.if-contains_key.false)) (c.in-Err.ensures.raises p ready memory))
-
-pub invariant_of-self-in-Ok : goal.invariant_of-self-in-Ok
-invariant_of-self-in-Ok g c = (
-  (
-    c.raise.new.self.state.small,
-    (
-      λ down. absurd (false≢true (sym down ∙ c.in-Ok.ensures.up)),
-      (c.open.ensures.kept c.raise.new.self.state.written, tt),
-    ),
-  ),
-  (c.raise.new.self.idle, tt),
-)

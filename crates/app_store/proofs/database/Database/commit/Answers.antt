@@ -140,6 +140,9 @@ invariant_of-self g c = (
   c.args.self.now.state.small,
   (
     λ down. absurd (false≢true (sym down ∙ c.if-not-self.false)),
-    (subst AreWritten (sym c.remove.ensures.map) (less_written _ _ c.args.self.now.state.written), tt),
+    (
+      subst AreWritten (sym c.remove.ensures.map) (less_written _ _ c.args.self.now.state.written),
+      (c.args.self.now.state.marked, tt),
+    ),
   ),
 )
