@@ -1,0 +1,545 @@
+-- A node applies an event of the stream of a net: the node of the net does too.
+use Rattle.std.proofs.Common.{◌≡◌, ◌⊎◌, inl, inr, ℕ, suc, ◌<◌, ◌≤◌, Bool, true, false, cond, List, [], ◌∷◌}
+use Rattle.std.proofs.Common.{length, Option, Some, None, refl, sym, ap, subst, ◌∙◌, arith, unwrap_or}
+use Rattle.std.specs.Prelude.{◌+◌, ◌==◌, max, option_map}
+use Rattle.std.specs.Str.{bytes_eq}
+use Rattle.std.proofs.lemmas.Bool.{eqb-true, eq-eqb, true≢false, le-ltb, lt-ltb, cases_lt}
+use Rattle.node_rows.specs.declared.rows.Subscription.{Subscription}
+use Rattle.node_rows.specs.declared.body.Body.{Body}
+use Rattle.node_rows.specs.declared.body.Body.TheVariants.{Sync, SubscribeSet, EnableSubscription}
+use Rattle.net_laws.specs.Updates.{set_at}
+use Rattle.net_laws.specs.Subscriptions.{Event as Said, Subscribe, Enable, Unrelated, Subscription as Row}
+use Rattle.net_laws.specs.Subscriptions.{row, up_to}
+use Rattle.net_laws.specs.Net.{Applies as AppliesStep, Copies as CopiesTurn, Here, IsIn, IsNext, IsQuiet, Logs, More}
+use Rattle.net_laws.specs.Net.{Net}
+use Rattle.net_laws.specs.Net.{Node as NetNode, Passes, Syncs as SyncsTurn, Turn, configured, copied, heard, passed}
+use Rattle.net_laws.specs.Net.{stretch}
+use Rattle.net_laws.specs.Net.{synced}
+use Rattle.net_laws.proofs.Laws.{view_has_row}
+use Rattle.net_laws.proofs.Prefixes.{length_up_to, moment_up_to, up_to_new, up_to_old}
+use Rattle.net_laws.proofs.Updates.{set_here, set_other}
+use Rattle.slon_model.specs.Names.{find_named}
+use Rattle.slon_model.specs.Maps.{number_at, with_entry}
+use Rattle.slon_model.specs.Snapshots.{Snapshot, covers}
+use Rattle.slon_model.specs.Events.{Event, is_sync}
+use Rattle.slon_model.specs.Config.{forwards}
+use Rattle.slon_model.specs.Deeds.{Logged, Node, knowledge, progress, stream, view_of}
+use Rattle.slon_model.specs.Logs.{logged}
+use Rattle.slon_model.specs.Place.{taken}
+use Rattle.slon_model.specs.Sessions.{Seat}
+use Rattle.slon_model.specs.Views.{View, first_view, later_of, view_after}
+use Rattle.slon_model.specs.Working.{Copying, ToCopy, errand_in, receives_from}
+use Rattle.slon_model.proofs.Names.{bytes_itself, one_found}
+use Rattle.stream_laws.specs.Nodes.{IsAmong, nodes_in}
+use Rattle.stream_laws.proofs.Copies.{IsCopy, IsFollowed}
+use Rattle.stream_laws.proofs.Lists.{all_among, number_here}
+use Rattle.stream_laws.proofs.Seats.{seat_node}
+use Rattle.stream_laws.proofs.Streams.{Found, among_found, one_node}
+use Rattle.image_laws.specs.Moments.{IsOrder, IsTaken, count_of, is_ended}
+use Rattle.image_laws.proofs.Logging.{among_left, among_right}
+use Rattle.image_laws.proofs.Orders.{order_in, order_is}
+use Rattle.image_laws.proofs.Ticking.{counts_tell}
+use Rattle.follow_laws.specs.Past.{Past}
+use Rattle.follow_laws.proofs.Moments.{covers_passes, passes_covers, regular_now, sound_now}
+use Rattle.follow_laws.proofs.Unfed.{may_emitted}
+use Rattle.net_relation.specs.Reading.{moment_of, read, said, said_by, unfed}
+use Rattle.net_relation.specs.Matching.{IsEntry, IsKept, IsWhole, MatchesNode}
+use Rattle.net_relation.proofs.Beside.{Before, Work, copy_origin, leader_at, worker, worker_at, worker_before}
+use Rattle.net_relation.proofs.Entries.{Forwarding, entry_logged}
+use Rattle.net_relation.proofs.Leading.{copy_comes}
+use Rattle.net_relation.proofs.Moments.{taken_now}
+use Rattle.net_relation.proofs.Nets.{said_next}
+use Rattle.net_relation.proofs.Relating.{AreFirst, FitsNode, IsFirstOf, NodeLater, frame, netted_sound, node_behind}
+use Rattle.net_relation.proofs.Rows.{row_changed}
+use Rattle.net_relation.proofs.Views.{Copied, Followed, Keeps, ViewTaken, behind, view_taken}
+
+-- ---- the later one of two snapshots
+
+pub later_max : (order : ℕ → Option ℕ) (now : ℕ) → IsOrder order now → (a b : Snapshot) → IsTaken order now a →
+    IsTaken order now b → count_of (later_of a b) ≡ max (count_of a) (count_of b)
+later_max order now is a b one two = by (covers a b) refl
+  where
+    by : (c : Bool) → covers a b ≡ c → count_of (cond c a b) ≡ max (count_of a) (count_of b)
+    by true passes =
+        let less = (counts_tell order now is a b one two).0 (passes_covers a b passes) in omega (arith, less)
+    by false fails = elim (cases_lt (count_of a) (count_of b)) [
+      | inl less ↦ omega (arith, less)
+      | inr most ↦
+          absurd (true≢false (sym (covers_passes a b ((counts_tell order now is a b one two).1 most)) ∙ fails))
+    ]
+
+later_taken : (order : ℕ → Option ℕ) (now : ℕ) (a b : Snapshot) → IsTaken order now a → IsTaken order now b →
+    IsTaken order now (later_of a b)
+later_taken order now a b one two = by (covers a b)
+  where
+    by : (c : Bool) → IsTaken order now (cond c a b)
+    by true = one
+    by false = two
+
+-- ---- the next event
+
+-- The event is one of the stream of the net.
+pub record Coming (set : ℕ) (t : Past) : Type 0 where
+  pub work : Work set t
+  pub own : work.carried.event.origin ≡ work.leader.id
+
+abbrev node_of : {set : ℕ} {t : Past} → Coming set t → NetNode
+node_of c = c.work.netted.net.nodes (worker c.work).id
+
+abbrev event_of : {set : ℕ} {t : Past} → Coming set t → Event
+event_of c = c.work.carried.event
+
+-- what the node has heard so far
+abbrev heard_of : {set : ℕ} {t : Past} → Coming set t → List Said
+heard_of {set} c = up_to (node_of c).progress (read set (stream c.work.leader))
+
+event_among : (set : ℕ) (t : Past) (c : Coming set t) → IsAmong (event_of c) (stream c.work.leader)
+event_among set t c =
+    subst (λ (n : Node). IsAmong (event_of c) (stream n))
+    (one_node (nodes_in t.world.places) (regular_now t).nodes c.work.is.work.event.name c.work.name
+    c.work.is.work.event.node c.work.leader c.work.is.work.event.is
+    (leader_at c.work, c.work.is.work.event.own ∙ c.own)) c.work.is.work.event.among
+
+reached_is : (set : ℕ) (t : Past) (c : Coming set t) → (event_of c).number ≡ suc (node_of c).progress
+reached_is set t c =
+    let next = c.work.is.work.next in
+    let reached = (worker_before c.work).reached in
+    let same = ap (λ i. progress i (knowledge (worker c.work))) c.own in
+    omega (arith, next, reached, same)
+
+record IsAt (set : ℕ) (t : Past) (c : Coming set t) : Type 0 where
+  more : (node_of c).progress < length (read set (stream c.work.leader))
+  next : up_to ((node_of c).progress + 1) (read set (stream c.work.leader)) ≡ said set (event_of c) ∷ heard_of c
+
+is_at : (set : ℕ) (t : Past) (c : Coming set t) → IsAt set t c
+is_at set t c =
+    let found : Found c.work.leader.id (stream c.work.leader) (event_of c) =
+    among_found c.work.leader.id (stream c.work.leader) (event_of c)
+    ((regular_now t).nodes.each c.work.name c.work.leader (leader_at c.work)).emitted (event_among set t c) in
+    let far = found.are.1 in
+    let at = reached_is set t c in
+    let here = said_next set found.later (event_of c) found.earlier (node_of c).progress (omega (arith, far, at)) in
+    record {
+      more = subst (λ es. (node_of c).progress < length (read set es)) (sym found.all) here.0;
+      next = subst (λ es. up_to ((node_of c).progress + 1) (read set es)
+          ≡ said set (event_of c) ∷ up_to (node_of c).progress (read set es)) (sym found.all) here.1;
+    }
+
+comes : (set : ℕ) (t : Past) (c : Coming set t) → IsNext c.work.netted.net (worker c.work).id (said set (event_of c))
+comes set t c = record {
+  more = subst (λ z. (node_of c).progress < length z) (sym c.work.netted.origin.stream) (is_at set t c).more;
+  next = subst (λ z. up_to ((node_of c).progress + 1) z ≡ said set (event_of c) ∷ up_to (node_of c).progress z)
+      (sym c.work.netted.origin.stream) (is_at set t c).next;
+}
+
+-- the subscription of the node by what it heard
+configured_is : (set : ℕ) (t : Past) (c : Coming set t) (r : ℕ) →
+    configured c.work.netted.net (worker c.work).id r ≡ row unfed r (heard_of c)
+configured_is set t c r =
+    ap (λ s. row s r (heard c.work.netted.net (worker c.work).id)) c.work.netted.origin.start
+    ∙ ap (λ z. row unfed r (up_to (node_of c).progress z)) c.work.netted.origin.stream
+
+-- ---- what the node becomes
+
+-- The node of the net behind its turn: one event further, with what the node makes of the view, the base and the log.
+record Turned (set : ℕ) (t : Past) (c : Coming set t) : Type 0 where
+  node : NetNode
+  turn : Turn c.work.netted.net (worker c.work).id (said set (event_of c)) node
+  far : node.progress ≡ (node_of c).progress + 1
+  view : node.view ≡ moment_of c.work.leader.id (view_of set (knowledge (behind c.work.carried)))
+  kept : (v : View) → view_of set (knowledge (behind c.work.carried)) ≡ Some v → v.origin ≡ c.work.leader.id →
+      IsKept (order_in c.work.ended) (length c.work.ended) v node
+  logs : (l : Logged) (moment : ℕ) →
+      IsEntry set (order_in c.work.ended) c.work.leader l moment → Logs node.log moment →
+      IsAmong l (logged (behind c.work.carried))
+  whole : IsWhole node
+
+turned_matches : (set : ℕ) (t : Past) (c : Coming set t) (k : Turned set t c) →
+    MatchesNode set (order_in c.work.ended) (length c.work.ended) c.work.leader (behind c.work.carried) k.node
+turned_matches set t c k = record {
+  reached =
+      k.far
+      ∙ (let at = reached_is set t c in
+      let there : number_at c.work.leader.id (with_entry e.origin e.number (knowledge o).progress) ≡ e.number =
+      subst (λ i. number_at i (with_entry e.origin e.number (knowledge o).progress) ≡ e.number) c.own
+      (number_here e.origin e.number (knowledge o).progress) in
+      omega (arith, at, there));
+  view = k.view;
+  kept = k.kept;
+  row = λ u has.
+      row_changed set o.id (heard_of c) e (knowledge o).config
+      (may_emitted e.origin e.body (knowledge o).config c.work.is.work.may) number (worker_before c.work).row u
+      (sym (ap (λ i. row unfed o.id (up_to i (read set (stream c.work.leader)))) k.far
+      ∙ ap (row unfed o.id) (is_at set t c).next) ∙ has);
+  logs = k.logs;
+  whole = k.whole;
+}
+  where
+    o : Node
+    o = worker c.work
+
+    e : Event
+    e = event_of c
+
+    number : e.number ≡ length (heard_of c) + 1
+    number =
+        let at = reached_is set t c in
+        let far = length_up_to (node_of c).progress (read set (stream c.work.leader))
+        (node_behind c.work.netted o.id) in
+        omega (arith, at, far)
+
+turned_later : (set : ℕ) (t : Past) (c : Coming set t) → Turned set t c →
+    NodeLater c.work.netted c.work.carried.seat.name (behind c.work.carried)
+turned_later set t c k = record {
+  nodes = set_at o.id k.node n.nodes;
+  leads = More Here (AppliesStep o.id (record {
+    event = said set (event_of c);
+    node = k.node;
+    comes = comes set t c;
+    turn = k.turn;
+  }) refl);
+  rest = λ name m is other. set_other o.id k.node n.nodes m.id (λ same. apart name m is other same);
+  others = λ id other. set_other o.id k.node n.nodes id other;
+  is = λ apart. subst (FitsNode (frame set c.work.ended c.work.leader) (behind c.work.carried))
+      (sym (set_here o.id k.node n.nodes o.id refl)) (turned_matches set t c k);
+}
+  where
+    o : Node
+    o = worker c.work
+
+    n : Net
+    n = c.work.netted.net
+
+    apart : (name : List ℕ) (m : Node) → nodes_in t.world.places name ≡ Some m →
+        bytes_eq name c.work.carried.seat.name ≡ false → m.id ≡ o.id → ⊥
+    apart name m is other same =
+        let one = (regular_now t).nodes.apart name c.work.carried.seat.name m o is (worker_at c.work) same in
+        true≢false (sym (ap (bytes_eq name) (sym one) ∙ bytes_itself name) ∙ other)
+
+-- ---- a SYNC that is followed
+
+moment_own : (origin : ℕ) (v : View) → v.origin ≡ origin → moment_of origin (Some v) ≡ Some (count_of v.seen)
+moment_own origin v own = ap (λ b. cond b (Some (count_of v.seen)) None) (eq-eqb v.origin origin own)
+
+-- A SYNC of the origin of the set, and the view that the node keeps.
+record Syncing (set : ℕ) (t : Past) (c : Coming set t) : Type 0 where
+  follows : IsFollowed t.world c.work.carried.seat (event_of c) c.work.carried.brought
+  view : View
+  found : view_of set (knowledge (worker c.work)) ≡ Some view
+  own : view.origin ≡ (event_of c).origin
+  now : view_of set (knowledge (behind c.work.carried)) ≡ Some (view_after (event_of c) view)
+
+sync_taken : (set : ℕ) (t : Past) (c : Coming set t) →
+    IsTaken (order_in c.work.ended) (length c.work.ended) (event_of c).taken
+sync_taken set t c =
+    all_among (λ e. IsTaken (order_in c.work.ended) (length c.work.ended) e.taken) (event_of c) (stream c.work.leader)
+    c.work.netted.events (event_among set t c)
+
+-- what is new in the log of the origin between the two snapshots is logged
+sync_logs : {set : ℕ} {t : Past} (c : Coming set t) (s : Syncing set t c) →
+    forwards set (worker c.work).id (knowledge (worker c.work)).config ≡ true →
+    (l : Logged) (moment : ℕ) →
+    IsEntry set (order_in c.work.ended) c.work.leader l moment →
+    IsIn moment (stretch (count_of s.view.seen) (count_of (event_of c).taken)) →
+    IsAmong l (logged (behind c.work.carried))
+sync_logs {set} {t} c s forward l moment e inside =
+    among_left l c.work.carried.brought.logs (logged (worker c.work))
+    (entry_logged t c.work.carried set f l (record {
+      among = subst (λ (n : Node). IsAmong l (logged n)) (sym one) e.among;
+      of = e.of;
+      seen = (sync_taken set t c).sees l.action.xid
+          ∙ ap (λ o. is_ended o (count_of (event_of c).taken)) e.ended
+          ∙ lt-ltb moment (count_of (event_of c).taken) inside.to;
+      unseen = kept.seen.sees l.action.xid ∙ ap (λ o. is_ended o (count_of s.view.seen)) e.ended
+          ∙ le-ltb moment (count_of s.view.seen) inside.from;
+    }))
+  where
+    f : Forwarding t c.work.carried set
+    f = record {
+      origin = c.work.origin;
+      is = c.work.is;
+      follows = s.follows;
+      view = s.view;
+      found = s.found;
+      own = s.own;
+      forwards = forward;
+    }
+
+    kept : IsKept (order_in c.work.ended) (length c.work.ended) s.view (node_of c)
+    kept = (worker_before c.work).kept s.view s.found (s.own ∙ c.own)
+
+    one : s.follows.provider.node ≡ c.work.leader
+    one = one_node (nodes_in t.world.places) (regular_now t).nodes s.follows.provider.name c.work.name
+        s.follows.provider.node c.work.leader (seat_node t.world.places s.follows.provider s.follows.seat)
+        (leader_at c.work, s.follows.own ∙ c.own)
+
+sync_turned : (set : ℕ) (t : Past) (c : Coming set t) → Syncing set t c → Turned set t c
+sync_turned set t c s = record {
+  node = synced m v u.0.forward (node_of c);
+  turn = SyncsTurn m v u.0 (ap (said_by set (event_of c).taken) s.follows.body) viewed u.1.0 refl;
+  far = refl;
+  view = sym (ap (moment_of c.work.leader.id) s.now
+      ∙ moment_own c.work.leader.id (view_after (event_of c) s.view) (s.own ∙ c.own)
+      ∙ ap Some (later_max (order_in c.work.ended) (length c.work.ended) order s.view.seen (event_of c).taken kept.seen
+      (sync_taken set t c)));
+  kept = λ w found own.
+      subst (λ (w : View). IsKept (order_in c.work.ended) (length c.work.ended) w (synced m v u.0.forward (node_of c)))
+      (one_found (view_after (event_of c) s.view) w (sym s.now ∙ found)) (record {
+        base = kept.base;
+        seen = later_taken (order_in c.work.ended) (length c.work.ended) s.view.seen (event_of c).taken kept.seen
+            (sync_taken set t c);
+        began = kept.began;
+      });
+  logs = λ l moment e. by u.0.forward refl l moment e;
+  whole = record { keeps = old.whole.keeps; bars = old.whole.bars; has = old.whole.has };
+}
+  where
+    old : Before c.work
+    old = worker_before c.work
+
+    kept : IsKept (order_in c.work.ended) (length c.work.ended) s.view (node_of c)
+    kept = old.kept s.view s.found (s.own ∙ c.own)
+
+    order : IsOrder (order_in c.work.ended) (length c.work.ended)
+    order = order_is c.work.ended c.work.clock.apart
+
+    m : ℕ
+    m = count_of (event_of c).taken
+
+    v : ℕ
+    v = count_of s.view.seen
+
+    viewed : (node_of c).view ≡ Some v
+    viewed = old.view ∙ ap (moment_of c.work.leader.id) s.found ∙ moment_own c.work.leader.id s.view (s.own ∙ c.own)
+
+    u : (u : Row) × ((configured c.work.netted.net (worker c.work).id (worker c.work).id ≡ Some u) × (u.ready ≡ true))
+    u = view_has_row c.work.netted.net (netted_sound c.work.netted) (worker c.work).id v viewed
+
+    forward : u.0.forward ≡ true → forwards set (worker c.work).id (knowledge (worker c.work)).config ≡ true
+    forward is =
+        ap (λ o. unwrap_or (option_map (λ (s : Subscription). s.forward) o) false)
+        (old.row u.0 (sym (configured_is set t c (worker c.work).id) ∙ u.1.0)) ∙ is
+
+    before : (l : Logged) (moment : ℕ) →
+        IsEntry set (order_in c.work.ended) c.work.leader l moment → Logs (node_of c).log moment →
+        IsAmong l (logged (behind c.work.carried))
+    before l moment e logs =
+        among_right l c.work.carried.brought.logs (logged (worker c.work)) (old.logs l moment e logs)
+
+    by : (b : Bool) → u.0.forward ≡ b → (l : Logged) (moment : ℕ) →
+        IsEntry set (order_in c.work.ended) c.work.leader l moment →
+        Logs (cond b (stretch v m ∷ (node_of c).log) (node_of c).log) moment →
+        IsAmong l (logged (behind c.work.carried))
+    by true is l moment e (inl inside) = sync_logs c s (forward is) l moment e inside
+    by true is l moment e (inr logs) = before l moment e logs
+    by false is l moment e logs = before l moment e logs
+
+-- ---- a copy
+
+asked_body : (own : ℕ) (receives : Bool) (origin : ℕ) (body : Body) (k : Copying) →
+    errand_in own receives origin body ≡ Some (ToCopy k) →
+    (provider : ℕ) × (forward : Bool) × (era : ℕ) × (body ≡ EnableSubscription k.set_id provider own forward era)
+asked_body own receives origin (EnableSubscription id provider receiver forward era) k asked =
+    by (receiver == own) refl asked
+  where
+    first : Copying
+    first = record { set_id = id; provider = provider; era = era }
+
+    by : (b : Bool) → (receiver == own) ≡ b → cond b (Some (ToCopy first)) None ≡ Some (ToCopy k) →
+        (p : ℕ) × (f : Bool) × (e : ℕ)
+        × (EnableSubscription id provider receiver forward era ≡ EnableSubscription k.set_id p own f e)
+    by true same is =
+        let one : first ≡ k = cc in (
+          provider,
+          forward,
+          era,
+          ap (λ i. EnableSubscription i provider receiver forward era) (ap (λ (j : Copying). j.set_id) one)
+              ∙ ap (λ r. EnableSubscription k.set_id provider r forward era) (eqb-true receiver own same),
+        )
+    by false other is = absurd cc
+asked_body own true origin Sync k asked = absurd cc
+asked_body own false origin Sync k asked = absurd cc
+asked_body own receives origin others k asked = absurd cc
+
+-- The set is copied.
+record CopyMade (set : ℕ) (t : Past) (c : Coming set t) : Type 0 where
+  copy : IsCopy t.world c.work.carried.seat (event_of c) c.work.carried.brought
+  same : copy.copying.set_id ≡ set
+  now : view_of set (knowledge (behind c.work.carried)) ≡ Some (first_view copy.copying.era copy.provider.node.id
+      (event_of c).number (taken copy.provider.place))
+
+copy_turned : (set : ℕ) (t : Past) (c : Coming set t) → CopyMade set t c → Turned set t c
+copy_turned set t c s = record {
+  node = copied n.now (node_of c);
+  turn = CopiesTurn n.now u.0 enables (configured_same ∙ u.1.0)
+      (let most = moment_up_to (node_of c).progress n.stream in
+      let bound = (netted_sound c.work.netted).bound in
+      omega (arith, most, bound))
+      (omega arith) refl;
+  far = refl;
+  view = sym (ap (moment_of c.work.leader.id) s.now ∙ moment_own c.work.leader.id first owner ∙ ap Some counted);
+  kept = λ v found own.
+      subst (λ (v : View). IsKept (order_in c.work.ended) (length c.work.ended) v (copied n.now (node_of c)))
+      (one_found first v (sym s.now ∙ found)) (record { base = sym counted; seen = snapshot; began = snapshot });
+  logs = λ l moment e logs.
+      among_right l c.work.carried.brought.logs (logged (worker c.work)) (old.logs l moment e logs);
+  whole = record { keeps = old.whole.keeps; bars = old.whole.bars; has = old.whole.has };
+}
+  where
+    old : Before c.work
+    old = worker_before c.work
+
+    n : Net
+    n = c.work.netted.net
+
+    o : Node
+    o = worker c.work
+
+    provider : Seat
+    provider = s.copy.provider
+
+    first : View
+    first = first_view s.copy.copying.era provider.node.id (event_of c).number (taken provider.place)
+
+    owner : provider.node.id ≡ c.work.leader.id
+    owner = copy_origin t c.work.carried c.work.origin c.work.is s.copy ∙ c.own
+
+    name : provider.name ≡ c.work.name
+    name = (regular_now t).nodes.apart provider.name c.work.name provider.node c.work.leader
+        (seat_node t.world.places provider s.copy.seat) (leader_at c.work) owner
+
+    place : provider.place ≡ c.work.place
+    place = one_found provider.place c.work.place
+        (sym s.copy.seat.found ∙ ap (λ k. find_named k t.world.places) name ∙ c.work.found)
+
+    counted : count_of (taken provider.place) ≡ n.now
+    counted = ap (λ p. count_of (taken p)) place ∙ sym c.work.netted.origin.now
+
+    snapshot : IsTaken (order_in c.work.ended) (length c.work.ended) (taken provider.place)
+    snapshot = subst (λ p. IsTaken (order_in c.work.ended) (length c.work.ended) (taken p)) (sym place)
+        (taken_now c.work.place c.work.ended (sound_now t c.work.name c.work.place c.work.found) c.work.clock)
+
+    enables : said set (event_of c) ≡ Enable o.id
+    enables =
+        let body = asked_body o.id (receives_from (event_of c).origin c.work.carried.seat.known) (event_of c).origin
+        (event_of c).body s.copy.copying s.copy.asked in
+        ap (said_by set (event_of c).taken) body.3
+        ∙ ap (λ b. cond b (Enable o.id) Unrelated) (eq-eqb s.copy.copying.set_id set s.same)
+
+    configured_same : configured n o.id o.id ≡ row n.start o.id (heard n o.id)
+    configured_same = refl
+
+    u : (u : Row) × ((row n.start o.id (heard n o.id) ≡ Some u) × (u.ready ≡ false))
+    u =
+        let next = comes set t c in
+        let more = next.more in
+        (netted_sound c.work.netted).expected ((node_of c).progress + 1) (omega (arith, more)) o.id (heard n o.id)
+        (next.next ∙ ap (λ e. e ∷ heard n o.id) enables)
+
+-- ---- any other event
+
+first_at : (k : ℕ) (e : Said) (before : List Said) (z : List Said) → AreFirst z → up_to k z ≡ e ∷ before →
+    IsFirstOf e before
+first_at k e before [] all is = absurd cc
+first_at k e before (f ∷ z) all is = by (cases_lt (length z) k) (first_at k e before z all.1)
+  where
+    by : (length z < k) ⊎ (k ≤ length z) → (up_to k z ≡ e ∷ before → IsFirstOf e before) → IsFirstOf e before
+    by (inl more) rest =
+        let same : f ∷ z ≡ e ∷ before = sym (up_to_new k f z more) ∙ is in
+        let head : f ≡ e = cc in
+        let tail : z ≡ before = cc in
+        subst (λ e. IsFirstOf e before) head (subst (IsFirstOf f) tail all.0)
+    by (inr less) rest = rest (sym (up_to_old k f z less) ∙ is)
+
+-- The view stays, as no SYNC was followed and no set was copied.
+record Passing (set : ℕ) (t : Past) (c : Coming set t) : Type 0 where
+  same : view_of set (knowledge (behind c.work.carried)) ≡ view_of set (knowledge (worker c.work))
+  sync : (v : View) → view_of set (knowledge (worker c.work)) ≡ Some v → is_sync (event_of c).body ≡ true →
+      (event_of c).origin ≡ v.origin → ⊥
+  copy : (k : IsCopy t.world c.work.carried.seat (event_of c) c.work.carried.brought) → k.copying.set_id ≡ set → ⊥
+
+pass_quiet : (set : ℕ) (t : Past) (c : Coming set t) → Passing set t c → (body : Body) → (event_of c).body ≡ body →
+    IsQuiet (worker c.work).id (node_of c).view (said_by set (event_of c).taken body)
+pass_quiet set t c s Sync is = (worker_before c.work).view ∙ by (view_of set (knowledge (worker c.work))) refl
+  where
+    at : (v : View) → view_of set (knowledge (worker c.work)) ≡ Some v → (b : Bool) →
+        (v.origin == c.work.leader.id) ≡ b → cond b (Some (count_of v.seen)) None ≡ None
+    at v found true own =
+        absurd (s.sync v found (ap is_sync is) (c.own ∙ sym (eqb-true v.origin c.work.leader.id own)))
+    at v found false other = refl
+
+    by : (o : Option View) → view_of set (knowledge (worker c.work)) ≡ o → moment_of c.work.leader.id o ≡ None
+    by None none = refl
+    by (Some v) found = at v found (v.origin == c.work.leader.id) refl
+pass_quiet set t c s (SubscribeSet id provider receiver forward) is = by (id == set) refl
+  where
+    n : Net
+    n = c.work.netted.net
+
+    o : Node
+    o = worker c.work
+
+    -- who keeps a view has subscribed before
+    viewed : row unfed receiver (heard_of c) ≡ None → receiver ≡ o.id → (k : Option ℕ) → (node_of c).view ≡ k →
+        k ≡ None
+    viewed none same None view = refl
+    viewed none same (Some v) view =
+        let u = view_has_row n (netted_sound c.work.netted) o.id v view in
+        let never : None ≡ Some u.0 =
+        sym none ∙ ap (λ i. row unfed i (heard_of c)) same ∙ sym (configured_is set t c o.id) ∙ u.1.0 in
+        absurd cc
+
+    by : (b : Bool) → (id == set) ≡ b →
+        IsQuiet o.id (node_of c).view (cond b (Subscribe receiver provider forward) Unrelated)
+    by true same = λ at.
+        viewed (subst (λ z. row unfed receiver z ≡ None) (ap (up_to (node_of c).progress) c.work.netted.origin.stream)
+        (first_at ((node_of c).progress + 1) (Subscribe receiver provider forward) (heard n o.id) n.stream
+        c.work.netted.once ((comes set t c).next ∙ ap (λ e. e ∷ heard n o.id)
+        (ap (said_by set (event_of c).taken) is
+        ∙ ap (λ b. cond b (Subscribe receiver provider forward) Unrelated) same)))) at (node_of c).view refl
+    by false other = tt
+pass_quiet set t c s (EnableSubscription id provider receiver forward era) is = by (id == set) refl
+  where
+    o : Node
+    o = worker c.work
+
+    by : (b : Bool) → (id == set) ≡ b → IsQuiet o.id (node_of c).view (cond b (Enable receiver) Unrelated)
+    by true same = λ at.
+        let comes = copy_comes t c.work.carried c.work.origin c.work.is set (record {
+          provider = provider;
+          forward = forward;
+          era = era;
+          body = is ∙ ap (λ i. EnableSubscription i provider receiver forward era) (eqb-true id set same)
+              ∙ ap (λ r. EnableSubscription set provider r forward era) at;
+        }) in
+        s.copy comes.0 comes.1
+    by false other = tt
+pass_quiet set t c s others is = tt
+
+pass_turned : (set : ℕ) (t : Past) (c : Coming set t) → Passing set t c → Turned set t c
+pass_turned set t c s = record {
+  node = passed (node_of c);
+  turn = Passes (inl (pass_quiet set t c s (event_of c).body refl)) refl;
+  far = refl;
+  view = old.view ∙ ap (moment_of c.work.leader.id) (sym s.same);
+  kept = λ v found own.
+      let k = old.kept v (sym s.same ∙ found) own in record { base = k.base; seen = k.seen; began = k.began };
+  logs = λ l moment e logs.
+      among_right l c.work.carried.brought.logs (logged (worker c.work)) (old.logs l moment e logs);
+  whole = record { keeps = old.whole.keeps; bars = old.whole.bars; has = old.whole.has };
+}
+  where
+    old : Before c.work
+    old = worker_before c.work
+
+-- ---- every event of the stream
+
+pub coming_later : (set : ℕ) (t : Past) (c : Coming set t) →
+    NodeLater c.work.netted c.work.carried.seat.name (behind c.work.carried)
+coming_later set t c = turned_later set t c (by (view_taken t c.work.carried c.work.origin c.work.is set))
+  where
+    by : ViewTaken t c.work.carried set → Turned set t c
+    by (Keeps same sync copy) = pass_turned set t c (record { same = same; sync = sync; copy = copy })
+    by (Copied k same now) = copy_turned set t c (record { copy = k; same = same; now = now })
+    by (Followed f v found own now) =
+        sync_turned set t c (record { follows = f; view = v; found = found; own = own; now = now })

@@ -1,0 +1,371 @@
+-- A node emits events: the net of each of its own sets goes on by them, and no other net does.
+use Rattle.std.proofs.Common.{◌≡◌, ◌≢◌, inl, ℕ, Bool, true, false, cond, List, [], ◌∷◌, length, Option}
+use Rattle.std.proofs.Common.{Some, None, refl, sym, ap, subst, ◌∙◌, arith}
+use Rattle.std.specs.Prelude.{◌+◌, ◌==◌, max}
+use Rattle.std.proofs.lemmas.Bool.{eqb-true, eq-eqb, false≢true}
+use Rattle.std.proofs.lemmas.List.{length-map}
+use Rattle.node_rows.specs.declared.body.Body.{Body}
+use Rattle.node_rows.specs.declared.body.Body.TheVariants.{Sync, SubscribeSet, EnableSubscription}
+use Rattle.net_laws.specs.Subscriptions.{Event as Said, Sync as Syncs, Subscribe, Enable, Unrelated}
+use Rattle.net_laws.specs.Subscriptions.{Subscription as Row, is_over, last_moment}
+use Rattle.net_laws.specs.Subscriptions.{row, subscribed}
+use Rattle.net_laws.specs.Net.{Emits as EmitsStep, Here, MayEmit, More, Net, Node as NetNode, emitted, owned}
+use Rattle.slon_model.specs.Maps.{entry_at, pair_at}
+use Rattle.slon_model.specs.Events.{Event}
+use Rattle.slon_model.specs.Snapshots.{Snapshot}
+use Rattle.slon_model.specs.Config.{era_of}
+use Rattle.slon_model.specs.Deeds.{Emits, Knowledge, Node, knowledge, progress, stream, with_deeds}
+use Rattle.slon_model.specs.Place.{Place, deed, taken}
+use Rattle.slon_model.specs.Reaching.{commit_of}
+use Rattle.slon_model.specs.Sessions.{Emission, Seat, next_event, tells}
+use Rattle.slon_model.specs.Subscribing.{NewFeed}
+use Rattle.slon_laws.specs.Sound.{Sound}
+use Rattle.stream_laws.specs.Nodes.{Nodes}
+use Rattle.stream_laws.specs.Making.{is_emitted}
+use Rattle.stream_laws.proofs.Lists.{number_beside}
+use Rattle.stream_laws.proofs.Seats.{IsSeat, seat_node}
+use Rattle.image_laws.specs.Moments.{count_of}
+use Rattle.image_laws.proofs.Ticking.{ClockAt}
+use Rattle.follow_laws.specs.Past.{Past}
+use Rattle.follow_laws.proofs.Moments.{regular_now}
+use Rattle.follow_laws.proofs.Seen.{same_views}
+use Rattle.net_relation.specs.Reading.{moment_of, plain, read, said, said_by, unfed}
+use Rattle.net_relation.proofs.Feeding.{plain_emitted}
+use Rattle.net_relation.proofs.Links.{Alone, CanFeed, Feeds, MayTell, is_plain}
+use Rattle.net_relation.proofs.Moments.{taken_now}
+use Rattle.net_relation.proofs.Nets.{stays_on}
+use Rattle.net_relation.proofs.Relating.{FitsNode, Frame, IsFirstOf, Netted, netted_sound, origin_later}
+use Rattle.net_relation.proofs.Rows.{IsBeside, row_beside, row_changed}
+
+-- ---- one event
+
+-- The node of a database emits an event of this body, with this number.
+pub record Emitting (set : ℕ) (ended : List ℕ) (all : Nodes) (p : Place) (y : Node) : Type 0 where
+  pub netted : Netted set ended all p y
+  pub sound : Sound p
+  pub clock : ClockAt p ended
+  pub number : ℕ
+  pub is : number ≡ length (stream y) + 1
+
+-- the node behind it
+abbrev pub telling : Place → Node → ℕ → Emission → Node
+telling p y number m =
+    let event : Event = record { origin = y.id; number = number; taken = taken p; body = m.body } in
+    with_deeds (deed p m.rows [] (Emits event) ∷ []) y
+
+pub emit_one : {set : ℕ} {ended : List ℕ} {all : Nodes} {p : Place} {y : Node} (e : Emitting set ended all p y)
+    (m : Emission) → is_emitted m.body ≡ true → MayEmit e.netted.net (said_by set (taken p) m.body) →
+    IsFirstOf (said_by set (taken p) m.body) e.netted.net.stream →
+    Netted set ended all p (telling p y e.number m)
+emit_one {set} {ended} {all} {p} {y} e m is may first =
+    origin_later n [] p (telling p y e.number m) (record {
+      id = refl;
+      new = event ∷ [];
+      all = refl;
+      logs = λ l among own. inl among;
+      apart = e.clock.apart;
+    }) (record {
+      net = emitted says n.net;
+      leads = More Here (EmitsStep says may refl);
+      nodes = refl;
+      origin = record {
+        origin = n.origin.origin;
+        start = n.origin.start;
+        stream = ap (λ z. says ∷ z) n.origin.stream;
+        now = n.origin.now;
+        full = n.origin.full;
+        rows = λ r u has.
+            row_changed set r (read set (stream y)) event (knowledge y).config is number
+            (λ t old. n.origin.rows r t (at r n.net.stream n.origin.stream ∙ old)) u
+            (sym (at r (says ∷ n.net.stream) (ap (λ z. says ∷ z) n.origin.stream)) ∙ has);
+      };
+      now = n.now;
+      events = (taken_now p ended e.sound e.clock, n.events);
+      once = (first, n.once);
+    })
+  where
+    n : Netted set ended all p y
+    n = e.netted
+
+    event : Event
+    event = record { origin = y.id; number = e.number; taken = taken p; body = m.body }
+
+    says : Said
+    says = said_by set (taken p) m.body
+
+    number : e.number ≡ length (read set (stream y)) + 1
+    number = let long = length-map (stream y) (said set) in let is = e.is in omega (arith, long, is)
+
+    at : (r : ℕ) (z : List Said) {w : List Said} → z ≡ w → row n.net.start r z ≡ row unfed r w
+    at r z same = ap (λ s. row s r z) n.origin.start ∙ ap (row unfed r) same
+
+-- ---- an event that stands alone
+
+plain_may : (set : ℕ) (n : Net) (k : Snapshot) (body : Body) → is_plain body ≡ true → count_of k ≡ n.now →
+    MayEmit n (said_by set k body)
+plain_may set n k Sync plain now = now
+plain_may set n k (SubscribeSet id provider receiver forward) plain now = absurd (false≢true plain)
+plain_may set n k (EnableSubscription id provider receiver forward era) plain now = absurd (false≢true plain)
+plain_may set n k others plain now = tt
+
+plain_first : (set : ℕ) (k : Snapshot) (body : Body) (z : List Said) → is_plain body ≡ true →
+    IsFirstOf (said_by set k body) z
+plain_first set k (SubscribeSet id provider receiver forward) z plain = absurd (false≢true plain)
+plain_first set k (EnableSubscription id provider receiver forward era) z plain = absurd (false≢true plain)
+plain_first set k others z plain = tt
+
+abbrev emit_plain : {set : ℕ} {ended : List ℕ} {all : Nodes} {p : Place} {y : Node} (e : Emitting set ended all p y)
+    (m : Emission) → is_plain m.body ≡ true → Netted set ended all p (telling p y e.number m)
+emit_plain {set} {p = p} e m plain =
+    emit_one e m (plain_emitted m.body plain)
+    (plain_may set e.netted.net (taken p) m.body plain (sym e.netted.origin.now))
+    (plain_first set (taken p) m.body e.netted.net.stream plain)
+
+-- ---- the events of a subscription
+
+-- the subscription was not there
+no_row : {set : ℕ} {ended : List ℕ} {all : Nodes} {p : Place} {y : Node} (n : Netted set ended all p y) (f : NewFeed) →
+    pair_at f.set_id f.receiver (knowledge y).config.subscriptions ≡ None → f.set_id ≡ set →
+    owned n.net f.receiver ≡ None
+no_row {set} {y = y} n f none same = by (owned n.net f.receiver) refl
+  where
+    by : (o : Option Row) → owned n.net f.receiver ≡ o → o ≡ None
+    by None is = refl
+    by (Some u) is =
+        let there = n.origin.rows f.receiver u is in
+        let never : None ≡ Some (plain u) =
+        sym none ∙ ap (λ i. pair_at i f.receiver (knowledge y).config.subscriptions) same ∙ there in
+        absurd cc
+
+-- A node is about to emit the subscription, behind a SYNC with the snapshot of now.
+record Feeding {set : ℕ} {ended : List ℕ} {all : Nodes} {p : Place} {y : Node} (e : Emitting set ended all p y)
+    (f : NewFeed) : Type 0 where
+  new : pair_at f.set_id f.receiver (knowledge y).config.subscriptions ≡ None
+  own : f.provider ≡ y.id
+  apart : f.receiver ≢ y.id
+  before : List Event
+  synced : Event
+  is : stream y ≡ synced ∷ before
+  body : synced.body ≡ Sync
+  snapshot : synced.taken ≡ taken p
+
+feed_may : {set : ℕ} {ended : List ℕ} {all : Nodes} {p : Place} {y : Node} (e : Emitting set ended all p y)
+    (f : NewFeed) → Feeding e f →
+    MayEmit e.netted.net (said_by set (taken p) (SubscribeSet f.set_id f.provider f.receiver f.forward))
+feed_may {set} {p = p} {y} e f k = by (f.set_id == set) refl
+  where
+    n : Net
+    n = e.netted.net
+
+    last : last_moment n.stream ≡ n.now
+    last =
+        let all : n.stream ≡ said_by set k.synced.taken k.synced.body ∷ read set k.before =
+        e.netted.origin.stream ∙ ap (read set) k.is in
+        let first : n.stream ≡ Syncs (count_of (taken p)) ∷ read set k.before =
+        all ∙ ap (λ body. said_by set k.synced.taken body ∷ read set k.before) k.body
+        ∙ ap (λ t. said_by set t Sync ∷ read set k.before) k.snapshot in
+        let most : last_moment n.stream ≡ max (count_of (taken p)) (last_moment (read set k.before)) =
+        ap last_moment first in
+        let bound = (netted_sound e.netted).bound in
+        let now = e.netted.origin.now in
+        omega (arith, most, bound, now)
+
+    by : (b : Bool) → (f.set_id == set) ≡ b → MayEmit n (cond b (Subscribe f.receiver f.provider f.forward) Unrelated)
+    by true same = record {
+      here = ap is_over e.netted.origin.stream ∙ stays_on set (stream y);
+      synced = last;
+      apart = λ is. k.apart (sym is ∙ k.own);
+      provider = inl (k.own ∙ sym e.netted.origin.origin);
+      settled = λ u is. none u is;
+      keeps = λ u is. none u is;
+    }
+      where
+        none : {X : Type 0} (u : Row) → owned n f.receiver ≡ Some u → X
+        none u is =
+            let never : None ≡ Some u =
+            sym (no_row e.netted f k.new (eqb-true f.set_id set same)) ∙ is in absurd cc
+    by false other = tt
+
+feed_first : {set : ℕ} {ended : List ℕ} {all : Nodes} {p : Place} {y : Node} (e : Emitting set ended all p y)
+    (f : NewFeed) → Feeding e f →
+    IsFirstOf (said_by set (taken p) (SubscribeSet f.set_id f.provider f.receiver f.forward)) e.netted.net.stream
+feed_first {set} e f k = by (f.set_id == set) refl
+  where
+    by : (b : Bool) → (f.set_id == set) ≡ b →
+        IsFirstOf (cond b (Subscribe f.receiver f.provider f.forward) Unrelated) e.netted.net.stream
+    by true same =
+        ap (λ s. row s f.receiver e.netted.net.stream) (sym e.netted.origin.start)
+        ∙ no_row e.netted f k.new (eqb-true f.set_id set same)
+    by false other = tt
+
+-- ENABLE_SUBSCRIPTION behind it
+enable_may : {set : ℕ} {ended : List ℕ} {all : Nodes} {p : Place} {y : Node} (e : Emitting set ended all p y)
+    (f : NewFeed) → Feeding e f → (number : ℕ)
+    (n : Netted set ended all p (telling p y number (tells (SubscribeSet f.set_id f.provider f.receiver f.forward)))) →
+    (era : ℕ) → MayEmit n.net (said_by set (taken p) (EnableSubscription f.set_id f.provider f.receiver f.forward era))
+enable_may {set} {p = p} {y} e f k number n era = by (f.set_id == set) refl
+  where
+    z : List Said
+    z = read set (stream y)
+
+    by : (b : Bool) → (f.set_id == set) ≡ b → MayEmit n.net (cond b (Enable f.receiver) Unrelated)
+    by true same = (
+      ap is_over n.origin.stream ∙ stays_on set (stream (telling p y number
+          (tells (SubscribeSet f.set_id f.provider f.receiver f.forward)))),
+      (
+        made,
+        record {
+          row = ap (λ s. row s f.receiver n.net.stream) n.origin.start ∙ ap (row unfed f.receiver) first
+              ∙ ap (λ b. cond b (Some made) (row unfed f.receiver z)) (eq-eqb f.receiver f.receiver refl);
+          pending = ap (λ o. (subscribed (length z + 1) (last_moment z) f.provider f.forward o).ready) none;
+        },
+      ),
+    )
+      where
+        made : Row
+        made = subscribed (length z + 1) (last_moment z) f.provider f.forward (row unfed f.receiver z)
+
+        first : n.net.stream ≡ Subscribe f.receiver f.provider f.forward ∷ z
+        first =
+            n.origin.stream
+            ∙ ap (λ b. cond b (Subscribe f.receiver f.provider f.forward) Unrelated ∷ z) same
+
+        none : row unfed f.receiver z ≡ None
+        none =
+            ap (row unfed f.receiver) (sym e.netted.origin.stream)
+            ∙ ap (λ s. row s f.receiver e.netted.net.stream) (sym e.netted.origin.start)
+            ∙ no_row e.netted f k.new (eqb-true f.set_id set same)
+    by false other = tt
+
+enable_first : (set : ℕ) (k : Snapshot) (id provider receiver : ℕ) (forward : Bool) (era : ℕ) (z : List Said) →
+    IsFirstOf (said_by set k (EnableSubscription id provider receiver forward era)) z
+enable_first set k id provider receiver forward era z = by (id == set)
+  where
+    by : (b : Bool) → IsFirstOf (cond b (Enable receiver) Unrelated) z
+    by true = tt
+    by false = tt
+
+-- ---- what a node emits at once
+
+emit_feed : {set : ℕ} {ended : List ℕ} {all : Nodes} {p : Place} {y : Node} (e : Emitting set ended all p y)
+    (f : NewFeed) → CanFeed y f →
+    Netted set ended all p (telling p (telling p (telling p y e.number (tells Sync)) (e.number + 1)
+    (tells (SubscribeSet f.set_id f.provider f.receiver f.forward))) (e.number + 1 + 1)
+    (tells (EnableSubscription f.set_id f.provider f.receiver f.forward (era_of f.set_id (knowledge y).config))))
+emit_feed {set} {ended} {all} {p} {y} e f can =
+    emit_one three (tells (EnableSubscription f.set_id f.provider f.receiver f.forward era)) refl
+    (enable_may two f fed (e.number + 1) three.netted era)
+    (enable_first set (taken p) f.set_id f.provider f.receiver f.forward era three.netted.net.stream)
+  where
+    era : ℕ
+    era = era_of f.set_id (knowledge y).config
+
+    one : Node
+    one = telling p y e.number (tells Sync)
+
+    two : Emitting set ended all p one
+    two = record {
+      netted = emit_plain e (tells Sync) refl;
+      sound = e.sound;
+      clock = e.clock;
+      number = e.number + 1;
+      is = let is = e.is in omega (arith, is);
+    }
+
+    fed : Feeding two f
+    fed = record {
+      new = can.new;
+      own = can.own;
+      apart = can.apart;
+      before = stream y;
+      synced = record { origin = y.id; number = e.number; taken = taken p; body = Sync };
+      is = refl;
+      body = refl;
+      snapshot = refl;
+    }
+
+    three : Emitting set ended all p
+        (telling p one (e.number + 1) (tells (SubscribeSet f.set_id f.provider f.receiver f.forward)))
+    three = record {
+      netted = emit_one two (tells (SubscribeSet f.set_id f.provider f.receiver f.forward)) refl (feed_may two f fed)
+          (feed_first two f fed);
+      sound = e.sound;
+      clock = e.clock;
+      number = e.number + 1 + 1;
+      is = let is = e.is in omega (arith, is);
+    }
+
+-- the net of the node at its seat, behind all that it emits
+pub told_net : {set : ℕ} {ended : List ℕ} {all : Nodes} (s : Seat) (ms : List Emission) → MayTell s.node ms →
+    next_event s ≡ length (stream s.node) + 1 → Sound s.place → ClockAt s.place ended →
+    Netted set ended all s.place s.node →
+    Netted set ended all s.place (with_deeds (commit_of s ms).deeds s.node)
+told_net {set} {ended} {all} s ms (Alone m same plain) number sound clock n =
+    subst (λ ms. Netted set ended all s.place (with_deeds (commit_of s ms).deeds s.node)) (sym same)
+    (emit_plain (record { netted = n; sound = sound; clock = clock; number = next_event s; is = number }) m plain)
+told_net {set} {ended} {all} s ms (Feeds f same can) number sound clock n =
+    subst (λ ms. Netted set ended all s.place (with_deeds (commit_of s ms).deeds s.node)) (sym same)
+    (emit_feed (record { netted = n; sound = sound; clock = clock; number = next_event s; is = number }) f can)
+
+pub next_number : (t : Past) (s : Seat) → IsSeat t.world.places s → next_event s ≡ length (stream s.node) + 1
+next_number t s is =
+    let whole = ((regular_now t).nodes.each s.name s.node (seat_node t.world.places s is)).whole in
+    let known = ap (λ (k : Knowledge). progress s.node.id k) is.known in
+    omega (arith, whole, known)
+
+-- ---- another node
+
+-- it emits an event that is not of its own subscription
+record Tells (f : Frame) (o : Node) (m : Emission) : Type 0 where
+  apart : o.id ≢ f.leader.id
+  emitted : is_emitted m.body ≡ true
+  beside : IsBeside f.set_id o.id m.body
+
+tell_beside : (f : Frame) (p : Place) (o : Node) (number : ℕ) (m : Emission) (node : NetNode) → Tells f o m →
+    FitsNode f o node → FitsNode f (telling p o number m) node
+tell_beside f p o number m node is old = record {
+  reached = old.reached
+      ∙ sym (number_beside f.leader.id o.id number (knowledge o).progress (λ same. is.apart (sym same)));
+  view = old.view ∙ ap (λ vs. moment_of f.leader.id (entry_at f.set_id vs)) (sym views);
+  kept = λ v found own. old.kept v (ap (entry_at f.set_id) (sym views) ∙ found) own;
+  row = λ u has. row_beside f.set_id o.id event (knowledge o).config u is.emitted is.beside (old.row u has);
+  logs = old.logs;
+  whole = old.whole;
+}
+  where
+    event : Event
+    event = record { origin = o.id; number = number; taken = taken p; body = m.body }
+
+    views : (knowledge (telling p o number m)).views ≡ (knowledge o).views
+    views = same_views event m.body (knowledge o).views is.emitted
+
+plain_beside : (set r : ℕ) (body : Body) → is_plain body ≡ true → IsBeside set r body
+plain_beside set r (SubscribeSet id provider receiver forward) plain = absurd (false≢true plain)
+plain_beside set r (EnableSubscription id provider receiver forward era) plain = absurd (false≢true plain)
+plain_beside set r others plain = tt
+
+pub told_matches : (f : Frame) (s : Seat) (ms : List Emission) (node : NetNode) → MayTell s.node ms →
+    s.node.id ≢ f.leader.id → FitsNode f s.node node →
+    FitsNode f (with_deeds (commit_of s ms).deeds s.node) node
+told_matches f s ms node (Alone m same plain) apart old =
+    subst (λ ms. FitsNode f (with_deeds (commit_of s ms).deeds s.node) node) (sym same)
+    (tell_beside f s.place s.node (next_event s) m node (record {
+      apart = apart;
+      emitted = plain_emitted m.body plain;
+      beside = plain_beside f.set_id s.node.id m.body plain;
+    }) old)
+told_matches f s ms node (Feeds k same can) apart old =
+    subst (λ ms. FitsNode f (with_deeds (commit_of s ms).deeds s.node) node) (sym same)
+    (tell_beside f s.place two (next_event s + 1 + 1)
+    (tells (EnableSubscription k.set_id k.provider k.receiver k.forward (era_of k.set_id (knowledge s.node).config)))
+    node (record { apart = apart; emitted = refl; beside = λ id is. can.apart is })
+    (tell_beside f s.place one (next_event s + 1) (tells (SubscribeSet k.set_id k.provider k.receiver k.forward)) node
+    (record { apart = apart; emitted = refl; beside = λ id is. can.apart is })
+    (tell_beside f s.place s.node (next_event s) (tells Sync) node
+    (record { apart = apart; emitted = refl; beside = tt }) old)))
+  where
+    one : Node
+    one = telling s.place s.node (next_event s) (tells Sync)
+
+    two : Node
+    two = telling s.place one (next_event s + 1) (tells (SubscribeSet k.set_id k.provider k.receiver k.forward))

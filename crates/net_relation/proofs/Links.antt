@@ -1,0 +1,331 @@
+-- What a statement or a turn commits: nothing, one commit of a node, or the two by which a node joins.
+use Rattle.std.proofs.Common.{◌≡◌, ◌≢◌, ℕ, Bool, true, false, cond, List, [], ◌∷◌, Option, Some, None, Result, Ok, Err}
+use Rattle.std.proofs.Common.{is_some, not, refl, sym, subst, ◌∙◌}
+use Rattle.std.specs.Prelude.{codes, ◌==◌, ◌&&◌}
+use Rattle.std.specs.List.{AllByRecursion}
+use Rattle.std.proofs.lemmas.Bool.{eqb-true, eq-eqb, true≢false, and_parts, not-false, or_parts}
+use Rattle.slon_lemmas.proofs.Tests.{none_of}
+use Rattle.slonik_script.specs.declared.script.Command.{Command as Order}
+use Rattle.slonik_script.specs.declared.script.Command.TheVariants as order
+use Rattle.node_rows.specs.declared.rows.NodeRow.{NodeRow}
+use Rattle.node_rows.specs.declared.body.Body.{Body}
+use Rattle.node_rows.specs.declared.body.Body.TheVariants.{Sync, StoreNode, StorePath, DropPath, StoreSet}
+use Rattle.node_rows.specs.declared.body.Body.TheVariants.{SubscribeSet, EnableSubscription}
+use Rattle.slon_model.specs.declared.command.Delivery.{Delivery}
+use Rattle.slon_model.specs.declared.command.Delivery.TheVariants.{Lost}
+use Rattle.slon_model.specs.declared.reply.Refusal.{Refusal}
+use Rattle.slon_model.specs.declared.reply.Refusal.TheVariants as refused
+use Rattle.slon_model.specs.Names.{Named, find_named}
+use Rattle.slon_model.specs.Maps.{entry_at, pair_at}
+use Rattle.slon_model.specs.Config.{Config, era_of, is_known, is_live_row, is_origin}
+use Rattle.slon_model.specs.Tasks.{Act}
+use Rattle.slon_model.specs.Deeds.{Node, Knowledge, knowledge, with_deeds}
+use Rattle.slon_model.specs.Place.{Place}
+use Rattle.slon_model.specs.Sessions.{World, Running, Commit, Stated, Seat, Emission, bind, tells}
+use Rattle.slon_model.specs.Membership.{comment_of, already, first_node, init_cluster, store_node, store_path}
+use Rattle.slon_model.specs.Membership.{drop_path, becoming, first_of_cluster, joining, stored_by}
+use Rattle.slon_model.specs.Reaching.{database_of_line, reach, down_among, seat_on_line, claims, beats, better}
+use Rattle.slon_model.specs.Reaching.{best_of}
+use Rattle.slon_model.specs.Reaching.{found_owner, origin_of, owner, commit_of, emitting}
+use Rattle.slon_model.specs.Sets.{NewTable, adding, create_set, set_add_table}
+use Rattle.slon_model.specs.Subscribing.{NewFeed, subscribing, feed_checks, feed_bodies, all_tell}
+use Rattle.slon_model.specs.Subscribing.{subscribe_set}
+use Rattle.slon_model.specs.Scripts.{ordered}
+use Rattle.slon_model.specs.Turns.{on_turn, sync_turn}
+use Rattle.slon_model.specs.Polls.{Poll, polled, stated_by, hearing}
+use Rattle.slon_model.specs.Working.{Carried, worked, applied_by}
+use Rattle.slon_model.specs.World.{outcome}
+use Rattle.slon_laws.proofs.Leaves.{outcome_has}
+use Rattle.slon_laws.proofs.Owners.{OnSome}
+use Rattle.stream_laws.specs.Nodes.{nodes_in}
+use Rattle.stream_laws.specs.Making.{is_emitted}
+use Rattle.stream_laws.specs.Facts.{IsRegular}
+use Rattle.stream_laws.proofs.Commits.{Newcomer}
+use Rattle.stream_laws.proofs.Seats.{OnOk, ok_then, IsSeat, IsFound, IsReached, IsLeading, bind_ok, checked_ok}
+use Rattle.stream_laws.proofs.Seats.{kept_ok}
+use Rattle.stream_laws.proofs.Seats.{all_none, when_none, turn_ok, owner_ok, origin_ok, already_none, line_ok}
+use Rattle.stream_laws.proofs.Seats.{reach_ok, no_nodes}
+use Rattle.stream_laws.proofs.Waiting.{IsPoll, polled_ok}
+use Rattle.stream_laws.proofs.Works.{IsCarried, worked_ok}
+use Rattle.image_laws.proofs.Fitting.{newcomer, store_checks}
+use Rattle.follow_laws.proofs.Doing.{Takes, Hears, taking}
+use Rattle.follow_laws.proofs.Steps.{ok_is}
+
+-- ---- what a node emits
+
+-- an event that stands alone: one that is no part of a subscription
+abbrev pub is_plain : Body → Bool
+is_plain (SubscribeSet set provider receiver forward) = false
+is_plain (EnableSubscription set provider receiver forward era) = false
+is_plain others = is_emitted others
+
+-- The node may emit the events of a subscription: it is the origin of the set and the provider, it knows the receiver,
+-- which is another node, and the receiver does not subscribe to the set.
+pub record CanFeed (n : Node) (f : NewFeed) : Type 0 where
+  pub leads : is_origin n.id f.set_id (knowledge n).config ≡ true
+  pub knows : is_some (entry_at f.receiver (knowledge n).config.nodes) ≡ true
+  pub own : f.provider ≡ n.id
+  pub apart : f.receiver ≢ n.id
+  pub new : pair_at f.set_id f.receiver (knowledge n).config.subscriptions ≡ None
+
+abbrev pub feeding : Node → NewFeed → List Emission
+feeding n f = all_tell (feed_bodies (era_of f.set_id (knowledge n).config) f)
+
+pub data MayTell (n : Node) (ms : List Emission) : Type 0 where
+  Alone : (m : Emission) → ms ≡ m ∷ [] → is_plain m.body ≡ true → MayTell n ms
+  Feeds : (f : NewFeed) → ms ≡ feeding n f → CanFeed n f → MayTell n ms
+
+-- ---- one commit
+
+-- A node emits events.
+pub record Telling (w : World) (c : Commit) (p : Place) : Type 0 where
+  pub seat : Seat
+  pub is : IsSeat w.places seat
+  pub at : seat.place ≡ p
+  pub emits : List Emission
+  pub may : MayTell seat.node emits
+  pub commit : c ≡ commit_of seat emits
+
+-- The first database of a session becomes a node.
+pub record Beginning (w : World) (c : Commit) (p : Place) : Type 0 where
+  pub id : ℕ
+  pub comment : List ℕ
+  pub run : Running
+  pub alone : (name : List ℕ) → nodes_in w.places name ≡ None
+  pub commit : c ≡ becoming c.name (first_of_cluster id comment run)
+
+pub data Linked (w : World) (c : Commit) (p : Place) : Type 0 where
+  Tells : Telling w c p → Linked w c p
+  TakesOne : Takes w c p → Linked w c p
+  HearsSome : Hears w c p → Linked w c p
+  Begins : Beginning w c p → Linked w c p
+
+-- ---- two commits
+
+-- A node stores another one, which becomes a node by what the first one knows then.
+pub record Join (w : World) : Type 0 where
+  pub seat : Seat
+  pub is : IsSeat w.places seat
+  pub new : Newcomer w.places
+  pub comment : List ℕ
+  pub run : Running
+
+abbrev pub stores : {w : World} → Join w → Commit
+stores j = commit_of j.seat (tells (StoreNode j.new.id j.comment) ∷ [])
+
+abbrev pub giver : {w : World} → Join w → Node
+giver j = with_deeds (stores j).deeds j.seat.node
+
+abbrev pub joined : {w : World} → Join w → Node
+joined j = joining j.new.id (giver j) j.run
+
+abbrev pub joins : {w : World} → Join w → Commit
+joins j = becoming j.new.name (joined j)
+
+pub data Links (w : World) (cs : List Commit) : Type 0 where
+  Nothing : cs ≡ [] → Links w cs
+  One : (c : Commit) (p : Place) → cs ≡ c ∷ [] → find_named c.name w.places ≡ Some p → Linked w c p → Links w cs
+  Two : (j : Join w) → cs ≡ stores j ∷ joins j ∷ [] → Links w cs
+
+-- ---- the statements
+
+abbrev IsStated : World → Stated → Type 0
+IsStated w stated = Links w stated.commits
+
+emits_link : (w : World) (s : Seat) (ms : List Emission) → IsSeat w.places s → MayTell s.node ms →
+    IsStated w (emitting s ms)
+emits_link w s ms is may =
+    One (commit_of s ms) s.place refl is.found
+    (Tells (record { seat = s; is = is; at = refl; emits = ms; may = may; commit = refl }))
+
+tells_link : (w : World) (s : Seat) (m : Emission) → IsSeat w.places s → is_plain m.body ≡ true →
+    IsStated w (emitting s (m ∷ []))
+tells_link w s m is may = emits_link w s (m ∷ []) is (Alone m refl may)
+
+reached : (w : World) (id : ℕ) (run : Running) (f : Seat → Result Stated Refusal) →
+    ((s : Seat) → IsReached w.places id s → OnOk (IsStated w) (f s)) → OnOk (IsStated w) (bind (reach run id w) f)
+reached w id run f on = bind_ok (IsReached w.places id) (IsStated w) (reach run id w) f (reach_ok run id w) on
+
+abbrev init_checks : World → List (Option Refusal)
+init_checks w = down_among w.places ∷ already (first_node w) ∷ []
+
+init_link : (id : ℕ) (comment : Option (List ℕ)) (run : Running) (w : World) →
+    OnOk (IsStated w) (init_cluster id comment run w)
+init_link id comment run w =
+    bind_ok (IsFound w.places) (IsStated w) (database_of_line run id w) _ (line_ok run id w)
+    (λ e found. checked_ok (IsStated w) (init_checks w) _ (λ none.
+    One (becoming e.0 (first_of_cluster id (comment_of comment) run)) e.1 refl found (Begins (record {
+      id = id;
+      comment = comment_of comment;
+      run = run;
+      alone = no_nodes w.places (already_none (first_node w) (all_none (init_checks w) none).1.0);
+      commit = refl;
+    }))))
+
+store_link : (id event_node : ℕ) (comment : Option (List ℕ)) (run : Running) (w : World) →
+    OnOk (IsStated w) (store_node id event_node comment run w)
+store_link id event_node comment run w =
+    reached w event_node run _
+    (λ s is. bind_ok (IsFound w.places) (IsStated w) (database_of_line run id w) _ (line_ok run id w)
+    (λ e found. checked_ok (IsStated w) (store_checks id w e) (stored_by s e.0 id (comment_of comment) run)
+    (λ none. Two (record {
+      seat = s;
+      is = is.0;
+      new = newcomer w id e found (all_none (store_checks id w e) none);
+      comment = comment_of comment;
+      run = run;
+    }) refl)))
+
+create_link : (id origin : ℕ) (comment : Option (List ℕ)) (run : Running) (w : World) →
+    OnOk (IsStated w) (create_set id origin comment run w)
+create_link id origin comment run w =
+    reached w origin run _
+    (λ s is. let done = tells_link w s (tells (StoreSet id origin (comment_of comment))) is.0 refl in
+    search (kept_ok (IsStated w), done))
+
+table_link : (origin : ℕ) (t : NewTable) (run : Running) (w : World) →
+    OnOk (IsStated w) (set_add_table origin t run w)
+table_link origin t run w =
+    bind_ok (IsLeading w.places t.set_id) (IsStated w) (origin_of run origin t.set_id w) _
+    (origin_ok run origin t.set_id w)
+    (λ s is. let done = tells_link w s (adding s t) is.0 refl in search (kept_ok (IsStated w), done))
+
+path_link : (server client : ℕ) (conninfo : List ℕ) (run : Running) (w : World) →
+    OnOk (IsStated w) (store_path server client conninfo run w)
+path_link server client conninfo run w =
+    reached w client run _
+    (λ s is. let done = tells_link w s (tells (StorePath server client conninfo)) is.0 refl in
+    search (kept_ok (IsStated w), done))
+
+no_path_link : (server client : ℕ) (run : Running) (w : World) →
+    OnOk (IsStated w) (drop_path server client run w)
+no_path_link server client run w =
+    reached w client run _
+    (λ s is. let done = tells_link w s (tells (DropPath server client)) is.0 refl in
+    search (kept_ok (IsStated w), done))
+
+-- ---- SUBSCRIBE SET
+
+-- the owner of a set says that it is the origin
+better_claims : (set : ℕ) (best found : Option Seat) → OnSome (λ s. claims set s ≡ true) best →
+    OnSome (λ s. claims set s ≡ true) (better set best found)
+better_claims set best None is = is
+better_claims set best (Some s) is = by (claims set s && beats set s best) refl
+  where
+    by : (b : Bool) → (claims set s && beats set s best) ≡ b →
+        OnSome (λ s. claims set s ≡ true) (cond b (Some s) best)
+    by true passes = (and_parts (claims set s) (beats set s best) passes).0
+    by false fails = is
+
+best_claims : (set : ℕ) (run : Running) (es : Named Place) (best : Option Seat) →
+    OnSome (λ s. claims set s ≡ true) best → OnSome (λ s. claims set s ≡ true) (best_of set run best es)
+best_claims set run [] best is = is
+best_claims set run (e ∷ es) best is =
+    best_claims set run es (better set best (seat_on_line run e)) (better_claims set best (seat_on_line run e) is)
+
+owner_claims : (run : Running) (set : ℕ) (w : World) → OnOk (λ s. claims set s ≡ true) (owner run set w)
+owner_claims run set w = by (best_of set run None w.places) (best_claims set run w.places None tt)
+  where
+    by : (o : Option Seat) → OnSome (λ s. claims set s ≡ true) o → OnOk (λ s. claims set s ≡ true) (found_owner set o)
+    by None is = tt
+    by (Some s) is = is
+
+both_ok : {A : Type 0} (P Q : A → Type 0) (r : Result A Refusal) → OnOk P r → OnOk Q r → OnOk (λ a. P a × Q a) r
+both_ok P Q (Ok a) one two = (one, two)
+both_ok P Q (Err refusal) one two = tt
+
+known_there : (id : ℕ) (c : Config) → is_known id c ≡ true → is_some (entry_at id c.nodes) ≡ true
+known_there id c known = by (entry_at id c.nodes) (and_parts (is_live_row (entry_at id c.nodes)) _ known).0
+  where
+    by : (o : Option NodeRow) → is_live_row o ≡ true → is_some o ≡ true
+    by None never = absurd (true≢false (sym never))
+    by (Some row) live = refl
+
+can_feed : (w : World) (s : Seat) (f : NewFeed) → IsSeat w.places s → claims f.set_id s ≡ true →
+    AllByRecursion (λ o. o ≡ None) (feed_checks s f) → CanFeed s.node f
+can_feed w s f is claimed none = record {
+  leads = subst (λ (k : Knowledge). is_origin s.node.id f.set_id k.config ≡ true) is.known claimed;
+  knows = subst (λ (k : Knowledge). is_some (entry_at f.receiver k.config.nodes) ≡ true) is.known
+      (known_there f.receiver s.known.config
+      (not-false (is_known f.receiver s.known.config) (when_none _ (refused.NoNode f.receiver) none.0)));
+  own = eqb-true f.provider s.node.id (not-false (f.provider == s.node.id) built.0);
+  apart = λ same. true≢false (sym (eq-eqb f.receiver s.node.id same)
+      ∙ (or_parts (f.receiver == s.node.id) (f.receiver == f.provider)
+      (when_none _ (refused.SameNode f.receiver) none.1.1.0)).0);
+  new = subst (λ (k : Knowledge). pair_at f.set_id f.receiver k.config.subscriptions ≡ None) is.known
+      (none_of _ built.1);
+}
+  where
+    built : (not (f.provider == s.node.id) ≡ false)
+        × (is_some (pair_at f.set_id f.receiver s.known.config.subscriptions) ≡ false)
+    built = or_parts (not (f.provider == s.node.id)) _
+        (when_none _ (refused.NotBuilt (codes "subscribe")) none.1.1.1.0)
+
+feed_link : (f : NewFeed) (run : Running) (w : World) → IsRegular w → OnOk (IsStated w) (subscribe_set f run w)
+feed_link f run w r =
+    bind_ok (λ s. IsSeat w.places s × (claims f.set_id s ≡ true)) (IsStated w) (owner run f.set_id w) _
+    (both_ok (IsSeat w.places) (λ s. claims f.set_id s ≡ true) (owner run f.set_id w) (owner_ok run f.set_id w r.once)
+    (owner_claims run f.set_id w))
+    (λ s is. checked_ok (IsStated w) (feed_checks s f)
+    (emitting s (all_tell (feed_bodies (era_of f.set_id s.known.config) f)))
+    (λ none. subst (λ (k : Knowledge). IsStated w (emitting s (all_tell (feed_bodies (era_of f.set_id k.config) f))))
+    (sym is.0.known)
+    (emits_link w s (feeding s.node f) is.0
+    (Feeds f refl (can_feed w s f is.0 is.1 (all_none (feed_checks s f) none))))))
+
+ordered_link : (w : World) → IsRegular w → (o : Order) (run : Running) → OnOk (IsStated w) (ordered o run w)
+ordered_link w r (order.InitCluster id comment) run = init_link id comment run w
+ordered_link w r (order.StoreNode id event_node comment) run = store_link id event_node comment run w
+ordered_link w r (order.StorePath server client conninfo retry) run = path_link server client conninfo run w
+ordered_link w r (order.DropPath server client) run = no_path_link server client run w
+ordered_link w r (order.CreateSet id origin comment) run = create_link id origin comment run w
+ordered_link w r (order.SetAddTable set origin id name key comment) run =
+    table_link origin (record { set_id = set; id = id; name = name; comment = comment_of comment }) run w
+ordered_link w r (order.SubscribeSet set provider receiver forward) run =
+    feed_link (subscribing set provider receiver forward) run w r
+ordered_link w r (order.Sync id) run = reached w id run _ (λ s is. tells_link w s (tells Sync) is.0 refl)
+ordered_link w r others run = tt
+
+-- ---- the turns
+
+sync_link : (w : World) → IsRegular w → (node : ℕ) → OnOk (IsStated w) (sync_turn node w)
+sync_link w r node =
+    bind_ok (IsSeat w.places) (IsStated w) (on_turn node w) _ (turn_ok node w r.once)
+    (λ s is. let done = tells_link w s (tells Sync) is refl in search (kept_ok (IsStated w), done))
+
+hears_link : (w : World) (s : Seat) (confirms : List (ℕ × ℕ × ℕ)) → IsSeat w.places s → Links w (hearing s confirms)
+hears_link w s [] is = Nothing refl
+hears_link w s (c ∷ cs) is =
+    One _ s.place refl is.found
+    (HearsSome (record { seat = s; is = is; at = refl; confirms = c ∷ cs; commit = refl }))
+
+poll_link : (w : World) (delivery : Delivery) (b : Poll) → IsPoll w b → Links w (stated_by delivery b).commits
+poll_link w Lost b is = Nothing refl
+poll_link w others b is = hears_link w b.seat b.confirms is.seat
+
+work_link : (w : World) (by origin : ℕ) (x : Carried) → worked by origin w ≡ Ok x → IsCarried w origin x →
+    Links w (applied_by x).commits
+work_link w by origin x turn is =
+    One (taking x) x.seat.place refl is.work.seat.found (TakesOne (record {
+      carried = x;
+      origin = origin;
+      is = record { by = by; turn = turn; work = is.work; brings = is.brings };
+      at = refl;
+      commit = refl;
+    }))
+
+-- what the command of an act commits
+pub outcome_links : (w : World) → IsRegular w → (act : Act) → Links w (outcome act w).commits
+outcome_links w r act =
+    outcome_has w (λ commits queues. Links w commits) (record {
+      nothing = Nothing refl;
+      stops = λ name. Nothing refl;
+      orders = ordered_link w r;
+      syncs = sync_link w r;
+      polls = λ node server delivery.
+          ok_then (IsPoll w) (λ b. Links w (stated_by delivery b).commits) (polled node server w)
+          (polled_ok node server w r) (poll_link w delivery);
+      works = λ node origin.
+          ok_is (IsCarried w origin) (λ x. Links w (applied_by x).commits) (worked node origin w)
+          (worked_ok node origin w r) (work_link w node origin);
+    }) act

@@ -1,0 +1,250 @@
+-- Every session has its nets: each command keeps them, and so does each history.
+use Rattle.std.proofs.Common.{◌≡◌, ◌≢◌, inl, ℕ, ◌≤◌, Bool, true, false, cond, List, length, Some}
+use Rattle.std.proofs.Common.{None, refl, sym, ap, subst, ◌∙◌, arith}
+use Rattle.std.specs.Prelude.{option_map}
+use Rattle.std.specs.List.{AllByRecursion}
+use Rattle.std.specs.Str.{bytes_eq}
+use Rattle.std.proofs.lemmas.Bool.{true≢false}
+use Rattle.std.proofs.lemmas.List.{length-map}
+use Rattle.slon_model.specs.Names.{find_named}
+use Rattle.slon_model.specs.Deeds.{Node, knowledge, progress, stream, view_of, with_deeds}
+use Rattle.slon_model.specs.Place.{Place, taken}
+use Rattle.slon_model.specs.Sessions.{committing, next_event}
+use Rattle.slon_model.specs.World.{Happening, Leads, World, start}
+use Rattle.slon_model.proofs.Names.{bytes_itself, one_found}
+use Rattle.stream_laws.specs.Nodes.{nodes_in, node_in}
+use Rattle.stream_laws.proofs.Growing.{placed}
+use Rattle.stream_laws.proofs.Lists.{number_here}
+use Rattle.image_laws.specs.Moments.{IsOrder, IsTaken, count_of}
+use Rattle.image_laws.proofs.Orders.{order_in, order_is}
+use Rattle.follow_laws.specs.Past.{Past, past}
+use Rattle.follow_laws.proofs.Moments.{regular_now, sound_now}
+use Rattle.net_relation.specs.Reading.{moment_of, read, said}
+use Rattle.net_relation.specs.Matching.{MatchesNode}
+use Rattle.net_relation.specs.Laws.{SessionsHaveNets}
+use Rattle.net_relation.proofs.Beginning.{Joining, giver_none, giver_other, join_free, joined_later, joined_none}
+use Rattle.net_relation.proofs.Beginning.{joined_spared, new_net}
+use Rattle.net_relation.proofs.Behind.{holds_of}
+use Rattle.net_relation.proofs.Emitting.{next_number}
+use Rattle.net_relation.proofs.Going.{NetAt, went_net}
+use Rattle.net_relation.proofs.Links.{Join, giver, joined, joins, stores}
+use Rattle.net_relation.proofs.Moments.{count_is, taken_now}
+use Rattle.net_relation.proofs.Nets.{Spares}
+use Rattle.net_relation.proofs.Places.{Born, Shut, Went, shut_ticks}
+use Rattle.net_relation.proofs.Relating.{Netted, Origin, node_behind, node_later, nodes_of, nodes_same, nodes_with}
+use Rattle.net_relation.proofs.Relating.{origin_placed}
+use Rattle.net_relation.proofs.Stepping.{Does, Goes, Gone, Here, IsPut, Joins, Looks, Makes, Shuts, Stays, There}
+use Rattle.net_relation.proofs.Stepping.{is_put}
+use Rattle.net_relation.proofs.Stepping.{join_found, look, stores_linked, stores_look, with_look}
+use Rattle.net_relation.proofs.Whole.{does_net}
+
+-- ---- a node joins
+
+-- a node of the session behind the first commit is one of before, or the node that stores the new one
+stored_nodes : (t : Past) (j : Join t.world) (P : Node → Type 0) →
+    ((name : List ℕ) (o : Node) → nodes_in t.world.places name ≡ Some o → P o) → P (giver j) →
+    (name : List ℕ) (o : Node) → nodes_of (stores_look j) name ≡ Some o → P o
+stored_nodes t j P old new name o is = by (bytes_eq name j.seat.name) is
+  where
+    by : (b : Bool) → node_in (cond b (Some (committing (stores j) j.seat.place)) (look t.world name)) ≡ Some o → P o
+    by true there =
+        subst P (one_found (giver j) o (sym (ap (option_map (with_deeds (stores j).deeds)) j.is.node) ∙ there)) new
+    by false there = old name o there
+
+stored_free : (t : Past) (j : Join t.world) (name : List ℕ) (o : Node) → nodes_of (stores_look j) name ≡ Some o →
+    o.id ≢ j.new.id
+stored_free t j =
+    stored_nodes t j (λ o. o.id ≢ j.new.id) (λ name o is same. join_free t j name o is same) (giver_other t j)
+
+-- The net of a database behind the first commit.
+record Stored (set : ℕ) (t : Past) (j : Join t.world) : Type 0 where
+  name : List ℕ
+  place : Place
+  found : stores_look j name ≡ Some place
+  leader : Node
+  at : place.node ≡ Some leader
+  ended : List ℕ
+  netted : Netted set ended (nodes_of (stores_look j)) place leader
+
+giver_there : (t : Past) (j : Join t.world) → nodes_of (stores_look j) j.seat.name ≡ Some (giver j)
+giver_there t j =
+    ap (λ b. node_in (cond b (Some (committing (stores j) j.seat.place)) (look t.world j.seat.name)))
+    (bytes_itself j.seat.name)
+    ∙ ap (option_map (with_deeds (stores j).deeds)) j.is.node
+
+-- the new node is given no more of its stream than there is
+stored_joining : (set : ℕ) (t : Past) (j : Join t.world) (s : Stored set t j) →
+    Joining set s.ended t j (nodes_of (stores_look j)) s.place s.leader
+stored_joining set t j s =
+    by (is_put j.seat.name (committing (stores j) j.seat.place) (look t.world) s.name s.place s.found)
+  where
+    -- of the node that stores it
+    own : giver j ≡ s.leader →
+        (progress s.leader.id (knowledge (giver j)) ≤ length (read set (stream s.leader)))
+        × AllByRecursion (Spares j.new.id) (read set (stream s.leader))
+    own same = subst (λ (x : Node). (progress x.id (knowledge (giver j)) ≤ length (read set (stream x)))
+        × AllByRecursion (Spares j.new.id) (read set (stream x))) same (
+          let far = number_here j.seat.node.id (next_event j.seat) (knowledge j.seat.node).progress in
+              let number = next_number t j.seat j.is in
+              let long = length-map (stream (giver j)) (said set) in
+              omega (arith, far, number, long),
+          (tt, joined_spared t j set j.seat.name j.seat.node (ap node_in j.is.found ∙ j.is.node)),
+        )
+
+    -- of another one
+    other : bytes_eq s.name j.seat.name ≡ false → look t.world s.name ≡ Some s.place →
+        (progress s.leader.id (knowledge (giver j)) ≤ length (read set (stream s.leader)))
+        × AllByRecursion (Spares j.new.id) (read set (stream s.leader))
+    other differs there = (
+      let reached = (s.netted.nodes j.seat.name (giver j) (giver_there t j) apart).reached in
+          let behind = node_behind s.netted (giver j).id in
+          omega (arith, reached, behind),
+      joined_spared t j set s.name s.leader is,
+    )
+      where
+        is : nodes_in t.world.places s.name ≡ Some s.leader
+        is = ap node_in there ∙ s.at
+
+        apart : j.seat.node.id ≢ s.leader.id
+        apart same =
+            let one = (regular_now t).nodes.apart s.name j.seat.name s.leader j.seat.node is
+            (ap node_in j.is.found ∙ j.is.node) (sym same) in
+            true≢false (sym (ap (bytes_eq s.name) (sym one) ∙ bytes_itself s.name) ∙ differs)
+
+    both : (progress s.leader.id (knowledge (giver j)) ≤ length (read set (stream s.leader)))
+        × AllByRecursion (Spares j.new.id) (read set (stream s.leader)) →
+        Joining set s.ended t j (nodes_of (stores_look j)) s.place s.leader
+    both is = record { netted = s.netted; free = stored_free t j; far = is.0; spares = is.1 }
+
+    by : IsPut j.seat.name (committing (stores j) j.seat.place) (look t.world) s.name s.place →
+        Joining set s.ended t j (nodes_of (stores_look j)) s.place s.leader
+    by (Here at same) =
+        both (own (one_found (giver j) s.leader
+        (sym (ap (option_map (with_deeds (stores j).deeds)) j.is.node)
+        ∙ ap (λ (p : Place). p.node) (sym same) ∙ s.at)))
+    by (There differs there) = both (other differs there)
+
+joins_net : (set : ℕ) (a : List ℕ) (t : Past) (j : Join t.world) → NetAt set a (stores_look j) →
+    NetAt set a (with_look j.new.name (committing (joins j) j.new.place) (stores_look j))
+joins_net set a t j was r there = by (is_put j.new.name q g a r there)
+  where
+    q : Place
+    q = committing (joins j) j.new.place
+
+    g : Looks
+    g = stores_look j
+
+    joined_at : nodes_of (with_look j.new.name q g) ≡ placed j.new.name (Some (joined j)) (nodes_of g)
+    joined_at = nodes_with j.new.name q g
+
+    none : (i : Node) → nodes_of g j.new.name ≡ Some i → i.id ≡ j.new.id
+    none i is =
+        let never : None ≡ Some i =
+        sym j.new.none ∙ ap node_in (sym (join_found t j (committing (stores j) j.seat.place))) ∙ is in
+        absurd cc
+
+    here : Origin set (nodes_of g) j.new.place → Origin set (nodes_of (with_look j.new.name q g)) q
+    here o = record {
+      ended = o.ended;
+      clock = record { each = o.clock.each; count = o.clock.count; apart = o.clock.apart };
+      is = λ y is.
+          subst (λ (i : Node). Netted set o.ended (nodes_of (with_look j.new.name q g)) q i)
+          (one_found (joined j) y is)
+          (subst (λ all. Netted set o.ended all q (joined j)) (sym joined_at)
+          (origin_placed (new_net set o.ended (nodes_of g) q (joined j) refl
+          (record { each = o.clock.each; count = o.clock.count; apart = o.clock.apart })
+          (λ name o is other. stored_nodes t j (λ o. (progress j.new.id (knowledge o) ≡ 0)
+          × (moment_of j.new.id (view_of set (knowledge o)) ≡ None)) (joined_none t j set) (giver_none t j set) name o
+          is))
+          j.new.name none));
+    }
+
+    by : IsPut j.new.name q g a r → Origin set (nodes_of (with_look j.new.name q g)) r
+    by (Here at same) =
+        subst (Origin set (nodes_of (with_look j.new.name q g))) (sym same)
+        (here (was j.new.place (ap g at ∙ join_found t j (committing (stores j) j.seat.place))))
+    by (There differs at) =
+        let o = was r at in
+        record {
+          ended = o.ended;
+          clock = o.clock;
+          is = λ x is.
+              let k = stored_joining set t j (record {
+                name = a;
+                place = r;
+                found = at;
+                leader = x;
+                at = is;
+                ended = o.ended;
+                netted = o.is x is;
+              }) in
+              subst (λ all. Netted set o.ended all r x) (sym joined_at)
+              (node_later k.netted j.new.name (joined j) none (joined_later k));
+        }
+
+-- ---- every command
+
+-- a database that is made is no node
+makes_net : (set : ℕ) (a : List ℕ) (f : Looks) (name : List ℕ) (q : Place) → f name ≡ None →
+    Born q → NetAt set a f → NetAt set a (with_look name q f)
+makes_net set a f name q none born was r there = by (is_put name q f a r there)
+  where
+    same : nodes_of (with_look name q f) ≡ nodes_of f
+    same = nodes_same name q f (born.node ∙ sym (ap node_in none))
+
+    by : IsPut name q f a r → Origin set (nodes_of (with_look name q f)) r
+    by (Here at is) = subst (Origin set (nodes_of (with_look name q f))) (sym is) (record {
+      ended = born.ended;
+      clock = born.clock;
+      is = λ x at. let never : None ≡ Some x = sym born.node ∙ at in absurd cc;
+    })
+    by (There differs at) = subst (λ all. Origin set all r) (sym same) (was r at)
+
+shut_went : (p q : Place) → Shut p q → Went p q
+shut_went p q s = record { ticks = shut_ticks p q s; node = inl s.node }
+
+net_step : (set : ℕ) (a : List ℕ) (t : Past) → NetAt set a (look t.world) → (f : Looks) → Gone t.world f →
+    NetAt set a f
+net_step set a t was f Stays = was
+net_step set a t was f (Makes name q none born) = makes_net set a (look t.world) name q none born was
+net_step set a t was f (Goes name p q found went) = went_net set a (look t.world) name q found went was
+net_step set a t was f (Does c p found does) = does_net set a t c p found does was
+net_step set a t was f (Joins j) =
+    joins_net set a t j (does_net set a t (stores j) j.seat.place j.is.found (stores_linked j) was)
+net_step set a t was f (Shuts g gone name p q found shut) =
+    went_net set a g name q found (shut_went p q shut) (net_step set a t was g gone)
+
+-- ---- every session
+
+-- the order and the nets of a database
+pub origin_now : (limit : ℕ) (history : List Happening) (w : World) → Leads (start limit) history w → (set : ℕ)
+    (name : List ℕ) (p : Place) → find_named name w.places ≡ Some p → Origin set (nodes_in w.places) p
+origin_now limit history w leads set name =
+    holds_of (NetAt set name) (λ p none. absurd cc) (net_step set name) limit history w leads
+
+pub sessions_have_nets : SessionsHaveNets
+sessions_have_nets limit history w leads name p found x at set = record {
+  order = order_in o.ended;
+  is = subst (IsOrder (order_in o.ended)) many (order_is o.ended o.clock.apart);
+  now = subst (λ now. IsTaken (order_in o.ended) now (taken p)) many
+      (taken_now p o.ended (sound_now (past limit history w leads) name p found) o.clock);
+  net = n.net;
+  leads = n.leads;
+  matches = record {
+    origin = n.origin;
+    events =
+        subst (λ now. AllByRecursion (λ e. IsTaken (order_in o.ended) now e.taken) (stream x)) (sym n.now) n.events;
+    nodes = λ k i is other.
+        subst (λ now. MatchesNode set (order_in o.ended) now x i (n.net.nodes i.id)) (sym n.now)
+        (n.nodes k i is other);
+  };
+}
+  where
+    o : Origin set (nodes_in w.places) p
+    o = origin_now limit history w leads set name p found
+
+    n : Netted set o.ended (nodes_in w.places) p x
+    n = o.is x at
+
+    many : length o.ended ≡ count_of (taken p)
+    many = sym (count_is p o.ended o.clock)
