@@ -2,3 +2,4 @@ pub mod Asks
 pub mod Causes
 pub mod Ends
 pub mod Runs
+pub mod Subscribing

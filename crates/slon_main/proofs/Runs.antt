@@ -37,6 +37,7 @@ use Rattle.slon_main.specs.Running.{Begun, Pieces, Starts, NoneArms, FetchesSo, 
 use Rattle.slon_main.specs.Running.{NamesMade, is_no_store, is_of_command, Ran, RanOn, IsUnread, InLine}
 use Rattle.slon_main.specs.Running.{InFile, RunsSession, StopsAt}
 use Rattle.slon_main.proofs.Causes.{never_still}
+use Rattle.slon_main.proofs.Subscribing.{subscribed}
 
 -- one command more before the others
 one_more : (commands : List Command) (command : Command) (session : Session) →
@@ -252,6 +253,7 @@ ran_so b at running said is = record {
   quiet = running.quiet;
   few = λ armless. running.few (subst NoneArms (sym is) armless);
   told = running.told;
+  subscribed = subscribed b.limit running.history running.world running.leads;
 }
 
 -- the session ends here
@@ -294,6 +296,7 @@ ran_nothing shelf limit said output cluster empty starts = record {
     quiet = λ all. refl;
     few = λ armless. start_within shelf.promise limit cluster starts;
     told = start_told limit cluster starts;
+    subscribed = subscribed limit [] (start limit) refl;
   };
 }
 

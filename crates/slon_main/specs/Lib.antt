@@ -2,3 +2,4 @@ pub mod Ending
 pub mod Going
 pub mod Running
 pub mod Statuses
+pub mod Subscribed

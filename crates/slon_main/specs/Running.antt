@@ -25,6 +25,7 @@ use Rattle.cluster_engine.specs.Failing.{IsWithin, Pays}
 use Rattle.cluster_engine.specs.Telling.{AreTold, KeepsTelling}
 use Rattle.slon_main.specs.declared.run.Stop.{Stop}
 use Rattle.slon_main.specs.declared.run.Stop.TheVariants.{BadLine, Read, Write, NoMemory, NoStore, TooLong}
+use Rattle.slon_main.specs.Subscribed.{Subscribed}
 
 -- the shelf tells that its stores begin empty and tell their rows
 abbrev pub Tells : Shelved → Type 0
@@ -161,7 +162,8 @@ NoneArms commands = AllByRecursion (λ command. arms_later command ≡ false) co
 -- databases agree with the rules after it. Its replies have their forms, so that the bytes fix them. Where no store can
 -- fail, or none has counted a fault at the end, each reply is the one that is due. Where no command has a store fail,
 -- the replies that tell of faults of a database are at most as many as the calls of its store that can fail. What each
--- store is told to fail is what the last crash of its database said, or nothing once that came up.
+-- store is told to fail is what the last crash of its database said, or nothing once that came up. Nodes that subscribe
+-- hold what their origins held.
 pub record Ran (shelf : Shelved) (limit : ℕ) (said : List Command) (output : Pieces) (cluster : Clustered) : Type 0
   where
     pub history : List Happening
@@ -175,6 +177,7 @@ pub record Ran (shelf : Shelved) (limit : ℕ) (said : List Command) (output : P
     pub quiet : AllQuiet cluster → IsDue (start limit) history world
     pub few : NoneArms said → IsWithin shelf.promise history cluster
     pub told : AreTold history cluster
+    pub subscribed : Subscribed limit history world
 
 -- the first of these commands were run so
 pub record RanOn (shelf : Shelved) (limit : ℕ) (said : List Command) (output : Pieces) (cluster : Clustered) : Type 0
