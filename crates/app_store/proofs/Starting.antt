@@ -20,7 +20,8 @@ pub begun_same : (p q : Place) (begun : List Begun) → q.actions ≡ p.actions 
 begun_same p q begun actions numbers are =
     subst (λ (c : Counter). AllByRecursion (λ b. (b.number ≤ c.next) × AreOlder b.number b.xid q.actions) begun)
     (sym numbers)
-    (subst (λ (done : List Action). AllByRecursion (λ b. (b.number ≤ p.numbers.next) × AreOlder b.number b.xid done) begun)
+    (subst (λ (done : List Action). AllByRecursion (λ b. (b.number ≤ p.numbers.next) × AreOlder b.number b.xid done)
+    begun)
     (sym actions) are)
 
 -- an action comes behind all of them
@@ -39,7 +40,8 @@ begun_next p begun b sound (xid, number) are =
     all_appended (IsBegun p) begun (b ∷ []) are (
       (
         omega (arith, number),
-        all_map (λ a. a.xid < p.xids.next) (λ a. a.number < b.number → a.xid < b.xid) (λ a known below. omega (arith, known, xid))
+        all_map (λ a. a.xid < p.xids.next) (λ a. a.number < b.number → a.xid < b.xid)
+            (λ a known below. omega (arith, known, xid))
             p.actions sound.known,
       ),
       tt,

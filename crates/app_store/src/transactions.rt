@@ -236,8 +236,8 @@ impl<K: Keeper> Database<K> {
         })
     }
 
-    /// The number of an action such that all actions with lower numbers are of transactions below this id: the number of
-    /// the action that came next as the last transaction up to this id began since the database came up, or 0 where none
+    /// The number of an action such that all actions with lower numbers are of transactions below this id: that of the
+    /// action that came next as the last transaction up to this id began since the database came up, or 0 where none
     /// did. A snapshot below whose `xmin` all transactions have ended needs to look at no action below it.
     pub fn first_number(&self, xid: u64) -> u64
         requires up { self.now.state.up ≡ true }

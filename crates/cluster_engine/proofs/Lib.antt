@@ -5,7 +5,9 @@ pub mod Lifting
 pub mod Living
 pub mod Moving
 pub mod Recalling
+pub mod Rising
 pub mod Stepping
+pub mod Subscribing
 pub mod Telling
 pub mod Trials
 pub mod Taking

@@ -27,7 +27,7 @@ use Rattle.slon_model.specs.Reaching.{database_of_line, reach, origin_of, owner,
 use Rattle.slon_model.specs.Scripts.{ordered}
 use Rattle.slon_model.specs.Turns.{on_turn}
 use Rattle.slon_model.specs.Polls.{Poll, polled, hearing, stated_by}
-use Rattle.slon_model.specs.Working.{Carried, worked, applied_by}
+use Rattle.slon_model.specs.Working.{Carried, applied_by, fetched, worked}
 use Rattle.slon_model.specs.World.{Happening, Step, Grants, Denies, Misses, Asks, Acts, Leads, start, outcome}
 use Rattle.slon_model.proofs.Names.{all_put, all_behind, all_found}
 use Rattle.slon_laws.specs.Keeps.{KeepsTasks}
@@ -154,13 +154,15 @@ poll_gives others b = hearing_gives b.seat b.confirms
 work_gives : (x : Carried) → Gives (applied_by x)
 work_gives x = (tt, tt)
 
-leaves : (w : World) → IsRegular w → AllPlaces BeganLive w → Leaves w (λ commits queues. AllGive commits)
+leaves : (w : World) → IsRegular w → AllPlaces BeganLive w → Leaves w (λ commits queues fetches. AllGive commits)
 leaves w regular live = record {
   nothing = tt;
   stops = λ name. tt;
+  gives_up = λ name origin. tt;
   orders = ordered_give w regular live;
   syncs = λ node. bind_all (on_turn node w) _ (λ s. search (kept_ok Gives, emits_give s));
   polls = λ node server delivery. ok_all _ (polled node server w) (poll_gives delivery);
+  fetches = λ node origin. ok_all _ (fetched node origin w) (λ x. tt);
   works = λ node origin. ok_all _ (worked node origin w) work_gives;
 }
 
@@ -227,7 +229,7 @@ live_step w v h (Acts t) regular live =
     acting_turns (λ name p q ps found turned was. all_put BeganLive name q ps
     (turned_live p q turned (all_found BeganLive name p ps was found)) was) w v h t
     (all_hold (outcome t.act w).commits w.places
-    (outcome_has w (λ commits queues. AllGive commits) (leaves w regular live) t.act)) live
+    (outcome_has w (λ commits queues fetches. AllGive commits) (leaves w regular live) t.act)) live
 
 -- in every session that a legal history leads to
 pub live_world : (limit : ℕ) (history : List Happening) (w : World) → Leads (start limit) history w →

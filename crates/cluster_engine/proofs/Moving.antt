@@ -12,7 +12,7 @@ use Rattle.slon_model.specs.declared.fault.DbFault.{DbFault}
 use Rattle.slon_model.specs.declared.fault.DbFault.TheVariants.{NotEmpty, Halt}
 use Rattle.slon_model.specs.declared.command.Command.{Command}
 use Rattle.slon_model.specs.declared.command.Command.TheVariants.{Database, Slonik, Step, Kill, Start, Stop, Cut, Join}
-use Rattle.slon_model.specs.declared.command.Command.TheVariants.{Sync, Listen, Work}
+use Rattle.slon_model.specs.declared.command.Command.TheVariants.{Sync, Listen, Fetch, Work}
 use Rattle.slon_model.specs.declared.command.Delivery.{Delivery}
 use Rattle.slon_model.specs.declared.reading.Reading.{Reading}
 use Rattle.slon_model.specs.declared.reply.Answer.TheVariants.{Done}
@@ -28,7 +28,7 @@ use Rattle.slon_model.specs.World.{halt_in, refusal_of, reply_of, is_accepted}
 use Rattle.app_store.specs.Base.{Base}
 use Rattle.app_store.specs.Handed.{HandsOn}
 use Rattle.app_store.specs.Serves.{ServesOn, Founds, is_memory, trouble, settled}
-use Rattle.slon_turns.specs.Turning.{Queues}
+use Rattle.slon_turns.specs.Holding.{Holdings}
 use Rattle.cluster_engine.specs.Agreed.{Clustered}
 use Rattle.cluster_engine.specs.Calls.{is_one, is_reading, takes_none, IsActed, recalled, with_base, with_base_behind}
 use Rattle.cluster_engine.specs.Calls.{with_given, with_more, fused, grant, Moves}
@@ -167,15 +167,15 @@ moves_at f command c items t asked = go
         })
     go others about named other serves hands = absurd (false≢true other)
 
--- the same where these queues are left
+-- the same where this is held
 pub moves_with : {X : Type 0} (f : X → List ℕ × Base) (command : Command) (c : Clustered) (items : List X)
-    (t : Turn X) → Asked f command items t → {queues : Queues} →
-    queues ≡ (recalled t.word (f t.x).1 (f t.y).1 c.memory).queues →
+    (t : Turn X) → Asked f command items t → {held : Holdings} →
+    held ≡ (recalled t.word (f t.x).1 (f t.y).1 c.memory).held →
     Moves command (record c { bases = map f items }) (reply_of (words_of (subject_of command)) t.result)
-    (record c { bases = map f (set items t.i t.y); memory = record c.memory { queues = queues } })
+    (record c { bases = map f (set items t.i t.y); memory = record c.memory { held = held } })
 moves_with f command c items t asked left =
     subst (λ q. Moves command (record c { bases = map f items }) (reply_of (words_of (subject_of command)) t.result)
-    (record c { bases = map f (set items t.i t.y); memory = record c.memory { queues = q } })) (sym left)
+    (record c { bases = map f (set items t.i t.y); memory = record c.memory { held = q } })) (sym left)
     (moves_at f command c items t asked)
 
 -- ---- whether there may be a new one
@@ -240,6 +240,7 @@ pub record IsOther (c : Command) : Type 0 where
   pub join : (node other : ℕ) → c ≡ Join node other → ⊥
   pub sync : (node : ℕ) → c ≡ Sync node → ⊥
   pub listen : (node server : ℕ) (delivery : Delivery) → c ≡ Listen node server delivery → ⊥
+  pub fetch : (node origin : ℕ) → c ≡ Fetch node origin → ⊥
   pub work : (node origin : ℕ) → c ≡ Work node origin → ⊥
 
 pub one_left : (c : Command) → IsOther c → is_one (subject_of c) ≡ true
@@ -253,6 +254,7 @@ one_left (Cut a b) other = absurd (other.cut a b refl)
 one_left (Join a b) other = absurd (other.join a b refl)
 one_left (Sync node) other = absurd (other.sync node refl)
 one_left (Listen node server delivery) other = absurd (other.listen node server delivery refl)
+one_left (Fetch node origin) other = absurd (other.fetch node origin refl)
 one_left (Work node origin) other = absurd (other.work node origin refl)
 one_left others other = refl
 

@@ -21,7 +21,7 @@ use Rattle.slon_model.specs.declared.reply.Reply.{Reply}
 use Rattle.slon_model.specs.declared.reply.Reply.TheVariants.{Accepted, Refused}
 use Rattle.slon_model.specs.Names.{find_named}
 use Rattle.slon_model.specs.Tasks.{Task, ToFound, Act, ToRead, ToStep, ToForget, ToStart, ToStop, ToCut, ToJoin, ToSync}
-use Rattle.slon_model.specs.Tasks.{ToListen, ToWork}
+use Rattle.slon_model.specs.Tasks.{ToListen, ToFetch, ToWork}
 use Rattle.slon_model.specs.Tasks.{Subject, OnNew, OnOne, OnAll, Words, words_of}
 use Rattle.slon_model.specs.Place.{Place, bare_place}
 use Rattle.slon_model.specs.Moves.{commits_at}
@@ -33,12 +33,13 @@ use Rattle.slon_model.specs.Scripts.{Stepping, quiet, done_by, single, ordered, 
 use Rattle.slon_model.specs.Scripts.{kill_of}
 use Rattle.slon_model.specs.Turns.{at_node, switched_at, turned, turned_by, taken_turn, sync_turn}
 use Rattle.slon_model.specs.Polls.{polled}
-use Rattle.slon_model.specs.Working.{worked, applied_by, taken_from}
+use Rattle.slon_model.specs.Working.{Carried, applied_by, fetched, fetched_by, taken_from, with_fetch, work_ended}
+use Rattle.slon_model.specs.Working.{worked}
 use Rattle.slon_model.specs.World.{World, Happening, Step, Grants as StepGrants, Denies as StepDenies}
 use Rattle.slon_model.specs.World.{Misses as StepMisses, Asks as StepAsks, database_due, due, due_on, ask, asked, after}
 use Rattle.slon_model.specs.World.{Acts as StepActs, after_on, adopted, changed, is_accepted, reply_of, outcome}
 use Rattle.slon_model.specs.World.{MayEnd, reply_by, world_by, doubt_reply}
-use Rattle.slon_model.proofs.Names.{all_found}
+use Rattle.slon_model.proofs.Names.{all_found, found_behind}
 use Rattle.slon_laws.specs.Sound.{Sound}
 use Rattle.slon_laws.specs.Spelled.{IsSpelled}
 use Rattle.app_store.specs.Base.{Base}
@@ -90,6 +91,15 @@ steps command old reply new (Asks s) w follows =
     let fit = fitting s.name s.before w.places old.bases follows.agrees.fits s.found in
     let comes = s.serves.goes fit.place (ready_place s.name s.before w old follows fit) s.memory in
     let place = place_by s.task fit.place comes.0 in
+    let kept = recalled_fits s.name old w.memory (record {
+      before = s.before;
+      behind = s.behind;
+      here = s.found;
+      was = fit.place;
+      now = place;
+      was_up = sym (same_up fit.place s.before fit.fits);
+      now_up = sym (same_up place s.behind comes.2);
+    }) fit.found (record { fits = follows.agrees.memory; keeps = follows.agrees.keeps }) in
     subst (λ subject. StepsOn subject command w reply new) (sym s.about) (record {
       choice = comes.0;
       world = changed s.name place w;
@@ -108,12 +118,8 @@ steps command old reply new (Asks s) w follows =
           (record {
             limit = follows.agrees.limit;
             fits = fit.puts place s.behind comes.2;
-            memory = recalled_fits s.name old.memory s.before s.behind w.memory (record {
-              was = fit.place;
-              now = place;
-              was_up = sym (same_up fit.place s.before fit.fits);
-              now_up = sym (same_up place s.behind comes.2);
-            }) fit.found follows.agrees.memory;
+            memory = kept.fits;
+            keeps = kept.keeps;
           });
     })
 steps command old reply new (Acts act about acted) w follows =
@@ -206,6 +212,10 @@ taken_commits : {X : Type 0} (w : World) (left : X → Memory) (stated : X → S
 taken_commits w left stated (Err refusal) = Never refl
 taken_commits w left stated (Ok x) = turned_commits w (left x) (stated x)
 
+work_commits : (node origin : ℕ) (w : World) (due : Result Carried Refusal) → MayCommit (work_ended node origin w due)
+work_commits node origin w (Err (refused.Busy xid)) = Never refl
+work_commits node origin w others = taken_commits w (λ c. taken_from c w.memory) applied_by others
+
 act_commits : (act : Act) (w : World) → MayCommit (outcome act w)
 act_commits (ToRead name (Wrong refusal)) w =
     elim (is_some (find_named name w.memory.scripts)) as (λ b. MayCommit (cond b
@@ -235,8 +245,9 @@ act_commits (ToCut node other) w = Never refl
 act_commits (ToJoin node other) w = Never refl
 act_commits (ToSync node) w = taken_commits w _ _ (sync_turn node w)
 act_commits (ToListen node server delivery) w = taken_commits w _ _ (polled node server w)
-act_commits (ToWork node origin) w =
-    taken_commits w (λ x. taken_from x w.memory) applied_by (worked node origin w)
+act_commits (ToFetch node origin) w =
+    taken_commits w (λ x. with_fetch x w.memory) fetched_by (fetched node origin w)
+act_commits (ToWork node origin) w = work_commits node origin w (worked node origin w)
 
 -- a doubt is told where a step commits
 doubt_unsure : (before : ℕ) (cs : List Commit) (answer : Answer) → before < length cs →
@@ -320,6 +331,7 @@ makes name kept old reply new (Keeps b result made memory kept_it told same) emp
             fits = fits_more name
                 (place_by ToFound bare_place comes.0) b w.places old.bases agrees.fits comes.2;
             memory = agrees.memory;
+            keeps = λ other up. agrees.keeps other (λ d is. up d (found_behind other name b d old.bases is));
           });
     }
 

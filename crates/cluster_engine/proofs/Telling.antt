@@ -17,6 +17,7 @@ use Rattle.slon_model.specs.declared.reply.Refusal.TheVariants as refused
 use Rattle.slon_model.specs.declared.reply.Reply.{Reply}
 use Rattle.slon_model.specs.declared.reply.Reply.TheVariants.{Accepted, Refused, InDoubt}
 use Rattle.slon_model.specs.Names.{Named, find_named, put_named}
+use Rattle.slon_model.specs.Spoken.{IsSpoken}
 use Rattle.slon_model.specs.Tasks.{Task, ToFound, OnNew, OnOne, Words, words_of}
 use Rattle.slon_model.specs.World.{reply_of}
 use Rattle.slon_model.proofs.Names.{put_found, all_found, all_put, all_behind}
@@ -32,9 +33,11 @@ use Rattle.cluster_engine.specs.Calls.{ReplyCaused}
 use Rattle.cluster_engine.specs.Calls.{is_sure_reply}
 use Rattle.cluster_engine.specs.Calls.{AllCertain, StaysCertain, AllQuiet, StaysQuiet, Adopts, Rejects, Keeps}
 use Rattle.cluster_engine.specs.Calls.{MakingReplyCaused, Makes, MakesCertain, Steps}
+use Rattle.cluster_engine.specs.Subscribing.{Subscribes, SubscribesMade}
 use Rattle.cluster_engine.proofs.Lifting.{distinct_put}
 use Rattle.cluster_engine.proofs.Certain.{stays_none, never_fails}
 use Rattle.cluster_engine.proofs.Stepping.{steps, makes, adopts_done}
+use Rattle.cluster_engine.proofs.Subscribing.{subscribes, subscribes_made}
 use Rattle.cluster_engine.proofs.Trials.{find_trouble, all_behind_tries, all_before_tries}
 
 -- ---- why a fault is told
@@ -315,6 +318,7 @@ pub record Promises {E : Type 0} (command : Command) (old : Clustered) (result :
   pub certain : IfOk result (λ reply. StaysCertain command old reply new)
   pub quiet : IfOk result (λ reply. StaysQuiet reply old new)
   pub distinct : AreDistinct old.bases → IfOk result (λ reply. AreDistinct new.bases)
+  pub subscribes : IsSpoken command → IfOk result (λ reply. Subscribes command old reply new)
 
 -- no name of a database comes or goes
 moves_distinct : (command : Command) (old : Clustered) (reply : Reply) (new : Clustered) →
@@ -337,9 +341,10 @@ promises command old (Ok reply) new moves = record {
   certain = moves_certain command old reply new moves;
   quiet = moves_quiet command old reply new moves;
   distinct = moves_distinct command old reply new moves;
+  subscribes = λ spoken. subscribes command old reply new spoken (steps command old reply new moves);
 }
 promises command old (Err e) new moves =
-    record { steps = tt; cause = tt; certain = tt; quiet = tt; distinct = λ distinct. tt }
+    record { steps = tt; cause = tt; certain = tt; quiet = tt; distinct = λ distinct. tt; subscribes = λ spoken. tt }
 
 -- what is promised of the making of a database that did this
 pub record MakingPromises (name : List ℕ) (kept : Kept) (old : Clustered) (reply : Reply) (new : Clustered) : Type 0
@@ -351,6 +356,7 @@ pub record MakingPromises (name : List ℕ) (kept : Kept) (old : Clustered) (rep
     pub certain : MakesCertain kept old reply new
     pub quiet : StaysQuiet reply old new
     pub distinct : find_named name old.bases ≡ None → AreDistinct old.bases → AreDistinct new.bases
+    pub subscribes : kept.held ≡ Some nothing → SubscribesMade name old reply new
 
 adopts_distinct : (name : List ℕ) (kept : Kept) (old : Clustered) (reply : Reply) (new : Clustered) →
     Adopts name kept old reply new → find_named name old.bases ≡ None → AreDistinct old.bases → AreDistinct new.bases
@@ -369,4 +375,5 @@ making_promises name kept old reply new adopts = record {
   certain = adopts_certain name kept old reply new adopts;
   quiet = adopts_quiet name kept old reply new adopts;
   distinct = adopts_distinct name kept old reply new adopts;
+  subscribes = λ empty. subscribes_made name old reply new (makes name kept old reply new adopts empty);
 }

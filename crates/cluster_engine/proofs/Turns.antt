@@ -10,6 +10,7 @@ use Rattle.slon_model.specs.declared.reply.Refusal.TheVariants as refused
 use Rattle.slon_model.specs.declared.reply.Reply.TheVariants.{Accepted, Refused}
 use Rattle.slon_model.specs.Tasks.{Act, ToStart, ToStop, ToCut, ToJoin}
 use Rattle.slon_model.specs.Names.{Named}
+use Rattle.slon_model.specs.Maps.{entry_at}
 use Rattle.slon_model.specs.Place.{Place}
 use Rattle.slon_model.specs.Sessions.{World, Memory, forgotten}
 use Rattle.slon_model.specs.Polls.{line_of}
@@ -19,12 +20,13 @@ use Rattle.slon_model.specs.World.{outcome}
 use Rattle.app_store.specs.Base.{Base}
 use Rattle.slonik_exec.specs.Databases.{FitsAll}
 use Rattle.slonik_exec.specs.Reached.{HasNode}
-use Rattle.slon_turns.specs.Turning.{Queues, WaitsIn}
-use Rattle.slon_turns.proofs.Waiting.{found_in, waits_at, none_forgotten, beside_forgotten}
-use Rattle.cluster_engine.specs.Agreed.{Remembered, Clustered, FitsMemory, Follows}
+use Rattle.slon_turns.specs.Holding.{Holdings, KeepsIn, WaitsIn}
+use Rattle.slon_turns.proofs.Waiting.{found_in, waits_at, keeps_at, none_forgotten, beside_forgotten}
+use Rattle.slon_turns.proofs.Waiting.{fetches_forgotten, fetches_stay}
+use Rattle.cluster_engine.specs.Agreed.{Remembered, Clustered, Follows}
 use Rattle.cluster_engine.specs.Calls.{IsActed}
 use Rattle.cluster_engine.specs.Walking.{IsQuietly}
-use Rattle.cluster_engine.proofs.Walking.{quietly_acted}
+use Rattle.cluster_engine.proofs.Walking.{Remembers, quietly_acted}
 
 -- something else is switched
 abbrev pub with_switches : Switches → Clustered → Clustered
@@ -54,28 +56,33 @@ pub unknown_acted : (act : Act) (node : ℕ) (m : World → List ℕ → Memory)
     IsActed act old (Refused (refused.NoNode node)) old
 unknown_acted act node m old about none =
     quietly_acted act old (Refused (refused.NoNode node)) old.memory
-    (λ w follows. subst (λ o. IsQuietly o (Refused (refused.NoNode node)) (λ n. FitsMemory n old.memory))
+    (λ w follows. subst (λ o. IsQuietly o (Refused (refused.NoNode node)) (λ n. Remembers n old))
     (sym (about w ∙ ap (λ o. switched_at node (m w) o w) (none w follows.agrees.fits)))
-    (record { told = refl; commits = refl; falls = refl; memory = follows.agrees.memory })) refl
+    (record {
+      told = refl;
+      commits = refl;
+      falls = refl;
+      memory = record { fits = follows.agrees.memory; keeps = follows.agrees.keeps };
+    })) refl
 
 -- the database of this name is the node, and this is in memory then
-record Switching (act : Act) (node : ℕ) (w : World) (r : Remembered) : Type 0 where
+record Switching (act : Act) (node : ℕ) (w : World) (new : Clustered) : Type 0 where
   name : List ℕ
   place : Place
   at : at_node node w ≡ Some (name, place)
   left : List ℕ → Memory
   is : outcome act w ≡ switched node left w
-  fits : FitsMemory (left name) r
+  remembers : Remembers (left name) new
 
 turned_acted : (act : Act) (node : ℕ) (old : Clustered) (r : Remembered) →
-    ((w : World) → Follows w old → Switching act node w r) →
+    ((w : World) → Follows w old → Switching act node w (record old { memory = r })) →
     IsActed act old (Accepted Done) (record old { memory = r })
 turned_acted act node old r switches =
     quietly_acted act old (Accepted Done) r
     (λ w follows. let s = switches w follows in
-    subst (λ o. IsQuietly o (Accepted Done) (λ n. FitsMemory n r))
+    subst (λ o. IsQuietly o (Accepted Done) (λ n. Remembers n (record old { memory = r })))
     (sym (s.is ∙ ap (λ o. switched_at node s.left o w) s.at))
-    (record { told = refl; commits = refl; falls = refl; memory = s.fits })) refl
+    (record { told = refl; commits = refl; falls = refl; memory = s.remembers })) refl
 
 -- a database is the node
 some_has : (node : ℕ) (w : World) (bases : Named Base) → FitsAll w.places bases → HasNode node bases true →
@@ -99,17 +106,20 @@ on_acted node old started has is =
       at = found.1;
       left = _;
       is = refl;
-      fits = record {
-        scripts = follows.agrees.memory.scripts;
-        switches = ap (λ (s : Switches). record s { started = with_started node s.started })
-            follows.agrees.memory.switches
-            ∙ ap (λ l. record old.memory.switches { started = l }) (sym is);
-        waits = follows.agrees.memory.waits;
+      remembers = record {
+        fits = record {
+          scripts = follows.agrees.memory.scripts;
+          switches = ap (λ (s : Switches). record s { started = with_started node s.started })
+              follows.agrees.memory.switches
+              ∙ ap (λ l. record old.memory.switches { started = l }) (sym is);
+          waits = follows.agrees.memory.waits;
+        };
+        keeps = follows.agrees.keeps;
       };
     })
 
 -- what waits behind a queue that is forgotten
-pub forgotten_waits : (name : List ℕ) (m : Memory) (queues : Queues) →
+pub forgotten_waits : (name : List ℕ) (m : Memory) (queues : Holdings) →
     ((other : List ℕ) → WaitsIn other m (get queues other)) → (other : List ℕ) →
     WaitsIn other (forgotten name m) (get (remove queues name) other)
 forgotten_waits name m queues waits other =
@@ -120,14 +130,26 @@ forgotten_waits name m queues waits other =
     by false apart =
         waits_at other m (forgotten name m) (get queues other) (beside_forgotten other name m apart) (waits other)
 
--- no slon is on, and nothing waits at the database of this name
-abbrev pub with_none_at : List ℕ → List ℕ → Queues → Clustered → Clustered
-with_none_at name started queues c =
-    record c { memory = record c.memory { switches = record c.memory.switches { started = started }; queues = queues } }
+-- what was fetched is forgotten with it
+pub forgotten_keeps : (name : List ℕ) (m : Memory) (held : Holdings) (other : List ℕ) →
+    (bytes_eq other name ≡ false → KeepsIn other m (get held other)) →
+    KeepsIn other (forgotten name m) (get (remove held name) other)
+forgotten_keeps name m held other keeps =
+    subst (KeepsIn other (forgotten name m)) (sym (found_in other name held)) (by (bytes_eq other name) refl)
+  where
+    by : (b : Bool) → bytes_eq other name ≡ b → KeepsIn other (forgotten name m) (cond b None (get held other))
+    by true here = λ origin. ap (entry_at origin) (fetches_forgotten other name m here)
+    by false apart =
+        keeps_at other m (forgotten name m) (get held other) (fetches_stay other name m apart) (keeps apart)
 
-pub off_acted : (node : ℕ) (old : Clustered) (name started : List ℕ) (queues : Queues) →
+-- no slon is on, and nothing waits at the database of this name
+abbrev pub with_none_at : List ℕ → List ℕ → Holdings → Clustered → Clustered
+with_none_at name started queues c =
+    record c { memory = record c.memory { switches = record c.memory.switches { started = started }; held = queues } }
+
+pub off_acted : (node : ℕ) (old : Clustered) (name started : List ℕ) (queues : Holdings) →
     ((w : World) → FitsAll w.places old.bases → (p : Place) × (at_node node w ≡ Some (name, p))) →
-    started ≡ without_started node old.memory.switches.started → queues ≡ remove old.memory.queues name →
+    started ≡ without_started node old.memory.switches.started → queues ≡ remove old.memory.held name →
     IsActed (ToStop node) old (Accepted Done) (with_none_at name started queues old)
 off_acted node old name started queues at is gone =
     turned_acted (ToStop node) node old (with_none_at name started queues old).memory
@@ -138,13 +160,18 @@ off_acted node old name started queues at is gone =
       at = found.1;
       left = _;
       is = refl;
-      fits = record {
-        scripts = follows.agrees.memory.scripts;
-        switches = ap (λ (s : Switches). record s { started = without_started node s.started })
-            follows.agrees.memory.switches
-            ∙ ap (λ l. record old.memory.switches { started = l }) (sym is);
-        waits = subst (λ q. (other : List ℕ) → WaitsIn other (forgotten name (stopped w)) (get q other)) (sym gone)
-            (forgotten_waits name (stopped w) old.memory.queues follows.agrees.memory.waits);
+      remembers = record {
+        fits = record {
+          scripts = follows.agrees.memory.scripts;
+          switches = ap (λ (s : Switches). record s { started = without_started node s.started })
+              follows.agrees.memory.switches
+              ∙ ap (λ l. record old.memory.switches { started = l }) (sym is);
+          waits = subst (λ q. (other : List ℕ) → WaitsIn other (forgotten name (stopped w)) (get q other)) (sym gone)
+              (forgotten_waits name (stopped w) old.memory.held follows.agrees.memory.waits);
+        };
+        keeps = λ other up. subst (λ (q : Holdings). KeepsIn other (forgotten name (stopped w)) (get q other))
+            (sym gone) (forgotten_keeps name (stopped w) old.memory.held other
+            (λ apart. follows.agrees.keeps other up));
       };
     })
   where
@@ -157,16 +184,19 @@ cuts_acted : (act : Act) (change : List (ℕ × ℕ) → List (ℕ × ℕ)) (old
     IsActed act old (Accepted Done) (with_cuts_at cuts old)
 cuts_acted act change old cuts about is =
     quietly_acted act old (Accepted Done) (with_cuts_at cuts old).memory
-    (λ w follows. subst (λ o. IsQuietly o (Accepted Done) (λ n. FitsMemory n (with_cuts_at cuts old).memory))
+    (λ w follows. subst (λ o. IsQuietly o (Accepted Done) (λ n. Remembers n (with_cuts_at cuts old)))
     (sym (about w)) (record {
       told = refl;
       commits = refl;
       falls = refl;
       memory = record {
-        scripts = follows.agrees.memory.scripts;
-        switches = ap (λ (s : Switches). record s { cuts = change s.cuts }) follows.agrees.memory.switches
-            ∙ ap (λ l. record old.memory.switches { cuts = l }) (sym is);
-        waits = follows.agrees.memory.waits;
+        fits = record {
+          scripts = follows.agrees.memory.scripts;
+          switches = ap (λ (s : Switches). record s { cuts = change s.cuts }) follows.agrees.memory.switches
+              ∙ ap (λ l. record old.memory.switches { cuts = l }) (sym is);
+          waits = follows.agrees.memory.waits;
+        };
+        keeps = follows.agrees.keeps;
       };
     })) refl
 

@@ -3,6 +3,7 @@ use Rattle.std.proofs.Common.{◌≡◌, ◌∙◌, ◌+◌, ◌<◌, ℕ, zero,
 use Rattle.std.proofs.Common.{get_or}
 use Rattle.std.proofs.Common.{drop}
 use Rattle.std.proofs.Common.{Option, Some, None, is_some, Result, Ok, Err, IfOk, refl, sym, ap, subst, arith}
+use Rattle.std.specs.Prelude.{unwrap_or}
 use Rattle.std.proofs.lemmas.List.{drop_more}
 use Rattle.std.specs.Str.{bytes_eq}
 use Rattle.std.specs.FinMap.{get, insert, remove, empty, contains_key, get-empty}
@@ -22,7 +23,7 @@ use Rattle.slon_model.specs.declared.reply.Reply.{Reply}
 use Rattle.slon_model.specs.declared.reply.Reply.TheVariants.{Accepted, Refused}
 use Rattle.slon_model.specs.Names.{Named, find_named, without}
 use Rattle.slon_model.specs.Tasks.{Act, ToRead, ToStep, ToForget}
-use Rattle.slon_model.specs.Place.{Place, Standing, IsRunning, is_running, downed, fallen}
+use Rattle.slon_model.specs.Place.{Place, is_running, fallen}
 use Rattle.slon_model.specs.Deciding.{AllStand, Breaks, DoubtsAt}
 use Rattle.slon_model.specs.Sessions.{World, Memory, Running, Commit, Stated, Outcome, no_change, stand, with_memory}
 use Rattle.slon_model.specs.Sessions.{no_memory, in_doubt, changed, felled, felled_at, after_outcome}
@@ -39,8 +40,9 @@ use Rattle.slonik_exec.specs.Databases.{FitsAll, AreReady, TriesAll, Runs, told_
 use Rattle.slonik_exec.specs.Executing as executing
 use Rattle.slonik_exec.specs.Executing.{Comes, Executes}
 use Rattle.slonik_exec.proofs.Trying.{tries_itself}
-use Rattle.slon_turns.specs.Turning.{Queues, WaitsIn}
-use Rattle.slon_turns.proofs.Waiting.{found_in, found_put}
+use Rattle.slon_turns.specs.declared.held.Held.{Held}
+use Rattle.slon_turns.specs.Holding.{Holdings, IsUpIn, KeepsIn, WaitsIn}
+use Rattle.slon_turns.proofs.Waiting.{found_in, found_put, keeps_at}
 use Rattle.cluster_engine.specs.Agreed.{Scripts, Remembered, Clustered, FitsRun, FitsFound, FitsScripts, FitsMemory}
 use Rattle.cluster_engine.specs.Agreed.{Agrees, Follows}
 use Rattle.cluster_engine.specs.Calls.{ActsOn, IsActed}
@@ -48,6 +50,7 @@ use Rattle.cluster_engine.specs.Walking.{IsQuietly, KeepsTo, Keeps, Fares, Stood
 use Rattle.cluster_engine.specs.Walking.{WalksOn}
 use Rattle.cluster_engine.specs.declared.scripts.Started.{Started}
 use Rattle.cluster_engine.specs.declared.scripts.Walked.{Walked}
+use Rattle.cluster_engine.proofs.Rising.{WereUp, downed_stops, fares_up}
 
 -- ---- a world with another memory
 
@@ -62,10 +65,6 @@ changed_moves : (name : List ℕ) (q : Place) (m : Memory) (v : World) → is_ru
     Moves m v (changed name q v) (changed name q (with_memory m v))
 changed_moves name q m v down =
     record { limit = refl; places = refl; memory = down_kept name (find_named name v.places) q m down }
-
-downed_stops : (s : Standing) → is_running (downed s) ≡ false
-downed_stops IsRunning = refl
-downed_stops others = refl
 
 same_moves : (m : Memory) (v : World) → Moves m v v (with_memory m v)
 same_moves m v = record { limit = refl; places = refl; memory = refl }
@@ -94,9 +93,20 @@ wavering_moves (c ∷ cs) stands m v = by (find_named c.name v.places)
     by None = same_moves m v
     by (Some p) = changed_moves c.name (in_doubt c stands p) m v refl
 
+-- What is in memory agrees, and so does what was fetched where no database of the name is down.
+pub record Remembers (m : Memory) (c : Clustered) : Type 0 where
+  pub fits : FitsMemory m c.memory
+  pub keeps : (name : List ℕ) → IsUpIn name c.bases → KeepsIn name m (get c.memory.held name)
+
 -- what agrees with a memory agrees with the same one
-pub fits_kept : (m n : Memory) (r : Remembered) → n ≡ m → FitsMemory m r → FitsMemory n r
-fits_kept m n r kept fits = subst (λ x. FitsMemory x r) (sym kept) fits
+pub fits_kept : (m n : Memory) (c : Clustered) → n ≡ m → Remembers m c → Remembers n c
+fits_kept m n c kept remembers = subst (λ x. Remembers x c) (sym kept) remembers
+
+-- what was fetched in a memory was fetched in one with the same fetches
+pub fetched_as : (name : List ℕ) (m n : Memory) (held : Option Held) → n.fetches ≡ m.fetches → KeepsIn name m held →
+    KeepsIn name n held
+fetched_as name m n held same keeps =
+    keeps_at name m n held (ap (λ fs. unwrap_or (find_named name fs) []) same) keeps
 
 -- ---- scripts by their names
 
@@ -150,7 +160,8 @@ fits_lacking name runs scripts fits none other =
 -- ---- what concerns no database
 
 pub quietly_acted : (act : Act) (old : Clustered) (reply : Reply) (r : Remembered) →
-    ((w : World) → Follows w old → IsQuietly (outcome act w) reply (λ m. FitsMemory m r)) → told_by reply ≡ None →
+    ((w : World) → Follows w old →
+    IsQuietly (outcome act w) reply (λ m. Remembers m (record old { memory = r }))) → told_by reply ≡ None →
     IsActed act old reply (record old { memory = r })
 quietly_acted act old reply r quietly calm = record {
   runs = subst (λ t. TriesAll (is_calm reply) t old.bases old.bases) (sym calm)
@@ -168,12 +179,17 @@ quietly_acted act old reply r quietly calm = record {
         may = tt;
         told = kept.told;
         agrees = subst (λ v. Agrees v (record old { memory = r })) (sym after)
-            (record { limit = follows.agrees.limit; fits = follows.agrees.fits; memory = kept.memory });
+            (record {
+              limit = follows.agrees.limit;
+              fits = follows.agrees.fits;
+              memory = kept.memory.fits;
+              keeps = kept.memory.keeps;
+            });
       };
 }
 
 -- what waits in a memory waits in one with the same queues
-pub waits_as : (m n : Memory) (queues : Queues) → m.queues ≡ n.queues →
+pub waits_as : (m n : Memory) (queues : Holdings) → m.queues ≡ n.queues →
     ((name : List ℕ) → WaitsIn name m (get queues name)) → (name : List ℕ) → WaitsIn name n (get queues name)
 waits_as m n queues same waits name =
     subst (λ q. WaitsIn name (record m { queues = q }) (get queues name)) same (waits name)
@@ -192,10 +208,14 @@ keeps_acted act old reply scripts keeps calm =
       commits = kept.commits;
       falls = kept.falls;
       memory = record {
-        scripts = kept.memory.agree;
-        switches = kept.memory.switches ∙ follows.agrees.memory.switches;
-        waits = waits_as w.memory (outcome act w).memory old.memory.queues (sym kept.memory.queues)
-            follows.agrees.memory.waits;
+        fits = record {
+          scripts = kept.memory.agree;
+          switches = kept.memory.switches ∙ follows.agrees.memory.switches;
+          waits = waits_as w.memory (outcome act w).memory old.memory.held (sym kept.memory.queues)
+              follows.agrees.memory.waits;
+        };
+        keeps = λ name up. fetched_as name w.memory (outcome act w).memory (get old.memory.held name)
+            kept.memory.fetches (follows.agrees.keeps name up);
       };
     }) calm
 
@@ -224,7 +244,7 @@ keeps_used name reading scripts has w fits =
       told = refl;
       commits = refl;
       falls = refl;
-      memory = record { agree = fits; switches = refl; queues = refl };
+      memory = record { agree = fits; switches = refl; queues = refl; fetches = refl };
     })
 
 -- a name that is free
@@ -237,7 +257,7 @@ keeps_wrong name refusal scripts lacks w fits =
       told = refl;
       commits = refl;
       falls = refl;
-      memory = record { agree = fits; switches = refl; queues = refl };
+      memory = record { agree = fits; switches = refl; queues = refl; fetches = refl };
     })
 
 pub keeps_read : (name : List ℕ) (script : Script) (scripts : Scripts) → contains_key scripts name ≡ false →
@@ -258,6 +278,7 @@ keeps_read name script scripts lacks w fits =
             ∙ ap (λ b. cond b None (find_named other w.memory.scripts)) apart)) (fits other));
         switches = refl;
         queues = refl;
+        fetches = refl;
       };
     })
 
@@ -277,7 +298,12 @@ keeps_killed name s scripts has w fits =
           told = refl;
           commits = refl;
           falls = refl;
-          memory = record { agree = fits_removed name w.memory.scripts scripts fits; switches = refl; queues = refl };
+          memory = record {
+            agree = fits_removed name w.memory.scripts scripts fits;
+            switches = refl;
+            queues = refl;
+            fetches = refl;
+          };
         })
 
 -- no script of the name
@@ -289,7 +315,12 @@ missed_as name w scripts o fits none is =
       told = refl;
       commits = refl;
       falls = refl;
-      memory = record { agree = fits_lacking name w.memory.scripts scripts fits none; switches = refl; queues = refl };
+      memory = record {
+        agree = fits_lacking name w.memory.scripts scripts fits none;
+        switches = refl;
+        queues = refl;
+        fetches = refl;
+      };
     })
 
 pub keeps_missed : (name : List ℕ) (scripts : Scripts) → get scripts name ≡ None →
@@ -379,6 +410,11 @@ same_queues : (goes_on : Bool) (s : Stepping) (commits : List Commit) (m : Memor
 same_queues true s commits m = refl
 same_queues false s commits m = refl
 
+same_fetches : (goes_on : Bool) (s : Stepping) (commits : List Commit) (m : Memory) →
+    (cond goes_on (going_on s commits m) (without_script s.name m)).fetches ≡ m.fetches
+same_fetches true s commits m = refl
+same_fetches false s commits m = refl
+
 -- a step of a script that runs, with the databases after it
 pub record Walk (name : List ℕ) (old : Clustered) (w : Walked) (new : Clustered) : Type 0 where
   pub started : Started
@@ -388,7 +424,7 @@ pub record Walk (name : List ℕ) (old : Clustered) (w : Walked) (new : Clustere
   pub given : new.given ≡ old.given
   pub scripts : new.memory.scripts ≡ scripts_behind w.goes_on name started old.memory.scripts
   pub switches : new.memory.switches ≡ old.memory.switches
-  pub queues : new.memory.queues ≡ old.memory.queues
+  pub held : new.memory.held ≡ old.memory.held
 
 pub ready_of : (w : World) (c : Clustered) → Follows w c → AreReady w c.bases
 ready_of w c follows = record { fits = follows.agrees.fits; sound = follows.sound; spelled = follows.spelled }
@@ -400,31 +436,36 @@ walk_goes name old went new walk w follows =
     (subst (FitsFound (find_named name w.memory.scripts)) walk.found (follows.agrees.memory.scripts name))
   where
     left : (goes_on : Bool) (run : Running) (commits : List Commit) → went.goes_on ≡ goes_on →
-        FitsRun run walk.started →
-        FitsMemory (cond goes_on (going_on (stepping name run walk.started) commits w.memory)
-        (without_script name w.memory)) new.memory
-    left goes_on run commits is here = record {
-      scripts = subst (FitsScripts (cond goes_on (going_on (stepping name run walk.started) commits w.memory)
-          (without_script name w.memory)).scripts)
-          (sym (walk.scripts ∙ ap (λ b. scripts_behind b name walk.started old.memory.scripts) is))
-          (fits_behind goes_on name run walk.started commits w old.memory.scripts
-          (here, follows.agrees.memory.scripts));
-      switches = same_switches goes_on (stepping name run walk.started) commits w.memory
-          ∙ follows.agrees.memory.switches ∙ sym walk.switches;
-      waits = subst (λ q. (other : List ℕ) → WaitsIn other (cond goes_on
-          (going_on (stepping name run walk.started) commits w.memory) (without_script name w.memory)) (get q other))
-          (sym walk.queues) (waits_as w.memory
-          (cond goes_on (going_on (stepping name run walk.started) commits w.memory)
-          (without_script name w.memory)) old.memory.queues
-          (same_queues goes_on (stepping name run walk.started) commits w.memory) follows.agrees.memory.waits);
-    }
+        FitsRun run walk.started × WereUp old.bases new.bases →
+        Remembers (cond goes_on (going_on (stepping name run walk.started) commits w.memory)
+        (without_script name w.memory)) new
+    left goes_on run commits is (here, were_up) =
+        let s = stepping name run walk.started in
+        let m = cond goes_on (going_on s commits w.memory) (without_script name w.memory) in
+        record {
+          fits = record {
+            scripts = subst (FitsScripts m.scripts)
+                (sym (walk.scripts ∙ ap (λ b. scripts_behind b name walk.started old.memory.scripts) is))
+                (fits_behind goes_on name run walk.started commits w old.memory.scripts
+                (here, follows.agrees.memory.scripts));
+            switches = same_switches goes_on s commits w.memory ∙ follows.agrees.memory.switches ∙ sym walk.switches;
+            waits = subst (λ q. (other : List ℕ) → WaitsIn other m (get q other)) (sym walk.held)
+                (waits_as w.memory m old.memory.held (same_queues goes_on s commits w.memory)
+                follows.agrees.memory.waits);
+          };
+          keeps = λ other up. subst (λ (q : Holdings). KeepsIn other m (get q other)) (sym walk.held)
+              (fetched_as other w.memory m (get old.memory.held other) (same_fetches goes_on s commits w.memory)
+              (follows.agrees.keeps other (were_up other up)));
+        }
 
     from : (run : Running) (o : Outcome) → outcome (ToStep name) w ≡ o →
         has_todo (find_named name w.memory.scripts) ≡ is_left run.todo →
-        FitsRun run walk.started → Fares (stepping name run walk.started) w o went new.bases →
-        ActsOn (ToStep name) w went.reply new
+        FitsRun run walk.started × WereUp old.bases new.bases →
+        Fares (stepping name run walk.started) w o went new.bases → ActsOn (ToStep name) w went.reply new
     from run o is todo here (Stood told memory fits) =
         let after = felled_moves o.falls o.memory (stand o.commits w) in
+        let kept = fits_kept o.memory (after_outcome o w).memory new after.memory
+        (subst (λ m. Remembers m new) (sym memory) (left went.goes_on run o.commits refl here)) in
         record {
           fate = AllStand;
           may = tt;
@@ -432,13 +473,15 @@ walk_goes name old went new walk w follows =
           agrees = subst (λ x. Agrees (after_outcome x w) new) (sym is) (record {
             limit = after.limit ∙ follows.agrees.limit ∙ sym walk.limit;
             fits = fits;
-            memory = fits_kept o.memory _ new.memory after.memory
-                (subst (λ m. FitsMemory m new.memory) (sym memory) (left went.goes_on run o.commits refl here));
+            memory = kept.fits;
+            keeps = kept.keeps;
           });
         }
     from run o is todo here (Broke other count ends told some can fits) =
         let m = without_script name w.memory in
         let after = broken_moves other count (find_named other w.places) m w in
+        let kept = fits_kept m (broken_at other count (find_named other w.places) (with_memory m w)).memory new
+        after.memory (left false run [] ends here) in
         record {
           fate = Breaks other count;
           may = (todo ∙ some, can);
@@ -446,12 +489,16 @@ walk_goes name old went new walk w follows =
           agrees = record {
             limit = after.limit ∙ follows.agrees.limit ∙ sym walk.limit;
             fits = subst (λ ps. FitsAll ps new.bases) after.places fits;
-            memory = fits_kept m _ new.memory after.memory (left false run [] ends here);
+            memory = kept.fits;
+            keeps = kept.keeps;
           };
         }
     from run o is todo here (Wavered before stands ends less told fits) =
         let m = without_script name w.memory in
-        let after = wavering_moves (drop before o.commits) stands m (stand (take before o.commits) w) in
+        let cs = o.commits in
+        let after = wavering_moves (drop before cs) stands m (stand (take before cs) w) in
+        let kept = fits_kept m (wavering (drop before cs) stands (stand (take before cs) (with_memory m w))).memory new
+        after.memory (left false run [] ends here) in
         record {
           fate = DoubtsAt before stands;
           may = subst (λ (x : Outcome). before < length x.commits) (sym is) less;
@@ -460,7 +507,8 @@ walk_goes name old went new walk w follows =
               (stand (take before x.commits) (with_memory m w))) new) (sym is) (record {
                 limit = after.limit ∙ follows.agrees.limit ∙ sym walk.limit;
                 fits = subst (λ ps. FitsAll ps new.bases) after.places fits;
-                memory = fits_kept m _ new.memory after.memory (left false run [] ends here);
+                memory = kept.fits;
+                keeps = kept.keeps;
               });
         }
 
@@ -468,8 +516,10 @@ walk_goes name old went new walk w follows =
         ActsOn (ToStep name) w went.reply new
     go None is f = absurd f
     go (Some run) is f =
-        from run (step_todo name run run.todo w) (ap (λ o. step_of name o w) is) (ap has_todo is) f
-        (walk.walks w name run (ready_of w old follows) f)
+        let o = step_todo name run run.todo w in
+        let fares = walk.walks w name run (ready_of w old follows) f in
+        from run o (ap (λ o. step_of name o w) is) (ap has_todo is)
+        (f, fares_up (stepping name run walk.started) w o old.bases went new.bases follows.agrees.fits fares) fares
 
 pub walk_acted : (name : List ℕ) (old : Clustered) (went : Walked) (new : Clustered) → Walk name old went new →
     Runs old.bases went.reply new.bases → IsActed (ToStep name) old went.reply new
@@ -486,9 +536,15 @@ pub none_fit : (scripts : Scripts) → scripts ≡ empty → FitsScripts [] scri
 none_fit scripts is name =
     subst (FitsFound None) (sym (ap (λ (m : Scripts). get m name) is ∙ get-empty key_cmp name)) tt
 
-pub none_wait : (queues : Queues) → queues ≡ empty → (name : List ℕ) → WaitsIn name no_memory (get queues name)
+pub none_wait : (queues : Holdings) → queues ≡ empty → (name : List ℕ) → WaitsIn name no_memory (get queues name)
 none_wait queues is name =
-    subst (WaitsIn name no_memory) (sym (ap (λ (m : Queues). get m name) is ∙ get-empty key_cmp name)) (λ origin. refl)
+    subst (WaitsIn name no_memory) (sym (ap (λ (m : Holdings). get m name) is ∙ get-empty key_cmp name))
+    (λ origin. refl)
+
+pub none_kept : (held : Holdings) → held ≡ empty → (name : List ℕ) → KeepsIn name no_memory (get held name)
+none_kept held is name =
+    subst (KeepsIn name no_memory) (sym (ap (λ (m : Holdings). get m name) is ∙ get-empty key_cmp name))
+    (λ origin. refl)
 
 -- ---- what the calls did
 
@@ -622,7 +678,7 @@ stepped_acted name old went left news scripts s is =
       given = refl;
       scripts = is;
       switches = refl;
-      queues = refl;
+      held = refl;
     }) (subst (λ bs. Runs bs went.reply news) s.same s.runs)
 
 -- the script ends

@@ -97,4 +97,4 @@ takes_up node origin w c follows x is = record {
 }
   where
     work : IsWork w origin x.seat x.event
-    work = (work_is node origin w x follows.regular is).work
+    work = work_is node origin w x follows.regular is

@@ -9,25 +9,26 @@ use Rattle.slon_model.specs.Deeds.{Node}
 use Rattle.slon_model.specs.Place.{Place}
 use Rattle.slon_model.specs.Sessions.{World, Memory, Running}
 use Rattle.slon_model.specs.Turns.{Switches, switches_of}
+use Rattle.slon_laws.specs.Fetches.{KeepFormed}
 use Rattle.slon_laws.specs.Sound.{Sound}
 use Rattle.slon_laws.specs.Spelled.{IsSpelled}
 use Rattle.slon_laws.specs.Worlds.{AllPlaces}
 use Rattle.stream_laws.specs.Facts.{IsRegular}
 use Rattle.app_store.specs.Base.{Base}
 use Rattle.slonik_exec.specs.Databases.{FitsAll}
-use Rattle.slon_turns.specs.Turning.{Queues, WaitsIn}
+use Rattle.slon_turns.specs.Holding.{Holdings, IsUpIn, KeepsIn, WaitsIn}
 use Rattle.cluster_engine.specs.declared.scripts.Started.{Started}
 
 -- the scripts that run, by their names
 abbrev pub Scripts : Type 0
 Scripts = FinMap key_cmp Started
 
--- What the code keeps of a session besides its databases: its scripts, what is switched, and the events that wait at
--- its nodes.
+-- What the code keeps of a session besides its databases: its scripts, what is switched, and what its nodes have in
+-- memory: the events that wait, and what was fetched of them.
 pub record Remembered : Type 0 where
   pub scripts : Scripts
   pub switches : Switches
-  pub queues : Queues
+  pub held : Holdings
 
 -- What the code keeps of a session: how many databases it allows, how many stores it was given, its databases in the
 -- order of their making, and the rest.
@@ -56,7 +57,7 @@ FitsScripts runs scripts = (name : List ℕ) → FitsFound (find_named name runs
 pub record FitsMemory (m : Memory) (r : Remembered) : Type 0 where
   pub scripts : FitsScripts m.scripts r.scripts
   pub switches : switches_of m ≡ r.switches
-  pub waits : (name : List ℕ) → WaitsIn name m (get r.queues name)
+  pub waits : (name : List ℕ) → WaitsIn name m (get r.held name)
 
 -- the sets that a node knows are live
 abbrev pub AreLive : Config → Type 0
@@ -76,6 +77,8 @@ pub record Agrees (w : World) (c : Clustered) : Type 0 where
   pub limit : w.limit ≡ c.limit
   pub fits : FitsAll w.places c.bases
   pub memory : FitsMemory w.memory c.memory
+  -- what was fetched, where no database of the name is down
+  pub keeps : (name : List ℕ) → IsUpIn name c.bases → KeepsIn name w.memory (get c.memory.held name)
 
 -- They do, and the session and each database of it have what each legal history leads to.
 pub record Follows (w : World) (c : Clustered) : Type 0 where
@@ -84,3 +87,4 @@ pub record Follows (w : World) (c : Clustered) : Type 0 where
   pub spelled : AllPlaces IsSpelled w
   pub regular : IsRegular w
   pub live : AllPlaces BeganLive w
+  pub formed : KeepFormed w

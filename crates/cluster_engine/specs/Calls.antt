@@ -63,10 +63,10 @@ happened command reply choice = record { command = command; reply = reply; choic
 
 -- ---- a command
 
--- what waits at a database that came up is gone
+-- what is held at a database that came up is gone
 abbrev pub recalled : List ℕ → Base → Base → Remembered → Remembered
 recalled name was now r =
-    record r { queues = if now.memory.up && not was.memory.up then remove r.queues name else r.queues }
+    record r { held = if now.memory.up && not was.memory.up then remove r.held name else r.held }
 
 -- the first database of the name is another
 abbrev pub with_base : List ℕ → Base → Base → Clustered → Clustered

@@ -14,6 +14,6 @@ cluster_of kept c =
       memory = record {
         scripts = c.scripts;
         switches = record { started = c.started.items; cuts = c.cuts.items };
-        queues = c.queues;
+        held = c.held;
       };
     }

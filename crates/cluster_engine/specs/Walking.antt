@@ -32,6 +32,7 @@ pub record LeavesScripts (old : Memory) (scripts : Scripts) (new : Memory) : Typ
   pub agree : FitsScripts new.scripts scripts
   pub switches : switches_of new ≡ switches_of old
   pub queues : new.queues ≡ old.queues
+  pub fetches : new.fetches ≡ old.fetches
 
 abbrev pub KeepsTo : Memory → Outcome → Reply → Scripts → Type 0
 KeepsTo old o reply new = IsQuietly o reply (LeavesScripts old new)

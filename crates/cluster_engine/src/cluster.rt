@@ -8,7 +8,7 @@ ghost use Rattle.slon_model.specs.declared.reply.Reply.TheVariants.{Accepted as 
 ghost use Rattle.slon_model.specs.Names.{find_named};
 ghost use Rattle.slon_model.specs.Spoken.{IsSpoken};
 ghost use Rattle.slon_model.specs.Tasks.{subject_of, ToRead, ToStep, ToForget, ToStart, ToStop, ToCut, ToJoin, ToSync};
-ghost use Rattle.slon_model.specs.Tasks.{ToListen, ToWork};
+ghost use Rattle.slon_model.specs.Tasks.{ToFetch, ToListen, ToWork};
 ghost use Rattle.store_rows.specs.Rows.{IsId};
 ghost use Rattle.slon_model.specs.World.{start};
 ghost use Rattle.app_store.specs.Base.{base_of};
@@ -18,22 +18,22 @@ ghost use Rattle.cluster_engine.specs.Calls as calls;
 ghost use Rattle.cluster_engine.specs.Calls.{Moves, IsActed, Steps, ReplyCaused, StaysCertain, StaysQuiet, Adopts};
 ghost use Rattle.cluster_engine.specs.Calls.{Makes, MakingReplyCaused, MakesCertain, is_one, is_reading, takes_none};
 ghost use Rattle.cluster_engine.specs.Clustered.{cluster_of};
+ghost use Rattle.cluster_engine.specs.Subscribing.{Subscribes, SubscribesMade};
 
 use crate::scripts::{Started, Walked, end_script, key_of, run_next, start_script};
 use crate::slons::{add_cut, add_slon, came_up, forget, remove_cut, remove_slon};
 use app_store::Database;
-use event_store::Queue;
 use node_keeper::{Fuse, Keeper};
 use slon_base::{ByteMap, Text};
 use slon_model::{Answer, Command, DbFault, Delivery, Reading, Refusal, Reply};
-use slon_turns::{Listen, Switched, Work, are_cut, take_poll, take_work};
+use slon_turns::{Aim, Held, Listen, Switched, Work, are_cut, take_poll, take_work};
 use slonik_exec::{
     Named, NoMemory, answered, has_node, index_of, index_of_node, refused, take_sync,
 };
 use std::alloc::{AllocError, Global};
 
 /// The databases of a session, in the order of their making, the scripts that run, which slons are on, which nodes are
-/// cut off from one another, and the events that wait at nodes.
+/// cut off from one another, the events that wait at nodes, and what nodes fetched of them.
 #[derive(Drop)]
 pub struct Cluster<K: Keeper> {
     alloc: Global,
@@ -46,8 +46,8 @@ pub struct Cluster<K: Keeper> {
     started: Vec<u32>,
     // The pairs of nodes that are cut off from one another.
     cuts: Vec<(u32, u32)>,
-    // The events that wait at the nodes of databases, by their names.
-    queues: ByteMap<Queue>,
+    // The events that wait at the nodes of databases, and what these fetched, by the names of the databases.
+    held: ByteMap<Held>,
 }
 
 /// Whether the store of a new database held a row.
@@ -81,7 +81,7 @@ impl<K: Keeper> Cluster<K> {
             scripts: ByteMap::new(alloc),
             started: Vec::new(alloc),
             cuts: Vec::new(alloc),
-            queues: ByteMap::new(alloc),
+            held: ByteMap::new(alloc),
         }
     }
 
@@ -119,7 +119,7 @@ impl<K: Keeper> Cluster<K> {
         Ok(Reply::Refused(Refusal::Full { limit: self.limit }))
     }
 
-    /// Has the database that the command names obey it. What waited at one that comes up is forgotten.
+    /// Has the database that the command names obey it. What was held at one that comes up is forgotten.
     fn ask(&mut self, command: &Command) -> Result<Reply, NoMemory>
         requires spoken { IsSpoken command.now }
         requires one { is_one (subject_of command.now) ≡ true }
@@ -137,7 +137,7 @@ impl<K: Keeper> Cluster<K> {
         let was_up = named.database.is_up();
         let served = named.database.obey(command);
         let risen = came_up(was_up, named.database.is_up());
-        forget(&mut self.queues, database, risen);
+        forget(&mut self.held, database, risen);
         match served {
             Ok(done) => answered(self.alloc, database, done),
             Err(fault) => refused(
@@ -198,7 +198,7 @@ impl<K: Keeper> Cluster<K> {
         Ok(Reply::Accepted(Answer::Done))
     }
 
-    /// Turns the slon of a node off, if a database is the node. What waited there is forgotten.
+    /// Turns the slon of a node off, if a database is the node. What was held there is forgotten.
     fn turn_off(&mut self, node: u32) -> Reply
         requires distinct { AreDistinct (cluster_of K.kept self.old).bases }
         ensures { IsActed (ToStop node) (cluster_of K.kept self.old) result (cluster_of K.kept self.new) }
@@ -206,7 +206,7 @@ impl<K: Keeper> Cluster<K> {
         let Some(i) = index_of_node(&self.databases, node) else {
             return Reply::Refused(Refusal::NoNode { node });
         };
-        forget(&mut self.queues, &self.databases[i].name, true);
+        forget(&mut self.held, &self.databases[i].name, true);
         remove_slon(&mut self.started, node);
         Reply::Accepted(Answer::Done)
     }
@@ -254,10 +254,29 @@ impl<K: Keeper> Cluster<K> {
         take_poll(
             self.alloc,
             &mut self.databases,
-            &mut self.queues,
+            &mut self.held,
             &self.started,
             listen,
         )
+    }
+
+    /// The slon of a node has its turn to fetch what comes with an event of an origin.
+    fn fetch(&mut self, node: u32, origin: u32) -> Result<Reply, NoMemory>
+        requires distinct { AreDistinct (cluster_of K.kept self.old).bases }
+        requires id { IsId origin }
+        ensures { IfOk result (λ reply. IsActed (ToFetch node origin) (cluster_of K.kept self.old) reply
+            (cluster_of K.kept self.new)) }
+    {
+        let on = Switched {
+            started: &self.started,
+            cuts: &self.cuts,
+        };
+        let work = Work {
+            node,
+            origin,
+            aim: Aim::Fetch,
+        };
+        take_work(self.alloc, &mut self.databases, &mut self.held, on, work)
     }
 
     /// The slon of a node has its turn to apply an event of an origin.
@@ -271,8 +290,12 @@ impl<K: Keeper> Cluster<K> {
             started: &self.started,
             cuts: &self.cuts,
         };
-        let work = Work { node, origin };
-        take_work(self.alloc, &mut self.databases, &mut self.queues, on, work)
+        let work = Work {
+            node,
+            origin,
+            aim: Aim::Apply,
+        };
+        take_work(self.alloc, &mut self.databases, &mut self.held, on, work)
     }
 
     /// Grants a new database, has a database that is there obey, steps and ends scripts, turns slons on and off and
@@ -300,6 +323,7 @@ impl<K: Keeper> Cluster<K> {
                 server,
                 delivery,
             } => self.listen(*node, *server, *delivery),
+            Command::Fetch { node, origin } => self.fetch(*node, *origin),
             Command::Work { node, origin } => self.work(*node, *origin),
             _ => self.ask(command),
         }
@@ -326,6 +350,8 @@ impl<K: Keeper> Cluster<K> {
         ensures quiet { IfOk result (λ reply. StaysQuiet reply (cluster_of K.kept self.old)
             (cluster_of K.kept self.new)) }
         ensures distinct { IfOk result (λ reply. AreDistinct (cluster_of K.kept self.new).bases) }
+        ensures subscribes { IfOk result (λ reply. Subscribes command (cluster_of K.kept self.old) reply
+            (cluster_of K.kept self.new)) }
         ensures spares { takes_none (subject_of command) ≡ true → is_ok result ≡ true }
     {
         match command {
@@ -361,6 +387,9 @@ impl<K: Keeper> Cluster<K> {
         ensures certain { IfOk result (λ reply. MakesCertain (K.kept keeper) (cluster_of K.kept self.old) reply
             (cluster_of K.kept self.new)) }
         ensures quiet { IfOk result (λ reply. StaysQuiet reply (cluster_of K.kept self.old)
+            (cluster_of K.kept self.new)) }
+        ensures subscribes { (K.kept keeper).held ≡ Some nothing →
+            IfOk result (λ reply. SubscribesMade name (cluster_of K.kept self.old) reply
             (cluster_of K.kept self.new)) }
         ensures distinct { find_named name (cluster_of K.kept self.old).bases ≡ None →
             AreDistinct (cluster_of K.kept self.old).bases →

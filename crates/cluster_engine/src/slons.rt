@@ -1,12 +1,12 @@
 // What a session switches: the nodes whose slon is on, and the pairs of nodes that are cut off from one another. There
-// are few of both, so each is looked for one by one. And the events that wait at nodes.
+// are few of both, so each is looked for one by one. And what nodes hold in
+// memory.
 ghost use Rattle.std.specs.Prelude.{◌≡◌, ◌&&◌, not, if◌then◌else◌, OnOk};
 ghost use Rattle.std.specs.FinMap.{remove};
 ghost use Rattle.slon_model.specs.Turns.{with_started, without_started, with_cut, without_cut};
 
-use event_store::Queue;
 use slon_base::{ByteMap, Text};
-use slon_turns::{are_cut, is_between};
+use slon_turns::{Held, are_cut, is_between};
 use std::alloc::AllocError;
 
 /// Adds a node, if it is not there.
@@ -50,11 +50,11 @@ pub(crate) fn came_up(was_up: bool, is_up: bool) -> bool
     is_up && !was_up
 }
 
-/// Takes away what waits at the database of this name, if that is gone.
-pub(crate) fn forget(queues: &mut ByteMap<Queue>, name: &Text, gone: bool)
-    ensures { queues.new ≡ (if gone then remove queues.old name.now else queues.old) }
+/// Takes away what is held at the database of this name, if that is gone.
+pub(crate) fn forget(held: &mut ByteMap<Held>, name: &Text, gone: bool)
+    ensures { held.new ≡ (if gone then remove held.old name.now else held.old) }
 {
     if gone {
-        let _queue = queues.remove(name.as_slice());
+        let _held = held.remove(name.as_slice());
     }
 }

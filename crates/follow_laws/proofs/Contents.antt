@@ -22,8 +22,8 @@ use Rattle.slon_laws.proofs.Played.{play_agrees_on}
 use Rattle.stream_laws.specs.Nodes.{IsAmong}
 use Rattle.stream_laws.proofs.Lists.{all_among}
 use Rattle.image_laws.specs.Deltas.{applied}
-use Rattle.follow_laws.specs.Contents.{actions_on}
-use Rattle.follow_laws.specs.Known.{AreRising}
+use Rattle.view_laws.specs.Contents.{actions_on}
+use Rattle.view_laws.specs.Known.{AreRising}
 
 -- ---- a table without actions since it was filled
 

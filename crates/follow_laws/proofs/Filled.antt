@@ -15,36 +15,44 @@ use Rattle.slon_model.specs.Events.{Event}
 use Rattle.slon_model.specs.Config.{Config, change_by, is_table_of, names_of, tables_of}
 use Rattle.slon_model.specs.Deeds.{Node, Brought, Knowledge, knowledge, nothing_brought}
 use Rattle.slon_model.specs.Deeds.{view_of, with_deeds}
-use Rattle.slon_model.specs.Following.{content, kept_from, set_sync, set_syncs, with_syncs}
+use Rattle.slon_model.specs.Following.{content, kept_from, set_sync, with_syncs}
 use Rattle.slon_model.specs.Logs.{logged}
 use Rattle.slon_model.specs.Place.{Filling, Place, filling_of, standing_rows, taken}
-use Rattle.slon_model.specs.Sessions.{committing}
+use Rattle.slon_model.specs.Maps.{Map}
+use Rattle.slon_model.specs.Sessions.{Seat, committing}
 use Rattle.slon_model.specs.Views.{View, first_view, view_after}
 use Rattle.slon_model.specs.Working.{Carried, Copying, ToCopy, errand_in}
 use Rattle.slon_model.proofs.Names.{all_map, bytes_same}
 use Rattle.slon_laws.specs.Sound.{Sound}
-use Rattle.slon_laws.proofs.Fillable.{work_unwritten}
-use Rattle.stream_laws.specs.Nodes.{IsAmong, nodes_in}
+use Rattle.slon_laws.proofs.Later.{HoldsOf}
+use Rattle.stream_laws.specs.Nodes.{IsAmong, nodes_in, node_in}
 use Rattle.stream_laws.specs.Applied.{applied_events}
-use Rattle.stream_laws.proofs.Copies.{IsCopy, IsFollowed}
+use Rattle.stream_laws.proofs.Copies.{Leading}
 use Rattle.stream_laws.proofs.Lists.{all_mapped, all_passed, among_all}
 use Rattle.stream_laws.proofs.Seats.{seat_node}
 use Rattle.image_laws.proofs.Logging.{among_filtered}
+use Rattle.image_laws.proofs.Staying.{Stays}
 use Rattle.image_laws.specs.Deltas.{applied}
-use Rattle.follow_laws.proofs.Doing.{IsTaken}
-use Rattle.follow_laws.specs.Contents.{actions_on}
-use Rattle.follow_laws.specs.Known.{AreFilled, IsEmitted, IsFilled}
-use Rattle.follow_laws.specs.Past.{Past, WasBefore, WasUpTo}
-use Rattle.follow_laws.proofs.Doing.{taking}
+use Rattle.image_laws.specs.Facts.{IsHeldBy}
+use Rattle.view_laws.proofs.Doing.{IsTaken, taking}
+use Rattle.view_laws.specs.Contents.{actions_on}
+use Rattle.follow_laws.specs.Filled.{AreFilled, IsFilled}
+use Rattle.view_laws.specs.Known.{IsEmitted}
+use Rattle.view_laws.specs.Past.{Past, WasBefore, WasUpTo}
 use Rattle.follow_laws.proofs.Contents.{AreBefore, content_syncs, covered_none, filled_stands, filling_by, synced}
 use Rattle.follow_laws.proofs.Contents.{filling_filled, rows_found, rows_none}
-use Rattle.follow_laws.proofs.Emitted.{emitted_in}
+use Rattle.view_laws.proofs.Brought.{IsCopied, IsSynced, was_then}
+use Rattle.view_laws.proofs.Emitted.{emitted_in, moment_of}
 use Rattle.follow_laws.proofs.Kept.{filled_later}
-use Rattle.follow_laws.proofs.Moments.{passes_covers, sound_now}
-use Rattle.follow_laws.proofs.Numbered.{among_map}
-use Rattle.follow_laws.proofs.Seen.{copied_seen, is_older, newer_seen, same_seen, seen_more}
-use Rattle.follow_laws.proofs.Synced.{Syncing, sync_leads, sync_of, synced_of}
-use Rattle.follow_laws.proofs.Tables.{KnownTable, entry_told, one_table, table_of}
+use Rattle.view_laws.proofs.Moments.{now_stays, passes_covers, sound_now}
+use Rattle.view_laws.proofs.Numbered.{among_map}
+use Rattle.view_laws.proofs.Seen.{copied_seen, copy_leads, is_older, newer_seen, same_seen, seen_more, stays_leading}
+use Rattle.follow_laws.proofs.Tabled.{table_then, tables_stay_known}
+use Rattle.view_laws.proofs.Unmoved.{copy_from, since, syncs_are, view_then}
+use Rattle.view_laws.proofs.Viewed.{seen_now}
+use Rattle.follow_laws.proofs.Synced.{Reading, Syncing, held_at, same_rows, sync_leads, sync_of, synced_of}
+use Rattle.follow_laws.proofs.Synced.{synced_table}
+use Rattle.view_laws.proofs.Tables.{KnownTable, entry_told, held_then, one_table, table_of}
 
 -- ---- what a table is filled with by an event
 
@@ -52,7 +60,7 @@ use Rattle.follow_laws.proofs.Tables.{KnownTable, entry_told, one_table, table_o
 pub record Taking (t : Past) : Type 0 where
   pub carried : Carried
   pub origin : ℕ
-  pub is : IsTaken t.world origin carried
+  pub is : IsTaken t origin carried
   -- what held before
   pub filled : AreFilled (WasBefore t) carried.seat.place
 
@@ -74,7 +82,7 @@ filling_then : (t : Past) (k : Taking t) (table : List ℕ) →
     (find_named table k.carried.brought.rows)
 filling_then t k table =
     filling_filled k.carried.seat.place k.carried.brought.rows k.carried.seat.place.fillings table
-    (work_unwritten k.is.by k.origin t.world k.carried k.is.turn)
+    k.is.unwritten
 
 -- no action is behind it
 before_then : (t : Past) (k : Taking t) (table : List ℕ) →
@@ -151,13 +159,31 @@ copy_body own true origin Sync c asked d number = refl
 copy_body own false origin Sync c asked d number = refl
 copy_body own receives origin others c asked d number = absurd cc
 
+-- the node that leads a set that is copied
+abbrev copy_leader : (t : Past) (s : Seat) (e : Event) (b : Brought) (c : IsCopied t s e b) →
+    (leader : Leading (nodes_in t.world.places) c.copy.copying.set_id) × (leader.node.id ≡ e.origin)
+copy_leader t s e b c =
+    let p = c.copy.provider in
+    let now = now_stays t c.at.to.world (was_then c.at) p.name p.place p.node c.copy.seat.found c.copy.seat.node in (
+      record {
+        name = p.name;
+        node = now.2.node;
+        is = ap node_in now.1 ∙ now.2.is;
+        leads = (stays_leading p.node now.0 now.2.node now.2 now.2.is c.copy.copying.set_id
+            (copy_leads c.at.to.world c.at.seat e c.found c.copy).0).0;
+      },
+      now.2.id ∙ copy_from t s e b c,
+    )
+
 -- a table of the set that is copied
-pub copy_filled : (t : Past) (k : Taking t) (c : IsCopy t.world k.carried.seat k.carried.event k.carried.brought)
-    (e : ℕ × TableRow) → IsAmong e (knowledge k.carried.seat.node).config.tables → e.1.set_id ≡ c.copying.set_id →
-    IsFilled (WasUpTo t) (place_then k) (node_then k) c.copying.set_id
-    (first_view c.copying.era c.provider.node.id k.carried.event.number (taken c.provider.place)) e.1.name
+pub copy_filled : (t : Past) (k : Taking t) (c : IsCopied t k.carried.seat k.carried.event k.carried.brought)
+    (e : ℕ × TableRow) → IsAmong e (knowledge k.carried.seat.node).config.tables →
+    e.1.set_id ≡ c.copy.copying.set_id →
+    IsFilled (WasUpTo t) (place_then k) (node_then k) c.copy.copying.set_id
+    (first_view c.copy.copying.era c.copy.provider.node.id k.carried.event.number (taken c.copy.provider.place))
+    e.1.name
 copy_filled t k c e among same = record {
-  seen = copied_seen t k.carried.seat k.carried.event k.carried.brought k.is.work.event c (node_then k)
+  seen = copied_seen t k.carried.seat k.carried.event k.carried.brought k.is.work.seat c (node_then k)
       (refl, inl refl);
   rows = ap (λ (f : Filling). f.rows) filling;
   before =
@@ -169,154 +195,242 @@ copy_filled t k c e among same = record {
     p : Place
     p = k.carried.seat.place
 
-    own : nodes_in t.world.places k.carried.seat.name ≡ Some k.carried.seat.node
-    own = seat_node t.world.places k.carried.seat k.is.work.seat
+    set : ℕ
+    set = c.copy.copying.set_id
+
+    then : Seat
+    then = c.at.seat
 
     known : KnownTable t
     known = record {
       name = k.carried.seat.name;
       node = k.carried.seat.node;
-      is = own;
+      is = seat_node t.world.places k.carried.seat k.is.work.seat;
       entry = e;
       among = among;
     }
 
-    named : IsAmong e.1.name (names_of c.copying.set_id k.carried.seat.known.config)
-    named =
-        subst (λ (j : Knowledge). IsAmong e.1.name (names_of c.copying.set_id j.config)) (sym k.is.work.seat.known)
-        (among_map (λ (f : ℕ × TableRow). f.1.name) e
-        (tables_of c.copying.set_id (knowledge k.carried.seat.node).config)
-        (among_filtered (is_table_of c.copying.set_id) e (knowledge k.carried.seat.node).config.tables among
-        (and_from e.1.live (e.1.set_id == c.copying.set_id) (entry_told t known).live
-        (eq-eqb e.1.set_id c.copying.set_id same))))
+    -- the node knew it as it copied the set
+    was : IsAmong e (knowledge then.node).config.tables
+    was =
+        table_then t (since k.origin k.carried k.is c.at) e among
+        (subst (λ i. (leader : Leading (nodes_in t.world.places) i) × (leader.node.id ≡ k.carried.event.origin))
+        (sym same) (copy_leader t k.carried.seat k.carried.event k.carried.brought c))
 
-    rows : find_named e.1.name k.carried.brought.rows ≡ Some (standing_rows c.provider.place e.1.name)
+    named : IsAmong e.1.name (names_of set then.known.config)
+    named =
+        subst (λ (j : Knowledge). IsAmong e.1.name (names_of set j.config)) (sym c.at.work.seat.known)
+        (among_map (λ (f : ℕ × TableRow). f.1.name) e (tables_of set (knowledge then.node).config)
+        (among_filtered (is_table_of set) e (knowledge then.node).config.tables was
+        (and_from e.1.live (e.1.set_id == set) (entry_told t known).live (eq-eqb e.1.set_id set same))))
+
+    rows : find_named e.1.name k.carried.brought.rows ≡ Some (standing_rows c.copy.provider.place e.1.name)
     rows =
         ap (λ (b : Brought). find_named e.1.name b.rows) c.is
-        ∙ rows_found c.provider.place e.1.name (names_of c.copying.set_id k.carried.seat.known.config) named
+        ∙ rows_found c.copy.provider.place e.1.name (names_of set then.known.config) named
 
     filling : filling_of e.1.name (place_then k).fillings
-        ≡ record { first = p.numbers.next; rows = standing_rows c.provider.place e.1.name }
+        ≡ record { first = p.numbers.next; rows = standing_rows c.copy.provider.place e.1.name }
     filling =
         filling_then t k e.1.name ∙ ap (filling_by p (filling_of e.1.name p.fillings)) rows
 
 -- a table of another set
-pub copy_beside : (t : Past) (k : Taking t) (c : IsCopy t.world k.carried.seat k.carried.event k.carried.brought)
-    (e : ℕ × TableRow) → IsAmong e (knowledge k.carried.seat.node).config.tables → e.1.set_id ≢ c.copying.set_id →
+pub copy_beside : (t : Past) (k : Taking t) (c : IsCopied t k.carried.seat k.carried.event k.carried.brought)
+    (e : ℕ × TableRow) → IsAmong e (knowledge k.carried.seat.node).config.tables →
+    e.1.set_id ≢ c.copy.copying.set_id →
     content k.carried.seat.place k.carried.brought.rows e.1.name ≡ standing_rows k.carried.seat.place e.1.name
 copy_beside t k c e among apart =
     ap (λ o. unwrap_or o (standing_rows k.carried.seat.place e.1.name))
     (ap (λ (b : Brought). find_named e.1.name b.rows) c.is
-    ∙ rows_none c.provider.place e.1.name (names_of set k.carried.seat.known.config)
+    ∙ rows_none c.copy.provider.place e.1.name (names_of set then.known.config)
     (subst (λ (j : Knowledge). AllByRecursion (λ name. bytes_eq e.1.name name ≡ false) (names_of set j.config))
-    (sym k.is.work.seat.known)
+    (sym c.at.work.seat.known)
     (all_mapped (λ (f : ℕ × TableRow). bytes_eq e.1.name f.1.name ≡ false) (λ name. bytes_eq e.1.name name ≡ false)
     (λ f. f.1.name) (λ f is. is) (tables_of set c0)
     (all_passed (λ f. IsAmong f c0.tables) (λ f. bytes_eq e.1.name f.1.name ≡ false) (is_table_of set) other c0.tables
     (among_all (λ f. IsAmong f c0.tables) c0.tables (λ f among. among))))))
   where
     set : ℕ
-    set = c.copying.set_id
+    set = c.copy.copying.set_id
+
+    then : Seat
+    then = c.at.seat
 
     c0 : Config
-    c0 = (knowledge k.carried.seat.node).config
+    c0 = (knowledge then.node).config
 
     own : nodes_in t.world.places k.carried.seat.name ≡ Some k.carried.seat.node
     own = seat_node t.world.places k.carried.seat k.is.work.seat
 
-    known : (f : ℕ × TableRow) → IsAmong f c0.tables → KnownTable t
+    known : (f : ℕ × TableRow) → IsAmong f (knowledge k.carried.seat.node).config.tables → KnownTable t
     known f among =
         record { name = k.carried.seat.name; node = k.carried.seat.node; is = own; entry = f; among = among }
 
     other : (f : ℕ × TableRow) → IsAmong f c0.tables → is_table_of set f ≡ true → bytes_eq e.1.name f.1.name ≡ false
     other f there on =
-        false_from_ne_true _ (λ same. apart ((one_table t (table_of t (known e among)) (table_of t (known f there))
+        let now = tables_stay_known t k.carried.seat k.carried.event c.at k.is.work.seat f there in
+        false_from_ne_true _ (λ same. apart ((one_table t (table_of t (known e among)) (table_of t (known f now))
         (bytes_same e.1.name f.1.name same)).0
         ∙ eqb-true f.1.set_id set (and_parts f.1.live (f.1.set_id == set) on).1))
 
 -- ---- a SYNC
 
-abbrev pub syncing : (t : Past) (k : Taking t) → IsFollowed t.world k.carried.seat k.carried.event k.carried.brought →
-    (e : ℕ × TableRow) → IsAmong e (knowledge k.carried.seat.node).config.tables → (v : View) →
-    view_of e.1.set_id (knowledge k.carried.seat.node) ≡ Some v → Syncing t
-syncing t k f e among v found =
+-- what is read beside a table that the node knows
+abbrev pub reading : (t : Past) (k : Taking t) → IsSynced t k.carried.seat k.carried.event k.carried.brought →
+    (e : ℕ × TableRow) → IsAmong e (knowledge k.carried.seat.node).config.tables → Reading t
+reading t k y e among =
     record {
-      carried = k.carried;
-      origin = k.origin;
-      is = k.is;
-      follows = f;
-      entry = e;
-      among = among;
-      view = v;
-      found = found;
-      seen = (was_filled t k e among v found).seen;
+      table = record {
+        name = k.carried.seat.name;
+        node = k.carried.seat.node;
+        is = seat_node t.world.places k.carried.seat k.is.work.seat;
+        entry = e;
+        among = among;
+      };
+      own = y.at.seat.node.id;
+      known = knowledge y.at.seat.node;
+      later = λ f there. tables_stay_known t k.carried.seat k.carried.event y.at k.is.work.seat f there;
+      event = k.carried.event;
+      log = logged y.follows.provider.node;
     }
 
+-- the sets of the origin that the node keeps
+abbrev pub kept_then : (t : Past) (k : Taking t) → IsSynced t k.carried.seat k.carried.event k.carried.brought →
+    Map View
+kept_then t k y = kept_from k.carried.event.origin (knowledge y.at.seat.node)
+
 -- the content of a table behind it
-pub sync_content : (t : Past) (k : Taking t) (f : IsFollowed t.world k.carried.seat k.carried.event k.carried.brought)
+pub sync_content : (t : Past) (k : Taking t) (y : IsSynced t k.carried.seat k.carried.event k.carried.brought)
     (table : List ℕ) →
     content k.carried.seat.place k.carried.brought.rows table
-    ≡ synced table (map (set_sync k.carried.seat.node.id (knowledge k.carried.seat.node) k.carried.event
-    (logged f.provider.node)) (kept_from k.carried.event.origin (knowledge k.carried.seat.node)))
-    (standing_rows k.carried.seat.place table)
-sync_content t k f table =
-    ap (λ (b : Brought). content here b.rows table) f.is
-    ∙ ap (λ (j : Knowledge). content here
-    (with_syncs here (set_syncs k.carried.seat.node.id j k.carried.event (logged f.provider.node)) nothing_brought).rows
-    table) k.is.work.seat.known
-    ∙ content_syncs here table (set_syncs k.carried.seat.node.id (knowledge k.carried.seat.node) k.carried.event
-    (logged f.provider.node)) nothing_brought
+    ≡ synced table (map (set_sync y.at.seat.node.id (knowledge y.at.seat.node) k.carried.event
+    (logged y.follows.provider.node)) (kept_then t k y)) (standing_rows k.carried.seat.place table)
+sync_content t k y table =
+    ap (λ (b : Brought). content here b.rows table) y.is
+    ∙ ap (λ ts. content here (with_syncs here ts nothing_brought).rows table)
+    (syncs_are t k.origin k.carried k.is y)
+    ∙ content_syncs here table (map (set_sync y.at.seat.node.id (knowledge y.at.seat.node) k.carried.event
+    (logged y.follows.provider.node)) (kept_then t k y)) nothing_brought
   where
     here : Place
     here = k.carried.seat.place
 
 -- a table of a set of its origin
-pub sync_filled : (t : Past) (k : Taking t) (f : IsFollowed t.world k.carried.seat k.carried.event k.carried.brought)
+pub sync_filled : (t : Past) (k : Taking t) (y : IsSynced t k.carried.seat k.carried.event k.carried.brought)
     (e : ℕ × TableRow) (among : IsAmong e (knowledge k.carried.seat.node).config.tables) (v : View) →
     view_of e.1.set_id (knowledge k.carried.seat.node) ≡ Some v → v.origin ≡ k.carried.event.origin →
     FilledThen k e (view_after k.carried.event v)
-sync_filled t k f e among v found from = by (covers v.seen event.taken) refl
+sync_filled t k y e among v found from = by (covers v.seen event.taken) refl
   where
     event : Event
     event = k.carried.event
 
+    then : Past
+    then = y.at.to
+
+    n : Node
+    n = y.at.seat.node
+
+    own : nodes_in then.world.places y.at.seat.name ≡ Some n
+    own = seat_node then.world.places y.at.seat y.at.work.seat
+
     was : IsFilled (WasUpTo t) k.carried.seat.place k.carried.seat.node e.1.set_id v e.1.name
     was = was_filled t k e among v found
 
-    y : Syncing t
-    y = syncing t k f e among v found
+    -- the node that leads the set
+    leader : HoldsOf (Stays was.seen.moment.node) was.seen.moment.name t.world.places
+    leader = now_stays t was.seen.moment.session was.seen.moment.was was.seen.moment.name was.seen.moment.place
+        was.seen.moment.node was.seen.moment.found was.seen.moment.at
 
-    emitted : IsEmitted (WasUpTo t) event
-    emitted = emitted_in t event k.is.work.event
+    -- the view and the table, as the log was read
+    found_then : view_of e.1.set_id (knowledge n) ≡ Some v
+    found_then = view_then t (since k.origin k.carried k.is y.at) e.1.set_id v found from
+
+    among_then : IsAmong e (knowledge n).config.tables
+    among_then =
+        table_then t (since k.origin k.carried k.is y.at) e among (
+          record {
+            name = was.seen.moment.name;
+            node = leader.2.node;
+            is = ap node_in leader.1 ∙ leader.2.is;
+            leads = (stays_leading was.seen.moment.node leader.0 leader.2.node leader.2 leader.2.is e.1.set_id
+                was.seen.leads).0;
+          },
+          leader.2.id ∙ was.seen.own ∙ from,
+        )
+
+    z : Syncing then
+    z = record {
+      seat = y.at.seat;
+      event = event;
+      is = y.at.work.seat;
+      read = y.found;
+      follows = y.follows;
+      entry = e;
+      among = among_then;
+      view = v;
+      found = found_then;
+      seen = seen_now then y.at.seat.name n own e.1.set_id v found_then;
+    }
+
+    emitted : IsEmitted (WasUpTo then) event
+    emitted = emitted_in then event y.at.work.event
+
+    emitted_now : IsEmitted (WasUpTo t) event
+    emitted_now = record {
+      moment = moment_of (WasUpTo then) (WasUpTo t) y.at.earlier emitted.moment;
+      own = emitted.own;
+      taken = emitted.taken;
+    }
 
     actions : List Action
-    actions = actions_on e.1.name (sync_of y (e.1.set_id, v)).rows
+    actions = actions_on e.1.name (sync_of z (e.1.set_id, v)).rows
+
+    known : KnownTable t
+    known = (reading t k y e among).table
+
+    held : IsHeldBy z.seen.moment.node.id (knowledge z.seen.moment.node).config e.1.set_id e.1.name
+    held = held_then then (synced_table z) v z.seen
+
+    -- what the table held at the origin at the two moments with the snapshot of the view
+    same : standing_rows was.seen.moment.place e.1.name ≡ standing_rows z.seen.moment.place e.1.name
+    same =
+        same_rows t e.1.set_id e.1.name v (held_at t known v was.seen) (record {
+          moment = moment_of (WasUpTo then) (WasUpTo t) y.at.earlier z.seen.moment;
+          own = z.seen.own;
+          seen = z.seen.seen;
+          era = z.seen.era;
+          held = held;
+        })
 
     -- its rows are those of before with what was taken
     now : (filling_of e.1.name (place_then k).fillings).rows
         ≡ applied actions (standing_rows was.seen.moment.place e.1.name)
     now =
-        rows_then t k e.1.name was.before ∙ sync_content t k f e.1.name
-        ∙ synced_of t y from (standing_rows k.carried.seat.place e.1.name)
+        rows_then t k e.1.name was.before ∙ sync_content t k y e.1.name
+        ∙ synced_of then z from (standing_rows k.carried.seat.place e.1.name)
         ∙ ap (applied actions) (filled_stands k.carried.seat.place e.1.name was.before ∙ was.rows)
 
     by : (b : Bool) → covers v.seen event.taken ≡ b →
         FilledThen k e (record v { number = event.number; seen = cond b v.seen event.taken })
-    by true same = record {
+    by true covered = record {
       seen = same_seen (WasUpTo t) (node_then k) e.1.set_id v event.number
           (seen_more (WasUpTo t) k.carried.seat.node (node_then k) refl (more_then t k) e.1.set_id v was.seen);
       rows =
           now ∙ ap (λ ls. applied (actions_on e.1.name ls) (standing_rows was.seen.moment.place e.1.name))
-          (covered_none event.origin _ v.seen event.taken (logged f.provider.node)
-          (passes_covers v.seen event.taken same));
+          (covered_none event.origin _ v.seen event.taken (logged y.follows.provider.node)
+          (passes_covers v.seen event.taken covered));
       before = before_then t k e.1.name was.before;
     }
     by false differ =
-        let later = is_older t k.carried.seat.node e.1.set_id v event (emitted, sym from) was.seen differ in
+        let later = is_older t k.carried.seat.node e.1.set_id v event (emitted_now, sym from) was.seen differ in
         record {
-          seen = newer_seen (WasUpTo t) (node_then k) e.1.set_id v event (emitted, sym from)
+          seen = newer_seen (WasUpTo t) (node_then k) e.1.set_id v event (emitted_now, sym from)
               (seen_more (WasUpTo t) k.carried.seat.node (node_then k) refl (more_then t k) e.1.set_id v was.seen)
               later;
-          rows = now ∙ sync_leads t y from emitted later;
+          rows =
+              now ∙ ap (applied actions) same
+              ∙ sync_leads then z from emitted
+              (is_older then n e.1.set_id v event (emitted, sym from) z.seen differ);
           before = before_then t k e.1.name was.before;
         }

@@ -1,78 +1,57 @@
 -- Each table that a node keeps holds what the snapshot that the node keeps sees of it at the origin.
-use Rattle.std.proofs.Common.{◌≡◌, ◌≢◌, ◌⊎◌, inl, inr, ℕ, true, List, [], ◌∷◌, Option, Some, None}
-use Rattle.std.proofs.Common.{refl, sym, ap, subst, ◌∙◌, map}
-use Rattle.std.specs.Prelude.{◌==◌, ◌+◌, option_map}
+use Rattle.std.proofs.Common.{◌≡◌, ◌≢◌, ◌⊎◌, inl, inr, ℕ, true, List, [], ◌∷◌, Option, Some, None, refl, sym, ap}
+use Rattle.std.proofs.Common.{subst, ◌∙◌}
+use Rattle.std.specs.Prelude.{◌+◌, option_map}
 use Rattle.std.specs.Option.{option_or}
 use Rattle.std.specs.List.{AllByRecursion}
-use Rattle.std.proofs.lemmas.Bool.{true≢false, and_parts, eqb-true}
+use Rattle.std.proofs.lemmas.Bool.{true≢false}
 use Rattle.node_rows.specs.declared.rows.TableRow.{TableRow}
-use Rattle.slon_model.specs.Maps.{Map, entry_at}
+use Rattle.slon_model.specs.Maps.{entry_at}
 use Rattle.slon_model.specs.Events.{Event}
-use Rattle.slon_model.specs.Config.{Config, era_of, is_origin, is_table_of, names_of, tables_of}
+use Rattle.slon_model.specs.Config.{era_of, is_origin}
 use Rattle.slon_model.specs.Deciding.{closed_at, decide, move_of}
 use Rattle.slon_model.specs.Deeds.{Node, Brought, Emits, Hears as HearsOf, Knowledge, brought_in, knowledge}
 use Rattle.slon_model.specs.Deeds.{nothing_brought, view_of, with_deeds}
 use Rattle.slon_model.specs.Eras.{image_in}
-use Rattle.slon_model.specs.Following.{SetSync, content, kept_from, set_sync, set_syncs, with_sync, with_syncs}
-use Rattle.slon_model.specs.Logs.{logged}
+use Rattle.slon_model.specs.Following.{SetSync, content}
 use Rattle.slon_model.specs.Moves.{Move, done, prepared, with_commit}
 use Rattle.slon_model.specs.Place.{Place, deed, doubted, fallen, filled_by, filling_of, standing_rows, taken}
 use Rattle.slon_model.specs.Tasks.{Task}
 use Rattle.slon_model.specs.Sessions.{World, Commit, Emission, Seat, committing, emissions, next_event}
 use Rattle.slon_model.specs.Views.{View, first_view, view_after}
 use Rattle.slon_model.specs.Working.{receives_from}
-use Rattle.slon_model.proofs.Names.{all_found, one_found}
+use Rattle.slon_model.proofs.Names.{all_found, all_map, one_found}
 use Rattle.slon_laws.proofs.Later.{HoldsOf}
 use Rattle.stream_laws.specs.Nodes.{IsAmong, nodes_in, node_in}
 use Rattle.stream_laws.specs.Applied.{applied_events}
-use Rattle.stream_laws.proofs.Copies.{IsBrought, Nothing, Copies, Brings}
-use Rattle.stream_laws.proofs.Lists.{all_among, all_appended, all_mapped, among_all}
+use Rattle.stream_laws.proofs.Lists.{all_among, all_appended}
 use Rattle.stream_laws.proofs.Seats.{seat_node}
 use Rattle.stream_laws.proofs.Steps.{Logs, done_logs, prepared_node}
 use Rattle.image_laws.specs.Facts.{IsHeldBy}
-use Rattle.image_laws.proofs.Logging.{filtered_among}
 use Rattle.image_laws.proofs.Since.{prepared_fillings, prepared_same}
-use Rattle.follow_laws.specs.Known.{AreFilled, IsFilled}
+use Rattle.follow_laws.specs.Filled.{AreFilled, IsFilled}
 use Rattle.follow_laws.specs.Laws.{HoldsAsSeen, TablesFollow}
-use Rattle.follow_laws.specs.Past.{Past, past, WasBefore, WasUpTo}
-use Rattle.follow_laws.proofs.Doing.{Becomes, Does, DoesBecome, DoesHear, DoesTake, DoesTell, Hears, Takes, Tells}
-use Rattle.follow_laws.proofs.Doing.{taking}
+use Rattle.view_laws.specs.Past.{Past, past, WasBefore, WasUpTo}
+use Rattle.view_laws.proofs.Doing.{Becomes, Does, DoesBecome, DoesHear, DoesTake, DoesTell, Hears, Takes, Tells}
+use Rattle.view_laws.proofs.Doing.{taking}
 use Rattle.follow_laws.proofs.Contents.{AreBefore, filled_stands, none_filled}
-use Rattle.follow_laws.proofs.Filled.{Taking, copy_beside, copy_body, copy_filled, node_then, place_then, still_filled}
-use Rattle.follow_laws.proofs.Filled.{sync_content, sync_filled, syncing}
-use Rattle.follow_laws.proofs.Going.{rising_now, seen_now}
-use Rattle.follow_laws.proofs.Living.{does_node, event_of}
-use Rattle.follow_laws.proofs.Staying.{Stays}
-use Rattle.follow_laws.proofs.Kept.{IsAhead}
-use Rattle.follow_laws.proofs.Kept.{done_before, done_fillings, filled_later, kept_closed, other_leads, same_filled}
-use Rattle.follow_laws.proofs.Kept.{takes_known, tells_ahead}
-use Rattle.follow_laws.proofs.Moments.{NodeAt, now_stays}
-use Rattle.follow_laws.proofs.Numbered.{mapped_among}
+use Rattle.follow_laws.proofs.Filled.{Taking, copy_beside, copy_body, copy_filled, node_then, place_then}
+use Rattle.follow_laws.proofs.Filled.{still_filled, kept_then, reading, sync_content, sync_filled}
+use Rattle.view_laws.proofs.Brought.{IsBrought, IsKept, Nothing, Copies, Brings}
+use Rattle.view_laws.proofs.Viewed.{rising_now, seen_now}
+use Rattle.view_laws.proofs.Living.{does_node, event_of}
+use Rattle.image_laws.proofs.Staying.{Stays}
+use Rattle.follow_laws.proofs.Kept.{IsAhead, done_before, done_fillings, filled_later, kept_closed, other_leads}
+use Rattle.follow_laws.proofs.Kept.{same_filled, takes_known, tells_ahead}
+use Rattle.view_laws.proofs.Moments.{NodeAt, now_stays}
 use Rattle.follow_laws.proofs.Opened.{open_move}
-use Rattle.follow_laws.proofs.Rising.{found_in, stands_found}
-use Rattle.follow_laws.proofs.Seen.{seen_more, syncs_seen}
-use Rattle.follow_laws.proofs.Synced.{Today, held_today, image_then, synced_nothing}
-use Rattle.follow_laws.proofs.Tables.{held_then}
-use Rattle.follow_laws.proofs.Walking.{IsHere, LivesOn, lives_in}
-
--- ---- the views that are brought
-
--- what holds of all views that a SYNC brings holds of each set that is synced
-views_before : (P : ℕ × View → Type 0) (here : Place) (ts : List SetSync) (b : Brought) →
-    AllByRecursion P (with_syncs here ts b).views → AllByRecursion P b.views
-views_before P here [] b all = all
-views_before P here (t ∷ more) b all = (views_before P here more (with_sync here t b) all).1
-
-pub views_synced : (P : ℕ × View → Type 0) (here : Place) (ts : List SetSync) (b : Brought) →
-    AllByRecursion P (with_syncs here ts b).views → AllByRecursion (λ t. P (t.set_id, t.view)) ts
-views_synced P here [] b all = tt
-views_synced P here (t ∷ more) b all =
-    ((views_before P here more (with_sync here t b) all).0, views_synced P here more (with_sync here t b) all)
-
-pub all_unmapped : {X Y : Type 0} (P : Y → Type 0) (f : X → Y) (xs : List X) → AllByRecursion P (map f xs) →
-    AllByRecursion (λ x. P (f x)) xs
-all_unmapped P f [] all = tt
-all_unmapped P f (x ∷ xs) all = (all.0, all_unmapped P f xs all.1)
+use Rattle.view_laws.proofs.Rising.{found_in, stands_found}
+use Rattle.view_laws.proofs.Seen.{seen_more, syncs_seen}
+use Rattle.view_laws.proofs.Tables.{Today, held_today, held_then, moment_today}
+use Rattle.follow_laws.proofs.Synced.{image_then, synced_nothing}
+use Rattle.view_laws.proofs.Agreeing.{table_known}
+use Rattle.view_laws.proofs.Unmoved.{none_kept}
+use Rattle.view_laws.proofs.Walking.{IsHere, LivesOn, lives_in}
 
 -- ---- an event
 
@@ -98,26 +77,26 @@ takes_filled t k e among v found =
     Kept = (entry_at e.1.set_id (knowledge n).views ≡ Some v)
         × AllByRecursion (λ u. u.0 ≢ e.1.set_id) k.carried.brought.views
 
-    by : IsBrought t.world k.carried.seat event k.carried.brought →
+    by : IsBrought t k.carried.seat event k.carried.brought →
         IsAmong (e.1.set_id, v) k.carried.brought.views ⊎ Kept →
         IsFilled (WasUpTo t) (place_then k) (node_then k) e.1.set_id v e.1.name
-    by (Nothing none) (inl new) =
-        absurd (subst (λ (b : Brought). IsAmong (e.1.set_id, v) b.views) none new)
-    by (Nothing none) (inr old) =
+    by (Nothing s) (inl new) =
+        absurd (subst (λ (b : Brought). IsAmong (e.1.set_id, v) b.views) s.none new)
+    by (Nothing s) (inr old) =
         still_filled t k e (known_before t k e v old.0 among) v old.0
-        (ap (λ (b : Brought). content k.carried.seat.place b.rows e.1.name) none)
+        (ap (λ (b : Brought). content k.carried.seat.place b.rows e.1.name) s.none)
     by (Copies c) (inl new) = copied (subst (λ (b : Brought). IsAmong (e.1.set_id, v) b.views) c.is new)
       where
         first : ℕ × View
         first = (
-          c.copying.set_id,
-          first_view c.copying.era c.provider.node.id event.number (taken c.provider.place),
+          c.copy.copying.set_id,
+          first_view c.copy.copying.era c.copy.provider.node.id event.number (taken c.copy.provider.place),
         )
 
         there : IsAmong e (knowledge n).config.tables
         there =
-            subst (IsAmong e) (copy_body n.id (receives_from event.origin k.carried.seat.known) event.origin event.body
-            c.copying c.asked (knowledge n).config event.number) among
+            subst (IsAmong e) (copy_body c.at.seat.node.id (receives_from event.origin c.at.seat.known) event.origin
+            event.body c.copy.copying c.copy.asked (knowledge n).config event.number) among
 
         copied : IsAmong (e.1.set_id, v) (first ∷ []) →
             IsFilled (WasUpTo t) (place_then k) (node_then k) e.1.set_id v e.1.name
@@ -129,46 +108,36 @@ takes_filled t k e among v found =
         let there = known_before t k e v old.0 among in
         let apart = subst (λ (b : Brought). AllByRecursion (λ u. u.0 ≢ e.1.set_id) b.views) c.is old.1 in
         still_filled t k e there v old.0 (copy_beside t k c e there (λ same. apart.0 (sym same)))
-    by (Brings f) (inl new) =
+    by (Brings y) (inl new) =
         let of = all_among P (e.1.set_id, v) k.carried.brought.views views new in
-        let was = filtered_among (λ u. u.1.origin == event.origin) (e.1.set_id, of.0) (knowledge n).views of.1 in
-        let here = stands_found e.1.set_id of.0 (knowledge n).views (rising_now t k.carried.seat.name n own) was.0 in
-        subst (λ u. IsFilled (WasUpTo t) (place_then k) (node_then k) e.1.set_id u e.1.name) (sym of.2)
-        (sync_filled t k f e (known_before t k e of.0 here among) of.0 here
-        (eqb-true of.0.origin event.origin was.1))
+        let here = stands_found e.1.set_id of.0 (knowledge n).views (rising_now t k.carried.seat.name n own) of.1 in
+        subst (λ u. IsFilled (WasUpTo t) (place_then k) (node_then k) e.1.set_id u e.1.name) (sym of.3)
+        (sync_filled t k y e (known_before t k e of.0 here among) of.0 here of.2)
       where
         own : nodes_in t.world.places k.carried.seat.name ≡ Some n
         own = seat_node t.world.places k.carried.seat k.is.work.seat
 
-        kept : Map View
-        kept = kept_from event.origin (knowledge n)
-
         P : ℕ × View → Type 0
-        P u = (y : View) × IsAmong (u.0, y) kept × (u.1 ≡ view_after event y)
+        P u = (x : View) × IsAmong (u.0, x) (knowledge n).views × (x.origin ≡ event.origin) × (u.1 ≡ view_after event x)
 
         views : AllByRecursion P k.carried.brought.views
         views =
-            subst (λ (b : Brought). AllByRecursion P b.views) (sym f.is)
-            (subst (λ (j : Knowledge). AllByRecursion P (with_syncs k.carried.seat.place
-            (set_syncs n.id j event (logged f.provider.node)) nothing_brought).views) (sym k.is.work.seat.known)
-            (syncs_seen P k.carried.seat.place (set_syncs n.id (knowledge n) event (logged f.provider.node))
-            nothing_brought (all_mapped (λ u. IsAmong u kept) (λ (s : SetSync). P (s.set_id, s.view))
-            (set_sync n.id (knowledge n) event (logged f.provider.node)) (λ u there. (u.1, there, refl)) kept
-            (among_all (λ u. IsAmong u kept) kept (λ u there. there))) tt))
-    by (Brings f) (inr old) =
+            subst (λ (b : Brought). AllByRecursion P b.views) (sym y.is)
+            (syncs_seen P k.carried.seat.place y.syncs nothing_brought
+            (all_map (IsKept k.carried.seat.known event) (λ (s : SetSync). P (s.set_id, s.view))
+            (λ s is. (
+              s.before,
+              subst (λ (j : Knowledge). IsAmong (s.set_id, s.before) j.views) k.is.work.seat.known is.among,
+              is.origin,
+              is.view,
+            )) y.syncs y.kept) tt)
+    by (Brings y) (inr old) =
         let there = known_before t k e v old.0 among in
-        still_filled t k e there v old.0 (sync_content t k f e.1.name
-        ∙ synced_nothing t (syncing t k f e there v old.0) none (standing_rows k.carried.seat.place e.1.name))
+        still_filled t k e there v old.0 (sync_content t k y e.1.name
+        ∙ synced_nothing t (reading t k y e there) (kept_then t k y) none (standing_rows k.carried.seat.place e.1.name))
       where
-        none : AllByRecursion (λ u. u.0 ≢ e.1.set_id) (kept_from event.origin (knowledge n))
-        none =
-            all_unmapped (λ (s : SetSync). s.set_id ≢ e.1.set_id)
-            (set_sync n.id (knowledge n) event (logged f.provider.node)) (kept_from event.origin (knowledge n))
-            (views_synced (λ u. u.0 ≢ e.1.set_id) k.carried.seat.place
-            (set_syncs n.id (knowledge n) event (logged f.provider.node)) nothing_brought
-            (subst (λ (j : Knowledge). AllByRecursion (λ u. u.0 ≢ e.1.set_id) (with_syncs k.carried.seat.place
-            (set_syncs n.id j event (logged f.provider.node)) nothing_brought).views) k.is.work.seat.known
-            (subst (λ (b : Brought). AllByRecursion (λ u. u.0 ≢ e.1.set_id) b.views) f.is old.1)))
+        none : AllByRecursion (λ u. u.0 ≢ e.1.set_id) (kept_then t k y)
+        none = none_kept t k.origin k.carried k.is y e.1.set_id old.1
 
 -- ---- a task of the database
 
@@ -278,7 +247,7 @@ tells_filled t c p d was m at e among v found = by (a.tables e there)
         absurd (true≢false (sym leads ∙ other_leads t d.seat.name n own e.1.set_id v
         (seen_now t d.seat.name n own e.1.set_id v view)))
 
-takes_all : (t : Past) (c : Commit) (p : Place) → Takes t.world c p → AreFilled (WasBefore t) p →
+takes_all : (t : Past) (c : Commit) (p : Place) → Takes t c p → AreFilled (WasBefore t) p →
     AreFilled (WasUpTo t) (committing c p)
 takes_all t c p d was =
     subst (λ c. AreFilled (WasUpTo t) (committing c p)) (sym d.commit)
@@ -344,7 +313,7 @@ becomes_filled t c p d m at e among v found = never is
     never : None ≡ Some v → IsFilled (WasUpTo t) (committing c p) m e.1.set_id v e.1.name
     never same = absurd cc
 
-commits_filled : (t : Past) (c : Commit) (p : Place) → Does t.world c p → AreFilled (WasBefore t) p →
+commits_filled : (t : Past) (c : Commit) (p : Place) → Does t c p → AreFilled (WasBefore t) p →
     AreFilled (WasUpTo t) (committing c p)
 commits_filled t c p (DoesTell d) was = tells_filled t c p d was
 commits_filled t c p (DoesTake d) was = takes_all t c p d was
@@ -425,14 +394,7 @@ holds_as_seen t x e among v view = record {
         f.seen.moment.node f.seen.moment.found f.seen.moment.at
 
     today : Today t f.seen.moment
-    today = record {
-      name = f.seen.moment.name;
-      same = refl;
-      place = now.0;
-      found = now.1;
-      node = now.2.node;
-      at = now.2.is;
-    }
+    today = moment_today t f.seen.moment
 
     held : IsHeldBy f.seen.moment.node.id (knowledge f.seen.moment.node).config e.1.set_id e.1.name
     held = held_then t
@@ -441,14 +403,6 @@ holds_as_seen t x e among v view = record {
     today_held : IsHeldBy now.2.node.id (knowledge now.2.node).config e.1.set_id e.1.name
         × (era_of e.1.set_id (knowledge now.2.node).config ≡ era_of e.1.set_id (knowledge f.seen.moment.node).config)
     today_held = held_today t f.seen.moment today e.1.set_id e.1.name held
-
--- a table of a set is a known one
-pub table_known : (set : ℕ) (c : Config) (table : List ℕ) → IsAmong table (names_of set c) →
-    (e : ℕ × TableRow) × IsAmong e c.tables × (e.1.set_id ≡ set) × (table ≡ e.1.name)
-table_known set c table among =
-    let made = mapped_among (λ (e : ℕ × TableRow). e.1.name) table (tables_of set c) among in
-    let there = filtered_among (is_table_of set) made.0 c.tables made.1 in
-    (made.0, there.0, eqb-true made.0.1.set_id set (and_parts made.0.1.live (made.0.1.set_id == set) there.1).1, made.2)
 
 pub tables_follow : TablesFollow
 tables_follow limit history w leads name p found n is set v view table among =

@@ -1,19 +1,18 @@
 -- Nothing but what comes with events changes the tables that a node keeps.
-use Rattle.std.proofs.Common.{◌≡◌, ◌≢◌, ◌⊎◌, inl, inr, ℕ, ◌<◌, ◌≤◌, Bool, true, false, cond, List, [], ◌∷◌}
-use Rattle.std.proofs.Common.{Some, None, refl, sym, ap, subst, ◌∙◌, arith, length, is_some}
-use Rattle.std.specs.Prelude.{◌==◌, ◌+◌, ◌&&◌, nat_lt}
+use Rattle.std.proofs.Common.{◌≡◌, ◌⊎◌, inl, inr, ℕ, Bool, true, false, cond, List, [], ◌∷◌, Some, None, refl, sym}
+use Rattle.std.proofs.Common.{ap, subst, ◌∙◌, arith, is_some}
+use Rattle.std.specs.Prelude.{◌==◌, ◌&&◌, nat_lt}
 use Rattle.std.specs.Str.{bytes_eq}
-use Rattle.std.specs.List.{AllByRecursion}
-use Rattle.std.proofs.lemmas.Bool.{false≢true, true≢false, false_from_ne_true, eq-eqb}
+use Rattle.std.proofs.lemmas.Bool.{false≢true, false_from_ne_true}
 use Rattle.node_rows.specs.declared.body.Body.{Body}
 use Rattle.node_rows.specs.declared.body.Body.TheVariants.{SetAddTable, DropSet, MoveSet, FailoverSet}
 use Rattle.node_rows.specs.declared.rows.TableRow.{TableRow}
 use Rattle.slon_model.specs.declared.fault.DbFault.TheVariants.{NotOrigin, SetLocked}
-use Rattle.slon_model.specs.Maps.{Map, number_at, with_entry}
+use Rattle.slon_model.specs.Maps.{Map, with_entry}
 use Rattle.slon_model.specs.Events.{Event}
 use Rattle.slon_model.specs.Config.{Config, change_by, is_locked, is_origin, set_of}
 use Rattle.slon_model.specs.Deciding.{closed_at, closed_set}
-use Rattle.slon_model.specs.Deeds.{Node, knowledge, progress, stream, view_of, with_deeds}
+use Rattle.slon_model.specs.Deeds.{Node, knowledge, view_of, with_deeds}
 use Rattle.slon_model.specs.Moves.{Move, Founds, Writes, done}
 use Rattle.slon_model.specs.Place.{Place, filling_of}
 use Rattle.slon_model.specs.Sessions.{World, Seat, Emission, emissions, next_event}
@@ -22,29 +21,25 @@ use Rattle.slon_model.specs.Working.{Carried}
 use Rattle.slon_model.proofs.Names.{bytes_same}
 use Rattle.slon_laws.proofs.Later.{HoldsOf}
 use Rattle.stream_laws.specs.Nodes.{IsAmong, nodes_in, node_in}
-use Rattle.stream_laws.specs.Applied.{AreSuccessive, HasApplied, applied_events, of_origin}
+use Rattle.stream_laws.specs.Applied.{applied_events}
 use Rattle.stream_laws.specs.Making.{is_emitted}
-use Rattle.stream_laws.specs.Making.{AreEmitted as AreNumbered}
-use Rattle.stream_laws.specs.Facts.{Facts}
 use Rattle.stream_laws.proofs.Copies.{one_leader}
-use Rattle.stream_laws.proofs.Lists.{all_among}
 use Rattle.stream_laws.proofs.Seats.{seat_node}
-use Rattle.stream_laws.proofs.Streams.{among_found, number_within}
-use Rattle.image_laws.proofs.Logging.{among_filtered}
 use Rattle.image_laws.proofs.Since.{first_fillings, first_same, prepared_fillings, prepared_same}
-use Rattle.follow_laws.proofs.Doing.{IsTaken}
-use Rattle.follow_laws.specs.Known.{AreUnfed, IsFilled, IsSeen, IsUnfed, feeds}
-use Rattle.follow_laws.specs.Past.{Past, WasBefore, WasUpTo}
-use Rattle.follow_laws.proofs.Doing.{AreAllowed, IsAllowed}
+use Rattle.view_laws.proofs.Doing.{IsTaken, AreAllowed, IsAllowed}
+use Rattle.view_laws.specs.Known.{IsSeen}
+use Rattle.follow_laws.specs.Filled.{IsFilled}
+use Rattle.view_laws.specs.Past.{Past, WasBefore, WasUpTo}
 use Rattle.follow_laws.proofs.Contents.{AreBefore}
-use Rattle.follow_laws.proofs.Going.{seen_now}
-use Rattle.follow_laws.proofs.Living.{IsOfFeed, Says, deed_of, event_of, tells_lives}
-use Rattle.follow_laws.proofs.Moments.{now_stays, past_of, reached_up_to, regular_now}
+use Rattle.view_laws.proofs.Viewed.{seen_now}
+use Rattle.view_laws.proofs.Living.{IsOfFeed, Says, deed_of, event_of, tells_lives}
+use Rattle.view_laws.proofs.Moments.{now_stays, regular_now}
 use Rattle.follow_laws.proofs.Opened.{IsOpenMove}
-use Rattle.follow_laws.proofs.Seen.{same_views, seen_later, seen_more, stays_leading, unfed_now}
-use Rattle.follow_laws.proofs.Staying.{Stays}
-use Rattle.follow_laws.proofs.Tables.{KnownTable, Table, found_in_set, was_before}
-use Rattle.follow_laws.proofs.Unfed.{may_emitted, says_emitted}
+use Rattle.view_laws.proofs.Seen.{same_views, seen_later, seen_more, stays_leading}
+use Rattle.image_laws.proofs.Staying.{Stays}
+use Rattle.view_laws.proofs.Tables.{KnownTable, found_in_set}
+use Rattle.view_laws.proofs.Unfed.{may_emitted, says_emitted}
+use Rattle.view_laws.proofs.Within.{came_within}
 
 -- ---- the same fillings
 
@@ -199,81 +194,8 @@ tells_ahead s ms may =
 
 -- ---- a node applies an event
 
--- each event that was applied is one that the node is as far as
-applied_within : (before : ℕ) (es : List Event) (e : Event) → AreSuccessive before es → IsAmong e es →
-    e.number ≤ before + length es
-applied_within before [] e are among = absurd among
-applied_within before (f ∷ fs) e are (inl is) =
-    let same = ap (λ (g : Event). g.number) is in let number = are.0 in omega (arith, same, number)
-applied_within before (f ∷ fs) e are (inr later) =
-    let rest = applied_within before fs e are.1 later in omega (arith, rest)
-
--- a table comes into a set by an event with a lower number than that of a subscription
-adds_before : (set own : ℕ) (es : List Event) (a f : Event) → AreNumbered own es × AreUnfed es →
-    IsAmong a es × IsAmong f es →
-    ((rest : List Event) → IsUnfed rest a.body → AllByRecursion (λ f. feeds set f.body ≡ false) rest) ×
-    (feeds set a.body ≡ false) × (feeds set f.body ≡ true) → a.number < f.number
-adds_before set own [] a f are among feed = absurd among.0
-adds_before set own (g ∷ es) a f are (inl is_a, inl is_f) feed =
-    absurd (true≢false (sym feed.2 ∙ ap (λ (h : Event). feeds set h.body) (is_f ∙ sym is_a) ∙ feed.1))
-adds_before set own (g ∷ es) a f are (inl is_a, inr later) feed =
-    absurd (true≢false (sym feed.2 ∙ all_among (λ f. feeds set f.body ≡ false) f es
-    (feed.0 es (subst (λ (h : Event). IsUnfed es h.body) (sym is_a) are.1.0)) later))
-adds_before set own (g ∷ es) a f are (inr later, inl is_f) feed =
-    let within = number_within own es a are.0.3 later in
-    let at = ap (λ (h : Event). h.number) is_f in
-    let number = are.0.1 in
-    omega (arith, within.1, at, number)
-adds_before set own (g ∷ es) a f are (inr later_a, inr later_f) feed =
-    adds_before set own es a f (are.0.3, are.1.1) (later_a, later_f) feed
-
--- a node that keeps a set has applied each event by which a table came into it
-pub came_within : (t : Past) (name : List ℕ) (n : Node) → nodes_in t.world.places name ≡ Some n → (table : Table t)
-    (v : View) → IsSeen (WasUpTo t) n table.set_id v →
-    table.event.number < progress table.event.origin (knowledge n)
-came_within t name n is table v seen =
-    let less = adds_before table.set_id then.id (stream then) table.event seen.enabled
-    (facts.emitted, (unfed_now s seen.moment.name then there).unfed) (among, seen.before)
-    (λ rest unfed. subst (IsUnfed rest) table.body unfed, ap (feeds table.set_id) table.body, seen.feeds) in
-    let within = applied_within (number_at origin n.given.progress)
-    (of_origin origin (applied_events n)) seen.enabled (has.each origin apart)
-    (among_filtered (λ f. f.origin == origin) seen.enabled (applied_events n) seen.applied
-    (eq-eqb seen.enabled.origin origin (by ∙ sym from))) in
-    let far = has.all origin apart in
-    omega (arith, less, within, far)
-  where
-    origin : ℕ
-    origin = table.event.origin
-
-    then : Node
-    then = seen.moment.node
-
-    s : Past
-    s = past_of t seen.moment.session (reached_up_to t seen.moment.session seen.moment.was)
-
-    there : nodes_in seen.moment.session.places seen.moment.name ≡ Some then
-    there = ap node_in seen.moment.found ∙ seen.moment.at
-
-    facts : Facts (nodes_in seen.moment.session.places) then
-    facts = (regular_now s).nodes.each seen.moment.name then there
-
-    among : IsAmong table.event (stream then)
-    among = was_before t table n v seen
-
-    from : origin ≡ then.id
-    from = (among_found then.id (stream then) table.event facts.emitted among).are.0
-
-    by : seen.enabled.origin ≡ then.id
-    by = (among_found then.id (stream then) seen.enabled facts.emitted seen.before).are.0
-
-    apart : origin ≢ n.id
-    apart same = seen.apart (sym seen.own ∙ sym from ∙ same)
-
-    has : HasApplied n.id n.given.progress (knowledge n).progress (applied_events n)
-    has = ((regular_now t).nodes.each name n is).applied
-
 -- a table that is known behind an event of another node, of a set that the node keeps, was known before
-pub takes_known : (t : Past) (x : Carried) (origin : ℕ) → IsTaken t.world origin x → (e : ℕ × TableRow) (v : View) →
+pub takes_known : (t : Past) (x : Carried) (origin : ℕ) → IsTaken t origin x → (e : ℕ × TableRow) (v : View) →
     view_of e.1.set_id (knowledge x.seat.node) ≡ Some v →
     IsAmong e (change_by x.event.origin x.event.number x.event.body (knowledge x.seat.node).config).tables →
     IsAmong e (knowledge x.seat.node).config.tables

@@ -16,19 +16,20 @@ use Rattle.stream_laws.specs.Applied.{applied_events}
 use Rattle.stream_laws.proofs.Steps.{Logs, done_logs, prepared_node}
 use Rattle.image_laws.proofs.Images.{joined}
 use Rattle.image_laws.proofs.Since.{prepared_fillings}
-use Rattle.follow_laws.specs.Known.{IsFilled}
-use Rattle.follow_laws.specs.Laws.{GoesOn, TablesStay}
-use Rattle.follow_laws.specs.Past.{Past, past, WasUpTo}
-use Rattle.follow_laws.proofs.Doing.{Does, DoesBecome, DoesHear, DoesTake, DoesTell}
-use Rattle.follow_laws.proofs.Agreeing.{member_known}
+use Rattle.follow_laws.specs.Filled.{IsFilled}
+use Rattle.view_laws.specs.Laws.{GoesOn}
+use Rattle.follow_laws.specs.Laws.{TablesStay}
+use Rattle.view_laws.specs.Past.{Past, past, WasUpTo}
+use Rattle.view_laws.proofs.Doing.{Does, DoesBecome, DoesHear, DoesTake, DoesTell}
+use Rattle.view_laws.proofs.Agreeing.{member_known, table_known}
 use Rattle.follow_laws.proofs.Contents.{filled_stands, none_filled}
-use Rattle.follow_laws.proofs.Going.{views_go_on}
-use Rattle.follow_laws.proofs.Holding.{emissions_bring, filled_now, table_known}
+use Rattle.view_laws.proofs.Going.{views_go_on}
+use Rattle.follow_laws.proofs.Holding.{emissions_bring, filled_now}
 use Rattle.follow_laws.proofs.Kept.{done_fillings, tells_ahead}
-use Rattle.follow_laws.proofs.Living.{does_node}
-use Rattle.follow_laws.proofs.Staying.{Stays, node_stays, stays_itself}
-use Rattle.follow_laws.proofs.Tables.{found_in_set}
-use Rattle.follow_laws.proofs.Walking.{Passes, passing_later, stays_later}
+use Rattle.view_laws.proofs.Living.{does_node}
+use Rattle.image_laws.proofs.Staying.{Stays, node_stays, stays_itself}
+use Rattle.view_laws.proofs.Tables.{found_in_set}
+use Rattle.view_laws.proofs.Walking.{Passes, passing_later, stays_later}
 
 -- A table, with how many events were applied at some time, and what it was filled with then.
 pub record Filled : Type 0 where
@@ -67,7 +68,7 @@ done_rests f move q s = by (done_logs move q)
         same_rests f q (done move q) (done_fillings move q) (with_commit xid q s.node)
         (log ∙ ap (option_map (with_commit xid q)) s.is) s refl
 
-commits_rests : (t : Past) (f : Filled) (c : Commit) (q : Place) → Does t.world c q →
+commits_rests : (t : Past) (f : Filled) (c : Commit) (q : Place) → Does t c q →
     Rests f q → Rests f (committing c q)
 commits_rests t f c q (DoesTell d) s =
     same_rests f q (committing c q)
@@ -112,7 +113,7 @@ commits_rests t f c q (DoesBecome d) s =
     let never : None ≡ Some s.node = sym d.none ∙ s.is in absurd cc
 
 rests_on : (f : Filled) (t : Past) →
-    Passes t.world (Rests f) (Rests f)
+    Passes t (Rests f) (Rests f)
 rests_on f t = record {
   stays = λ q s. s;
   prepares = λ move q s.

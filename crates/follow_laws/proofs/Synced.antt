@@ -1,6 +1,6 @@
 -- A SYNC brings each table of a set that a node keeps to what the table held at the origin as the SYNC was emitted.
-use Rattle.std.proofs.Common.{◌≡◌, ◌≢◌, ℕ, ◌<◌, Bool, true, false, cond, List, [], ◌∷◌, Some}
-use Rattle.std.proofs.Common.{refl, sym, ap, subst, ◌∙◌, map, filter}
+use Rattle.std.proofs.Common.{◌≡◌, ◌≢◌, ℕ, ◌<◌, Bool, true, false, cond, List, [], ◌∷◌, Some, refl, sym, ap, subst}
+use Rattle.std.proofs.Common.{◌∙◌, map, filter}
 use Rattle.std.specs.Prelude.{◌==◌, ◌&&◌}
 use Rattle.std.specs.Str.{bytes_eq}
 use Rattle.std.specs.List.{AllByRecursion}
@@ -10,41 +10,40 @@ use Rattle.slon_model.specs.Names.{find_named}
 use Rattle.slon_model.specs.Maps.{Map}
 use Rattle.slon_model.specs.Rows.{Action, Rows}
 use Rattle.slon_model.specs.Snapshots.{Snapshot, Covers}
-use Rattle.slon_model.specs.Config.{Config, era_of, is_origin, is_table_of, set_of, tables_of}
-use Rattle.slon_model.specs.Deeds.{Node, Logged, knowledge, view_of}
+use Rattle.slon_model.specs.Config.{Config, era_of, is_origin, is_table_of, tables_of}
+use Rattle.slon_model.specs.Deeds.{Knowledge, Logged, knowledge, view_of}
 use Rattle.slon_model.specs.Eras.{image_in}
-use Rattle.slon_model.specs.Following.{SetSync, delta, is_on_one, kept_from, set_sync, tables_taken}
+use Rattle.slon_model.specs.Following.{Found, SetSync, delta, is_on_one, kept_from, set_sync, tables_taken}
 use Rattle.slon_model.specs.Logs.{logged}
-use Rattle.slon_model.specs.Place.{Place, standing_rows, taken}
+use Rattle.slon_model.specs.Place.{standing_rows, taken}
 use Rattle.slon_model.specs.Sessions.{Seat}
 use Rattle.slon_model.specs.Views.{View}
-use Rattle.slon_model.specs.Working.{Carried}
-use Rattle.slon_model.proofs.Names.{bytes_same, one_found}
+use Rattle.slon_model.specs.Events.{Event}
+use Rattle.slon_model.proofs.Names.{bytes_same}
 use Rattle.slon_laws.proofs.Following.{delta_has}
 use Rattle.slon_laws.proofs.Later.{HoldsOf}
 use Rattle.stream_laws.specs.Nodes.{IsAmong}
 use Rattle.stream_laws.proofs.Copies.{IsFollowed}
 use Rattle.stream_laws.proofs.Lists.{all_each, all_mapped, all_passed, any_among}
-use Rattle.stream_laws.proofs.Seats.{seat_node}
+use Rattle.stream_laws.proofs.Seats.{IsSeat, seat_node}
 use Rattle.image_laws.specs.Deltas.{IsRead, applied}
 use Rattle.image_laws.specs.Facts.{IsHeldBy}
 use Rattle.image_laws.specs.Laws.{WasTaken}
 use Rattle.image_laws.proofs.Images.{image_is_committed_rows, reading_leads}
 use Rattle.image_laws.proofs.Logging.{among_filtered, filtered_among}
-use Rattle.follow_laws.proofs.Doing.{IsTaken}
-use Rattle.follow_laws.specs.Contents.{actions_on}
-use Rattle.follow_laws.specs.Known.{AreRising, IsEmitted, IsSeen}
-use Rattle.follow_laws.specs.Past.{Past, Moment, WasUpTo}
+use Rattle.view_laws.specs.Contents.{actions_on}
+use Rattle.view_laws.specs.Known.{AreRising, IsEmitted, IsSeen}
+use Rattle.view_laws.specs.Past.{Past, Moment, WasUpTo}
 use Rattle.follow_laws.proofs.Contents.{actions_none, synced, synced_none, synced_one}
-use Rattle.follow_laws.proofs.Going.{rising_now}
+use Rattle.view_laws.proofs.Viewed.{rising_now}
 use Rattle.follow_laws.proofs.Kept.{other_leads}
-use Rattle.follow_laws.proofs.Moments.{IsLater, node_now, now_stays, one_name, reached_up_to}
-use Rattle.follow_laws.proofs.Numbered.{mapped_among}
-use Rattle.follow_laws.proofs.Rising.{found_stands}
-use Rattle.follow_laws.proofs.Seen.{newer_seen, stays_leading}
-use Rattle.follow_laws.proofs.Staying.{Stays}
-use Rattle.follow_laws.proofs.Tables.{KnownTable, held_then, one_table, table_of}
-use Rattle.follow_laws.proofs.Taken.{Follows, delta_read}
+use Rattle.view_laws.proofs.Moments.{IsLater, node_now, now_stays, one_name, reached_up_to}
+use Rattle.view_laws.proofs.Numbered.{mapped_among}
+use Rattle.view_laws.proofs.Rising.{found_stands}
+use Rattle.view_laws.proofs.Seen.{newer_seen}
+use Rattle.image_laws.proofs.Staying.{Stays}
+use Rattle.view_laws.proofs.Tables.{KnownTable, held_then, one_table, table_of, moment_today, held_today, Today}
+use Rattle.view_laws.proofs.Taken.{Follows, delta_read}
 
 -- ---- moments of the origin
 
@@ -64,15 +63,6 @@ was_taken t m name same k is =
       is = is;
     }
 
--- The database of a moment, as it is now.
-pub record Today (t : Past) (m : Moment (WasUpTo t)) : Type 0 where
-  pub name : List ℕ
-  pub same : m.name ≡ name
-  pub place : Place
-  pub found : find_named name t.world.places ≡ Some place
-  pub node : Node
-  pub at : place.node ≡ Some node
-
 -- what a snapshot sees of a table is what the table held then
 pub image_then : (t : Past) (m : Moment (WasUpTo t)) (now : Today t m) (set : ℕ) (table : List ℕ) →
     IsHeldBy m.node.id (knowledge m.node).config set table →
@@ -83,59 +73,83 @@ image_then t m now set table held =
     image_is_committed_rows t.limit r.history r.later m.session t.world r.leads r.goes_on m.name m.place now.place
     m.found (ap (λ k. find_named k t.world.places) now.same ∙ now.found) m.node now.node m.at now.at set table held
 
--- ---- what a node takes of a table
+-- A moment of the origin of a set, with the snapshot and the era of a view, at which it held a table of the set.
+pub record HeldAt (t : Past) (set : ℕ) (table : List ℕ) (v : View) : Type 0 where
+  pub moment : Moment (WasUpTo t)
+  pub own : moment.node.id ≡ v.origin
+  pub seen : v.seen ≡ taken moment.place
+  pub era : v.era ≡ era_of set (knowledge moment.node).config
+  pub held : IsHeldBy moment.node.id (knowledge moment.node).config set table
 
--- A node follows a set that it keeps, with a SYNC of its origin, and this is one of the tables.
-pub record Syncing (t : Past) : Type 0 where
-  pub carried : Carried
-  pub origin : ℕ
-  pub is : IsTaken t.world origin carried
-  pub follows : IsFollowed t.world carried.seat carried.event carried.brought
-  pub entry : ℕ × TableRow
-  pub among : IsAmong entry (knowledge carried.seat.node).config.tables
-  pub view : View
-  pub found : view_of entry.1.set_id (knowledge carried.seat.node) ≡ Some view
-  pub seen : IsSeen (WasUpTo t) carried.seat.node entry.1.set_id view
+-- a table held the same at two moments of its origin with one snapshot
+pub same_rows : (t : Past) (set : ℕ) (table : List ℕ) (v : View) (a b : HeldAt t set table v) →
+    standing_rows a.moment.place table ≡ standing_rows b.moment.place table
+same_rows t set table v a b =
+    sym (image_then t a.moment first set table a.held)
+    ∙ ap (λ era. image_in now.0 now.2.node set era table (taken a.moment.place)) (sym a.era ∙ b.era)
+    ∙ ap (image_in now.0 now.2.node set (era_of set (knowledge b.moment.node).config) table) (sym a.seen ∙ b.seen)
+    ∙ image_then t b.moment second set table b.held
+  where
+    now_of : (m : Moment (WasUpTo t)) → HoldsOf (Stays m.node) m.name t.world.places
+    now_of m = now_stays t m.session m.was m.name m.place m.node m.found m.at
 
-abbrev pub synced_table : {t : Past} → Syncing t → KnownTable t
-synced_table {t} y =
-    record {
-      name = y.carried.seat.name;
-      node = y.carried.seat.node;
-      is = seat_node t.world.places y.carried.seat y.is.work.seat;
-      entry = y.entry;
-      among = y.among;
+    now : HoldsOf (Stays a.moment.node) a.moment.name t.world.places
+    now = now_of a.moment
+
+    also : HoldsOf (Stays b.moment.node) b.moment.name t.world.places
+    also = now_of b.moment
+
+    first : Today t a.moment
+    first = moment_today t a.moment
+
+    second : Today t b.moment
+    second = record {
+      name = a.moment.name;
+      same = one_name t (node_now t b.moment also) (node_now t a.moment now)
+          (also.2.id ∙ b.own ∙ sym a.own ∙ sym now.2.id);
+      place = now.0;
+      found = now.1;
+      node = now.2.node;
+      at = now.2.is;
     }
 
--- what it keeps of the origin
-abbrev pub kept_of : {t : Past} → Syncing t → Map View
-kept_of y = kept_from y.carried.event.origin (knowledge y.carried.seat.node)
+-- the moment of the snapshot of a view that a node keeps
+abbrev pub held_at : (t : Past) (k : KnownTable t) (v : View) → IsSeen (WasUpTo t) k.node k.entry.1.set_id v →
+    HeldAt t k.entry.1.set_id k.entry.1.name v
+held_at t k v seen =
+    record { moment = seen.moment; own = seen.own; seen = seen.seen; era = seen.era; held = held_then t k v seen }
 
-abbrev pub sync_of : {t : Past} (y : Syncing t) → ℕ × View → SetSync
-sync_of y = set_sync y.carried.seat.node.id (knowledge y.carried.seat.node) y.carried.event
-    (logged y.follows.provider.node)
+-- ---- what a node takes of a table
+
+-- The tables that a node knew as it read a log, beside one that it knows.
+pub record Reading (t : Past) : Type 0 where
+  pub table : KnownTable t
+  pub own : ℕ
+  pub known : Knowledge
+  pub later : (f : ℕ × TableRow) → IsAmong f known.config.tables → IsAmong f (knowledge table.node).config.tables
+  pub event : Event
+  pub log : List Logged
 
 -- of other sets nothing comes to the table
-others_none : (t : Past) (y : Syncing t) (v : ℕ × View) → v.0 ≢ y.entry.1.set_id →
-    actions_on y.entry.1.name (sync_of y v).rows ≡ []
-others_none t y v apart =
-    actions_none y.entry.1.name (sync_of y v).rows
-    (delta_has (λ l. Unit {0}) (λ l. bytes_eq y.entry.1.name l.action.table ≡ false) (tables_taken own v.0 c)
-    (λ l any on. false_from_ne_true _ (λ same. apart (by l same (is_origin own v.0 c) refl on)))
-    y.carried.event.origin v.1.seen y.carried.event.taken (logged y.follows.provider.node)
-    (all_each (λ l. Unit {0}) (λ l. tt) (logged y.follows.provider.node)))
+others_none : (t : Past) (r : Reading t) (v : ℕ × View) → v.0 ≢ r.table.entry.1.set_id →
+    actions_on r.table.entry.1.name (set_sync r.own r.known r.event r.log v).rows ≡ []
+others_none t r v apart =
+    actions_none table (set_sync r.own r.known r.event r.log v).rows
+    (delta_has (λ l. Unit {0}) (λ l. bytes_eq table l.action.table ≡ false) (tables_taken r.own v.0 c)
+    (λ l any on. false_from_ne_true _ (λ same. apart (by l same (is_origin r.own v.0 c) refl on)))
+    r.event.origin v.1.seen r.event.taken r.log (all_each (λ l. Unit {0}) (λ l. tt) r.log))
   where
-    own : ℕ
-    own = y.carried.seat.node.id
+    table : List ℕ
+    table = r.table.entry.1.name
 
     c : Config
-    c = (knowledge y.carried.seat.node).config
+    c = r.known.config
 
     entry : ℕ × TableRow → ℕ × List ℕ
     entry e = (e.0, e.1.name)
 
-    by : (l : Logged) → bytes_eq y.entry.1.name l.action.table ≡ true → (b : Bool) → is_origin own v.0 c ≡ b →
-        is_on_one (cond b [] (map entry (tables_of v.0 c))) l ≡ true → v.0 ≡ y.entry.1.set_id
+    by : (l : Logged) → bytes_eq table l.action.table ≡ true → (b : Bool) → is_origin r.own v.0 c ≡ b →
+        is_on_one (cond b [] (map entry (tables_of v.0 c))) l ≡ true → v.0 ≡ r.table.entry.1.set_id
     by l same true leads on = absurd (false≢true on)
     by l same false other on =
         let found =
@@ -148,15 +162,65 @@ others_none t y v apart =
         let set = eqb-true made.0.1.set_id v.0 (and_parts made.0.1.live (made.0.1.set_id == v.0) there.1).1 in
         let known : KnownTable t =
         record {
-          name = y.carried.seat.name;
-          node = y.carried.seat.node;
-          is = (synced_table y).is;
+          name = r.table.name;
+          node = r.table.node;
+          is = r.table.is;
           entry = made.0;
-          among = there.0;
+          among = r.later made.0 there.0;
         } in
-        sym set ∙ (one_table t (table_of t known) (table_of t (synced_table y))
-        (ap (λ (u : ℕ × List ℕ). u.1) (sym made.2) ∙ sym named
-        ∙ sym (bytes_same y.entry.1.name l.action.table same))).0
+        sym set ∙ (one_table t (table_of t known) (table_of t r.table)
+        (ap (λ (u : ℕ × List ℕ). u.1) (sym made.2) ∙ sym named ∙ sym (bytes_same table l.action.table same))).0
+
+-- where none of these sets is the one of the table, nothing comes
+pub synced_nothing : (t : Past) (r : Reading t) (kept : Map View) →
+    AllByRecursion (λ v. v.0 ≢ r.table.entry.1.set_id) kept → (rows : Rows) →
+    synced r.table.entry.1.name (map (set_sync r.own r.known r.event r.log) kept) rows ≡ rows
+synced_nothing t r kept none rows =
+    synced_none r.table.entry.1.name (map (set_sync r.own r.known r.event r.log) kept) rows
+    (all_mapped (λ v. v.0 ≢ r.table.entry.1.set_id)
+    (λ (s : SetSync). actions_on r.table.entry.1.name s.rows ≡ []) (set_sync r.own r.known r.event r.log)
+    (others_none t r) kept none)
+
+-- A node follows a set that it keeps, with a SYNC of its origin, and this is one of the tables.
+pub record Syncing (t : Past) : Type 0 where
+  pub seat : Seat
+  pub event : Event
+  pub is : IsSeat t.world.places seat
+  pub read : Found
+  pub follows : IsFollowed t.world seat event read
+  pub entry : ℕ × TableRow
+  pub among : IsAmong entry (knowledge seat.node).config.tables
+  pub view : View
+  pub found : view_of entry.1.set_id (knowledge seat.node) ≡ Some view
+  pub seen : IsSeen (WasUpTo t) seat.node entry.1.set_id view
+
+abbrev pub synced_table : {t : Past} → Syncing t → KnownTable t
+synced_table {t} y =
+    record {
+      name = y.seat.name;
+      node = y.seat.node;
+      is = seat_node t.world.places y.seat y.is;
+      entry = y.entry;
+      among = y.among;
+    }
+
+abbrev reading_of : {t : Past} → Syncing t → Reading t
+reading_of y =
+    record {
+      table = synced_table y;
+      own = y.seat.node.id;
+      known = knowledge y.seat.node;
+      later = λ f among. among;
+      event = y.event;
+      log = logged y.follows.provider.node;
+    }
+
+-- what it keeps of the origin
+abbrev pub kept_of : {t : Past} → Syncing t → Map View
+kept_of y = kept_from y.event.origin (knowledge y.seat.node)
+
+abbrev pub sync_of : {t : Past} (y : Syncing t) → ℕ × View → SetSync
+sync_of y = set_sync y.seat.node.id (knowledge y.seat.node) y.event (logged y.follows.provider.node)
 
 filter_rising : {X : Type 0} (test : ℕ × X → Bool) (es : Map X) → AreRising es → AreRising (filter test es)
 filter_rising test [] rising = tt
@@ -170,32 +234,24 @@ filter_rising test (e ∷ es) rising =
     ]
 
 -- where the set is one of the origin, what comes is what comes of the set
-pub synced_of : (t : Past) (y : Syncing t) → y.view.origin ≡ y.carried.event.origin → (rows : Rows) →
+pub synced_of : (t : Past) (y : Syncing t) → y.view.origin ≡ y.event.origin → (rows : Rows) →
     synced y.entry.1.name (map (sync_of y) (kept_of y)) rows
     ≡ applied (actions_on y.entry.1.name (sync_of y (y.entry.1.set_id, y.view)).rows) rows
 synced_of t y from rows =
     synced_one y.entry.1.name (sync_of y) y.entry.1.set_id y.view (kept_of y) rows (
-      filter_rising (λ v. v.1.origin == y.carried.event.origin) (knowledge y.carried.seat.node).views
-          (rising_now t y.carried.seat.name y.carried.seat.node (synced_table y).is),
-      all_each (λ v. v.0 ≢ y.entry.1.set_id → actions_on y.entry.1.name (sync_of y v).rows ≡ []) (others_none t y)
-          (kept_of y),
-    ) (among_filtered (λ v. v.1.origin == y.carried.event.origin) (y.entry.1.set_id, y.view)
-    (knowledge y.carried.seat.node).views
-    (found_stands y.entry.1.set_id y.view (knowledge y.carried.seat.node).views y.found)
-    (eq-eqb y.view.origin y.carried.event.origin from))
-
--- and where it is none of them, nothing comes
-pub synced_nothing : (t : Past) (y : Syncing t) → AllByRecursion (λ v. v.0 ≢ y.entry.1.set_id) (kept_of y) →
-    (rows : Rows) → synced y.entry.1.name (map (sync_of y) (kept_of y)) rows ≡ rows
-synced_nothing t y none rows =
-    synced_none y.entry.1.name (map (sync_of y) (kept_of y)) rows
-    (all_mapped (λ v. v.0 ≢ y.entry.1.set_id) (λ (s : SetSync). actions_on y.entry.1.name s.rows ≡ []) (sync_of y)
-    (others_none t y) (kept_of y) none)
+      filter_rising (λ v. v.1.origin == y.event.origin) (knowledge y.seat.node).views
+          (rising_now t y.seat.name y.seat.node (synced_table y).is),
+      all_each (λ v. v.0 ≢ y.entry.1.set_id → actions_on y.entry.1.name (sync_of y v).rows ≡ [])
+          (others_none t (reading_of y)) (kept_of y),
+    ) (among_filtered (λ v. v.1.origin == y.event.origin) (y.entry.1.set_id, y.view)
+    (knowledge y.seat.node).views
+    (found_stands y.entry.1.set_id y.view (knowledge y.seat.node).views y.found)
+    (eq-eqb y.view.origin y.event.origin from))
 
 -- ---- what it leads to
 
 -- the provider is the origin of the view
-provider_name : (t : Past) (y : Syncing t) → y.view.origin ≡ y.carried.event.origin → (m : Moment (WasUpTo t)) →
+provider_name : (t : Past) (y : Syncing t) → y.view.origin ≡ y.event.origin → (m : Moment (WasUpTo t)) →
     m.node.id ≡ y.view.origin → m.name ≡ y.follows.provider.name
 provider_name t y from m own =
     let p = y.follows.provider in
@@ -204,7 +260,7 @@ provider_name t y from m own =
     (record { name = p.name; place = p.place; found = y.follows.seat.found; node = p.node; at = y.follows.seat.node })
     (now.2.id ∙ own ∙ from ∙ sym y.follows.own)
 
-abbrev today : (t : Past) (y : Syncing t) → y.view.origin ≡ y.carried.event.origin → (m : Moment (WasUpTo t)) →
+abbrev today : (t : Past) (y : Syncing t) → y.view.origin ≡ y.event.origin → (m : Moment (WasUpTo t)) →
     m.node.id ≡ y.view.origin → Today t m
 today t y from m own =
     record {
@@ -216,32 +272,9 @@ today t y from m own =
       at = y.follows.seat.node;
     }
 
--- it holds the table now as it did then
-pub held_today : (t : Past) (m : Moment (WasUpTo t)) (d : Today t m) (set : ℕ) (table : List ℕ) →
-    IsHeldBy m.node.id (knowledge m.node).config set table →
-    IsHeldBy d.node.id (knowledge d.node).config set table
-    × (era_of set (knowledge d.node).config ≡ era_of set (knowledge m.node).config)
-held_today t m d set table held =
-    let leads = stays_leading m.node now.0 d.node now.2 node set held.1 in (
-      (
-        ap (λ (n : Node). set_of table (knowledge n).config) (one_found d.node now.2.node (sym node ∙ now.2.is))
-            ∙ now.2.members table set held.0,
-        leads.0,
-      ),
-      leads.1,
-    )
-  where
-    now : HoldsOf (Stays m.node) m.name t.world.places
-    now = now_stays t m.session m.was m.name m.place m.node m.found m.at
-
-    node : now.0.node ≡ Some d.node
-    node =
-        ap (λ (p : Place). p.node) (one_found now.0 d.place (sym now.1
-        ∙ ap (λ k. find_named k t.world.places) d.same ∙ d.found)) ∙ d.at
-
 -- what the table held at an earlier moment becomes what it held at a later one
-pub sync_leads : (t : Past) (y : Syncing t) (from : y.view.origin ≡ y.carried.event.origin)
-    (emitted : IsEmitted (WasUpTo t) y.carried.event) (later : IsLater y.seen.moment emitted.moment) →
+pub sync_leads : (t : Past) (y : Syncing t) (from : y.view.origin ≡ y.event.origin)
+    (emitted : IsEmitted (WasUpTo t) y.event) (later : IsLater y.seen.moment emitted.moment) →
     applied (actions_on y.entry.1.name (sync_of y (y.entry.1.set_id, y.view)).rows)
     (standing_rows y.seen.moment.place y.entry.1.name) ≡ standing_rows emitted.moment.place y.entry.1.name
 sync_leads t y from emitted later =
@@ -249,9 +282,9 @@ sync_leads t y from emitted later =
     ∙ ap (λ era. image_in p.place p.node set era table (taken y.seen.moment.place)) (sym now.1)
     ∙ ap (image_in p.place p.node set era table) (sym y.seen.seen))
     ∙ reading_leads t.limit p.name t.world p.place y.follows.seat.found p.node y.follows.seat.node y.view.seen
-    y.carried.event.taken (was_taken t y.seen.moment p.name first.same y.view.seen y.seen.seen)
-    (was_taken t emitted.moment p.name second.same y.carried.event.taken emitted.taken)
-    (subst (Covers y.carried.event.taken) (sym y.seen.seen) (subst (λ k. Covers k (taken y.seen.moment.place))
+    y.event.taken (was_taken t y.seen.moment p.name first.same y.view.seen y.seen.seen)
+    (was_taken t emitted.moment p.name second.same y.event.taken emitted.taken)
+    (subst (Covers y.event.taken) (sym y.seen.seen) (subst (λ k. Covers k (taken y.seen.moment.place))
     (sym emitted.taken) later.covers)) set table now.0 actions read
     ∙ ap (image_in p.place p.node set era table) emitted.taken
     ∙ ap (λ era. image_in p.place p.node set era table (taken emitted.moment.place)) then.1
@@ -280,7 +313,7 @@ sync_leads t y from emitted later =
 
     held_later : IsHeldBy emitted.moment.node.id (knowledge emitted.moment.node).config set table
     held_later = held_then t (synced_table y) _
-        (newer_seen (WasUpTo t) y.carried.seat.node set y.view y.carried.event (emitted, sym from) y.seen later)
+        (newer_seen (WasUpTo t) y.seat.node set y.view y.event (emitted, sym from) y.seen later)
 
     now : IsHeldBy p.node.id (knowledge p.node).config set table
         × (era ≡ era_of set (knowledge y.seen.moment.node).config)
@@ -293,7 +326,7 @@ sync_leads t y from emitted later =
     follows : Follows t
     follows = record {
       table = synced_table y;
-      other = other_leads t y.carried.seat.name y.carried.seat.node (synced_table y).is set y.view y.seen;
+      other = other_leads t y.seat.name y.seat.node (synced_table y).is set y.view y.seen;
       name = p.name;
       place = p.place;
       found = y.follows.seat.found;
@@ -305,9 +338,9 @@ sync_leads t y from emitted later =
     actions : List Action
     actions = actions_on table (sync_of y (set, y.view)).rows
 
-    read : IsRead p.node table y.view.seen y.carried.event.taken actions
+    read : IsRead p.node table y.view.seen y.event.taken actions
     read =
-        subst (λ id. IsRead p.node table y.view.seen y.carried.event.taken
-        (actions_on table (delta id (tables_taken y.carried.seat.node.id set (knowledge y.carried.seat.node).config)
-        y.view.seen y.carried.event.taken (logged p.node)))) y.follows.own
-        (delta_read t follows y.view.seen y.carried.event.taken)
+        subst (λ id. IsRead p.node table y.view.seen y.event.taken
+        (actions_on table (delta id (tables_taken y.seat.node.id set (knowledge y.seat.node).config)
+        y.view.seen y.event.taken (logged p.node)))) y.follows.own
+        (delta_read t follows y.view.seen y.event.taken)

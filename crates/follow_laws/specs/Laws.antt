@@ -1,8 +1,6 @@
 -- The laws of what nodes that subscribe hold, in every session that a legal history leads to.
-use Rattle.std.specs.Prelude.{◌≡◌, ◌≢◌, ◌↔◌, ℕ, true, List, ◌++◌, Some}
+use Rattle.std.specs.Prelude.{◌≡◌, ◌≢◌, ℕ, List, ◌++◌, Some}
 use Rattle.slon_model.specs.Names.{find_named}
-use Rattle.slon_model.specs.Snapshots.{Covers}
-use Rattle.slon_model.specs.Events.{Event, is_sync}
 use Rattle.slon_model.specs.Config.{names_of}
 use Rattle.slon_model.specs.Views.{View}
 use Rattle.slon_model.specs.Deeds.{Node, knowledge, view_of}
@@ -12,32 +10,6 @@ use Rattle.slon_model.specs.World.{World, start, Happening, Leads}
 use Rattle.stream_laws.specs.Nodes.{IsAmong}
 use Rattle.stream_laws.specs.Applied.{applied_events}
 use Rattle.image_laws.specs.Facts.{IsHeldBy}
-
--- ---- views
-
--- The node keeps the set, from the same origin and in the same era as before, and its snapshot covers that of before.
-pub record GoesOn (set : ℕ) (before : View) (m : Node) : Type 0 where
-  pub view : View
-  pub found : view_of set (knowledge m) ≡ Some view
-  pub origin : view.origin ≡ before.origin
-  pub era : view.era ≡ before.era
-  pub covers : Covers view.seen before.seen
-
--- The snapshot that a node keeps of a set never goes back.
-abbrev pub ViewsGoOn : Type 0
-ViewsGoOn =
-    (limit : ℕ) (history later : List Happening) (w v : World) → Leads (start limit) history w → Leads w later v →
-    (name : List ℕ) (p q : Place) → find_named name w.places ≡ Some p → find_named name v.places ≡ Some q →
-    (n m : Node) → p.node ≡ Some n → q.node ≡ Some m →
-    (set : ℕ) (before : View) → view_of set (knowledge n) ≡ Some before → GoesOn set before m
-
--- It sees all that a SYNC of the origin saw which the node has applied.
-abbrev pub ViewsReach : Type 0
-ViewsReach =
-    (limit : ℕ) (history : List Happening) (w : World) → Leads (start limit) history w →
-    (name : List ℕ) (p : Place) → find_named name w.places ≡ Some p → (n : Node) → p.node ≡ Some n →
-    (set : ℕ) (v : View) → view_of set (knowledge n) ≡ Some v →
-    (e : Event) → IsAmong e (applied_events n) → e.origin ≡ v.origin → is_sync e.body ≡ true → Covers v.seen e.taken
 
 -- ---- tables
 
@@ -88,15 +60,6 @@ SetsWereSo =
     (limit : ℕ) (history : List Happening) (w : World) → Leads (start limit) history w →
     (name : List ℕ) (p : Place) → find_named name w.places ≡ Some p → (n : Node) → p.node ≡ Some n →
     (set : ℕ) (v : View) → view_of set (knowledge n) ≡ Some v → WasSo limit history w p n set v
-
--- A node that keeps a set knows exactly the tables that the origin has in it.
-abbrev pub TablesAgree : Type 0
-TablesAgree =
-    (limit : ℕ) (history : List Happening) (w : World) → Leads (start limit) history w →
-    (a b : List ℕ) (p q : Place) → find_named a w.places ≡ Some p → find_named b w.places ≡ Some q →
-    (n m : Node) → p.node ≡ Some n → q.node ≡ Some m →
-    (set : ℕ) (v : View) → view_of set (knowledge n) ≡ Some v → m.id ≡ v.origin →
-    (table : List ℕ) → IsHeldBy m.id (knowledge m).config set table ↔ IsAmong table (names_of set (knowledge n).config)
 
 -- Nothing but the events that a node applies changes a table that it keeps.
 abbrev pub TablesStay : Type 0

@@ -1,4 +1,3 @@
-pub mod Contents
-pub mod Known
+pub mod Filled
 pub mod Laws
-pub mod Past
+pub mod Subscribed

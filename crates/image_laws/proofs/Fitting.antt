@@ -19,7 +19,7 @@ use Rattle.node_rows.specs.declared.rows.SetRow.{SetRow}
 use Rattle.node_rows.specs.declared.rows.TableRow.{TableRow}
 use Rattle.node_rows.specs.declared.body.Body.{Body}
 use Rattle.node_rows.specs.declared.body.Body.TheVariants.{Sync, StoreNode, StorePath, DropPath, StoreSet, DropSet}
-use Rattle.node_rows.specs.declared.body.Body.TheVariants.{SetAddTable, EnableSubscription, MoveSet, FailoverSet}
+use Rattle.node_rows.specs.declared.body.Body.TheVariants.{SetAddTable, MoveSet, FailoverSet}
 use Rattle.slon_model.specs.Names.{Named, find_named}
 use Rattle.slon_model.specs.Maps.{entry_at}
 use Rattle.slon_model.specs.Events.{Event}
@@ -39,16 +39,18 @@ use Rattle.slon_model.specs.Subscribing.{NewFeed, subscribing, feed_bodies, all_
 use Rattle.slon_model.specs.Scripts.{ordered}
 use Rattle.slon_model.specs.Turns.{on_turn, sync_turn}
 use Rattle.slon_model.specs.Polls.{Poll, polled, stated_by, hearing}
-use Rattle.slon_model.specs.Following.{is_on_one, kept_from, set_syncs, tables_taken, with_syncs}
+use Rattle.slon_model.specs.Following.{Found, FoundCopy, FoundNothing, FoundSyncs, SetSync, brought_of, is_on_one}
+use Rattle.slon_model.specs.Following.{kept_from, set_sync, set_syncs, tables_taken}
 use Rattle.slon_model.specs.Logs.{logged}
-use Rattle.slon_model.specs.Working.{Carried, Copying, ToCopy, errand_in, receives_from, worked, applied_by}
-use Rattle.slon_model.proofs.Names.{put_other, all_found, all_map, bytes_itself, bytes_same}
+use Rattle.slon_model.specs.Working.{Carried, applied_by, fetched, stands, still, worked}
+use Rattle.slon_model.proofs.Names.{put_other, all_found, all_map, bytes_itself, bytes_same, one_found}
 use Rattle.slon_laws.specs.Turning.{IsWithin, HoldsAt, AllHold}
 use Rattle.slon_laws.proofs.Acting.{outcome_all}
 use Rattle.slon_laws.specs.Worlds.{AllPlaces}
 use Rattle.stream_laws.specs.Nodes.{IsAmong, node_in}
 use Rattle.stream_laws.specs.Making.{OfSet, OfTable, OfName, tells_of}
 use Rattle.stream_laws.specs.Facts.{IsRegular}
+use Rattle.slon_laws.proofs.Lists.{all_filtered}
 use Rattle.stream_laws.proofs.Lists.{all_appended, all_among, all_each, all_mapped, all_passed, among_all, any_among}
 use Rattle.stream_laws.proofs.Lists.{there_here, there_with}
 use Rattle.stream_laws.proofs.Seats.{OnOk, ok_then, IsSeat, IsFound, IsReached, IsLeading, bind_ok, checked_ok, kept_ok}
@@ -59,22 +61,48 @@ use Rattle.stream_laws.proofs.Emits.{known_changed}
 use Rattle.stream_laws.proofs.Commits.{Newcomer, other_name}
 use Rattle.stream_laws.proofs.Waiting.{IsPoll, polled_ok}
 use Rattle.stream_laws.proofs.Applies.{IsSetOf, MayCome}
-use Rattle.stream_laws.proofs.Copies.{IsBrought, Nothing, Copies, Brings, IsCopy, IsFollowed}
-use Rattle.stream_laws.proofs.Works.{IsWork, IsCarried, worked_ok}
+use Rattle.stream_laws.proofs.Copies.{Finds, Nothing, Copies, Brings}
+use Rattle.stream_laws.proofs.Works.{IsWork, IsCarried, IsFetched, IsThere, Fresh, Kept, fetched_ok, worked_ok}
 use Rattle.image_laws.specs.Fits.{IsWhole, IsKept, Fit, Keeps, CreatesSet, AddsTable, FollowsTable, IsFirst, IsFit}
 use Rattle.image_laws.specs.Fits.{IsDoneNow, AllDone, IsOfOther, AreOfOthers, BringOthers, LogOthers, MayStand, Does}
 use Rattle.image_laws.specs.Fits.{Becomes}
 use Rattle.image_laws.specs.Facts.{Holds, NodeHolds}
-use Rattle.slon_laws.proofs.Following.{TakesOf, syncs_have, taken_have}
+use Rattle.slon_laws.specs.Fetches.{AllKept}
+use Rattle.slon_laws.proofs.Fetches.{IsKeptFor, OfFetch, kept_for}
+use Rattle.slon_laws.proofs.Following.{delta_has, syncs_have}
+use Rattle.slon_laws.proofs.Holds.{HoldsOf}
 use Rattle.slon_laws.proofs.Leaves.{Leaves, outcome_has}
+use Rattle.slon_laws.proofs.Results.{any_ok}
+use Rattle.image_laws.proofs.Staying.{Stays, deed_stays, stays_itself}
 use Rattle.slon_laws.proofs.Results.{none_busy}
 
 -- ---- a session
+
+-- what is found for an event is of sets of other nodes than the one of this id
+abbrev pub FoundOthers : ℕ → Config → Found → Type 0
+FoundOthers own c FoundNothing = Unit {0}
+FoundOthers own c (FoundCopy set view rows) = AreOfOthers own c rows
+FoundOthers own c (FoundSyncs ts) = AllByRecursion (λ t. LogOthers own c t.rows) ts
+
+-- What the node of the database of a name fetched is of sets of other nodes, as the node knew them then. The database
+-- is that node still.
+pub record KeptOthers (ps : Named Place) (name : List ℕ) (f : Found) : Type 0 where
+  pub node : Node
+  pub whole : IsWhole node.id (knowledge node).config
+  pub others : FoundOthers node.id (knowledge node).config f
+  pub stays : HoldsOf (Stays node) name ps
+
+abbrev pub IsKeptOthers : World → OfFetch
+IsKeptOthers w name origin f = KeptOthers w.places name f.found
+
+abbrev pub KeepOthers : World → Type 0
+KeepOthers w = AllKept (IsKeptOthers w) w.memory.fetches
 
 -- what holds of it before a step
 pub record Ready (w : World) : Type 0 where
   pub regular : IsRegular w
   pub holds : AllPlaces Holds w
+  pub kept : KeepOthers w
 
 abbrev pub AreFit : World → List Commit → Type 0
 AreFit w cs = AllHold IsFit cs w.places
@@ -498,23 +526,6 @@ tables_others own set c other =
           ap (λ id. is_origin own id c) (eqb-true e.1.set_id set (and_parts e.1.live (e.1.set_id == set) on).1) ∙ other;
     }) c.tables (among_all (λ e. IsAmong e c.tables) c.tables (λ e among. among))
 
--- the tables that are copied are such
-copied_others : (w : World) (s : Seat) (e : Event) (b : Brought) → IsSeat w.places s → IsCopy w s e b →
-    AreOfOthers s.node.id (knowledge s.node).config b.rows
-copied_others w s e b is k =
-    subst (λ (c : Brought). AreOfOthers s.node.id known c.rows) (sym k.is)
-    (all_mapped (IsOfOther s.node.id known) (λ r. IsOfOther s.node.id known r.0)
-    (λ name. (name, standing_rows k.provider.place name)) (λ name of. of) (names_of set s.known.config)
-    (subst (λ (m : Knowledge). AllByRecursion (IsOfOther s.node.id known) (names_of set m.config)) (sym is.known)
-    (all_mapped (λ e. IsOfOther s.node.id known e.1.name) (IsOfOther s.node.id known) (λ e. e.1.name) (λ e is. is)
-    (tables_of set known) (tables_others s.node.id set known k.other))))
-  where
-    set : ℕ
-    set = k.copying.set_id
-
-    known : Config
-    known = (knowledge s.node).config
-
 -- an action on a table to which a node takes rows is on one of a set of another node
 taken_other : (own set : ℕ) (c : Config) (l : Logged) → is_on_one (tables_taken own set c) l ≡ true →
     IsOfOther own c l.action.table
@@ -536,97 +547,198 @@ taken_other own set c l = by (is_origin own set c) refl
         (all_mapped (λ e. IsOfOther own c e.1.name) (λ t. IsOfOther own c t.1) entry (λ e is. is) (tables_of set c)
         (tables_others own set c other)) found.1)
 
--- what a node brings with a SYNC, and what it logs of that, is of sets of other nodes
-syncs_others : (here : Place) (own : ℕ) (k : Knowledge) (e : Event) (logs : List Logged) →
-    let b : Brought = with_syncs here (set_syncs own k e logs) nothing_brought in
-    AreOfOthers own k.config b.rows × LogOthers own k.config b.logs
-syncs_others here own k e logs =
-    syncs_have here (λ r. IsOfOther own k.config r.0) Others (λ rows l old is. is) (set_syncs own k e logs)
-    nothing_brought
-    (taken_have own k e logs (λ l. Unit {0}) Others (all_each (λ l. Unit {0}) (λ l. tt) logs) (kept_from e.origin k)
-    (all_each (TakesOf own k (λ l. Unit {0}) Others) (λ v l has on. taken_other own v.0 k.config l on)
-    (kept_from e.origin k))) (tt, tt)
+-- what is found for an event is so
+found_others : (w : World) (s : Seat) (e : Event) (f : Found) → IsSeat w.places s → Finds w s e f →
+    FoundOthers s.node.id (knowledge s.node).config f
+found_others w s e f is (Nothing none silent) =
+    subst (FoundOthers s.node.id (knowledge s.node).config) (sym none) tt
+found_others w s e f is (Copies k) =
+    subst (FoundOthers s.node.id known) (sym k.is)
+    (all_mapped (IsOfOther s.node.id known) (λ r. IsOfOther s.node.id known r.0)
+    (λ name. (name, standing_rows k.provider.place name)) (λ name of. of) (names_of set s.known.config)
+    (subst (λ (m : Knowledge). AllByRecursion (IsOfOther s.node.id known) (names_of set m.config)) (sym is.known)
+    (all_mapped (λ e. IsOfOther s.node.id known e.1.name) (IsOfOther s.node.id known) (λ e. e.1.name) (λ e is. is)
+    (tables_of set known) (tables_others s.node.id set known k.other))))
   where
-    Others : Logged → Type 0
-    Others l = IsOfOther own k.config l.action.table
+    set : ℕ
+    set = k.copying.set_id
 
-followed_others : (w : World) (s : Seat) (e : Event) (b : Brought) → IsSeat w.places s → IsFollowed w s e b →
-    AreOfOthers s.node.id (knowledge s.node).config b.rows × LogOthers s.node.id (knowledge s.node).config b.logs
-followed_others w s e b is f =
-    subst Others (sym f.is)
-    (subst (λ (k : Knowledge). Others (with_syncs s.place (set_syncs s.node.id k e log) nothing_brought)) (sym is.known)
-    (syncs_others s.place s.node.id (knowledge s.node) e log))
+    known : Config
+    known = (knowledge s.node).config
+found_others w s e f is (Brings k) =
+    subst (FoundOthers s.node.id known) (sym k.is)
+    (subst (λ (m : Knowledge). FoundOthers s.node.id known (FoundSyncs (set_syncs s.node.id m e log))) (sym is.known)
+    (all_mapped (λ v. Unit {0}) (λ (t : SetSync). LogOthers s.node.id known t.rows)
+    (set_sync s.node.id (knowledge s.node) e log)
+    (λ v any. delta_has (λ l. Unit {0}) (λ l. IsOfOther s.node.id known l.action.table)
+    (tables_taken s.node.id v.0 known) (λ l any on. taken_other s.node.id v.0 known l on) e.origin v.1.seen e.taken log
+    (all_each (λ l. Unit {0}) (λ l. tt) log)) (kept_from e.origin (knowledge s.node))
+    (all_each (λ v. Unit {0}) (λ v. tt) (kept_from e.origin (knowledge s.node)))))
   where
     log : List Logged
-    log = logged f.provider.node
+    log = logged k.provider.node
 
-    Others : Brought → Type 0
-    Others b =
-        AreOfOthers s.node.id (knowledge s.node).config b.rows
-        × LogOthers s.node.id (knowledge s.node).config b.logs
+    known : Config
+    known = (knowledge s.node).config
 
--- what it logs with an event is of sets of other nodes
-logs_others : (w : World) (s : Seat) (e : Event) (b : Brought) → IsSeat w.places s → IsBrought w s e b →
-    LogOthers s.node.id (knowledge s.node).config b.logs
-logs_others w s e b is (Nothing none) =
-    subst (λ (c : Brought). LogOthers s.node.id (knowledge s.node).config c.logs) (sym none) tt
-logs_others w s e b is (Copies k) =
-    subst (λ (c : Brought). LogOthers s.node.id (knowledge s.node).config c.logs) (sym k.is) tt
-logs_others w s e b is (Brings f) = (followed_others w s e b is f).1
-
--- a set is copied with the event of a new subscription alone
-copies_none : (own : ℕ) (receives : Bool) (origin : ℕ) (k : Copying) →
-    errand_in own receives origin Sync ≡ Some (ToCopy k) → ⊥
-copies_none own true origin k asked = cc
-copies_none own false origin k asked = cc
-
--- and what it brings is so behind the event, which is that of a new subscription, or a SYNC
-brings_others : (w : World) (s : Seat) (e : Event) (b : Brought) → IsSeat w.places s → IsBrought w s e b →
-    (body : Body) → e.body ≡ body → AreOfOthers s.node.id (known_then s (Applies e b)) b.rows
-brings_others w s e b is (Nothing none) body same =
-    subst (λ (c : Brought). AreOfOthers s.node.id (known_then s (Applies e b)) c.rows) (sym none) tt
-brings_others w s e b is (Copies k) (EnableSubscription set provider receiver forward era) same =
-    let c = (knowledge s.node).config in
-    subst (λ body. AreOfOthers s.node.id (change_by e.origin e.number body c) b.rows) (sym same)
-    (all_map (λ r. IsOfOther s.node.id c r.0) _
-    (λ r of. record { entry = of.entry; among = of.among; named = of.named; other = of.other }) b.rows
-    (copied_others w s e b is k))
-brings_others w s e b is (Copies k) Sync same =
-    let receives = receives_from e.origin s.known in
-    absurd (copies_none s.node.id receives e.origin k.copying
-    (ap (errand_in s.node.id receives e.origin) (sym same) ∙ k.asked))
-brings_others w s e b is (Copies k) others same =
-    let never : None ≡ Some (ToCopy k.copying) =
-    ap (errand_in s.node.id (receives_from e.origin s.known) e.origin) (sym same) ∙ k.asked in absurd cc
-brings_others w s e b is (Brings f) body same =
-    subst (λ body. AreOfOthers s.node.id (change_by e.origin e.number body (knowledge s.node).config) b.rows)
-    (sym f.body) (followed_others w s e b is f).0
-
-work_fit : (w : World) (by : ℕ) (c : Carried) → IsCarried w by c → AreFit w (applied_by c).commits
-work_fit w by c is =
-    let s = c.seat in
-    let e = c.event in
-    does_fit w s c.brought.logs (Applies e c.brought) is.work.seat (record {
-      silent = λ f emits. absurd cc;
-      fit = applies_fit w by s e c.brought is.work e.body (refl, is.work.may);
-      brings = brings_others w s e c.brought is.work.seat is.brings e.body refl;
-      logged = logs_others w s e c.brought is.work.seat is.brings;
+pub fetched_others : (w : World) → Ready w → (node origin : ℕ) →
+    OnOk (λ x. KeptOthers w.places x.seat.name x.found) (fetched node origin w)
+fetched_others w r node origin =
+    ok_then (IsFetched w origin) (λ x. KeptOthers w.places x.seat.name x.found) (fetched node origin w)
+    (fetched_ok node origin w r.regular)
+    (λ x is. record {
+      node = x.seat.node;
+      whole = (node_holds w r x.seat is.work.seat).whole;
+      others = found_others w x.seat x.event x.found is.work.seat is.finds;
+      stays = (
+        x.seat.place,
+        is.work.seat.found,
+        stays_itself x.seat.node x.seat.place is.work.seat.node,
+      );
     })
+
+-- ---- what a node knows later
+
+-- what holds of tables of other nodes' sets holds of what is found
+others_map : (own later : ℕ) (c d : Config) →
+    ((table : List ℕ) → IsOfOther own c table → IsOfOther later d table) → (f : Found) → FoundOthers own c f →
+    FoundOthers later d f
+others_map own later c d on FoundNothing is = tt
+others_map own later c d on (FoundCopy set view rows) is =
+    all_map (λ r. IsOfOther own c r.0) (λ r. IsOfOther later d r.0) (λ r. on r.0) rows is
+others_map own later c d on (FoundSyncs ts) is =
+    all_map (λ (t : SetSync). LogOthers own c t.rows) (λ t. LogOthers later d t.rows)
+    (λ t. all_map (λ l. IsOfOther own c l.action.table) (λ l. IsOfOther later d l.action.table)
+    (λ l. on l.action.table) t.rows) ts is
+
+-- a table of a set of another node is one still
+other_stays : (n : Node) (q : Place) (s : Stays n q) → IsWhole n.id (knowledge n).config → (table : List ℕ) →
+    IsOfOther n.id (knowledge n).config table → IsOfOther s.node.id (knowledge s.node).config table
+other_stays n q s whole table is = record {
+  entry = is.entry;
+  among = s.tables is.entry is.among;
+  named = is.named;
+  other = by (entry_at is.entry.1.set_id c.sets) refl
+      (all_among (λ e. is_some (entry_at e.1.set_id c.sets) ≡ true) is.entry c.tables whole.tables is.among);
+}
+  where
+    c : Config
+    c = (knowledge n).config
+
+    by : (o : Option SetRow) → entry_at is.entry.1.set_id c.sets ≡ o → is_some o ≡ true →
+        is_origin s.node.id is.entry.1.set_id (knowledge s.node).config ≡ false
+    by None none some = absurd (false≢true some)
+    by (Some row) found some =
+        ap (λ o. leads_row s.node.id (live_set o)) (s.rows is.entry.1.set_id row found)
+        ∙ ap (λ id. leads_row id (live_set (Some row))) s.id ∙ ap (λ o. leads_row n.id (live_set o)) (sym found)
+        ∙ is.other
+
+-- what there is for an event
+there_others : (w : World) → Ready w → (s : Seat) (e : Event) (f : Found) → IsSeat w.places s → IsThere w s e f →
+    FoundOthers s.node.id (knowledge s.node).config f
+there_others w r s e f is (Fresh finds) = found_others w s e f is finds
+there_others w r s e f is (Kept g some same) =
+    subst (FoundOthers s.node.id (knowledge s.node).config) (sym same)
+    (still_others g (subst (λ (m : Node). FoundOthers m.id (knowledge m).config g) one
+    (others_map k.node.id now.2.node.id (knowledge k.node).config (knowledge now.2.node).config
+    (other_stays k.node now.0 now.2 k.whole) g (subst (FoundOthers k.node.id (knowledge k.node).config) for.found
+    k.others))))
+  where
+    for : IsKeptFor (IsKeptOthers w) s.name e g
+    for = kept_for (IsKeptOthers w) s.name e w.memory g r.kept some
+
+    k : KeptOthers w.places s.name for.fetch.found
+    k = for.has
+
+    now : HoldsOf (Stays k.node) s.name w.places
+    now = k.stays
+
+    one : now.2.node ≡ s.node
+    one = one_found now.2.node s.node (sym now.2.is
+        ∙ ap (λ (p : Place). p.node) (one_found now.0 s.place (sym now.1 ∙ is.found)) ∙ is.node)
+
+    still_others : (g : Found) → FoundOthers s.node.id (knowledge s.node).config g →
+        FoundOthers s.node.id (knowledge s.node).config (still s.known g)
+    still_others (FoundSyncs ts) all =
+        all_filtered (λ t. LogOthers s.node.id (knowledge s.node).config t.rows) (stands s.known) ts all
+    still_others FoundNothing all = all
+    still_others (FoundCopy set view rows) all = all
+
+-- what comes of it
+brought_others : (here : Place) (own : ℕ) (c : Config) (f : Found) → FoundOthers own c f →
+    AreOfOthers own c (brought_of here f).rows × LogOthers own c (brought_of here f).logs
+brought_others here own c FoundNothing is = (tt, tt)
+brought_others here own c (FoundCopy set view rows) is = (is, tt)
+brought_others here own c (FoundSyncs ts) is =
+    syncs_have here (λ r. IsOfOther own c r.0) (λ l. IsOfOther own c l.action.table) (λ rows l old is. is) ts
+    nothing_brought is (tt, tt)
+
+work_fit : (w : World) → Ready w → (by : ℕ) (c : Carried) → IsCarried w by c → AreFit w (applied_by c).commits
+work_fit w r by c is =
+    does_fit w s c.brought.logs (Applies e c.brought) seat (record {
+      silent = λ f emits. absurd cc;
+      fit = fit;
+      brings =
+          all_map (λ x. IsOfOther n.id (knowledge n).config x.0) (λ x. IsOfOther n.id (knowledge behind).config x.0)
+          (λ x of. subst (λ (m : Node). IsOfOther m.id (knowledge m).config x.0) (sym one)
+          (other_stays n after then (node_holds w r s seat).whole x.0 of)) c.brought.rows brings.0;
+      logged = brings.1;
+    })
+  where
+    s : Seat
+    s = c.seat
+
+    e : Event
+    e = c.event
+
+    n : Node
+    n = c.seat.node
+
+    seat : IsSeat w.places s
+    seat = is.work.seat
+
+    fit : DoesFit s e c.brought
+    fit = applies_fit w by s e c.brought is.work e.body (refl, is.work.may)
+
+    brings : AreOfOthers n.id (knowledge n).config c.brought.rows × LogOthers n.id (knowledge n).config c.brought.logs
+    brings =
+        subst (λ (b : Brought). AreOfOthers n.id (knowledge n).config b.rows
+        × LogOthers n.id (knowledge n).config b.logs) (sym is.is)
+        (brought_others s.place n.id (knowledge n).config is.found (there_others w r s e is.found seat is.there))
+
+    d : Deed
+    d = deed s.place [] c.brought.logs (Applies e c.brought)
+
+    behind : Node
+    behind = with_deeds (d ∷ []) n
+
+    after : Place
+    after = record s.place { node = Some behind }
+
+    then : Stays n after
+    then =
+        deed_stays n s.place after (record { node = n; deed = d; first = refl; fit = fit }) (seat.node, refl)
+        (all_found Holds s.name s.place w.places r.holds seat.found) (stays_itself n s.place seat.node)
+
+    one : behind ≡ then.node
+    one = one_found behind then.node then.is
 
 -- ---- each command
 
-leaves : (w : World) → Ready w → Leaves w (λ commits queues. AreFit w commits)
+leaves : (w : World) → Ready w → Leaves w (λ commits queues fetches. AreFit w commits)
 leaves w r = record {
   nothing = tt;
   stops = λ name. tt;
+  gives_up = λ name origin. tt;
   orders = ordered_fit w r;
   syncs = sync_fit w r;
   polls = λ node server delivery.
       ok_then (IsPoll w) (λ b. AreFit w (stated_by delivery b).commits) (polled node server w)
       (polled_ok node server w r.regular) (poll_fit w delivery);
+  fetches = λ node origin. any_ok (λ x. Unit {0}) (fetched node origin w) (λ x. tt);
   works = λ node origin.
       ok_then (IsCarried w origin) (λ c. AreFit w (applied_by c).commits) (worked node origin w)
-      (worked_ok node origin w r.regular) (work_fit w origin);
+      (worked_ok node origin w r.regular) (work_fit w r origin);
 }
 
 all_stand : (cs : List Commit) (ps : Named Place) → AllHold IsWithin cs ps → AllHold IsFit cs ps →
@@ -643,4 +755,4 @@ all_stand (c ∷ cs) ps within fit =
 pub outcome_fit : (w : World) → Ready w → (act : Act) → AllHold MayStand (outcome act w).commits w.places
 outcome_fit w r act =
     all_stand (outcome act w).commits w.places (outcome_all act w)
-    (outcome_has w (λ commits queues. AreFit w commits) (leaves w r) act)
+    (outcome_has w (λ commits queues fetches. AreFit w commits) (leaves w r) act)

@@ -74,7 +74,7 @@ any_none test (x ∷ xs) none = by (λ later. any_none test xs later) (test x) r
 abbrev pub IsNew : {X : Type 0} → ℕ → Map X → Type 0
 IsNew id es = is_some (entry_at id es) ≡ false
 
-new_parts : {X : Type 0} (id : ℕ) (e : ℕ × X) (es : Map X) → IsNew id (e ∷ es) → ((id == e.0) ≡ false) × IsNew id es
+pub new_parts : {X : Type 0} (id : ℕ) (e : ℕ × X) (es : Map X) → IsNew id (e ∷ es) → ((id == e.0) ≡ false) × IsNew id es
 new_parts id e es new = by (id == e.0) refl new
   where
     by : (b : Bool) → (id == e.0) ≡ b → is_some (cond b (Some e.1) (entry_at id es)) ≡ false →
@@ -83,11 +83,11 @@ new_parts id e es new = by (id == e.0) refl new
     by false other later = (other, later)
 
 -- a new entry is put before the first one, or behind it
-abbrev IsPut : {X : Type 0} → ℕ → X → ℕ × X → Map X → Type 0
+abbrev pub IsPut : {X : Type 0} → ℕ → X → ℕ × X → Map X → Type 0
 IsPut id x e es =
     (with_entry id x (e ∷ es) ≡ (id, x) ∷ e ∷ es) ⊎ (with_entry id x (e ∷ es) ≡ e ∷ with_entry id x es)
 
-with_new : {X : Type 0} (id : ℕ) (x : X) (e : ℕ × X) (es : Map X) → IsNew id (e ∷ es) →
+pub with_new : {X : Type 0} (id : ℕ) (x : X) (e : ℕ × X) (es : Map X) → IsNew id (e ∷ es) →
     IsPut id x e es
 with_new id x e es new = by (nat_lt id e.0)
   where

@@ -29,6 +29,7 @@ use Rattle.slon_model.proofs.Names.{bytes_itself}
 use Rattle.slon_laws.specs.Sound.{Sound}
 use Rattle.slon_laws.specs.Worlds.{AllPlaces}
 use Rattle.slon_laws.proofs.Acting.{acting_turns}
+use Rattle.slon_laws.proofs.Fetches.{all_kept, kept_step}
 use Rattle.slon_laws.proofs.Keeps.{kept_task}
 use Rattle.slon_laws.proofs.Later.{HoldsOf, put_holds, holds_later}
 use Rattle.slon_laws.proofs.Played.{play_agrees, play_skips}
@@ -38,9 +39,10 @@ use Rattle.stream_laws.proofs.Steps.{regular_world}
 use Rattle.image_laws.specs.Laws.{ImageIsCommittedRows, SnapshotsAreMoments, LogsHaveTheActions, LogHas, ReadingLeads}
 use Rattle.image_laws.specs.Facts.{Lasts, HoldsStretch, HasStretch, NodeHolds, Holds, HasLogged, HoldsAll}
 use Rattle.image_laws.proofs.Continuing.{IsLate, Continues, keeps_continuing, turned_continues}
-use Rattle.image_laws.proofs.Fitting.{Ready, outcome_fit}
+use Rattle.image_laws.proofs.Fitting.{IsKeptOthers, KeepOthers, Ready, fetched_others, outcome_fit}
 use Rattle.image_laws.proofs.Found.{find_has}
 use Rattle.image_laws.proofs.Moving.{keeps_holding, bare_holds, turned_holds}
+use Rattle.image_laws.proofs.Staying.{KeptLater, node_stays}
 use Rattle.image_laws.proofs.Since.{Since, since_itself, keeps_since, seen_committed}
 use Rattle.image_laws.proofs.Ticking.{Ticking, keeps_ticking, bare_ticks, turned_ticks, has_moments}
 
@@ -71,15 +73,69 @@ each_step {R} l w v h (Acts t) r all =
 holds_on : LivesOn Holds
 holds_on = record { tasks = keeps_holding; bare = bare_holds sound_bare; turns = turned_holds }
 
+-- ---- a database, later
+
+abbrev Both : (Place → Type 0) → List ℕ → Named Place → Type 0
+Both R name ps = AllByRecursion (λ e. Holds e.1) ps × HoldsOf R name ps
+
+pub later_step : {R : Place → Type 0} → KeptLater R → (name : List ℕ) (w v : World) (h : Happening) → Ready w →
+    Step w h v → HoldsOf R name w.places → HoldsOf R name v.places
+later_step {R} k name w v h ready step (q, found, holds) = by step
+  where
+    by : Step w h v → HoldsOf R name v.places
+    by (Grants other result about granted takes told is) =
+        subst (λ u. HoldsOf R name u.places) (sym is) (q, found_behind name other _ q w.places found, holds)
+    by (Denies other about denied sure told is) = subst (λ u. HoldsOf R name u.places) (sym is) (q, found, holds)
+    by (Misses other task about none sure told is) = subst (λ u. HoldsOf R name u.places) (sym is) (q, found, holds)
+    by (Asks t) =
+        subst (λ u. HoldsOf R name u.places) (sym t.is)
+        (put_holds name w.places (record {
+          name = t.name;
+          before = t.place;
+          behind = place_by t.task t.place h.choice;
+          at = t.found;
+          on = λ was. kept_task k.tasks t.task t.place h.choice
+              (tt, (all_found Holds t.name t.place w.places ready.holds t.found, was));
+        }) (q, found, holds))
+    by (Acts t) =
+        (acting_turns {R = Both R name} (λ other p q ps at turned both. (
+          all_put Holds other q ps (turned_holds p q turned (all_found Holds other p ps both.0 at)) both.0,
+          put_holds name ps (record {
+            name = other;
+            before = p;
+            behind = q;
+            at = at;
+            on = λ was. k.turns p q turned (all_found Holds other p ps both.0 at) was;
+          }) both.1,
+        )) w v h t (outcome_fit w ready t.act) (ready.holds, (q, found, holds))).1
+
+-- ---- every session
+
+-- what nodes keep is of sets of others still
+keep_others_step : (w v : World) (h : Happening) → Ready w → Step w h v → KeepOthers v
+keep_others_step w v h ready step =
+    all_kept (IsKeptOthers w) (IsKeptOthers v)
+    (λ name origin f k. record {
+      node = k.node;
+      whole = k.whole;
+      others = k.others;
+      stays = later_step (node_stays k.node) name w v h ready step k.stays;
+    }) v.memory.fetches (kept_step (IsKeptOthers w) w v h step (fetched_others w ready) ready.kept)
+
 pub ready_world : (limit : ℕ) (history : List Happening) (w : World) → Leads (start limit) history w → Ready w
-ready_world limit [] w is =
-    record { regular = regular_world limit [] w is; holds = subst (AllPlaces Holds) (sym is) tt }
-ready_world limit (h ∷ hs) w leads = record {
-  regular = regular_world limit (h ∷ hs) w leads;
-  holds =
-      let before = ready_world limit hs leads.0 leads.1 in
-      each_step holds_on leads.0 w h leads.2 before before.holds;
+ready_world limit [] w is = record {
+  regular = regular_world limit [] w is;
+  holds = subst (AllPlaces Holds) (sym is) tt;
+  kept = subst KeepOthers (sym is) tt;
 }
+ready_world limit (h ∷ hs) w leads = ready_by (ready_world limit hs leads.0 leads.1)
+  where
+    ready_by : Ready leads.0 → Ready w
+    ready_by before = record {
+      regular = regular_world limit (h ∷ hs) w leads;
+      holds = each_step holds_on leads.0 w h leads.2 before before.holds;
+      kept = keep_others_step leads.0 w h before leads.2;
+    }
 
 -- it holds of every database of every session
 each_world : {R : Place → Type 0} → LivesOn R → (limit : ℕ) (history : List Happening) (w : World) →
@@ -100,39 +156,13 @@ record Sought : Type 0 where
 abbrev IsThere : Sought → Named Place → Type 0
 IsThere s ps = HoldsOf (Continues s.stretch s.first) s.name ps
 
--- it holds of all databases, and the one of the name continues
-abbrev Both : Sought → Named Place → Type 0
-Both s ps = AllByRecursion (λ e. Holds e.1) ps × IsThere s ps
-
 continues_step : (s : Sought) (w v : World) (h : Happening) → Step w h v → Ready w → IsThere s w.places →
     IsThere s v.places
-continues_step s w v h (Grants other result about granted takes told is) r (q, found, c) =
-    subst (λ u. IsThere s u.places) (sym is) (q, found_behind s.name other _ q w.places found, c)
-continues_step s w v h (Denies other about denied sure told is) r on =
-    subst (λ u. IsThere s u.places) (sym is) on
-continues_step s w v h (Misses other task about none sure told is) r on =
-    subst (λ u. IsThere s u.places) (sym is) on
-continues_step s w v h (Asks t) r on =
-    subst (λ u. IsThere s u.places) (sym t.is)
-    (put_holds s.name w.places (record {
-      name = t.name;
-      before = t.place;
-      behind = place_by t.task t.place h.choice;
-      at = t.found;
-      on = λ c. kept_task (keeps_continuing s.stretch s.first) t.task t.place h.choice
-          (tt, (all_found Holds t.name t.place w.places r.holds t.found, c));
-    }) on)
-continues_step s w v h (Acts t) r on =
-    (acting_turns {R = Both s} (λ other p q ps found turned both. (
-      all_put Holds other q ps (turned_holds p q turned (all_found Holds other p ps both.0 found)) both.0,
-      put_holds s.name ps (record {
-        name = other;
-        before = p;
-        behind = q;
-        at = found;
-        on = λ c. turned_continues s.stretch s.first p q turned (all_found Holds other p ps both.0 found) c;
-      }) both.1,
-    )) w v h t (outcome_fit w r t.act) (r.holds, on)).1
+continues_step s w v h step ready =
+    later_step (record {
+      tasks = keeps_continuing s.stretch s.first;
+      turns = turned_continues s.stretch s.first;
+    }) s.name w v h ready step
 
 -- a history that goes on
 pub joined : (limit : ℕ) (history later : List Happening) (w v : World) → Leads (start limit) history w →

@@ -12,5 +12,6 @@ pub mod Moving
 pub mod Orders
 pub mod Reading
 pub mod Since
+pub mod Staying
 pub mod Stretching
 pub mod Ticking

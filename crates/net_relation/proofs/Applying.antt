@@ -1,5 +1,5 @@
 -- A node applies an event of the stream of a net: the node of the net does too.
-use Rattle.std.proofs.Common.{◌≡◌, ◌⊎◌, inl, inr, ℕ, suc, ◌<◌, ◌≤◌, Bool, true, false, cond, List, [], ◌∷◌}
+use Rattle.std.proofs.Common.{◌≡◌, ◌⊎◌, inl, inr, ℕ, ◌<◌, ◌≤◌, Bool, true, false, cond, List, [], ◌∷◌}
 use Rattle.std.proofs.Common.{length, Option, Some, None, refl, sym, ap, subst, ◌∙◌, arith, unwrap_or}
 use Rattle.std.specs.Prelude.{◌+◌, ◌==◌, max, option_map}
 use Rattle.std.specs.Str.{bytes_eq}
@@ -9,21 +9,20 @@ use Rattle.node_rows.specs.declared.body.Body.{Body}
 use Rattle.node_rows.specs.declared.body.Body.TheVariants.{Sync, SubscribeSet, EnableSubscription}
 use Rattle.net_laws.specs.Updates.{set_at}
 use Rattle.net_laws.specs.Subscriptions.{Event as Said, Subscribe, Enable, Unrelated, Subscription as Row}
-use Rattle.net_laws.specs.Subscriptions.{row, up_to}
-use Rattle.net_laws.specs.Net.{Applies as AppliesStep, Copies as CopiesTurn, Here, IsIn, IsNext, IsQuiet, Logs, More}
+use Rattle.net_laws.specs.Subscriptions.{last_moment, row, up_to}
+use Rattle.net_laws.specs.Net.{Applies as AppliesStep, Copies as CopiesTurn, Here, IsIn, IsQuiet, Logs, More}
 use Rattle.net_laws.specs.Net.{Net}
 use Rattle.net_laws.specs.Net.{Node as NetNode, Passes, Syncs as SyncsTurn, Turn, configured, copied, heard, passed}
 use Rattle.net_laws.specs.Net.{stretch}
 use Rattle.net_laws.specs.Net.{synced}
 use Rattle.net_laws.proofs.Laws.{view_has_row}
-use Rattle.net_laws.proofs.Prefixes.{length_up_to, moment_up_to, up_to_new, up_to_old}
+use Rattle.net_laws.proofs.Prefixes.{length_up_to, up_to_new, up_to_old}
 use Rattle.net_laws.proofs.Updates.{set_here, set_other}
-use Rattle.slon_model.specs.Names.{find_named}
 use Rattle.slon_model.specs.Maps.{number_at, with_entry}
-use Rattle.slon_model.specs.Snapshots.{Snapshot, covers}
+use Rattle.slon_model.specs.Snapshots.{Snapshot, covers, sees}
 use Rattle.slon_model.specs.Events.{Event, is_sync}
 use Rattle.slon_model.specs.Config.{forwards}
-use Rattle.slon_model.specs.Deeds.{Logged, Node, knowledge, progress, stream, view_of}
+use Rattle.slon_model.specs.Deeds.{Logged, Node, knowledge, stream, view_of}
 use Rattle.slon_model.specs.Logs.{logged}
 use Rattle.slon_model.specs.Place.{taken}
 use Rattle.slon_model.specs.Sessions.{Seat}
@@ -31,24 +30,26 @@ use Rattle.slon_model.specs.Views.{View, first_view, later_of, view_after}
 use Rattle.slon_model.specs.Working.{Copying, ToCopy, errand_in, receives_from}
 use Rattle.slon_model.proofs.Names.{bytes_itself, one_found}
 use Rattle.stream_laws.specs.Nodes.{IsAmong, nodes_in}
-use Rattle.stream_laws.proofs.Copies.{IsCopy, IsFollowed}
 use Rattle.stream_laws.proofs.Lists.{all_among, number_here}
-use Rattle.stream_laws.proofs.Seats.{seat_node}
-use Rattle.stream_laws.proofs.Streams.{Found, among_found, one_node}
 use Rattle.image_laws.specs.Moments.{IsOrder, IsTaken, count_of, is_ended}
 use Rattle.image_laws.proofs.Logging.{among_left, among_right}
 use Rattle.image_laws.proofs.Orders.{order_in, order_is}
 use Rattle.image_laws.proofs.Ticking.{counts_tell}
-use Rattle.follow_laws.specs.Past.{Past}
-use Rattle.follow_laws.proofs.Moments.{covers_passes, passes_covers, regular_now, sound_now}
-use Rattle.follow_laws.proofs.Unfed.{may_emitted}
+use Rattle.view_laws.specs.Past.{Past}
+use Rattle.view_laws.proofs.Brought.{IsCopied, IsSynced, same_id}
+use Rattle.view_laws.proofs.Emitted.{emitted_in}
+use Rattle.view_laws.proofs.Moments.{covers_passes, passes_covers, regular_now}
+use Rattle.view_laws.proofs.Reaching.{own_covered}
+use Rattle.view_laws.proofs.Unfed.{may_emitted}
+use Rattle.view_laws.proofs.Unmoved.{since, view_then}
 use Rattle.net_relation.specs.Reading.{moment_of, read, said, said_by, unfed}
 use Rattle.net_relation.specs.Matching.{IsEntry, IsKept, IsWhole, MatchesNode}
-use Rattle.net_relation.proofs.Beside.{Before, Work, copy_origin, leader_at, worker, worker_at, worker_before}
+use Rattle.net_relation.proofs.Beside.{Before, copy_origin, worker, worker_at, worker_before}
+use Rattle.net_relation.proofs.Coming.{Coming, FindingOf, Source, comes, configured_is, event_among, event_of}
+use Rattle.net_relation.proofs.Coming.{heard_bounded, heard_of, is_at, node_of, reached_is, row_then, source_then}
+use Rattle.net_relation.proofs.Earlier.{WasThen}
 use Rattle.net_relation.proofs.Entries.{Forwarding, entry_logged}
 use Rattle.net_relation.proofs.Leading.{copy_comes}
-use Rattle.net_relation.proofs.Moments.{taken_now}
-use Rattle.net_relation.proofs.Nets.{said_next}
 use Rattle.net_relation.proofs.Relating.{AreFirst, FitsNode, IsFirstOf, NodeLater, frame, netted_sound, node_behind}
 use Rattle.net_relation.proofs.Rows.{row_changed}
 use Rattle.net_relation.proofs.Views.{Copied, Followed, Keeps, ViewTaken, behind, view_taken}
@@ -75,69 +76,6 @@ later_taken order now a b one two = by (covers a b)
     by : (c : Bool) → IsTaken order now (cond c a b)
     by true = one
     by false = two
-
--- ---- the next event
-
--- The event is one of the stream of the net.
-pub record Coming (set : ℕ) (t : Past) : Type 0 where
-  pub work : Work set t
-  pub own : work.carried.event.origin ≡ work.leader.id
-
-abbrev node_of : {set : ℕ} {t : Past} → Coming set t → NetNode
-node_of c = c.work.netted.net.nodes (worker c.work).id
-
-abbrev event_of : {set : ℕ} {t : Past} → Coming set t → Event
-event_of c = c.work.carried.event
-
--- what the node has heard so far
-abbrev heard_of : {set : ℕ} {t : Past} → Coming set t → List Said
-heard_of {set} c = up_to (node_of c).progress (read set (stream c.work.leader))
-
-event_among : (set : ℕ) (t : Past) (c : Coming set t) → IsAmong (event_of c) (stream c.work.leader)
-event_among set t c =
-    subst (λ (n : Node). IsAmong (event_of c) (stream n))
-    (one_node (nodes_in t.world.places) (regular_now t).nodes c.work.is.work.event.name c.work.name
-    c.work.is.work.event.node c.work.leader c.work.is.work.event.is
-    (leader_at c.work, c.work.is.work.event.own ∙ c.own)) c.work.is.work.event.among
-
-reached_is : (set : ℕ) (t : Past) (c : Coming set t) → (event_of c).number ≡ suc (node_of c).progress
-reached_is set t c =
-    let next = c.work.is.work.next in
-    let reached = (worker_before c.work).reached in
-    let same = ap (λ i. progress i (knowledge (worker c.work))) c.own in
-    omega (arith, next, reached, same)
-
-record IsAt (set : ℕ) (t : Past) (c : Coming set t) : Type 0 where
-  more : (node_of c).progress < length (read set (stream c.work.leader))
-  next : up_to ((node_of c).progress + 1) (read set (stream c.work.leader)) ≡ said set (event_of c) ∷ heard_of c
-
-is_at : (set : ℕ) (t : Past) (c : Coming set t) → IsAt set t c
-is_at set t c =
-    let found : Found c.work.leader.id (stream c.work.leader) (event_of c) =
-    among_found c.work.leader.id (stream c.work.leader) (event_of c)
-    ((regular_now t).nodes.each c.work.name c.work.leader (leader_at c.work)).emitted (event_among set t c) in
-    let far = found.are.1 in
-    let at = reached_is set t c in
-    let here = said_next set found.later (event_of c) found.earlier (node_of c).progress (omega (arith, far, at)) in
-    record {
-      more = subst (λ es. (node_of c).progress < length (read set es)) (sym found.all) here.0;
-      next = subst (λ es. up_to ((node_of c).progress + 1) (read set es)
-          ≡ said set (event_of c) ∷ up_to (node_of c).progress (read set es)) (sym found.all) here.1;
-    }
-
-comes : (set : ℕ) (t : Past) (c : Coming set t) → IsNext c.work.netted.net (worker c.work).id (said set (event_of c))
-comes set t c = record {
-  more = subst (λ z. (node_of c).progress < length z) (sym c.work.netted.origin.stream) (is_at set t c).more;
-  next = subst (λ z. up_to ((node_of c).progress + 1) z ≡ said set (event_of c) ∷ up_to (node_of c).progress z)
-      (sym c.work.netted.origin.stream) (is_at set t c).next;
-}
-
--- the subscription of the node by what it heard
-configured_is : (set : ℕ) (t : Past) (c : Coming set t) (r : ℕ) →
-    configured c.work.netted.net (worker c.work).id r ≡ row unfed r (heard_of c)
-configured_is set t c r =
-    ap (λ s. row s r (heard c.work.netted.net (worker c.work).id)) c.work.netted.origin.start
-    ∙ ap (λ z. row unfed r (up_to (node_of c).progress z)) c.work.netted.origin.stream
 
 -- ---- what the node becomes
 
@@ -223,7 +161,7 @@ moment_own origin v own = ap (λ b. cond b (Some (count_of v.seen)) None) (eq-eq
 
 -- A SYNC of the origin of the set, and the view that the node keeps.
 record Syncing (set : ℕ) (t : Past) (c : Coming set t) : Type 0 where
-  follows : IsFollowed t.world c.work.carried.seat (event_of c) c.work.carried.brought
+  synced : IsSynced t c.work.carried.seat (event_of c) c.work.carried.brought
   view : View
   found : view_of set (knowledge (worker c.work)) ≡ Some view
   own : view.origin ≡ (event_of c).origin
@@ -235,9 +173,13 @@ sync_taken set t c =
     all_among (λ e. IsTaken (order_in c.work.ended) (length c.work.ended) e.taken) (event_of c) (stream c.work.leader)
     c.work.netted.events (event_among set t c)
 
+abbrev sync_source : {set : ℕ} {t : Past} (c : Coming set t) (s : Syncing set t c) → Source c s.synced.at
+sync_source c s =
+    record { seat = s.synced.follows.provider; is = s.synced.follows.seat; own = s.synced.follows.own }
+
 -- what is new in the log of the origin between the two snapshots is logged
 sync_logs : {set : ℕ} {t : Past} (c : Coming set t) (s : Syncing set t c) →
-    forwards set (worker c.work).id (knowledge (worker c.work)).config ≡ true →
+    forwards set s.synced.at.seat.node.id (knowledge s.synced.at.seat.node).config ≡ true →
     (l : Logged) (moment : ℕ) →
     IsEntry set (order_in c.work.ended) c.work.leader l moment →
     IsIn moment (stretch (count_of s.view.seen) (count_of (event_of c).taken)) →
@@ -245,22 +187,27 @@ sync_logs : {set : ℕ} {t : Past} (c : Coming set t) (s : Syncing set t c) →
 sync_logs {set} {t} c s forward l moment e inside =
     among_left l c.work.carried.brought.logs (logged (worker c.work))
     (entry_logged t c.work.carried set f l (record {
-      among = subst (λ (n : Node). IsAmong l (logged n)) (sym one) e.among;
+      among = (source_then set t c s.synced.at (sync_source c s)).logs c.work.leader c.work.at l e.among (
+        e.own,
+        own_covered a.to s.synced.follows.provider s.synced.follows.seat (event_of c)
+            (emitted_in a.to (event_of c) a.work.event) (sym s.synced.follows.own) l.action.xid seen,
+      );
       of = e.of;
-      seen = (sync_taken set t c).sees l.action.xid
-          ∙ ap (λ o. is_ended o (count_of (event_of c).taken)) e.ended
-          ∙ lt-ltb moment (count_of (event_of c).taken) inside.to;
+      seen = seen;
       unseen = kept.seen.sees l.action.xid ∙ ap (λ o. is_ended o (count_of s.view.seen)) e.ended
           ∙ le-ltb moment (count_of s.view.seen) inside.from;
     }))
   where
+    a : FindingOf c
+    a = s.synced.at
+
     f : Forwarding t c.work.carried set
     f = record {
       origin = c.work.origin;
       is = c.work.is;
-      follows = s.follows;
+      synced = s.synced;
       view = s.view;
-      found = s.found;
+      found = view_then t (since c.work.origin c.work.carried c.work.is a) set s.view s.found s.own;
       own = s.own;
       forwards = forward;
     }
@@ -268,15 +215,15 @@ sync_logs {set} {t} c s forward l moment e inside =
     kept : IsKept (order_in c.work.ended) (length c.work.ended) s.view (node_of c)
     kept = (worker_before c.work).kept s.view s.found (s.own ∙ c.own)
 
-    one : s.follows.provider.node ≡ c.work.leader
-    one = one_node (nodes_in t.world.places) (regular_now t).nodes s.follows.provider.name c.work.name
-        s.follows.provider.node c.work.leader (seat_node t.world.places s.follows.provider s.follows.seat)
-        (leader_at c.work, s.follows.own ∙ c.own)
+    seen : sees (event_of c).taken l.action.xid ≡ true
+    seen =
+        (sync_taken set t c).sees l.action.xid ∙ ap (λ o. is_ended o (count_of (event_of c).taken)) e.ended
+        ∙ lt-ltb moment (count_of (event_of c).taken) inside.to
 
 sync_turned : (set : ℕ) (t : Past) (c : Coming set t) → Syncing set t c → Turned set t c
 sync_turned set t c s = record {
   node = synced m v u.0.forward (node_of c);
-  turn = SyncsTurn m v u.0 (ap (said_by set (event_of c).taken) s.follows.body) viewed u.1.0 refl;
+  turn = SyncsTurn m v u.0 (ap (said_by set (event_of c).taken) s.synced.follows.body) viewed u.1.0 refl;
   far = refl;
   view = sym (ap (moment_of c.work.leader.id) s.now
       ∙ moment_own c.work.leader.id (view_after (event_of c) s.view) (s.own ∙ c.own)
@@ -315,10 +262,12 @@ sync_turned set t c s = record {
     u : (u : Row) × ((configured c.work.netted.net (worker c.work).id (worker c.work).id ≡ Some u) × (u.ready ≡ true))
     u = view_has_row c.work.netted.net (netted_sound c.work.netted) (worker c.work).id v viewed
 
-    forward : u.0.forward ≡ true → forwards set (worker c.work).id (knowledge (worker c.work)).config ≡ true
+    forward : u.0.forward ≡ true →
+        forwards set s.synced.at.seat.node.id (knowledge s.synced.at.seat.node).config ≡ true
     forward is =
         ap (λ o. unwrap_or (option_map (λ (s : Subscription). s.forward) o) false)
-        (old.row u.0 (sym (configured_is set t c (worker c.work).id) ∙ u.1.0)) ∙ is
+        (row_then set t c s.synced.at (sync_source c s) u.0
+        (sym (configured_is set t c (worker c.work).id) ∙ u.1.0)) ∙ is
 
     before : (l : Logged) (moment : ℕ) →
         IsEntry set (order_in c.work.ended) c.work.leader l moment → Logs (node_of c).log moment →
@@ -363,24 +312,24 @@ asked_body own receives origin others k asked = absurd cc
 
 -- The set is copied.
 record CopyMade (set : ℕ) (t : Past) (c : Coming set t) : Type 0 where
-  copy : IsCopy t.world c.work.carried.seat (event_of c) c.work.carried.brought
-  same : copy.copying.set_id ≡ set
-  now : view_of set (knowledge (behind c.work.carried)) ≡ Some (first_view copy.copying.era copy.provider.node.id
-      (event_of c).number (taken copy.provider.place))
+  made : IsCopied t c.work.carried.seat (event_of c) c.work.carried.brought
+  same : made.copy.copying.set_id ≡ set
+  now : view_of set (knowledge (behind c.work.carried)) ≡ Some (first_view made.copy.copying.era
+      made.copy.provider.node.id (event_of c).number (taken made.copy.provider.place))
 
 copy_turned : (set : ℕ) (t : Past) (c : Coming set t) → CopyMade set t c → Turned set t c
 copy_turned set t c s = record {
-  node = copied n.now (node_of c);
-  turn = CopiesTurn n.now u.0 enables (configured_same ∙ u.1.0)
-      (let most = moment_up_to (node_of c).progress n.stream in
-      let bound = (netted_sound c.work.netted).bound in
-      omega (arith, most, bound))
-      (omega arith) refl;
+  node = copied v (node_of c);
+  turn = CopiesTurn v u.0 enables (configured_same ∙ u.1.0)
+      (let most = heard_bounded set t c s.made.at source in
+      let same = ap (λ z. last_moment (up_to (node_of c).progress z)) c.work.netted.origin.stream in
+      omega (arith, most, same))
+      (let past = then.seen.past in let now = c.work.netted.now in omega (arith, past, now)) refl;
   far = refl;
-  view = sym (ap (moment_of c.work.leader.id) s.now ∙ moment_own c.work.leader.id first owner ∙ ap Some counted);
-  kept = λ v found own.
-      subst (λ (v : View). IsKept (order_in c.work.ended) (length c.work.ended) v (copied n.now (node_of c)))
-      (one_found first v (sym s.now ∙ found)) (record { base = sym counted; seen = snapshot; began = snapshot });
+  view = sym (ap (moment_of c.work.leader.id) s.now ∙ moment_own c.work.leader.id first owner);
+  kept = λ w found own.
+      subst (λ (w : View). IsKept (order_in c.work.ended) (length c.work.ended) w (copied v (node_of c)))
+      (one_found first w (sym s.now ∙ found)) (record { base = refl; seen = then.seen; began = then.seen });
   logs = λ l moment e logs.
       among_right l c.work.carried.brought.logs (logged (worker c.work)) (old.logs l moment e logs);
   whole = record { keeps = old.whole.keeps; bars = old.whole.bars; has = old.whole.has };
@@ -396,35 +345,32 @@ copy_turned set t c s = record {
     o = worker c.work
 
     provider : Seat
-    provider = s.copy.provider
+    provider = s.made.copy.provider
 
     first : View
-    first = first_view s.copy.copying.era provider.node.id (event_of c).number (taken provider.place)
+    first = first_view s.made.copy.copying.era provider.node.id (event_of c).number (taken provider.place)
+
+    -- the origin, as the set was copied
+    source : Source c s.made.at
+    source = record { seat = provider; is = s.made.copy.seat; own = copy_origin c.work s.made }
 
     owner : provider.node.id ≡ c.work.leader.id
-    owner = copy_origin t c.work.carried c.work.origin c.work.is s.copy ∙ c.own
+    owner = copy_origin c.work s.made ∙ c.own
 
-    name : provider.name ≡ c.work.name
-    name = (regular_now t).nodes.apart provider.name c.work.name provider.node c.work.leader
-        (seat_node t.world.places provider s.copy.seat) (leader_at c.work) owner
+    then : WasThen set c.work.ended c.work.place.node s.made.at.to.world provider.place provider.node
+    then = source_then set t c s.made.at source
 
-    place : provider.place ≡ c.work.place
-    place = one_found provider.place c.work.place
-        (sym s.copy.seat.found ∙ ap (λ k. find_named k t.world.places) name ∙ c.work.found)
-
-    counted : count_of (taken provider.place) ≡ n.now
-    counted = ap (λ p. count_of (taken p)) place ∙ sym c.work.netted.origin.now
-
-    snapshot : IsTaken (order_in c.work.ended) (length c.work.ended) (taken provider.place)
-    snapshot = subst (λ p. IsTaken (order_in c.work.ended) (length c.work.ended) (taken p)) (sym place)
-        (taken_now c.work.place c.work.ended (sound_now t c.work.name c.work.place c.work.found) c.work.clock)
+    v : ℕ
+    v = count_of (taken provider.place)
 
     enables : said set (event_of c) ≡ Enable o.id
     enables =
-        let body = asked_body o.id (receives_from (event_of c).origin c.work.carried.seat.known) (event_of c).origin
-        (event_of c).body s.copy.copying s.copy.asked in
+        let a : Seat = s.made.at.seat in
+        let body = asked_body a.node.id (receives_from (event_of c).origin a.known) (event_of c).origin
+        (event_of c).body s.made.copy.copying s.made.copy.asked in
         ap (said_by set (event_of c).taken) body.3
-        ∙ ap (λ b. cond b (Enable o.id) Unrelated) (eq-eqb s.copy.copying.set_id set s.same)
+        ∙ ap (λ b. cond b (Enable a.node.id) Unrelated) (eq-eqb s.made.copy.copying.set_id set s.same)
+        ∙ ap Enable (same_id t c.work.carried.seat (event_of c) s.made.at c.work.is.work.seat)
 
     configured_same : configured n o.id o.id ≡ row n.start o.id (heard n o.id)
     configured_same = refl
@@ -456,7 +402,7 @@ record Passing (set : ℕ) (t : Past) (c : Coming set t) : Type 0 where
   same : view_of set (knowledge (behind c.work.carried)) ≡ view_of set (knowledge (worker c.work))
   sync : (v : View) → view_of set (knowledge (worker c.work)) ≡ Some v → is_sync (event_of c).body ≡ true →
       (event_of c).origin ≡ v.origin → ⊥
-  copy : (k : IsCopy t.world c.work.carried.seat (event_of c) c.work.carried.brought) → k.copying.set_id ≡ set → ⊥
+  copy : (k : IsCopied t c.work.carried.seat (event_of c) c.work.carried.brought) → k.copy.copying.set_id ≡ set → ⊥
 
 pass_quiet : (set : ℕ) (t : Past) (c : Coming set t) → Passing set t c → (body : Body) → (event_of c).body ≡ body →
     IsQuiet (worker c.work).id (node_of c).view (said_by set (event_of c).taken body)
@@ -540,6 +486,6 @@ coming_later set t c = turned_later set t c (by (view_taken t c.work.carried c.w
   where
     by : ViewTaken t c.work.carried set → Turned set t c
     by (Keeps same sync copy) = pass_turned set t c (record { same = same; sync = sync; copy = copy })
-    by (Copied k same now) = copy_turned set t c (record { copy = k; same = same; now = now })
-    by (Followed f v found own now) =
-        sync_turned set t c (record { follows = f; view = v; found = found; own = own; now = now })
+    by (Copied k same now) = copy_turned set t c (record { made = k; same = same; now = now })
+    by (Followed y v found own now) =
+        sync_turned set t c (record { synced = y; view = v; found = found; own = own; now = now })

@@ -22,9 +22,9 @@ use Rattle.stream_laws.proofs.Lists.{all_mapped, number_beside}
 use Rattle.image_laws.specs.Moments.{IsTaken, count_of}
 use Rattle.image_laws.proofs.Orders.{order_in}
 use Rattle.image_laws.proofs.Ticking.{ClockAt}
-use Rattle.follow_laws.specs.Past.{Past}
-use Rattle.follow_laws.proofs.Going.{seen_now}
-use Rattle.follow_laws.proofs.Moments.{now_stays, regular_now}
+use Rattle.view_laws.specs.Past.{Past}
+use Rattle.view_laws.proofs.Viewed.{seen_now}
+use Rattle.view_laws.proofs.Moments.{now_stays, regular_now}
 use Rattle.net_relation.specs.Reading.{first_net, fresh, moment_of, read, said, said_by, unfed}
 use Rattle.net_relation.specs.Matching.{MatchesNode}
 use Rattle.net_relation.proofs.Feeding.{IsFeed}

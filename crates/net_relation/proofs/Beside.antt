@@ -21,22 +21,22 @@ use Rattle.slon_model.specs.Working.{Carried}
 use Rattle.slon_model.proofs.Names.{one_found}
 use Rattle.stream_laws.specs.Nodes.{nodes_in, node_in}
 use Rattle.stream_laws.specs.Making.{HasStored}
-use Rattle.stream_laws.proofs.Copies.{IsCopy}
 use Rattle.stream_laws.proofs.Lists.{all_among, all_mapped, number_beside}
 use Rattle.stream_laws.proofs.Seats.{seat_node}
 use Rattle.image_laws.specs.Moments.{count_of}
 use Rattle.image_laws.proofs.Logging.{among_right}
 use Rattle.image_laws.proofs.Orders.{order_in}
 use Rattle.image_laws.proofs.Ticking.{ClockAt}
-use Rattle.follow_laws.specs.Known.{IsOfOwn}
-use Rattle.follow_laws.specs.Laws.{GoesOn}
-use Rattle.follow_laws.specs.Past.{Past}
-use Rattle.follow_laws.proofs.Doing.{IsTaken}
-use Rattle.follow_laws.proofs.Going.{takes_on}
-use Rattle.follow_laws.proofs.Seen.{copy_asks, unfed_now}
-use Rattle.follow_laws.proofs.Unfed.{may_emitted}
+use Rattle.view_laws.specs.Laws.{GoesOn}
+use Rattle.view_laws.specs.Past.{Moment, Past, WasUpTo}
+use Rattle.view_laws.proofs.Brought.{IsCopied}
+use Rattle.view_laws.proofs.Doing.{IsTaken}
+use Rattle.view_laws.proofs.Going.{takes_on}
+use Rattle.view_laws.proofs.Unfed.{may_emitted}
+use Rattle.view_laws.proofs.Unmoved.{copy_from}
 use Rattle.net_relation.specs.Reading.{moment_of, read, said, said_by, unfed}
 use Rattle.net_relation.specs.Matching.{IsKept, MatchesNode}
+use Rattle.net_relation.proofs.Earlier.{WasThen}
 use Rattle.net_relation.proofs.Feeding.{IsFeed}
 use Rattle.net_relation.proofs.Leading.{Known, feeds_at, one_storer}
 use Rattle.net_relation.proofs.Nets.{all_up_to}
@@ -58,8 +58,9 @@ pub record Work (set : ℕ) (t : Past) : Type 0 where
   pub netted : Netted set ended (nodes_in t.world.places) place leader
   pub carried : Carried
   pub origin : ℕ
-  pub is : IsTaken t.world origin carried
+  pub is : IsTaken t origin carried
   pub other : carried.seat.node.id ≢ leader.id
+  pub then : (m : Moment (WasUpTo t)) → m.name ≡ name → WasThen set ended place.node m.session m.place m.node
 
 -- the node that applies it
 abbrev pub worker : {set : ℕ} {t : Past} → Work set t → Node
@@ -154,7 +155,7 @@ stored_beside set r own es c (EnableSubscription id p n f era) is none =
 stored_beside set r own es c others is none = tt
 
 -- so a subscription of another stream stays
-pub other_row : (t : Past) (x : Carried) {origin : ℕ} → IsTaken t.world origin x → (k : Known t) →
+pub other_row : (t : Past) (x : Carried) {origin : ℕ} → IsTaken t origin x → (k : Known t) →
     x.event.origin ≢ k.node.id → (set r : ℕ) → HasStored set (stream k.node) → IsBeside set r x.event.body
 other_row t x is k apart set r stored =
     stored_beside set r y.id (stream y) (knowledge y).config x.event.body
@@ -169,12 +170,10 @@ other_row t x is k apart set r stored =
 -- ---- the view
 
 -- the provider of a copy is the origin of the event
-pub copy_origin : (t : Past) (x : Carried) (origin : ℕ) → IsTaken t.world origin x →
-    (k : IsCopy t.world x.seat x.event x.brought) → k.provider.node.id ≡ x.event.origin
-copy_origin t x origin is k =
-    k.own ∙ (copy_asks t x.seat x.event x.brought k).1 x.event.origin
-    (all_among (λ f. IsOfOwn f.origin f.body) x.event (stream is.work.event.node)
-    (unfed_now t is.work.event.name is.work.event.node is.work.event.is).own is.work.event.among)
+pub copy_origin : {set : ℕ} {t : Past} (w : Work set t) →
+    (k : IsCopied t w.carried.seat w.carried.event w.carried.brought) →
+    k.copy.provider.node.id ≡ w.carried.event.origin
+copy_origin {t = t} w k = copy_from t w.carried.seat w.carried.event w.carried.brought k
 
 moment_other : (origin : ℕ) (v : View) → v.origin ≢ origin → moment_of origin (Some v) ≡ None
 moment_other origin v apart =
@@ -188,12 +187,12 @@ same_moment : {set : ℕ} {t : Past} (w : Work set t) → w.carried.event.origin
 same_moment w apart (Keeps same sync copy) = ap (moment_of w.leader.id) same
 same_moment {set} {t} w apart (Copied k same now) =
     ap (moment_of w.leader.id) now
-    ∙ moment_other w.leader.id first (λ own. apart (sym (copy_origin t w.carried w.origin w.is k) ∙ own))
+    ∙ moment_other w.leader.id first (λ own. apart (sym (copy_origin w k) ∙ own))
     ∙ sym (by (view_of set (knowledge (worker w))) refl)
   where
     first : View
-    first = first_view k.copying.era k.provider.node.id w.carried.event.number
-        (taken k.provider.place)
+    first = first_view k.copy.copying.era k.copy.provider.node.id w.carried.event.number
+        (taken k.copy.provider.place)
 
     by : (o : Option View) → view_of set (knowledge (worker w)) ≡ o → moment_of w.leader.id o ≡ None
     by None none = refl
@@ -203,7 +202,7 @@ same_moment {set} {t} w apart (Copied k same now) =
         takes_on t w.carried w.origin w.is set v
         (record { view = v; found = is; origin = refl; era = refl; covers = λ i sees. sees }) in
         let one = one_found first on.view (sym now ∙ on.found) in
-        apart (sym (copy_origin t w.carried w.origin w.is k) ∙ ap (λ (v : View). v.origin) one ∙ on.origin ∙ own))
+        apart (sym (copy_origin w k) ∙ ap (λ (v : View). v.origin) one ∙ on.origin ∙ own))
 same_moment w apart (Followed f v is own now) =
     ap (moment_of w.leader.id) now
     ∙ moment_other w.leader.id (view_after w.carried.event v) (λ same. apart (sym own ∙ same))
@@ -216,7 +215,7 @@ same_kept : {set : ℕ} {t : Past} (w : Work set t) → w.carried.event.origin �
     IsKept (order_in w.ended) (length w.ended) v (w.netted.net.nodes (worker w).id)
 same_kept w apart (Keeps same sync copy) v found own = (worker_before w).kept v (sym same ∙ found) own
 same_kept {set} {t} w apart (Copied k same now) v found own =
-    absurd (apart (sym (copy_origin t w.carried w.origin w.is k)
+    absurd (apart (sym (copy_origin w k)
     ∙ ap (λ (v : View). v.origin) (one_found _ v (sym now ∙ found)) ∙ own))
 same_kept w apart (Followed f u is of now) v found own =
     absurd (apart (sym of ∙ ap (λ (v : View). v.origin) (one_found (view_after w.carried.event u) v (sym now ∙ found))

@@ -3,6 +3,8 @@ use Rattle.std.proofs.Common.{◌≡◌, ◌≢◌, ◌⊎◌, inl, inr, ℕ, �
 use Rattle.std.proofs.Common.{Option, Some, None, refl, sym, ap, subst, ◌∙◌, arith}
 use Rattle.std.specs.Prelude.{◌+◌, max, option_map, unwrap_or}
 use Rattle.std.proofs.lemmas.Bool.{eq-eqb, false≢true, true≢false, lt-ltb, ltb-true, cases_lt}
+use Rattle.node_rows.specs.declared.body.Body.{Body}
+use Rattle.node_rows.specs.declared.body.Body.TheVariants.{Sync}
 use Rattle.node_rows.specs.declared.rows.Subscription.{Subscription}
 use Rattle.net_laws.specs.Subscriptions.{Sync as Syncs, Subscription as Row, last_moment, row, up_to}
 use Rattle.net_laws.specs.Net.{Logs, member, configured, heard}
@@ -22,10 +24,9 @@ use Rattle.stream_laws.proofs.Lists.{all_among}
 use Rattle.stream_laws.proofs.Streams.{Found, among_found}
 use Rattle.image_laws.specs.Moments.{IsOrder, IsTaken, count_of, is_ended}
 use Rattle.image_laws.proofs.Ticking.{counts_tell}
-use Rattle.follow_laws.specs.Past.{Past, past}
-use Rattle.follow_laws.proofs.Going.{seen_now}
-use Rattle.follow_laws.proofs.Moments.{regular_now}
-use Rattle.follow_laws.proofs.Reaching.{sync_body}
+use Rattle.view_laws.specs.Past.{Past, past}
+use Rattle.view_laws.proofs.Viewed.{seen_now}
+use Rattle.view_laws.proofs.Moments.{regular_now}
 use Rattle.net_relation.specs.Reading.{moment_of, plain, read, said_by, unfed}
 use Rattle.net_relation.specs.Matching.{HasNet, HasRow, IsKept, MatchesNode}
 use Rattle.net_relation.specs.Laws.{ForwardersLog, ForwardersServe, KeepersSee, Keeper, KeepersSubscribe, LawsApply}
@@ -188,6 +189,10 @@ forwarders_log limit history w leads name x at set keeper forward l e =
 
     moment : (m : ℕ) × (n.order l.action.xid ≡ Some m) × (m < count_of keeper.view.seen)
     moment = seen_moment n.order n.net.now keeper.view.seen l.action.xid s.kept.seen e.seen
+
+sync_body : (body : Body) → is_sync body ≡ true → body ≡ Sync
+sync_body Sync is = refl
+sync_body others is = absurd (false≢true is)
 
 -- the last moment of a prefix that ends with a SYNC
 synced_moment : (set : ℕ) (t : Past) (name : List ℕ) (x : Node) → nodes_in t.world.places name ≡ Some x → (e : Event) →

@@ -26,9 +26,9 @@ use Rattle.stream_laws.proofs.Lists.{number_beside}
 use Rattle.stream_laws.proofs.Seats.{IsSeat, seat_node}
 use Rattle.image_laws.specs.Moments.{count_of}
 use Rattle.image_laws.proofs.Ticking.{ClockAt}
-use Rattle.follow_laws.specs.Past.{Past}
-use Rattle.follow_laws.proofs.Moments.{regular_now}
-use Rattle.follow_laws.proofs.Seen.{same_views}
+use Rattle.view_laws.specs.Past.{Past}
+use Rattle.view_laws.proofs.Moments.{regular_now}
+use Rattle.view_laws.proofs.Seen.{same_views}
 use Rattle.net_relation.specs.Reading.{moment_of, plain, read, said, said_by, unfed}
 use Rattle.net_relation.proofs.Feeding.{plain_emitted}
 use Rattle.net_relation.proofs.Links.{Alone, CanFeed, Feeds, MayTell, is_plain}

@@ -23,8 +23,8 @@ use Rattle.stream_laws.specs.Nodes.{nodes_in}
 use Rattle.stream_laws.proofs.Lists.{all_among}
 use Rattle.stream_laws.proofs.Streams.{Found, among_found}
 use Rattle.image_laws.proofs.Orders.{order_in}
-use Rattle.follow_laws.specs.Past.{Past, past}
-use Rattle.follow_laws.proofs.Moments.{regular_now}
+use Rattle.view_laws.specs.Past.{Past, WasBefore, past}
+use Rattle.view_laws.proofs.Moments.{regular_now}
 use Rattle.net_relation.specs.Reading.{moment_of, read, said, said_by, unfed}
 use Rattle.net_relation.specs.Matching.{MatchesNode}
 use Rattle.net_relation.specs.Laws.{SubscribersKeep}
@@ -128,8 +128,8 @@ subscribers_keep limit history w leads name x at set o e = by (view_of set (know
     p : (p : Place) × (find_named name w.places ≡ Some p) × (p.node ≡ Some x)
     p = place_of t name x at
 
-    at_origin : Origin set (nodes_in w.places) p.0
-    at_origin = origin_now limit history w leads set name p.0 p.1
+    at_origin : Origin set (WasBefore t) name (nodes_in w.places) p.0
+    at_origin = origin_now t set name p.0 p.1
 
     n : Netted set at_origin.ended (nodes_in w.places) p.0 x
     n = at_origin.is x p.2

@@ -5,14 +5,16 @@ use Rattle.std.specs.Prelude.{◌==◌, ◌&&◌, filter, map}
 use Rattle.std.specs.Str.{bytes_eq}
 use Rattle.std.proofs.lemmas.Bool.{eq-eqb, false_from_ne_true}
 use Rattle.node_rows.specs.declared.rows.TableRow.{TableRow}
+use Rattle.slon_model.specs.Maps.{Map}
 use Rattle.slon_model.specs.Snapshots.{sees}
+use Rattle.slon_model.specs.Events.{Event}
 use Rattle.slon_model.specs.Config.{era_of, forwards, is_origin, names_of, set_of}
-use Rattle.slon_model.specs.Deeds.{Brought, Knowledge, Logged, Node, knowledge, nothing_brought, stream, view_of}
-use Rattle.slon_model.specs.Following.{SetSync, delta, is_new, is_on_one, kept_from, numbered, onto, set_sync}
-use Rattle.slon_model.specs.Following.{set_syncs}
+use Rattle.slon_model.specs.Deeds.{Brought, Logged, Node, knowledge, nothing_brought, stream, view_of}
+use Rattle.slon_model.specs.Following.{Found, SetSync, delta, is_new, is_on_one, kept_from, numbered, onto, set_sync}
 use Rattle.slon_model.specs.Following.{tables_taken, with_sync, with_syncs}
 use Rattle.slon_model.specs.Logs.{logged}
 use Rattle.slon_model.specs.Place.{Place}
+use Rattle.slon_model.specs.Sessions.{Seat}
 use Rattle.slon_model.specs.Views.{View}
 use Rattle.slon_model.specs.Working.{Carried}
 use Rattle.slon_model.proofs.Names.{bytes_itself, bytes_same}
@@ -24,25 +26,26 @@ use Rattle.stream_laws.specs.Making.{HasStored, OfName, has_mark, tells_of}
 use Rattle.stream_laws.proofs.Copies.{IsFollowed, one_leader}
 use Rattle.stream_laws.proofs.Laws.{marks_are_made_once}
 use Rattle.stream_laws.proofs.Lists.{all_among, any_among}
-use Rattle.stream_laws.proofs.Seats.{seat_node}
+use Rattle.stream_laws.proofs.Seats.{IsSeat, seat_node}
 use Rattle.stream_laws.proofs.Statements.{has_stored}
 use Rattle.stream_laws.proofs.Streams.{number_within, one_node}
 use Rattle.image_laws.specs.Facts.{IsHeldBy}
 use Rattle.image_laws.proofs.Logging.{among_filtered, filtered_among}
-use Rattle.follow_laws.specs.Contents.{actions_on}
-use Rattle.follow_laws.specs.Known.{IsLoggedAs, IsSeen}
-use Rattle.follow_laws.specs.Past.{Past, WasBefore, WasUpTo}
-use Rattle.follow_laws.proofs.Agreeing.{tables_agree}
-use Rattle.follow_laws.proofs.Doing.{IsTaken}
-use Rattle.follow_laws.proofs.Going.{seen_now}
-use Rattle.follow_laws.proofs.Holding.{table_known}
-use Rattle.follow_laws.proofs.Moments.{NodeAt, now_stays, regular_now}
-use Rattle.follow_laws.proofs.Numbered.{IsNumbered, among_map, are_numbered, mapped_among}
-use Rattle.follow_laws.proofs.Rising.{found_stands}
-use Rattle.follow_laws.proofs.Seen.{stays_leading}
-use Rattle.follow_laws.proofs.Staying.{Stays}
-use Rattle.follow_laws.proofs.Tables.{KnownTable, Table, found_in_set, logged_table, one_table, table_of, told_now}
-use Rattle.follow_laws.proofs.Taken.{Follows, delta_read}
+use Rattle.view_laws.specs.Contents.{actions_on}
+use Rattle.view_laws.specs.Known.{IsLoggedAs, IsSeen}
+use Rattle.view_laws.specs.Past.{Past, WasBefore, WasUpTo}
+use Rattle.view_laws.proofs.Agreeing.{table_known, tables_agree}
+use Rattle.view_laws.proofs.Brought.{IsSynced}
+use Rattle.view_laws.proofs.Doing.{IsTaken}
+use Rattle.view_laws.proofs.Viewed.{seen_now}
+use Rattle.view_laws.proofs.Moments.{NodeAt, now_stays, regular_now}
+use Rattle.view_laws.proofs.Numbered.{IsNumbered, among_map, are_numbered, mapped_among}
+use Rattle.view_laws.proofs.Rising.{found_stands}
+use Rattle.view_laws.proofs.Seen.{stays_leading}
+use Rattle.image_laws.proofs.Staying.{Stays}
+use Rattle.view_laws.proofs.Tables.{KnownTable, Table, found_in_set, logged_table, one_table, table_of, told_now}
+use Rattle.view_laws.proofs.Taken.{Follows, delta_read}
+use Rattle.view_laws.proofs.Unmoved.{syncs_are}
 use Rattle.net_relation.proofs.Leading.{one_storer}
 use Rattle.net_relation.proofs.Stretches.{one_entry}
 
@@ -78,31 +81,30 @@ logs_new here (s ∷ ts) b t (inr later) forwards l row = logs_new here ts (with
 
 -- ---- a SYNC that is followed
 
--- A node that forwards a set follows a SYNC of its origin.
-pub record Forwarding (t : Past) (x : Carried) (set : ℕ) : Type 0 where
-  pub origin : ℕ
-  pub is : IsTaken t.world origin x
-  pub follows : IsFollowed t.world x.seat x.event x.brought
+-- A node that keeps a set finds what there is for a SYNC of its origin.
+pub record Keeping (t : Past) (s : Seat) (ev : Event) (set : ℕ) : Type 0 where
+  pub seat : IsSeat t.world.places s
+  pub what : Found
+  pub follows : IsFollowed t.world s ev what
   pub view : View
-  pub found : view_of set (knowledge x.seat.node) ≡ Some view
-  pub own : view.origin ≡ x.event.origin
-  pub forwards : forwards set x.seat.node.id (knowledge x.seat.node).config ≡ true
+  pub found : view_of set (knowledge s.node) ≡ Some view
+  pub own : view.origin ≡ ev.origin
 
 -- the origin of the set, from which it reads
-abbrev leader : {t : Past} {x : Carried} {set : ℕ} → Forwarding t x set → Node
+abbrev leader : {t : Past} {s : Seat} {ev : Event} {set : ℕ} → Keeping t s ev set → Node
 leader f = f.follows.provider.node
 
-leader_is : (t : Past) (x : Carried) (set : ℕ) (f : Forwarding t x set) →
+leader_is : (t : Past) (s : Seat) (ev : Event) (set : ℕ) (f : Keeping t s ev set) →
     nodes_in t.world.places f.follows.provider.name ≡ Some (leader f)
-leader_is t x set f = seat_node t.world.places f.follows.provider f.follows.seat
+leader_is t s ev set f = seat_node t.world.places f.follows.provider f.follows.seat
 
 -- it leads the set
-leader_leads : (t : Past) (x : Carried) (set : ℕ) (f : Forwarding t x set) →
+leader_leads : (t : Past) (s : Seat) (ev : Event) (set : ℕ) (f : Keeping t s ev set) →
     is_origin (leader f).id set (knowledge (leader f)).config ≡ true
-leader_leads t x set f = subst (λ (n : Node). is_origin n.id set (knowledge n).config ≡ true) one leads.0
+leader_leads t s ev set f = subst (λ (n : Node). is_origin n.id set (knowledge n).config ≡ true) one leads.0
   where
-    seen : IsSeen (WasUpTo t) x.seat.node set f.view
-    seen = seen_now t x.seat.name x.seat.node (seat_node t.world.places x.seat f.is.work.seat) set f.view f.found
+    seen : IsSeen (WasUpTo t) s.node set f.view
+    seen = seen_now t s.name s.node (seat_node t.world.places s f.seat) set f.view f.found
 
     now : HoldsOf (Stays seen.moment.node) seen.moment.name t.world.places
     now = now_stays t seen.moment.session seen.moment.was seen.moment.name seen.moment.place seen.moment.node
@@ -115,37 +117,37 @@ leader_leads t x set f = subst (λ (n : Node). is_origin n.id set (knowledge n).
     one : now.2.node ≡ leader f
     one = one_node (nodes_in t.world.places) (regular_now t).nodes seen.moment.name f.follows.provider.name now.2.node
         (leader f) (ap node_in now.1 ∙ now.2.is)
-        (leader_is t x set f, now.2.id ∙ seen.own ∙ f.own ∙ sym f.follows.own)
+        (leader_is t s ev set f, now.2.id ∙ seen.own ∙ f.own ∙ sym f.follows.own)
 
 -- An entry of its log on the set, between the two snapshots.
-pub record IsNewEntry {t : Past} {x : Carried} {set : ℕ} (f : Forwarding t x set) (l : Logged) : Type 0 where
+pub record IsNewEntry {t : Past} {s : Seat} {ev : Event} {set : ℕ} (f : Keeping t s ev set) (l : Logged) : Type 0 where
   pub among : IsAmong l (logged f.follows.provider.node)
   pub of : l.set_id ≡ set
-  pub seen : sees x.event.taken l.action.xid ≡ true
+  pub seen : sees ev.taken l.action.xid ≡ true
   pub unseen : sees f.view.seen l.action.xid ≡ false
 
 -- the table of the entry, as the log says
-abbrev entry_table : (t : Past) (x : Carried) (set : ℕ) (f : Forwarding t x set) (l : Logged) →
+abbrev entry_table : (t : Past) (s : Seat) (ev : Event) (set : ℕ) (f : Keeping t s ev set) (l : Logged) →
     IsAmong l (logged (leader f)) → Table t
-entry_table t x set f l among =
-    logged_table t f.follows.provider.name (leader f) (leader_is t x set f) l
+entry_table t s ev set f l among =
+    logged_table t f.follows.provider.name (leader f) (leader_is t s ev set f) l
     (all_among (IsLoggedAs (WasBefore t) (leader f)) l (logged (leader f))
-    (told_now t f.follows.provider.name (leader f) (leader_is t x set f)).logs among)
+    (told_now t f.follows.provider.name (leader f) (leader_is t s ev set f)).logs among)
 
 -- the origin knows it as one of the set
-entry_held : (t : Past) (x : Carried) (set : ℕ) (f : Forwarding t x set) (l : Logged) → IsNewEntry f l →
+entry_held : (t : Past) (s : Seat) (ev : Event) (set : ℕ) (f : Keeping t s ev set) (l : Logged) → IsNewEntry f l →
     IsHeldBy (leader f).id (knowledge (leader f)).config set l.action.table
-entry_held t x set f l e = (
+entry_held t s ev set f l i = (
   ap (λ name. set_of name (knowledge y).config) named ∙ found_in_set t known
-      ∙ ap Some (sym (one_table t table (table_of t known) named).0 ∙ e.of),
-  leader_leads t x set f,
+      ∙ ap Some (sym (one_table t table (table_of t known) named).0 ∙ i.of),
+  leader_leads t s ev set f,
 )
   where
     y : Node
     y = leader f
 
     table : Table t
-    table = entry_table t x set f l e.among
+    table = entry_table t s ev set f l i.among
 
     laws : AreMadeOnce t.world
     laws = marks_are_made_once t.limit t.history t.world t.leads
@@ -157,32 +159,32 @@ entry_held t x set f l e = (
     stored =
         let before = subst (IsProper maker table.event.number) table.body
         (laws.bodies table.is.name maker table.is.is table.event table.is.among) in
-        subst (λ i. HasStored i (stream maker)) e.of (before.0, before.1, before.3)
+        subst (λ i. HasStored i (stream maker)) i.of (before.0, before.1, before.3)
 
     one : maker ≡ y
     one = one_node (nodes_in t.world.places) (regular_now t).nodes table.is.name f.follows.provider.name maker y
         table.is.is (
-          leader_is t x set f,
+          leader_is t s ev set f,
           one_storer t (record { name = table.is.name; node = maker; is = table.is.is })
-              (record { name = f.follows.provider.name; node = y; is = leader_is t x set f }) set (
+              (record { name = f.follows.provider.name; node = y; is = leader_is t s ev set f }) set (
                 stored,
                 has_stored (nodes_in t.world.places) (regular_now t).nodes f.follows.provider.name y
-                    (leader_is t x set f) set (leader_leads t x set f),
+                    (leader_is t s ev set f) set (leader_leads t s ev set f),
               ),
         )
 
     facts : Facts (nodes_in t.world.places) y
-    facts = (regular_now t).nodes.each f.follows.provider.name y (leader_is t x set f)
+    facts = (regular_now t).nodes.each f.follows.provider.name y (leader_is t s ev set f)
 
     there : IsAmong table.event (stream y)
     there = subst (λ (n : Node). IsAmong table.event (stream n)) one table.is.among
 
     knows : has_mark (OfName l.action.table) (knowledge y).config ≡ true
-    knows = laws.known f.follows.provider.name y (leader_is t x set f) (OfName l.action.table) (record {
+    knows = laws.known f.follows.provider.name y (leader_is t s ev set f) (OfName l.action.table) (record {
       made = record {
         name = f.follows.provider.name;
         node = y;
-        is = leader_is t x set f;
+        is = leader_is t s ev set f;
         event = table.event;
         among = there;
         makes = ap (λ body. tells_of body (OfName l.action.table)) table.body ∙ bytes_itself l.action.table;
@@ -200,7 +202,7 @@ entry_held t x set f l e = (
     known = record {
       name = f.follows.provider.name;
       node = y;
-      is = leader_is t x set f;
+      is = leader_is t s ev set f;
       entry = entry.0;
       among = entry.1;
     }
@@ -209,15 +211,15 @@ entry_held t x set f l e = (
     named = bytes_same l.action.table entry.0.1.name entry.2
 
 -- the node knows it too, as a table to which it takes rows
-entry_follows : (t : Past) (x : Carried) (set : ℕ) (f : Forwarding t x set) (l : Logged) → IsNewEntry f l →
-    (w : Follows t) × (w.table.node ≡ x.seat.node) × (w.node ≡ leader f) × (w.table.entry.1.set_id ≡ set)
+entry_follows : (t : Past) (s : Seat) (ev : Event) (set : ℕ) (f : Keeping t s ev set) (l : Logged) → IsNewEntry f l →
+    (w : Follows t) × (w.table.node ≡ s.node) × (w.node ≡ leader f) × (w.table.entry.1.set_id ≡ set)
     × (w.table.entry.1.name ≡ l.action.table)
-entry_follows t x set f l e = (
+entry_follows t s ev set f l i = (
   record {
     table = record {
-      name = x.seat.name;
-      node = x.seat.node;
-      is = seat_node t.world.places x.seat f.is.work.seat;
+      name = s.name;
+      node = s.node;
+      is = seat_node t.world.places s f.seat;
       entry = there.0;
       among = there.1;
     };
@@ -225,13 +227,13 @@ entry_follows t x set f l e = (
         ∙ one_leader (nodes_in t.world.places) (regular_now t).nodes set (record {
           name = f.follows.provider.name;
           node = leader f;
-          is = leader_is t x set f;
-          leads = leader_leads t x set f;
+          is = leader_is t s ev set f;
+          leads = leader_leads t s ev set f;
         }) (record {
-          name = x.seat.name;
-          node = x.seat.node;
-          is = seat_node t.world.places x.seat f.is.work.seat;
-          leads = subst (λ i. is_origin x.seat.node.id i (knowledge x.seat.node).config ≡ true) there.2 own;
+          name = s.name;
+          node = s.node;
+          is = seat_node t.world.places s f.seat;
+          leads = subst (λ i. is_origin s.node.id i (knowledge s.node).config ≡ true) there.2 own;
         })));
     name = f.follows.provider.name;
     place = f.follows.provider.place;
@@ -240,7 +242,7 @@ entry_follows t x set f l e = (
     at = f.follows.seat.node;
     held =
         subst (λ i. IsHeldBy (leader f).id (knowledge (leader f)).config i there.0.1.name) (sym there.2)
-        (subst (IsHeldBy (leader f).id (knowledge (leader f)).config set) there.3 (entry_held t x set f l e));
+        (subst (IsHeldBy (leader f).id (knowledge (leader f)).config set) there.3 (entry_held t s ev set f l i));
   },
   refl,
   refl,
@@ -248,35 +250,31 @@ entry_follows t x set f l e = (
   sym there.3,
 )
   where
-    among : IsAmong l.action.table (names_of set (knowledge x.seat.node).config)
+    among : IsAmong l.action.table (names_of set (knowledge s.node).config)
     among =
-        (tables_agree t.limit t.history t.world t.leads x.seat.name f.follows.provider.name x.seat.place
-        f.follows.provider.place f.is.work.seat.found f.follows.seat.found x.seat.node (leader f) f.is.work.seat.node
-        f.follows.seat.node set f.view f.found (f.follows.own ∙ sym f.own) l.action.table).0 (entry_held t x set f l e)
+        (tables_agree t.limit t.history t.world t.leads s.name f.follows.provider.name s.place
+        f.follows.provider.place f.seat.found f.follows.seat.found s.node (leader f) f.seat.node
+        f.follows.seat.node set f.view f.found (f.follows.own ∙ sym f.own) l.action.table).0
+        (entry_held t s ev set f l i)
 
-    there : (r : ℕ × TableRow) × IsAmong r (knowledge x.seat.node).config.tables × (r.1.set_id ≡ set)
+    there : (r : ℕ × TableRow) × IsAmong r (knowledge s.node).config.tables × (r.1.set_id ≡ set)
         × (l.action.table ≡ r.1.name)
-    there = table_known set (knowledge x.seat.node).config l.action.table among
+    there = table_known set (knowledge s.node).config l.action.table among
 
--- so it takes the entry, and logs it
-pub entry_logged : (t : Past) (x : Carried) (set : ℕ) (f : Forwarding t x set) (l : Logged) → IsNewEntry f l →
-    IsAmong l x.brought.logs
-entry_logged t x set f l e =
-    subst (λ (m : Logged). IsAmong m x.brought.logs) (one_entry t origin set k l (entry_held t x set f l e)
-    (of.among, e.among) made.2).0
-    (subst (λ (b : Brought). IsAmong k b.logs) (sym f.follows.is)
-    (subst (λ (j : Knowledge). IsAmong k
-    (with_syncs x.seat.place (set_syncs n.id j x.event (logged (leader f))) nothing_brought).logs)
-    (sym f.is.work.seat.known)
-    (logs_new x.seat.place (set_syncs n.id (knowledge n) x.event (logged (leader f))) nothing_brought sync
-    (among_map (set_sync n.id (knowledge n) x.event (logged (leader f))) (set, f.view)
-    (kept_from x.event.origin (knowledge n))
-    (among_filtered (λ u. u.1.origin == x.event.origin) (set, f.view) (knowledge n).views
-    (found_stands set f.view (knowledge n).views f.found) (eq-eqb f.view.origin x.event.origin f.own)))
-    f.forwards k there)))
+-- what it takes of the set
+abbrev pub sync_of : {t : Past} {s : Seat} {ev : Event} {set : ℕ} → Keeping t s ev set → SetSync
+sync_of {s = s} {ev} {set} f =
+    set_sync s.node.id (knowledge s.node) ev (logged f.follows.provider.node) (set, f.view)
+
+-- so it takes the entry
+entry_taken : (t : Past) (s : Seat) (ev : Event) (set : ℕ) (f : Keeping t s ev set) (l : Logged) → IsNewEntry f l →
+    IsAmong l (sync_of f).rows
+entry_taken t s ev set f l e =
+    subst (λ (m : Logged). IsAmong m sync.rows) (one_entry t origin set k l (entry_held t s ev set f l e)
+    (of.among, e.among) made.2).0 there
   where
     n : Node
-    n = x.seat.node
+    n = s.node
 
     origin : NodeAt t
     origin = record {
@@ -288,35 +286,35 @@ entry_logged t x set f l e =
     }
 
     sync : SetSync
-    sync = set_sync n.id (knowledge n) x.event (logged (leader f)) (set, f.view)
+    sync = sync_of f
 
     w : (w : Follows t) × (w.table.node ≡ n) × (w.node ≡ leader f) × (w.table.entry.1.set_id ≡ set)
         × (w.table.entry.1.name ≡ l.action.table)
-    w = entry_follows t x set f l e
+    w = entry_follows t s ev set f l e
 
     taken : IsAmong l.action (actions_on l.action.table sync.rows)
     taken =
         subst (λ ls. IsAmong l.action (actions_on l.action.table ls)) rows_are
         (subst (λ name. IsAmong l.action (actions_on name (delta w.0.node.id
         (tables_taken w.0.table.node.id w.0.table.entry.1.set_id (knowledge w.0.table.node).config) f.view.seen
-        x.event.taken (logged w.0.node)))) w.4
-        ((delta_read t w.0 f.view.seen x.event.taken).all l
+        ev.taken (logged w.0.node)))) w.4
+        ((delta_read t w.0 f.view.seen ev.taken).all l
         (subst (λ (m : Node). IsAmong l (logged m)) (sym w.2) e.among)
         (record { on = sym w.4; seen = e.seen; unseen = e.unseen })))
       where
         rows_are : delta w.0.node.id
             (tables_taken w.0.table.node.id w.0.table.entry.1.set_id (knowledge w.0.table.node).config) f.view.seen
-            x.event.taken (logged w.0.node) ≡ sync.rows
+            ev.taken (logged w.0.node) ≡ sync.rows
         rows_are =
             ap (λ (m : Node). delta m.id
             (tables_taken w.0.table.node.id w.0.table.entry.1.set_id (knowledge w.0.table.node).config) f.view.seen
-            x.event.taken (logged m)) w.2
+            ev.taken (logged m)) w.2
             ∙ ap (λ (m : Node). delta (leader f).id
             (tables_taken m.id w.0.table.entry.1.set_id (knowledge m).config) f.view.seen
-            x.event.taken (logged (leader f))) w.1
-            ∙ ap (λ i. delta (leader f).id (tables_taken n.id i (knowledge n).config) f.view.seen x.event.taken
+            ev.taken (logged (leader f))) w.1
+            ∙ ap (λ i. delta (leader f).id (tables_taken n.id i (knowledge n).config) f.view.seen ev.taken
             (logged (leader f))) w.3
-            ∙ ap (λ i. delta i (tables_taken n.id set (knowledge n).config) f.view.seen x.event.taken
+            ∙ ap (λ i. delta i (tables_taken n.id set (knowledge n).config) f.view.seen ev.taken
             (logged (leader f))) f.follows.own
 
     made : (k : Logged) × IsAmong k (filter (λ l'. bytes_eq l.action.table l'.action.table) sync.rows)
@@ -330,16 +328,63 @@ entry_logged t x set f l e =
     there : IsAmong k sync.rows
     there = (filtered_among (λ l'. bytes_eq l.action.table l'.action.table) k sync.rows made.1).0
 
-    of : IsNumbered x.event.origin (logged (leader f)) (k.action.number, k)
+    of : IsNumbered ev.origin (logged (leader f)) (k.action.number, k)
     of =
         let passes = filtered_among (λ l'. is_on_one (tables_taken n.id set (knowledge n).config) l'
-        && is_new f.view.seen x.event.taken l') k
-        (map (λ e. e.1) (numbered x.event.origin (logged (leader f)))) there in
-        let entry = mapped_among (λ (e : ℕ × Logged). e.1) k (numbered x.event.origin (logged (leader f))) passes.0 in
-        let is = all_among (IsNumbered x.event.origin (logged (leader f))) entry.0
-        (numbered x.event.origin (logged (leader f))) (are_numbered x.event.origin (logged (leader f))) entry.1 in
+        && is_new f.view.seen ev.taken l') k
+        (map (λ e. e.1) (numbered ev.origin (logged (leader f)))) there in
+        let entry = mapped_among (λ (e : ℕ × Logged). e.1) k (numbered ev.origin (logged (leader f))) passes.0 in
+        let is = all_among (IsNumbered ev.origin (logged (leader f))) entry.0
+        (numbered ev.origin (logged (leader f))) (are_numbered ev.origin (logged (leader f))) entry.1 in
         record {
           number = refl;
           own = ap (λ (m : Logged). m.origin) entry.2 ∙ is.own;
           among = subst (λ m. IsAmong m (logged (leader f))) (sym entry.2) is.among;
         }
+
+-- ---- what is brought
+
+-- A node that forwards a set applies a SYNC of its origin, and brings what it found for that.
+pub record Forwarding (t : Past) (x : Carried) (set : ℕ) : Type 0 where
+  pub origin : ℕ
+  pub is : IsTaken t origin x
+  pub synced : IsSynced t x.seat x.event x.brought
+  pub view : View
+  pub found : view_of set (knowledge synced.at.seat.node) ≡ Some view
+  pub own : view.origin ≡ x.event.origin
+  pub forwards : forwards set synced.at.seat.node.id (knowledge synced.at.seat.node).config ≡ true
+
+-- as it was found
+abbrev pub keeping : {t : Past} {x : Carried} {set : ℕ} (f : Forwarding t x set) →
+    Keeping f.synced.at.to f.synced.at.seat x.event set
+keeping f =
+    record {
+      seat = f.synced.at.work.seat;
+      what = f.synced.found;
+      follows = f.synced.follows;
+      view = f.view;
+      found = f.found;
+      own = f.own;
+    }
+
+-- it logs such an entry
+pub entry_logged : (t : Past) (x : Carried) (set : ℕ) (f : Forwarding t x set) (l : Logged) →
+    IsNewEntry (keeping f) l → IsAmong l x.brought.logs
+entry_logged t x set f l e =
+    subst (λ (b : Brought). IsAmong l b.logs) (sym f.synced.is)
+    (subst (λ ts. IsAmong l (with_syncs x.seat.place ts nothing_brought).logs)
+    (sym (syncs_are t f.origin x f.is f.synced))
+    (logs_new x.seat.place (map of kept) nothing_brought (of (set, f.view))
+    (among_map of (set, f.view) kept
+    (among_filtered (λ u. u.1.origin == x.event.origin) (set, f.view) (knowledge n).views
+    (found_stands set f.view (knowledge n).views f.found) (eq-eqb f.view.origin x.event.origin f.own)))
+    f.forwards l (entry_taken f.synced.at.to f.synced.at.seat x.event set (keeping f) l e)))
+  where
+    n : Node
+    n = f.synced.at.seat.node
+
+    of : ℕ × View → SetSync
+    of = set_sync n.id (knowledge n) x.event (logged f.synced.follows.provider.node)
+
+    kept : Map View
+    kept = kept_from x.event.origin (knowledge n)

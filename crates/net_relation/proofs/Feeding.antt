@@ -25,10 +25,10 @@ use Rattle.stream_laws.proofs.Emits.{known_changed}
 use Rattle.stream_laws.proofs.Lists.{all_entry, all_with}
 use Rattle.stream_laws.proofs.Seats.{IsSeat, seat_node}
 use Rattle.stream_laws.proofs.Statements.{has_stored}
-use Rattle.follow_laws.specs.Past.{Past}
-use Rattle.follow_laws.proofs.Living.{event_of}
-use Rattle.follow_laws.proofs.Moments.{regular_now}
-use Rattle.follow_laws.proofs.Unfed.{may_emitted}
+use Rattle.view_laws.specs.Past.{Past}
+use Rattle.view_laws.proofs.Living.{event_of}
+use Rattle.view_laws.proofs.Moments.{regular_now}
+use Rattle.view_laws.proofs.Unfed.{may_emitted}
 use Rattle.net_relation.proofs.Behind.{begun_node, heard_node, holds_now, taken_node, told_node}
 use Rattle.net_relation.proofs.Links.{Alone, Begins, Feeds, HearsSome, Linked, MayTell, TakesOne, Tells, giver}
 use Rattle.net_relation.proofs.Links.{is_plain, joined, joins, stores}
@@ -220,7 +220,7 @@ went_feeds p q (inr (xid, log, runs)) was n is = by p.node refl (sym log ∙ is)
         subst NodeFeeds (one_found (with_commit xid p m) n some)
         (record { feeds = before.feeds; eras = before.eras })
 
-linked_feeds : (t : Past) → AllFeed (look t.world) → (c : Commit) (p : Place) → Linked t.world c p → (n : Node) →
+linked_feeds : (t : Past) → AllFeed (look t.world) → (c : Commit) (p : Place) → Linked t c p → (n : Node) →
     (committing c p).node ≡ Some n → NodeFeeds n
 linked_feeds t was c p (Tells d) =
     one_feeds (committing c p) _ (told_node d)
@@ -238,7 +238,7 @@ linked_feeds t was c p (HearsSome d) =
 linked_feeds t was c p (Begins d) =
     one_feeds (committing c p) _ (begun_node d) (record { feeds = tt; eras = tt })
 
-feeds_step : (t : Past) → AllFeed (look t.world) → (f : Looks) → Gone t.world f → AllFeed f
+feeds_step : (t : Past) → AllFeed (look t.world) → (f : Looks) → Gone t f → AllFeed f
 feeds_step t was f Stays = was
 feeds_step t was f (Makes name q none born) = put_feeds name q (look t.world) was (none_feeds q born.node)
 feeds_step t was f (Goes name p q found went) =

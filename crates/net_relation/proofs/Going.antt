@@ -12,6 +12,7 @@ use Rattle.slon_model.specs.Deeds.{Knowledge, Logged, Node, knowledge, progress,
 use Rattle.slon_model.specs.Logs.{logged, own_logs}
 use Rattle.slon_model.specs.Moves.{with_commit}
 use Rattle.slon_model.specs.Place.{Place, open_xids, own_actions}
+use Rattle.slon_model.specs.Sessions.{World}
 use Rattle.slon_model.proofs.Names.{all_map, one_found}
 use Rattle.stream_laws.specs.Nodes.{IsAmong, Nodes, node_in}
 use Rattle.stream_laws.proofs.Growing.{placed}
@@ -23,6 +24,7 @@ use Rattle.image_laws.proofs.Ticking.{ClockAt, TickedAt}
 use Rattle.slon_laws.proofs.Spells.{own_logs_have}
 use Rattle.net_relation.specs.Matching.{HasRow, MatchesNode}
 use Rattle.net_relation.specs.Reading.{moment_of, read, unfed}
+use Rattle.net_relation.proofs.Earlier.{IsOwn, LogsOn, then_later}
 use Rattle.net_relation.proofs.Moments.{count_is, none_ended, taken_more}
 use Rattle.net_relation.proofs.Nets.{Ticked, stays_on, ticks}
 use Rattle.net_relation.proofs.Places.{NodeWent, Went}
@@ -100,6 +102,18 @@ node_on p q (inr (xid, log, runs)) y is = by p.node refl (sym log ∙ is)
     by (Some x) at some =
         (x, at, subst (NodeOn p x) (one_found (with_commit xid p x) y some) (node_logs p x xid runs))
 
+-- what it has logged of its own
+went_logs : (p q : Place) {ended : List ℕ} → ClockAt p ended → NodeWent p q.node → LogsOn ended p.node q.node
+went_logs p q {ended} c went l (y, is, among, own) = by (on.2.logs l among)
+  where
+    on : (x : Node) × (p.node ≡ Some x) × NodeOn p x y
+    on = node_on p q went y is
+
+    by : IsAmong l (logged on.0) ⊎ (member l.action.xid (open_xids p) ≡ true) →
+        IsOwn p.node l ⊎ (order_in ended l.action.xid ≡ None)
+    by (inl old) = inl (on.0, on.1, old, own ∙ on.2.id)
+    by (inr runs) = inr (open_unended p ended c l.action.xid runs)
+
 origin_went : {set : ℕ} {ended : List ℕ} {all : Nodes} {p : Place} {x : Node} (n : Netted set ended all p x)
     (q : Place) (y : Node) → ClockAt p ended → NodeOn p x y → (k : TickedAt q ended) →
     Netted set (k.more ++ ended) all q y
@@ -173,19 +187,19 @@ on_matches f {o = o} {m} on node old = record {
 -- ---- every database
 
 -- each database of a session under this name has its order, and its net
-abbrev pub NetAt : ℕ → List ℕ → Looks → Type 0
-NetAt set a f = (p : Place) → f a ≡ Some p → Origin set (nodes_of f) p
+abbrev pub NetAt : ℕ → (World → Type 0) → List ℕ → Looks → Type 0
+NetAt set Was a f = (p : Place) → f a ≡ Some p → Origin set Was a (nodes_of f) p
 
 some_node : (p : Place) (x : Node) (f : Looks) (name : List ℕ) → f name ≡ Some p → p.node ≡ Some x →
     nodes_of f name ≡ Some x
 some_node p x f name found is = ap node_in found ∙ is
 
 -- a database under a name went on by itself
-pub went_net : (set : ℕ) (a : List ℕ) (f : Looks) (name : List ℕ) {p : Place} (q : Place) → f name ≡ Some p →
-    Went p q → NetAt set a f → NetAt set a (with_look name q f)
-went_net set a f name {p} q found went was r there = by (is_put name q f a r there)
+pub went_net : (set : ℕ) {Was : World → Type 0} (a : List ℕ) (f : Looks) (name : List ℕ) {p : Place} (q : Place) →
+    f name ≡ Some p → Went p q → NetAt set Was a f → NetAt set Was a (with_look name q f)
+went_net set {Was} a f name {p} q found went was r there = by (is_put name q f a r there)
   where
-    here : Origin set (nodes_of f) p → Origin set (nodes_of (with_look name q f)) q
+    here : Origin set Was a (nodes_of f) p → Origin set Was a (nodes_of (with_look name q f)) q
     here o = record {
       ended = ticked.more ++ o.ended;
       clock = ticked.clock;
@@ -196,6 +210,8 @@ went_net set a f name {p} q found went was r there = by (is_put name q f a r the
           (origin_placed (origin_went (o.is on.0 on.1) q y o.clock on.2 ticked) name
           (λ x at. ap (λ (m : Node). m.id) (one_found x on.0 (sym at ∙ some_node p on.0 f name found on.1))
           ∙ sym on.2.id));
+      then = λ m same.
+          then_later ticked.more o.ended ticked.clock.apart (went_logs p q o.clock went.node) (o.then m same);
     }
       where
         ticked : TickedAt q o.ended
@@ -224,9 +240,14 @@ went_net set a f name {p} q found went was r there = by (is_put name q f a r the
         (sym on.2.id) (on_matches (frame set ended x) on.2 (n.net.nodes on.0.id)
         (n.nodes name on.0 (some_node p on.0 f name found on.1) (λ same. apart (on.2.id ∙ same)))))))
 
-    by : IsPut name q f a r → Origin set (nodes_of (with_look name q f)) r
+    by : IsPut name q f a r → Origin set Was a (nodes_of (with_look name q f)) r
     by (Here at same) =
-        subst (Origin set (nodes_of (with_look name q f))) (sym same) (here (was p (ap f at ∙ found)))
+        subst (Origin set Was a (nodes_of (with_look name q f))) (sym same) (here (was p (ap f at ∙ found)))
     by (There differs at) =
         let o = was r at in
-        record { ended = o.ended; clock = o.clock; is = λ x is. other r x o.ended (o.is x is) q.node refl }
+        record {
+          ended = o.ended;
+          clock = o.clock;
+          is = λ x is. other r x o.ended (o.is x is) q.node refl;
+          then = o.then;
+        }

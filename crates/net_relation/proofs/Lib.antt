@@ -3,7 +3,9 @@ pub mod Applying
 pub mod Beginning
 pub mod Behind
 pub mod Beside
+pub mod Coming
 pub mod Consequences
+pub mod Earlier
 pub mod Emitting
 pub mod Enabled
 pub mod Entries

@@ -33,10 +33,11 @@ use Rattle.slon_model.specs.Subscribing.{subscribe_set}
 use Rattle.slon_model.specs.Scripts.{ordered}
 use Rattle.slon_model.specs.Turns.{on_turn, sync_turn}
 use Rattle.slon_model.specs.Polls.{Poll, polled, stated_by, hearing}
-use Rattle.slon_model.specs.Working.{Carried, worked, applied_by}
+use Rattle.slon_model.specs.Working.{Carried, applied_by, fetched, worked}
 use Rattle.slon_model.specs.World.{outcome}
 use Rattle.slon_laws.proofs.Leaves.{outcome_has}
 use Rattle.slon_laws.proofs.Owners.{OnSome}
+use Rattle.slon_laws.proofs.Results.{any_ok}
 use Rattle.stream_laws.specs.Nodes.{nodes_in}
 use Rattle.stream_laws.specs.Making.{is_emitted}
 use Rattle.stream_laws.specs.Facts.{IsRegular}
@@ -48,8 +49,9 @@ use Rattle.stream_laws.proofs.Seats.{reach_ok, no_nodes}
 use Rattle.stream_laws.proofs.Waiting.{IsPoll, polled_ok}
 use Rattle.stream_laws.proofs.Works.{IsCarried, worked_ok}
 use Rattle.image_laws.proofs.Fitting.{newcomer, store_checks}
-use Rattle.follow_laws.proofs.Doing.{Takes, Hears, taking}
-use Rattle.follow_laws.proofs.Steps.{ok_is}
+use Rattle.view_laws.specs.Past.{Past}
+use Rattle.view_laws.proofs.Doing.{Takes, Hears, taking}
+use Rattle.view_laws.proofs.Steps.{carried_taken}
 
 -- ---- what a node emits
 
@@ -94,11 +96,11 @@ pub record Beginning (w : World) (c : Commit) (p : Place) : Type 0 where
   pub alone : (name : List ℕ) → nodes_in w.places name ≡ None
   pub commit : c ≡ becoming c.name (first_of_cluster id comment run)
 
-pub data Linked (w : World) (c : Commit) (p : Place) : Type 0 where
-  Tells : Telling w c p → Linked w c p
-  TakesOne : Takes w c p → Linked w c p
-  HearsSome : Hears w c p → Linked w c p
-  Begins : Beginning w c p → Linked w c p
+pub data Linked (t : Past) (c : Commit) (p : Place) : Type 0 where
+  Tells : Telling t.world c p → Linked t c p
+  TakesOne : Takes t c p → Linked t c p
+  HearsSome : Hears t.world c p → Linked t c p
+  Begins : Beginning t.world c p → Linked t c p
 
 -- ---- two commits
 
@@ -122,87 +124,89 @@ joined j = joining j.new.id (giver j) j.run
 abbrev pub joins : {w : World} → Join w → Commit
 joins j = becoming j.new.name (joined j)
 
-pub data Links (w : World) (cs : List Commit) : Type 0 where
-  Nothing : cs ≡ [] → Links w cs
-  One : (c : Commit) (p : Place) → cs ≡ c ∷ [] → find_named c.name w.places ≡ Some p → Linked w c p → Links w cs
-  Two : (j : Join w) → cs ≡ stores j ∷ joins j ∷ [] → Links w cs
+pub data Links (t : Past) (cs : List Commit) : Type 0 where
+  Nothing : cs ≡ [] → Links t cs
+  One : (c : Commit) (p : Place) → cs ≡ c ∷ [] → find_named c.name t.world.places ≡ Some p → Linked t c p → Links t cs
+  Two : (j : Join t.world) → cs ≡ stores j ∷ joins j ∷ [] → Links t cs
 
 -- ---- the statements
 
-abbrev IsStated : World → Stated → Type 0
-IsStated w stated = Links w stated.commits
+abbrev IsStated : Past → Stated → Type 0
+IsStated t stated = Links t stated.commits
 
-emits_link : (w : World) (s : Seat) (ms : List Emission) → IsSeat w.places s → MayTell s.node ms →
-    IsStated w (emitting s ms)
-emits_link w s ms is may =
+emits_link : (t : Past) (s : Seat) (ms : List Emission) → IsSeat t.world.places s → MayTell s.node ms →
+    IsStated t (emitting s ms)
+emits_link t s ms is may =
     One (commit_of s ms) s.place refl is.found
     (Tells (record { seat = s; is = is; at = refl; emits = ms; may = may; commit = refl }))
 
-tells_link : (w : World) (s : Seat) (m : Emission) → IsSeat w.places s → is_plain m.body ≡ true →
-    IsStated w (emitting s (m ∷ []))
-tells_link w s m is may = emits_link w s (m ∷ []) is (Alone m refl may)
+tells_link : (t : Past) (s : Seat) (m : Emission) → IsSeat t.world.places s → is_plain m.body ≡ true →
+    IsStated t (emitting s (m ∷ []))
+tells_link t s m is may = emits_link t s (m ∷ []) is (Alone m refl may)
 
-reached : (w : World) (id : ℕ) (run : Running) (f : Seat → Result Stated Refusal) →
-    ((s : Seat) → IsReached w.places id s → OnOk (IsStated w) (f s)) → OnOk (IsStated w) (bind (reach run id w) f)
-reached w id run f on = bind_ok (IsReached w.places id) (IsStated w) (reach run id w) f (reach_ok run id w) on
+reached : (t : Past) (id : ℕ) (run : Running) (f : Seat → Result Stated Refusal) →
+    ((s : Seat) → IsReached t.world.places id s → OnOk (IsStated t) (f s)) →
+    OnOk (IsStated t) (bind (reach run id t.world) f)
+reached t id run f on =
+    bind_ok (IsReached t.world.places id) (IsStated t) (reach run id t.world) f (reach_ok run id t.world) on
 
 abbrev init_checks : World → List (Option Refusal)
 init_checks w = down_among w.places ∷ already (first_node w) ∷ []
 
-init_link : (id : ℕ) (comment : Option (List ℕ)) (run : Running) (w : World) →
-    OnOk (IsStated w) (init_cluster id comment run w)
-init_link id comment run w =
-    bind_ok (IsFound w.places) (IsStated w) (database_of_line run id w) _ (line_ok run id w)
-    (λ e found. checked_ok (IsStated w) (init_checks w) _ (λ none.
+init_link : (id : ℕ) (comment : Option (List ℕ)) (run : Running) (t : Past) →
+    OnOk (IsStated t) (init_cluster id comment run t.world)
+init_link id comment run t =
+    bind_ok (IsFound t.world.places) (IsStated t) (database_of_line run id t.world) _ (line_ok run id t.world)
+    (λ e found. checked_ok (IsStated t) (init_checks t.world) _ (λ none.
     One (becoming e.0 (first_of_cluster id (comment_of comment) run)) e.1 refl found (Begins (record {
       id = id;
       comment = comment_of comment;
       run = run;
-      alone = no_nodes w.places (already_none (first_node w) (all_none (init_checks w) none).1.0);
+      alone = no_nodes t.world.places (already_none (first_node t.world) (all_none (init_checks t.world) none).1.0);
       commit = refl;
     }))))
 
-store_link : (id event_node : ℕ) (comment : Option (List ℕ)) (run : Running) (w : World) →
-    OnOk (IsStated w) (store_node id event_node comment run w)
-store_link id event_node comment run w =
-    reached w event_node run _
-    (λ s is. bind_ok (IsFound w.places) (IsStated w) (database_of_line run id w) _ (line_ok run id w)
-    (λ e found. checked_ok (IsStated w) (store_checks id w e) (stored_by s e.0 id (comment_of comment) run)
+store_link : (id event_node : ℕ) (comment : Option (List ℕ)) (run : Running) (t : Past) →
+    OnOk (IsStated t) (store_node id event_node comment run t.world)
+store_link id event_node comment run t =
+    reached t event_node run _
+    (λ s is. bind_ok (IsFound t.world.places) (IsStated t) (database_of_line run id t.world) _ (line_ok run id t.world)
+    (λ e found. checked_ok (IsStated t) (store_checks id t.world e) (stored_by s e.0 id (comment_of comment) run)
     (λ none. Two (record {
       seat = s;
       is = is.0;
-      new = newcomer w id e found (all_none (store_checks id w e) none);
+      new = newcomer t.world id e found (all_none (store_checks id t.world e) none);
       comment = comment_of comment;
       run = run;
     }) refl)))
 
-create_link : (id origin : ℕ) (comment : Option (List ℕ)) (run : Running) (w : World) →
-    OnOk (IsStated w) (create_set id origin comment run w)
-create_link id origin comment run w =
-    reached w origin run _
-    (λ s is. let done = tells_link w s (tells (StoreSet id origin (comment_of comment))) is.0 refl in
-    search (kept_ok (IsStated w), done))
+create_link : (id origin : ℕ) (comment : Option (List ℕ)) (run : Running) (t : Past) →
+    OnOk (IsStated t) (create_set id origin comment run t.world)
+create_link id origin comment run t =
+    reached t origin run _
+    (λ s is. let done = tells_link t s (tells (StoreSet id origin (comment_of comment))) is.0 refl in
+    search (kept_ok (IsStated t), done))
 
-table_link : (origin : ℕ) (t : NewTable) (run : Running) (w : World) →
-    OnOk (IsStated w) (set_add_table origin t run w)
-table_link origin t run w =
-    bind_ok (IsLeading w.places t.set_id) (IsStated w) (origin_of run origin t.set_id w) _
-    (origin_ok run origin t.set_id w)
-    (λ s is. let done = tells_link w s (adding s t) is.0 refl in search (kept_ok (IsStated w), done))
+table_link : (origin : ℕ) (n : NewTable) (run : Running) (t : Past) →
+    OnOk (IsStated t) (set_add_table origin n run t.world)
+table_link origin n run t =
+    bind_ok (IsLeading t.world.places n.set_id) (IsStated t) (origin_of run origin n.set_id t.world) _
+    (origin_ok run origin n.set_id t.world)
+    (λ s is. let done = tells_link t s (adding s n) is.0 refl in search (kept_ok (IsStated t), done))
 
-path_link : (server client : ℕ) (conninfo : List ℕ) (run : Running) (w : World) →
-    OnOk (IsStated w) (store_path server client conninfo run w)
-path_link server client conninfo run w =
-    reached w client run _
-    (λ s is. let done = tells_link w s (tells (StorePath server client conninfo)) is.0 refl in
-    search (kept_ok (IsStated w), done))
+path_link : (server client : ℕ) (conninfo : List ℕ) (run : Running) (t : Past) →
+    OnOk (IsStated t) (store_path server client conninfo run t.world)
+path_link server client conninfo run t =
+    reached t client run _
+    (λ s is. let done = tells_link t s (tells (StorePath server client conninfo)) is.0 refl in
+    search (kept_ok (IsStated t), done))
 
-no_path_link : (server client : ℕ) (run : Running) (w : World) →
-    OnOk (IsStated w) (drop_path server client run w)
-no_path_link server client run w =
-    reached w client run _
-    (λ s is. let done = tells_link w s (tells (DropPath server client)) is.0 refl in
-    search (kept_ok (IsStated w), done))
+no_path_link : (server client : ℕ) (run : Running) (t : Past) →
+    OnOk (IsStated t) (drop_path server client run t.world)
+no_path_link server client run t =
+    reached t client run _
+    (λ s is. let done = tells_link t s (tells (DropPath server client)) is.0 refl in
+    search (kept_ok (IsStated t), done))
 
 -- ---- SUBSCRIBE SET
 
@@ -261,71 +265,76 @@ can_feed w s f is claimed none = record {
     built = or_parts (not (f.provider == s.node.id)) _
         (when_none _ (refused.NotBuilt (codes "subscribe")) none.1.1.1.0)
 
-feed_link : (f : NewFeed) (run : Running) (w : World) → IsRegular w → OnOk (IsStated w) (subscribe_set f run w)
-feed_link f run w r =
-    bind_ok (λ s. IsSeat w.places s × (claims f.set_id s ≡ true)) (IsStated w) (owner run f.set_id w) _
-    (both_ok (IsSeat w.places) (λ s. claims f.set_id s ≡ true) (owner run f.set_id w) (owner_ok run f.set_id w r.once)
-    (owner_claims run f.set_id w))
-    (λ s is. checked_ok (IsStated w) (feed_checks s f)
+feed_link : (f : NewFeed) (run : Running) (t : Past) → IsRegular t.world →
+    OnOk (IsStated t) (subscribe_set f run t.world)
+feed_link f run t r =
+    bind_ok (λ s. IsSeat t.world.places s × (claims f.set_id s ≡ true)) (IsStated t) (owner run f.set_id t.world) _
+    (both_ok (IsSeat t.world.places) (λ s. claims f.set_id s ≡ true) (owner run f.set_id t.world)
+    (owner_ok run f.set_id t.world r.once) (owner_claims run f.set_id t.world))
+    (λ s is. checked_ok (IsStated t) (feed_checks s f)
     (emitting s (all_tell (feed_bodies (era_of f.set_id s.known.config) f)))
-    (λ none. subst (λ (k : Knowledge). IsStated w (emitting s (all_tell (feed_bodies (era_of f.set_id k.config) f))))
+    (λ none. subst (λ (k : Knowledge). IsStated t (emitting s (all_tell (feed_bodies (era_of f.set_id k.config) f))))
     (sym is.0.known)
-    (emits_link w s (feeding s.node f) is.0
-    (Feeds f refl (can_feed w s f is.0 is.1 (all_none (feed_checks s f) none))))))
+    (emits_link t s (feeding s.node f) is.0
+    (Feeds f refl (can_feed t.world s f is.0 is.1 (all_none (feed_checks s f) none))))))
 
-ordered_link : (w : World) → IsRegular w → (o : Order) (run : Running) → OnOk (IsStated w) (ordered o run w)
-ordered_link w r (order.InitCluster id comment) run = init_link id comment run w
-ordered_link w r (order.StoreNode id event_node comment) run = store_link id event_node comment run w
-ordered_link w r (order.StorePath server client conninfo retry) run = path_link server client conninfo run w
-ordered_link w r (order.DropPath server client) run = no_path_link server client run w
-ordered_link w r (order.CreateSet id origin comment) run = create_link id origin comment run w
-ordered_link w r (order.SetAddTable set origin id name key comment) run =
-    table_link origin (record { set_id = set; id = id; name = name; comment = comment_of comment }) run w
-ordered_link w r (order.SubscribeSet set provider receiver forward) run =
-    feed_link (subscribing set provider receiver forward) run w r
-ordered_link w r (order.Sync id) run = reached w id run _ (λ s is. tells_link w s (tells Sync) is.0 refl)
-ordered_link w r others run = tt
+ordered_link : (t : Past) → IsRegular t.world → (o : Order) (run : Running) → OnOk (IsStated t) (ordered o run t.world)
+ordered_link t r (order.InitCluster id comment) run = init_link id comment run t
+ordered_link t r (order.StoreNode id event_node comment) run = store_link id event_node comment run t
+ordered_link t r (order.StorePath server client conninfo retry) run = path_link server client conninfo run t
+ordered_link t r (order.DropPath server client) run = no_path_link server client run t
+ordered_link t r (order.CreateSet id origin comment) run = create_link id origin comment run t
+ordered_link t r (order.SetAddTable set origin id name key comment) run =
+    table_link origin (record { set_id = set; id = id; name = name; comment = comment_of comment }) run t
+ordered_link t r (order.SubscribeSet set provider receiver forward) run =
+    feed_link (subscribing set provider receiver forward) run t r
+ordered_link t r (order.Sync id) run = reached t id run _ (λ s is. tells_link t s (tells Sync) is.0 refl)
+ordered_link t r others run = tt
 
 -- ---- the turns
 
-sync_link : (w : World) → IsRegular w → (node : ℕ) → OnOk (IsStated w) (sync_turn node w)
-sync_link w r node =
-    bind_ok (IsSeat w.places) (IsStated w) (on_turn node w) _ (turn_ok node w r.once)
-    (λ s is. let done = tells_link w s (tells Sync) is refl in search (kept_ok (IsStated w), done))
+sync_link : (t : Past) → IsRegular t.world → (node : ℕ) → OnOk (IsStated t) (sync_turn node t.world)
+sync_link t r node =
+    bind_ok (IsSeat t.world.places) (IsStated t) (on_turn node t.world) _ (turn_ok node t.world r.once)
+    (λ s is. let done = tells_link t s (tells Sync) is refl in search (kept_ok (IsStated t), done))
 
-hears_link : (w : World) (s : Seat) (confirms : List (ℕ × ℕ × ℕ)) → IsSeat w.places s → Links w (hearing s confirms)
-hears_link w s [] is = Nothing refl
-hears_link w s (c ∷ cs) is =
+hears_link : (t : Past) (s : Seat) (confirms : List (ℕ × ℕ × ℕ)) → IsSeat t.world.places s →
+    Links t (hearing s confirms)
+hears_link t s [] is = Nothing refl
+hears_link t s (c ∷ cs) is =
     One _ s.place refl is.found
     (HearsSome (record { seat = s; is = is; at = refl; confirms = c ∷ cs; commit = refl }))
 
-poll_link : (w : World) (delivery : Delivery) (b : Poll) → IsPoll w b → Links w (stated_by delivery b).commits
-poll_link w Lost b is = Nothing refl
-poll_link w others b is = hears_link w b.seat b.confirms is.seat
+poll_link : (t : Past) (delivery : Delivery) (b : Poll) → IsPoll t.world b → Links t (stated_by delivery b).commits
+poll_link t Lost b is = Nothing refl
+poll_link t others b is = hears_link t b.seat b.confirms is.seat
 
-work_link : (w : World) (by origin : ℕ) (x : Carried) → worked by origin w ≡ Ok x → IsCarried w origin x →
-    Links w (applied_by x).commits
-work_link w by origin x turn is =
+work_link : (t : Past) (origin : ℕ) (x : Carried) → IsCarried t.world origin x → Links t (applied_by x).commits
+work_link t origin x is =
     One (taking x) x.seat.place refl is.work.seat.found (TakesOne (record {
       carried = x;
       origin = origin;
-      is = record { by = by; turn = turn; work = is.work; brings = is.brings };
+      is = carried_taken t origin x is;
       at = refl;
       commit = refl;
     }))
 
 -- what the command of an act commits
-pub outcome_links : (w : World) → IsRegular w → (act : Act) → Links w (outcome act w).commits
-outcome_links w r act =
-    outcome_has w (λ commits queues. Links w commits) (record {
+pub outcome_links : (t : Past) → IsRegular t.world → (act : Act) → Links t (outcome act t.world).commits
+outcome_links t r act =
+    outcome_has t.world (λ commits queues fetches. Links t commits) (record {
       nothing = Nothing refl;
       stops = λ name. Nothing refl;
-      orders = ordered_link w r;
-      syncs = sync_link w r;
+      gives_up = λ name origin. Nothing refl;
+      orders = ordered_link t r;
+      syncs = sync_link t r;
       polls = λ node server delivery.
-          ok_then (IsPoll w) (λ b. Links w (stated_by delivery b).commits) (polled node server w)
-          (polled_ok node server w r) (poll_link w delivery);
+          ok_then (IsPoll t.world) (λ b. Links t (stated_by delivery b).commits) (polled node server t.world)
+          (polled_ok node server t.world r) (poll_link t delivery);
+      fetches = λ node origin.
+          ok_then (λ x. Unit {0}) (λ x. Links t []) (fetched node origin t.world)
+          (any_ok (λ x. Unit {0}) (fetched node origin t.world) (λ x. tt)) (λ x any. Nothing refl);
       works = λ node origin.
-          ok_is (IsCarried w origin) (λ x. Links w (applied_by x).commits) (worked node origin w)
-          (worked_ok node origin w r) (work_link w node origin);
+          ok_then (IsCarried t.world origin) (λ x. Links t (applied_by x).commits) (worked node origin t.world)
+          (worked_ok node origin t.world r) (work_link t origin);
     }) act

@@ -9,28 +9,29 @@ use Rattle.slon_model.specs.Names.{find_named}
 use Rattle.slon_model.specs.Rows.{Action}
 use Rattle.slon_model.specs.Config.{era_of, is_origin, member_of}
 use Rattle.slon_model.specs.Deeds.{Brought, Knowledge, Logged, Node, knowledge, nothing_brought, with_deeds}
-use Rattle.slon_model.specs.Following.{kept_from, set_syncs}
+use Rattle.slon_model.specs.Following.{SetSync, kept_from, set_syncs}
 use Rattle.slon_model.specs.Logs.{logged, logged_on, own_logs}
 use Rattle.slon_model.specs.Moves.{with_commit}
 use Rattle.slon_model.specs.Place.{Place, own_actions}
-use Rattle.slon_model.specs.Reaching.{commit_of}
-use Rattle.slon_model.specs.Sessions.{Commit, Emission, Seat, committing}
+use Rattle.slon_model.specs.Sessions.{Commit, Seat, committing}
 use Rattle.slon_model.specs.Working.{Carried}
 use Rattle.slon_model.proofs.Names.{all_map, bytes_itself, bytes_same, one_found}
-use Rattle.slon_laws.proofs.Following.{syncs_have, taken_have}
+use Rattle.slon_laws.proofs.Following.{AllTaken, syncs_have, taken_have}
+use Rattle.slon_laws.proofs.Later.{HoldsOf}
 use Rattle.slon_laws.proofs.Lists.{all_given}
 use Rattle.slon_laws.proofs.Owners.{OnSome}
 use Rattle.stream_laws.specs.Nodes.{IsAmong, node_in, nodes_in}
-use Rattle.stream_laws.proofs.Copies.{Brings, Copies, IsBrought, Nothing}
 use Rattle.stream_laws.proofs.Lists.{all_among, all_appended, all_each, among_all}
-use Rattle.stream_laws.proofs.Seats.{seat_node}
 use Rattle.image_laws.proofs.Logging.{among_left, among_right}
-use Rattle.follow_laws.specs.Past.{Past, past}
-use Rattle.follow_laws.proofs.Doing.{taking}
-use Rattle.follow_laws.proofs.Owned.{brought_own}
+use Rattle.image_laws.proofs.Staying.{Stays as StaysNode}
+use Rattle.view_laws.specs.Past.{Past, past}
+use Rattle.view_laws.proofs.Brought.{Brings, Copies, IsBrought, Nothing, part_has, was_then}
+use Rattle.view_laws.proofs.Doing.{taking}
+use Rattle.view_laws.proofs.Moments.{now_stays}
+use Rattle.view_laws.proofs.Owned.{brought_own}
 use Rattle.net_relation.specs.Laws.{HasOrigin, LogsHaveOrigins}
-use Rattle.net_relation.proofs.Behind.{begun_node, heard_node, holds_now, taken_node, told_node}
-use Rattle.net_relation.proofs.Links.{Alone, Begins, Feeds, HearsSome, Linked, MayTell, TakesOne, Tells, joined, joins}
+use Rattle.net_relation.proofs.Behind.{begun_node, heard_node, holds_now, taken_node, told_logs, told_node}
+use Rattle.net_relation.proofs.Links.{Begins, HearsSome, Linked, TakesOne, Tells, joined, joins}
 use Rattle.net_relation.proofs.Links.{stores}
 use Rattle.net_relation.proofs.Places.{NodeWent}
 use Rattle.net_relation.proofs.Relating.{nodes_of}
@@ -187,45 +188,53 @@ commit_put f name p q was found (inr (xid, log, runs)) = by p.node refl
 
 -- ---- a commit of a script or a turn
 
-told_logs : (s : Seat) (ms : List Emission) →
-    MayTell s.node ms → logged (with_deeds (commit_of s ms).deeds s.node) ≡ logged s.node
-told_logs s ms (Alone m same plain) =
-    ap (λ ms. logged (with_deeds (commit_of s ms).deeds s.node)) same
-told_logs s ms (Feeds f same can) =
-    ap (λ ms. logged (with_deeds (commit_of s ms).deeds s.node)) same
-
 -- what is brought is of the log of the provider
 brought_among : (t : Past) (x : Carried) →
-    IsBrought t.world x.seat x.event x.brought →
+    IsBrought t x.seat x.event x.brought →
     AllByRecursion (HasOrigin (nodes_in t.world.places)) x.brought.logs
-brought_among t x (Nothing none) =
-    subst (λ (b : Brought). AllByRecursion (HasOrigin (nodes_in t.world.places)) b.logs) (sym none) tt
+brought_among t x (Nothing n) =
+    subst (λ (b : Brought). AllByRecursion (HasOrigin (nodes_in t.world.places)) b.logs) (sym n.none) tt
 brought_among t x (Copies k) =
     subst (λ (b : Brought). AllByRecursion (HasOrigin (nodes_in t.world.places)) b.logs) (sym k.is) tt
-brought_among t x (Brings f) =
+brought_among t x (Brings y) =
     among_all (HasOrigin (nodes_in t.world.places)) x.brought.logs (λ l among. record {
-      name = f.provider.name;
-      node = f.provider.node;
-      is = seat_node t.world.places f.provider f.seat;
-      own = f.own ∙ sym (all_among (λ (l : Logged). l.origin ≡ x.event.origin) l x.brought.logs
-          (brought_own t.world x.seat x.event x.brought (Brings f)) among);
-      among = all_among From l x.brought.logs all among;
+      name = p.name;
+      node = now.2.node;
+      is = ap node_in now.1 ∙ now.2.is;
+      own = now.2.id ∙ y.follows.own ∙ sym (all_among (λ (l : Logged). l.origin ≡ x.event.origin) l x.brought.logs
+          (brought_own t x.seat x.event x.brought (Brings y)) among);
+      among =
+          subst (IsAmong l) (sym now.2.log)
+          (among_right l now.2.newer (logged p.node) (all_among From l x.brought.logs all among));
     })
   where
+    p : Seat
+    p = y.follows.provider
+
+    -- the provider now
+    now : HoldsOf (StaysNode p.node) p.name t.world.places
+    now = now_stays t y.at.to.world (was_then y.at) p.name p.place p.node y.follows.seat.found y.follows.seat.node
+
     From : Logged → Type 0
-    From l = IsAmong l (logged f.provider.node)
+    From l = IsAmong l (logged p.node)
+
+    of : List SetSync
+    of = set_syncs y.at.seat.node.id y.at.seat.known x.event (logged p.node)
+
+    rows : AllTaken From y.syncs
+    rows =
+        part_has (λ z. AllByRecursion From z.rows) x.seat.known y.syncs of y.part
+        (taken_have y.at.seat.node.id y.at.seat.known x.event (logged p.node) From From
+        (among_all From (logged p.node) (λ l is. is)) (kept_from x.event.origin y.at.seat.known)
+        (all_each _ (λ v l is on. is) (kept_from x.event.origin y.at.seat.known)))
 
     all : AllByRecursion From x.brought.logs
     all =
-        subst (λ (b : Brought). AllByRecursion From b.logs) (sym f.is)
-        (syncs_have x.seat.place (λ r. Unit {0}) From (λ rows l old is. tt)
-        (set_syncs x.seat.node.id x.seat.known x.event (logged f.provider.node)) nothing_brought
-        (taken_have x.seat.node.id x.seat.known x.event (logged f.provider.node) From From
-        (among_all From (logged f.provider.node) (λ l is. is)) (kept_from x.event.origin x.seat.known)
-        (all_each _ (λ v l is on. is) (kept_from x.event.origin x.seat.known))) (tt, tt)).1
+        subst (λ (b : Brought). AllByRecursion From b.logs) (sym y.is)
+        (syncs_have x.seat.place (λ r. Unit {0}) From (λ rows l old is. tt) y.syncs nothing_brought rows (tt, tt)).1
 
 linked_put : (t : Past) → AreOfOrigins (look t.world) → (c : Commit) (p : Place) → look t.world c.name ≡ Some p →
-    Linked t.world c p → Put (look t.world) c.name (committing c p)
+    Linked t c p → Put (look t.world) c.name (committing c p)
 linked_put t was c p found does = by does
   where
     f : Looks
@@ -246,7 +255,7 @@ linked_put t was c p found does = by does
         ))
         (λ k is. (m, behind))
 
-    by : Linked t.world c p → Put f c.name q
+    by : Linked t c p → Put f c.name q
     by (Tells d) =
         still d.seat.node _ (ap (λ (r : Place). r.node) (sym d.at) ∙ d.is.node) (told_node d)
         (refl, told_logs d.seat d.emits d.may)
@@ -286,7 +295,7 @@ linked_put t was c p found does = by does
             (all_appended (HasOrigin (nodes_of f)) d.carried.brought.logs (logged n)
             (brought_among t d.carried d.is.brings) (was c.name p n found at)))
 
-origins_step : (t : Past) → AreOfOrigins (look t.world) → (f : Looks) → Gone t.world f → AreOfOrigins f
+origins_step : (t : Past) → AreOfOrigins (look t.world) → (f : Looks) → Gone t f → AreOfOrigins f
 origins_step t was f Stays = was
 origins_step t was f (Makes name q none born) =
     put_origins (look t.world) name q was (record {
@@ -300,7 +309,7 @@ origins_step t was f (Does c p found does) =
 origins_step t was f (Joins j) =
     put_origins (stores_look j) j.new.name (committing (joins j) j.new.place)
     (put_origins (look t.world) j.seat.name (committing (stores j) j.seat.place) was
-    (linked_put t was (stores j) j.seat.place j.is.found (stores_linked j))) (record {
+    (linked_put t was (stores j) j.seat.place j.is.found (stores_linked t j))) (record {
       grows = λ n is.
           let never : None ≡ Some n =
           sym j.new.none ∙ ap node_in (sym (join_found t j (committing (stores j) j.seat.place))) ∙ is in

@@ -14,14 +14,17 @@ use Rattle.slon_model.specs.Events.{Event}
 use Rattle.slon_model.specs.Deeds.{Logged, Node, knowledge, stream, progress, view_of}
 use Rattle.slon_model.specs.Logs.{logged}
 use Rattle.slon_model.specs.Place.{Place}
+use Rattle.slon_model.specs.Sessions.{World}
 use Rattle.slon_model.proofs.Names.{bytes_itself, bytes_same, one_found}
 use Rattle.stream_laws.specs.Nodes.{IsAmong, Nodes, node_in}
 use Rattle.stream_laws.proofs.Growing.{placed}
 use Rattle.image_laws.specs.Moments.{IsTaken}
 use Rattle.image_laws.proofs.Orders.{AreApart, order_in}
 use Rattle.image_laws.proofs.Ticking.{ClockAt}
+use Rattle.view_laws.specs.Past.{Moment}
 use Rattle.net_relation.specs.Reading.{said, read, unfed, fresh, first_net, moment_of}
 use Rattle.net_relation.specs.Matching.{IsEntry, MatchesNode, MatchesOrigin}
+use Rattle.net_relation.proofs.Earlier.{WasThen}
 use Rattle.net_relation.proofs.Moments.{order_old, taken_more}
 use Rattle.net_relation.proofs.Nets.{leads_on, net_sound, up_to_behind}
 use Rattle.net_relation.proofs.Stepping.{Looks, with_look}
@@ -72,11 +75,13 @@ pub record Netted (set : ℕ) (ended : List ℕ) (all : Nodes) (p : Place) (x : 
   pub strangers : (id : ℕ) → ((name : List ℕ) (o : Node) → all name ≡ Some o → o.id ≢ id) → net.nodes id ≡ fresh
   pub once : AreFirst net.stream
 
--- The database has an order of what has ended, and where it is a node, a net.
-pub record Origin (set : ℕ) (all : Nodes) (p : Place) : Type 0 where
+-- The database of this name has an order of what has ended, and where it is a node, a net. What was so in the sessions
+-- before bears on that.
+pub record Origin (set : ℕ) (Was : World → Type 0) (name : List ℕ) (all : Nodes) (p : Place) : Type 0 where
   pub ended : List ℕ
   pub clock : ClockAt p ended
   pub is : (x : Node) → p.node ≡ Some x → Netted set ended all p x
+  pub then : (m : Moment Was) → m.name ≡ name → WasThen set ended p.node m.session m.place m.node
 
 pub netted_sound : {set : ℕ} {ended : List ℕ} {all : Nodes} {p : Place} {x : Node} (n : Netted set ended all p x) →
     Sound n.net

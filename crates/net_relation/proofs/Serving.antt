@@ -19,13 +19,13 @@ use Rattle.stream_laws.proofs.Lists.{all_among, any_among}
 use Rattle.stream_laws.proofs.Streams.{among_found, one_node}
 use Rattle.image_laws.specs.Facts.{IsHeldBy}
 use Rattle.image_laws.proofs.Logging.{among_filtered, filtered_among}
-use Rattle.follow_laws.specs.Past.{Past, past}
-use Rattle.follow_laws.proofs.Agreeing.{tables_agree}
-use Rattle.follow_laws.proofs.Moments.{NodeAt, regular_now, sound_now}
-use Rattle.follow_laws.proofs.Numbered.{AreSorted, IsNumbered, among_map, are_numbered, mapped_among, numbered_all}
-use Rattle.follow_laws.proofs.Numbered.{numbered_sorted, same_action, sorted_filter}
-use Rattle.follow_laws.proofs.Owned.{owned_now}
-use Rattle.follow_laws.proofs.Rising.{found_stands}
+use Rattle.view_laws.specs.Past.{Past, past}
+use Rattle.view_laws.proofs.Agreeing.{tables_agree}
+use Rattle.view_laws.proofs.Moments.{NodeAt, regular_now, sound_now}
+use Rattle.view_laws.proofs.Numbered.{AreSorted, IsNumbered, among_map, are_numbered, mapped_among, numbered_all}
+use Rattle.view_laws.proofs.Numbered.{numbered_sorted, same_action, sorted_filter}
+use Rattle.view_laws.proofs.Owned.{owned_now}
+use Rattle.view_laws.proofs.Rising.{found_stands}
 use Rattle.net_relation.specs.Laws.{ForwardersGiveTheSame}
 use Rattle.net_relation.proofs.Consequences.{forwarders_serve, place_of}
 use Rattle.net_relation.proofs.Origins.{logs_have_origins}

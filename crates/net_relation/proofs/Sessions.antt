@@ -1,30 +1,33 @@
 -- Every session has its nets: each command keeps them, and so does each history.
-use Rattle.std.proofs.Common.{◌≡◌, ◌≢◌, inl, ℕ, ◌≤◌, Bool, true, false, cond, List, length, Some}
+use Rattle.std.proofs.Common.{◌≡◌, ◌≢◌, inl, inr, ℕ, ◌≤◌, Bool, true, false, cond, List, length, Some}
 use Rattle.std.proofs.Common.{None, refl, sym, ap, subst, ◌∙◌, arith}
 use Rattle.std.specs.Prelude.{option_map}
 use Rattle.std.specs.List.{AllByRecursion}
 use Rattle.std.specs.Str.{bytes_eq}
 use Rattle.std.proofs.lemmas.Bool.{true≢false}
 use Rattle.std.proofs.lemmas.List.{length-map}
+use Rattle.net_laws.specs.Subscriptions.{row, up_to}
 use Rattle.slon_model.specs.Names.{find_named}
 use Rattle.slon_model.specs.Deeds.{Node, knowledge, progress, stream, view_of, with_deeds}
+use Rattle.slon_model.specs.Logs.{logged}
 use Rattle.slon_model.specs.Place.{Place, taken}
 use Rattle.slon_model.specs.Sessions.{committing, next_event}
-use Rattle.slon_model.specs.World.{Happening, Leads, World, start}
+use Rattle.slon_model.specs.World.{World}
 use Rattle.slon_model.proofs.Names.{bytes_itself, one_found}
-use Rattle.stream_laws.specs.Nodes.{nodes_in, node_in}
+use Rattle.stream_laws.specs.Nodes.{IsAmong, nodes_in, node_in}
 use Rattle.stream_laws.proofs.Growing.{placed}
 use Rattle.stream_laws.proofs.Lists.{number_here}
 use Rattle.image_laws.specs.Moments.{IsOrder, IsTaken, count_of}
 use Rattle.image_laws.proofs.Orders.{order_in, order_is}
-use Rattle.follow_laws.specs.Past.{Past, past}
-use Rattle.follow_laws.proofs.Moments.{regular_now, sound_now}
-use Rattle.net_relation.specs.Reading.{moment_of, read, said}
+use Rattle.view_laws.specs.Past.{Moment, Past, WasBefore, WasUpTo, past}
+use Rattle.view_laws.proofs.Moments.{now_stays, regular_now, sound_now}
+use Rattle.net_relation.specs.Reading.{moment_of, read, said, unfed}
 use Rattle.net_relation.specs.Matching.{MatchesNode}
 use Rattle.net_relation.specs.Laws.{SessionsHaveNets}
 use Rattle.net_relation.proofs.Beginning.{Joining, giver_none, giver_other, join_free, joined_later, joined_none}
 use Rattle.net_relation.proofs.Beginning.{joined_spared, new_net}
-use Rattle.net_relation.proofs.Behind.{holds_of}
+use Rattle.net_relation.proofs.Behind.{holds_along}
+use Rattle.net_relation.proofs.Earlier.{WasThen, then_still}
 use Rattle.net_relation.proofs.Emitting.{next_number}
 use Rattle.net_relation.proofs.Going.{NetAt, went_net}
 use Rattle.net_relation.proofs.Links.{Join, giver, joined, joins, stores}
@@ -124,8 +127,8 @@ stored_joining set t j s =
         ∙ ap (λ (p : Place). p.node) (sym same) ∙ s.at)))
     by (There differs there) = both (other differs there)
 
-joins_net : (set : ℕ) (a : List ℕ) (t : Past) (j : Join t.world) → NetAt set a (stores_look j) →
-    NetAt set a (with_look j.new.name (committing (joins j) j.new.place) (stores_look j))
+joins_net : (set : ℕ) (a : List ℕ) (t : Past) (j : Join t.world) → NetAt set (WasUpTo t) a (stores_look j) →
+    NetAt set (WasUpTo t) a (with_look j.new.name (committing (joins j) j.new.place) (stores_look j))
 joins_net set a t j was r there = by (is_put j.new.name q g a r there)
   where
     q : Place
@@ -143,7 +146,8 @@ joins_net set a t j was r there = by (is_put j.new.name q g a r there)
         sym j.new.none ∙ ap node_in (sym (join_found t j (committing (stores j) j.seat.place))) ∙ is in
         absurd cc
 
-    here : Origin set (nodes_of g) j.new.place → Origin set (nodes_of (with_look j.new.name q g)) q
+    here : Origin set (WasUpTo t) a (nodes_of g) j.new.place →
+        Origin set (WasUpTo t) a (nodes_of (with_look j.new.name q g)) q
     here o = record {
       ended = o.ended;
       clock = record { each = o.clock.each; count = o.clock.count; apart = o.clock.apart };
@@ -157,11 +161,15 @@ joins_net set a t j was r there = by (is_put j.new.name q g a r there)
           × (moment_of j.new.id (view_of set (knowledge o)) ≡ None)) (joined_none t j set) (giver_none t j set) name o
           is))
           j.new.name none));
+      -- it has logged nothing
+      then = λ m same.
+          then_still o.ended (λ l (y, is, among, own).
+          absurd (subst (λ (i : Node). IsAmong l (logged i)) (sym (one_found (joined j) y is)) among)) (o.then m same);
     }
 
-    by : IsPut j.new.name q g a r → Origin set (nodes_of (with_look j.new.name q g)) r
+    by : IsPut j.new.name q g a r → Origin set (WasUpTo t) a (nodes_of (with_look j.new.name q g)) r
     by (Here at same) =
-        subst (Origin set (nodes_of (with_look j.new.name q g))) (sym same)
+        subst (Origin set (WasUpTo t) a (nodes_of (with_look j.new.name q g))) (sym same)
         (here (was j.new.place (ap g at ∙ join_found t j (committing (stores j) j.seat.place))))
     by (There differs at) =
         let o = was r at in
@@ -180,47 +188,101 @@ joins_net set a t j was r there = by (is_put j.new.name q g a r there)
               }) in
               subst (λ all. Netted set o.ended all r x) (sym joined_at)
               (node_later k.netted j.new.name (joined j) none (joined_later k));
+          then = o.then;
         }
 
 -- ---- every command
 
--- a database that is made is no node
-makes_net : (set : ℕ) (a : List ℕ) (f : Looks) (name : List ℕ) (q : Place) → f name ≡ None →
-    Born q → NetAt set a f → NetAt set a (with_look name q f)
-makes_net set a f name q none born was r there = by (is_put name q f a r there)
+-- a database that is made was not there before
+made_new : (t : Past) (m : Moment (WasUpTo t)) → look t.world m.name ≡ None → ⊥
+made_new t m none =
+    let now = now_stays t m.session m.was m.name m.place m.node m.found m.at in
+    let never : None ≡ Some now.0 = sym none ∙ now.1 in absurd cc
+
+-- and is no node
+makes_net : (set : ℕ) (a : List ℕ) (t : Past) (name : List ℕ) (q : Place) → look t.world name ≡ None →
+    Born q → NetAt set (WasUpTo t) a (look t.world) → NetAt set (WasUpTo t) a (with_look name q (look t.world))
+makes_net set a t name q none born was r there = by (is_put name q f a r there)
   where
+    f : Looks
+    f = look t.world
+
     same : nodes_of (with_look name q f) ≡ nodes_of f
     same = nodes_same name q f (born.node ∙ sym (ap node_in none))
 
-    by : IsPut name q f a r → Origin set (nodes_of (with_look name q f)) r
-    by (Here at is) = subst (Origin set (nodes_of (with_look name q f))) (sym is) (record {
+    by : IsPut name q f a r → Origin set (WasUpTo t) a (nodes_of (with_look name q f)) r
+    by (Here at is) = subst (Origin set (WasUpTo t) a (nodes_of (with_look name q f))) (sym is) (record {
       ended = born.ended;
       clock = born.clock;
       is = λ x at. let never : None ≡ Some x = sym born.node ∙ at in absurd cc;
+      then = λ m here. absurd (made_new t m (ap f (here ∙ at) ∙ none));
     })
-    by (There differs at) = subst (λ all. Origin set all r) (sym same) (was r at)
+    by (There differs at) = subst (λ all. Origin set (WasUpTo t) a all r) (sym same) (was r at)
 
 shut_went : (p q : Place) → Shut p q → Went p q
 shut_went p q s = record { ticks = shut_ticks p q s; node = inl s.node }
 
-net_step : (set : ℕ) (a : List ℕ) (t : Past) → NetAt set a (look t.world) → (f : Looks) → Gone t.world f →
-    NetAt set a f
+-- what was so before, and what is so now
+nets_up_to : (set : ℕ) (a : List ℕ) (t : Past) → NetAt set (WasBefore t) a (look t.world) →
+    NetAt set (WasUpTo t) a (look t.world)
+nets_up_to set a t was p found =
+    record { ended = o.ended; clock = o.clock; is = o.is; then = λ m same. by m m.was same }
+  where
+    o : Origin set (WasBefore t) a (nodes_in t.world.places) p
+    o = was p found
+
+    now : (m : Moment (WasUpTo t)) → m.session ≡ t.world → m.name ≡ a →
+        WasThen set o.ended p.node m.session m.place m.node
+    now m here same = record {
+      seen = subst (λ q. IsTaken (order_in o.ended) (length o.ended) (taken q)) (sym place)
+          (taken_now p o.ended (sound_now t a p found) o.clock);
+      logs = λ x is l among of. subst (λ (n : Node). IsAmong l (logged n)) (one_found x m.node (sym is ∙ at)) among;
+      rows = λ k i is other u has.
+          let there = ap (λ (w : World). nodes_in w.places k) (sym here) ∙ is in
+          let matches = (o.is m.node at).nodes k i there other in
+          matches.row u (ap (λ far. row unfed i.id (up_to far (read set (stream m.node)))) matches.reached ∙ has);
+    }
+      where
+        place : m.place ≡ p
+        place = one_found m.place p (sym m.found ∙ ap (λ (w : World). find_named m.name w.places) here
+            ∙ ap (look t.world) same ∙ found)
+
+        at : p.node ≡ Some m.node
+        at = ap (λ (q : Place). q.node) (sym place) ∙ m.at
+
+    by : (m : Moment (WasUpTo t)) → WasUpTo t m.session → m.name ≡ a →
+        WasThen set o.ended p.node m.session m.place m.node
+    by m (inl here) same = now m here same
+    by m (inr before) same =
+        o.then (record {
+          session = m.session;
+          was = before;
+          name = m.name;
+          place = m.place;
+          found = m.found;
+          node = m.node;
+          at = m.at;
+        }) same
+
+net_step : (set : ℕ) (a : List ℕ) (t : Past) → NetAt set (WasUpTo t) a (look t.world) → (f : Looks) → Gone t f →
+    NetAt set (WasUpTo t) a f
 net_step set a t was f Stays = was
-net_step set a t was f (Makes name q none born) = makes_net set a (look t.world) name q none born was
+net_step set a t was f (Makes name q none born) = makes_net set a t name q none born was
 net_step set a t was f (Goes name p q found went) = went_net set a (look t.world) name q found went was
 net_step set a t was f (Does c p found does) = does_net set a t c p found does was
 net_step set a t was f (Joins j) =
-    joins_net set a t j (does_net set a t (stores j) j.seat.place j.is.found (stores_linked j) was)
+    joins_net set a t j (does_net set a t (stores j) j.seat.place j.is.found (stores_linked t j) was)
 net_step set a t was f (Shuts g gone name p q found shut) =
     went_net set a g name q found (shut_went p q shut) (net_step set a t was g gone)
 
 -- ---- every session
 
 -- the order and the nets of a database
-pub origin_now : (limit : ℕ) (history : List Happening) (w : World) → Leads (start limit) history w → (set : ℕ)
-    (name : List ℕ) (p : Place) → find_named name w.places ≡ Some p → Origin set (nodes_in w.places) p
-origin_now limit history w leads set name =
-    holds_of (NetAt set name) (λ p none. absurd cc) (net_step set name) limit history w leads
+pub origin_now : (t : Past) (set : ℕ) (name : List ℕ) (p : Place) → find_named name t.world.places ≡ Some p →
+    Origin set (WasBefore t) name (nodes_in t.world.places) p
+origin_now t set name =
+    holds_along (λ Was f. NetAt set Was name f) (λ p none. absurd cc)
+    (λ t was f gone. net_step set name t (nets_up_to set name t was) f gone) t.limit t.history t.world t.leads
 
 pub sessions_have_nets : SessionsHaveNets
 sessions_have_nets limit history w leads name p found x at set = record {
@@ -240,8 +302,11 @@ sessions_have_nets limit history w leads name p found x at set = record {
   };
 }
   where
-    o : Origin set (nodes_in w.places) p
-    o = origin_now limit history w leads set name p found
+    t : Past
+    t = past limit history w leads
+
+    o : Origin set (WasBefore t) name (nodes_in w.places) p
+    o = origin_now t set name p found
 
     n : Netted set o.ended (nodes_in w.places) p x
     n = o.is x at

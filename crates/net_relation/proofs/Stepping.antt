@@ -21,8 +21,8 @@ use Rattle.slon_laws.proofs.Opens.{all_member}
 use Rattle.slon_laws.proofs.Sounds.{sound_bare}
 use Rattle.stream_laws.proofs.Commits.{other_name}
 use Rattle.slon_laws.proofs.Named.{granted_free}
-use Rattle.follow_laws.specs.Past.{Past}
-use Rattle.follow_laws.proofs.Moments.{regular_now, sound_now}
+use Rattle.view_laws.specs.Past.{Past}
+use Rattle.view_laws.proofs.Moments.{regular_now, sound_now}
 use Rattle.net_relation.proofs.Links.{Linked, Tells, Alone, Links, Nothing, One, Two, Join, joins}
 use Rattle.net_relation.proofs.Links.{outcome_links, stores}
 use Rattle.net_relation.proofs.Places.{Born, Shut, Went, born, went_task}
@@ -92,23 +92,24 @@ is_put name q f k r is = by (bytes_eq k name) refl is
 
 -- How a session went on: not at all; a database was made; one went on by itself; a node committed, or one joined by
 -- two commits; and then a database may have gone down.
-pub data Gone (w : World) : Looks → Type 0 where
-  Stays : Gone w (look w)
-  Makes : (name : List ℕ) (q : Place) → look w name ≡ None → Born q → Gone w (with_look name q (look w))
-  Goes : (name : List ℕ) (p q : Place) → look w name ≡ Some p → Went p q → Gone w (with_look name q (look w))
-  Does : (c : Commit) (p : Place) → look w c.name ≡ Some p → Linked w c p →
-      Gone w (with_look c.name (committing c p) (look w))
-  Joins : (j : Join w) → Gone w (with_look j.new.name (committing (joins j) j.new.place)
-      (with_look j.seat.name (committing (stores j) j.seat.place) (look w)))
-  Shuts : (g : Looks) → Gone w g → (name : List ℕ) (p q : Place) → g name ≡ Some p → Shut p q →
-      Gone w (with_look name q g)
+pub data Gone (t : Past) : Looks → Type 0 where
+  Stays : Gone t (look t.world)
+  Makes : (name : List ℕ) (q : Place) → look t.world name ≡ None → Born q → Gone t (with_look name q (look t.world))
+  Goes : (name : List ℕ) (p q : Place) → look t.world name ≡ Some p → Went p q →
+      Gone t (with_look name q (look t.world))
+  Does : (c : Commit) (p : Place) → look t.world c.name ≡ Some p → Linked t c p →
+      Gone t (with_look c.name (committing c p) (look t.world))
+  Joins : (j : Join t.world) → Gone t (with_look j.new.name (committing (joins j) j.new.place)
+      (with_look j.seat.name (committing (stores j) j.seat.place) (look t.world)))
+  Shuts : (g : Looks) → Gone t g → (name : List ℕ) (p q : Place) → g name ≡ Some p → Shut p q →
+      Gone t (with_look name q g)
 
 -- the open transactions of each database are in order
 abbrev Runs : Place → Type 0
 Runs p = Rising (open_xids p) × AllByRecursion (λ x. x < p.xids.next) (open_xids p)
 
-record GoneTo (w : World) (f : Looks) : Type 0 where
-  gone : Gone w f
+record GoneTo (t : Past) (f : Looks) : Type 0 where
+  gone : Gone t f
   runs : (name : List ℕ) (p : Place) → f name ≡ Some p → Runs p
 
 sound_runs : (p : Place) → Sound p → Runs p
@@ -123,9 +124,9 @@ runs_put name q f new old k p found = by (is_put name q f k p found)
     by (There other is) = old k p is
 
 -- a database goes down
-shuts : (w : World) (f : Looks) → GoneTo w f → (name : List ℕ) (p q : Place) → f name ≡ Some p →
-    (q.xids.next ≡ p.xids.next) × (open_xids q ≡ []) × (q.node ≡ p.node) → GoneTo w (with_look name q f)
-shuts w f g name p q found is = record {
+shuts : (t : Past) (f : Looks) → GoneTo t f → (name : List ℕ) (p q : Place) → f name ≡ Some p →
+    (q.xids.next ≡ p.xids.next) × (open_xids q ≡ []) × (q.node ≡ p.node) → GoneTo t (with_look name q f)
+shuts t f g name p q found is = record {
   gone = Shuts f g.gone name p q found (record {
     next = is.0;
     opens = is.1;
@@ -139,11 +140,11 @@ shuts w f g name p q found is = record {
 
 -- ---- commits
 
-nowhere : (t : Past) → GoneTo t.world (look t.world)
+nowhere : (t : Past) → GoneTo t (look t.world)
 nowhere t = record { gone = Stays; runs = λ name p found. sound_runs p (sound_now t name p found) }
 
-commit_goes : (t : Past) (c : Commit) (p : Place) → look t.world c.name ≡ Some p → Linked t.world c p →
-    GoneTo t.world (with_look c.name (committing c p) (look t.world))
+commit_goes : (t : Past) (c : Commit) (p : Place) → look t.world c.name ≡ Some p → Linked t c p →
+    GoneTo t (with_look c.name (committing c p) (look t.world))
 commit_goes t c p found does = record {
   gone = Does c p found does;
   runs = runs_put c.name (committing c p) (look t.world) (sound_runs p (sound_now t c.name p found)) (nowhere t).runs;
@@ -159,8 +160,8 @@ abbrev pub stores_look : {w : World} → Join w → Looks
 stores_look {w} j = with_look j.seat.name (committing (stores j) j.seat.place) (look w)
 
 -- the first commit of a node that joins is one of the node that stores it
-pub stores_linked : {w : World} (j : Join w) → Linked w (stores j) j.seat.place
-stores_linked j = Tells (record {
+pub stores_linked : (t : Past) (j : Join t.world) → Linked t (stores j) j.seat.place
+stores_linked t j = Tells (record {
   seat = j.seat;
   is = j.is;
   at = refl;
@@ -169,11 +170,11 @@ stores_linked j = Tells (record {
   commit = refl;
 })
 
-stores_goes : (t : Past) (j : Join t.world) → GoneTo t.world (stores_look j)
-stores_goes t j = commit_goes t (stores j) j.seat.place j.is.found (stores_linked j)
+stores_goes : (t : Past) (j : Join t.world) → GoneTo t (stores_look j)
+stores_goes t j = commit_goes t (stores j) j.seat.place j.is.found (stores_linked t j)
 
 join_goes : (t : Past) (j : Join t.world) →
-    GoneTo t.world (with_look j.new.name (committing (joins j) j.new.place) (stores_look j))
+    GoneTo t (with_look j.new.name (committing (joins j) j.new.place) (stores_look j))
 join_goes t j = record {
   gone = Joins j;
   runs = runs_put j.new.name (committing (joins j) j.new.place) (stores_look j)
@@ -184,7 +185,7 @@ join_goes t j = record {
 
 -- the databases after the first so many of these commits
 abbrev Stood : Past → List Commit → Type 0
-Stood t cs = GoneTo t.world (look_in (stood cs t.world.places))
+Stood t cs = GoneTo t (look_in (stood cs t.world.places))
 
 stood_one : (t : Past) (c : Commit) (p : Place) → look t.world c.name ≡ Some p →
     look_in (stood (c ∷ []) t.world.places) ≡ with_look c.name (committing c p) (look t.world)
@@ -210,49 +211,49 @@ stood_two t j =
     found : find_named j.new.name first ≡ Some j.new.place
     found = ap (λ (f : Looks). f j.new.name) one ∙ join_found t j (committing (stores j) j.seat.place)
 
-stood_goes : (t : Past) (cs : List Commit) → Links t.world cs → Stood t cs
+stood_goes : (t : Past) (cs : List Commit) → Links t cs → Stood t cs
 stood_goes t cs (Nothing is) = subst (Stood t) (sym is) (nowhere t)
 stood_goes t cs (One c p is found does) =
-    subst (Stood t) (sym is) (subst (GoneTo t.world) (sym (stood_one t c p found)) (commit_goes t c p found does))
+    subst (Stood t) (sym is) (subst (GoneTo t) (sym (stood_one t c p found)) (commit_goes t c p found does))
 stood_goes t cs (Two j is) =
-    subst (Stood t) (sym is) (subst (GoneTo t.world) (sym (stood_two t j)) (join_goes t j))
+    subst (Stood t) (sym is) (subst (GoneTo t) (sym (stood_two t j)) (join_goes t j))
 
 -- ---- a database goes down
 
-changed_goes : (w u : World) (name : List ℕ) (p q : Place) → GoneTo w (look u) → look u name ≡ Some p →
-    (q.xids.next ≡ p.xids.next) × (open_xids q ≡ []) × (q.node ≡ p.node) → GoneTo w (look (changed name q u))
-changed_goes w u name p q g found is =
-    subst (GoneTo w) (sym (look_put name p q u.places found)) (shuts w (look u) g name p q found is)
+changed_goes : (t : Past) (u : World) (name : List ℕ) (p q : Place) → GoneTo t (look u) → look u name ≡ Some p →
+    (q.xids.next ≡ p.xids.next) × (open_xids q ≡ []) × (q.node ≡ p.node) → GoneTo t (look (changed name q u))
+changed_goes t u name p q g found is =
+    subst (GoneTo t) (sym (look_put name p q u.places found)) (shuts t (look u) g name p q found is)
 
-felled_goes : (w u : World) (o : Option (List ℕ)) → GoneTo w (look u) → GoneTo w (look (felled o u))
-felled_goes w u None g = g
-felled_goes w u (Some name) g = by (find_named name u.places) refl
+felled_goes : (t : Past) (u : World) (o : Option (List ℕ)) → GoneTo t (look u) → GoneTo t (look (felled o u))
+felled_goes t u None g = g
+felled_goes t u (Some name) g = by (find_named name u.places) refl
   where
-    by : (o : Option Place) → find_named name u.places ≡ o → GoneTo w (look (felled_at name o u))
+    by : (o : Option Place) → find_named name u.places ≡ o → GoneTo t (look (felled_at name o u))
     by None none = g
-    by (Some p) found = changed_goes w u name p (fallen p.told p) g found (refl, refl, refl)
+    by (Some p) found = changed_goes t u name p (fallen p.told p) g found (refl, refl, refl)
 
-broken_goes : (w u : World) (name : List ℕ) (count : ℕ) (o : Option Place) → find_named name u.places ≡ o →
-    GoneTo w (look u) → GoneTo w (look (broken_at name count o u))
-broken_goes w u name count None none g = g
-broken_goes w u name count (Some p) found g =
-    changed_goes w u name p (fallen count p) g found (refl, refl, refl)
+broken_goes : (t : Past) (u : World) (name : List ℕ) (count : ℕ) (o : Option Place) → find_named name u.places ≡ o →
+    GoneTo t (look u) → GoneTo t (look (broken_at name count o u))
+broken_goes t u name count None none g = g
+broken_goes t u name count (Some p) found g =
+    changed_goes t u name p (fallen count p) g found (refl, refl, refl)
 
 -- ---- a commit in doubt
 
-wavers_goes : (w u : World) (c : Commit) (stands : Bool) (p : Place) → look u c.name ≡ Some p → GoneTo w (look u) →
-    GoneTo w (with_look c.name (committing c p) (look u)) →
-    GoneTo w (look (wavering_at c stands (find_named c.name u.places) u))
-wavers_goes w u c stands p found before behind =
-    subst (λ o. GoneTo w (look (wavering_at c stands o u))) (sym found)
-    (subst (GoneTo w) (sym (look_put c.name p (in_doubt c stands p) u.places found)) (by stands))
+wavers_goes : (t : Past) (u : World) (c : Commit) (stands : Bool) (p : Place) → look u c.name ≡ Some p →
+    GoneTo t (look u) → GoneTo t (with_look c.name (committing c p) (look u)) →
+    GoneTo t (look (wavering_at c stands (find_named c.name u.places) u))
+wavers_goes t u c stands p found before behind =
+    subst (λ o. GoneTo t (look (wavering_at c stands o u))) (sym found)
+    (subst (GoneTo t) (sym (look_put c.name p (in_doubt c stands p) u.places found)) (by stands))
   where
-    by : (b : Bool) → GoneTo w (with_look c.name (in_doubt c b p) (look u))
+    by : (b : Bool) → GoneTo t (with_look c.name (in_doubt c b p) (look u))
     by true =
-        subst (GoneTo w) (sym (look_twice c.name (committing c p) (in_doubt c true p) (look u)))
-        (shuts w (with_look c.name (committing c p) (look u)) behind c.name (committing c p) (in_doubt c true p)
+        subst (GoneTo t) (sym (look_twice c.name (committing c p) (in_doubt c true p) (look u)))
+        (shuts t (with_look c.name (committing c p) (look u)) behind c.name (committing c p) (in_doubt c true p)
         (look_here c.name (committing c p) (look u)) (refl, refl, refl))
-    by false = shuts w (look u) before c.name p (in_doubt c false p) found (refl, refl, refl)
+    by false = shuts t (look u) before c.name p (in_doubt c false p) found (refl, refl, refl)
 
 abbrev no_commits : List Commit
 no_commits = []
@@ -269,77 +270,77 @@ take_none (suc n) = refl
 abbrev Wavers : Past → ℕ → List Commit → Type 0
 Wavers t n cs =
     (stands : Bool) (u : World) → u.places ≡ stood (take n cs) t.world.places →
-    GoneTo t.world (look (wavering (drop n cs) stands u))
+    GoneTo t (look (wavering (drop n cs) stands u))
 
 wavers_nothing : (t : Past) (n : ℕ) → Wavers t n []
 wavers_nothing t n stands u is =
-    subst (λ ds. GoneTo t.world (look (wavering ds stands u))) (sym (drop_none n))
-    (subst (λ ps. GoneTo t.world (look_in ps))
+    subst (λ ds. GoneTo t (look (wavering ds stands u))) (sym (drop_none n))
+    (subst (λ ps. GoneTo t (look_in ps))
     (sym (is ∙ ap (λ ds. stood ds t.world.places) (take_none n))) (nowhere t))
 
-wavers_one : (t : Past) (n : ℕ) (c : Commit) (p : Place) → look t.world c.name ≡ Some p → Linked t.world c p →
+wavers_one : (t : Past) (n : ℕ) (c : Commit) (p : Place) → look t.world c.name ≡ Some p → Linked t c p →
     Wavers t n (c ∷ [])
 wavers_one t zero c p found does stands u is =
     let same : look u ≡ look t.world = ap look_in is in
-    wavers_goes t.world u c stands p (ap (λ (f : Looks). f c.name) same ∙ found)
-    (subst (GoneTo t.world) (sym same) (nowhere t))
-    (subst (λ f. GoneTo t.world (with_look c.name (committing c p) f)) (sym same) (commit_goes t c p found does))
+    wavers_goes t u c stands p (ap (λ (f : Looks). f c.name) same ∙ found)
+    (subst (GoneTo t) (sym same) (nowhere t))
+    (subst (λ f. GoneTo t (with_look c.name (committing c p) f)) (sym same) (commit_goes t c p found does))
 wavers_one t (suc n) c p found does stands u is =
-    subst (λ ds. GoneTo t.world (look (wavering ds stands u))) (sym (drop_none n))
-    (subst (λ ps. GoneTo t.world (look_in ps))
+    subst (λ ds. GoneTo t (look (wavering ds stands u))) (sym (drop_none n))
+    (subst (λ ps. GoneTo t (look_in ps))
     (sym (is ∙ ap (λ ds. stood (c ∷ ds) t.world.places) (take_none n)))
-    (subst (GoneTo t.world) (sym (stood_one t c p found)) (commit_goes t c p found does)))
+    (subst (GoneTo t) (sym (stood_one t c p found)) (commit_goes t c p found does)))
 
 wavers_two : (t : Past) (n : ℕ) (j : Join t.world) → Wavers t n (stores j ∷ joins j ∷ [])
 wavers_two t zero j stands u is =
     let same : look u ≡ look t.world = ap look_in is in
-    wavers_goes t.world u (stores j) stands j.seat.place (ap (λ (f : Looks). f j.seat.name) same ∙ j.is.found)
-    (subst (GoneTo t.world) (sym same) (nowhere t))
-    (subst (λ f. GoneTo t.world (with_look j.seat.name (committing (stores j) j.seat.place) f)) (sym same)
+    wavers_goes t u (stores j) stands j.seat.place (ap (λ (f : Looks). f j.seat.name) same ∙ j.is.found)
+    (subst (GoneTo t) (sym same) (nowhere t))
+    (subst (λ f. GoneTo t (with_look j.seat.name (committing (stores j) j.seat.place) f)) (sym same)
     (stores_goes t j))
 wavers_two t (suc zero) j stands u is =
     let same : look u ≡ stores_look j = ap look_in is ∙ stood_one t (stores j) j.seat.place j.is.found in
-    wavers_goes t.world u (joins j) stands j.new.place
+    wavers_goes t u (joins j) stands j.new.place
     (ap (λ (f : Looks). f j.new.name) same ∙ join_found t j (committing (stores j) j.seat.place))
-    (subst (GoneTo t.world) (sym same) (stores_goes t j))
-    (subst (λ f. GoneTo t.world (with_look j.new.name (committing (joins j) j.new.place) f)) (sym same)
+    (subst (GoneTo t) (sym same) (stores_goes t j))
+    (subst (λ f. GoneTo t (with_look j.new.name (committing (joins j) j.new.place) f)) (sym same)
     (join_goes t j))
 wavers_two t (suc (suc n)) j stands u is =
-    subst (λ ds. GoneTo t.world (look (wavering ds stands u))) (sym (drop_none n))
-    (subst (λ ps. GoneTo t.world (look_in ps))
+    subst (λ ds. GoneTo t (look (wavering ds stands u))) (sym (drop_none n))
+    (subst (λ ps. GoneTo t (look_in ps))
     (sym (is ∙ ap (λ ds. stood (stores j ∷ joins j ∷ ds) t.world.places) (take_none n)))
-    (subst (GoneTo t.world) (sym (stood_two t j)) (join_goes t j)))
+    (subst (GoneTo t) (sym (stood_two t j)) (join_goes t j)))
 
-wavers_all : (t : Past) (n : ℕ) (cs : List Commit) → Links t.world cs → Wavers t n cs
+wavers_all : (t : Past) (n : ℕ) (cs : List Commit) → Links t cs → Wavers t n cs
 wavers_all t n cs (Nothing is) = subst (Wavers t n) (sym is) (wavers_nothing t n)
 wavers_all t n cs (One c p is found does) = subst (Wavers t n) (sym is) (wavers_one t n c p found does)
 wavers_all t n cs (Two j is) = subst (Wavers t n) (sym is) (wavers_two t n j)
 
 -- ---- every command
 
-acting_goes : (t : Past) (v : World) (h : Happening) → Acting t.world h v → GoneTo t.world (look v)
-acting_goes t v h a = subst (λ u. GoneTo t.world (look u)) (sym a.is) (by a.fate)
+acting_goes : (t : Past) (v : World) (h : Happening) → Acting t.world h v → GoneTo t (look v)
+acting_goes t v h a = subst (λ u. GoneTo t (look u)) (sym a.is) (by a.fate)
   where
     w : World
     w = t.world
 
-    links : Links w (outcome a.act w).commits
-    links = outcome_links w (regular_now t) a.act
+    links : Links t (outcome a.act w).commits
+    links = outcome_links t (regular_now t) a.act
 
-    by : (fate : Fate) → GoneTo w (look (world_by a.act fate w))
-    by AllStand = felled_goes w _ (outcome a.act w).falls (stood_goes t (outcome a.act w).commits links)
-    by (Breaks name count) = broken_goes w _ name count (find_named name w.places) refl (nowhere t)
+    by : (fate : Fate) → GoneTo t (look (world_by a.act fate w))
+    by AllStand = felled_goes t _ (outcome a.act w).falls (stood_goes t (outcome a.act w).commits links)
+    by (Breaks name count) = broken_goes t _ name count (find_named name w.places) refl (nowhere t)
     by (DoubtsAt before stands) = wavers_all t before (outcome a.act w).commits links stands _ refl
 
-pub step_goes : (t : Past) (v : World) (h : Happening) → Step t.world h v → Gone t.world (look v)
+pub step_goes : (t : Past) (v : World) (h : Happening) → Step t.world h v → Gone t (look v)
 step_goes t v h (Grants name result about granted takes told is) =
-    subst (Gone t.world) (sym (ap look is ∙ look_behind name (place_by ToFound bare_place h.choice) t.world.places
+    subst (Gone t) (sym (ap look is ∙ look_behind name (place_by ToFound bare_place h.choice) t.world.places
     (granted_free name t.world granted)))
     (Makes name (place_by ToFound bare_place h.choice) (granted_free name t.world granted) (born h.choice sound_bare))
-step_goes t v h (Denies name about denied sure told is) = subst (Gone t.world) (sym (ap look is)) Stays
-step_goes t v h (Misses name task about none sure told is) = subst (Gone t.world) (sym (ap look is)) Stays
+step_goes t v h (Denies name about denied sure told is) = subst (Gone t) (sym (ap look is)) Stays
+step_goes t v h (Misses name task about none sure told is) = subst (Gone t) (sym (ap look is)) Stays
 step_goes t v h (Asks s) =
-    subst (Gone t.world)
+    subst (Gone t)
     (sym (ap look s.is ∙ look_put s.name s.place (place_by s.task s.place h.choice) t.world.places s.found))
     (Goes s.name s.place (place_by s.task s.place h.choice) s.found
     (went_task s.task s.place h.choice (sound_now t s.name s.place s.found)))

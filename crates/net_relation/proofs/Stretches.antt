@@ -15,10 +15,10 @@ use Rattle.image_laws.specs.Facts.{IsHeldBy, IsOf}
 use Rattle.image_laws.specs.Laws.{LogHas}
 use Rattle.image_laws.proofs.Found.{find_has}
 use Rattle.image_laws.proofs.Images.{logs_have_the_actions}
-use Rattle.follow_laws.specs.Known.{IsLoggedAs}
-use Rattle.follow_laws.specs.Past.{Past, WasBefore}
-use Rattle.follow_laws.proofs.Moments.{NodeAt}
-use Rattle.follow_laws.proofs.Tables.{Table, logged_table, one_table, told_now}
+use Rattle.view_laws.specs.Known.{IsLoggedAs}
+use Rattle.view_laws.specs.Past.{Past, WasBefore}
+use Rattle.view_laws.proofs.Moments.{NodeAt}
+use Rattle.view_laws.proofs.Tables.{Table, logged_table, one_table, told_now}
 
 -- the stretch of a table is of that table, in that set
 pub stretch_is : (set era : ℕ) (table : List ℕ) (n : Node) (s : Stretch) → stretch_of set era table n ≡ Some s →

@@ -1,5 +1,5 @@
 -- What a node that applies an event of another one makes of its view of a set.
-use Rattle.std.proofs.Common.{◌≡◌, ◌≢◌, ◌⊎◌, inl, inr, ℕ, Bool, true, false, cond, List, [], ◌∷◌, Option, Some, None}
+use Rattle.std.proofs.Common.{◌≡◌, ◌≢◌, ◌⊎◌, inl, inr, ℕ, Bool, true, false, cond, [], ◌∷◌, Option, Some, None}
 use Rattle.std.proofs.Common.{refl}
 use Rattle.std.proofs.Common.{sym, ap, subst, ◌∙◌}
 use Rattle.std.specs.Prelude.{◌==◌}
@@ -7,26 +7,24 @@ use Rattle.std.specs.List.{AllByRecursion}
 use Rattle.std.proofs.lemmas.Bool.{eqb-true, eqb-false, eq-eqb, false≢true}
 use Rattle.node_rows.specs.declared.body.Body.{Body}
 use Rattle.node_rows.specs.declared.body.Body.TheVariants.{Sync}
-use Rattle.slon_model.specs.Maps.{entry_at}
+use Rattle.slon_model.specs.Maps.{Map, entry_at}
 use Rattle.slon_model.specs.Events.{is_sync}
 use Rattle.slon_model.specs.Views.{View, first_view, view_after, with_views}
-use Rattle.slon_model.specs.Deeds.{Brought, Knowledge, Logged, Node, knowledge, nothing_brought, view_of, with_deeds}
-use Rattle.slon_model.specs.Following.{SetSync, kept_from, set_sync, set_syncs, with_syncs}
-use Rattle.slon_model.specs.Logs.{logged}
+use Rattle.slon_model.specs.Deeds.{Brought, Knowledge, Node, knowledge, nothing_brought, view_of, with_deeds}
+use Rattle.slon_model.specs.Following.{SetSync}
 use Rattle.slon_model.specs.Place.{taken}
-use Rattle.slon_model.specs.Working.{Carried, Copying, Errand, ToCopy, ToFollow, errand_in, errand_of, receives_from}
-use Rattle.slon_model.proofs.Names.{one_found}
+use Rattle.slon_model.specs.Working.{Carried, Copying, ToCopy, ToFollow, errand_in, receives_from}
+use Rattle.slon_model.proofs.Names.{all_map, one_found}
 use Rattle.stream_laws.specs.Nodes.{IsAmong}
-use Rattle.stream_laws.proofs.Copies.{Brings, Copies, IsBrought, IsCopy, IsFollowed, Nothing}
-use Rattle.stream_laws.proofs.Lists.{all_among, all_mapped, among_all, entry-with}
+use Rattle.stream_laws.proofs.Lists.{all_among, entry-with}
 use Rattle.stream_laws.proofs.Seats.{seat_node}
-use Rattle.image_laws.proofs.Logging.{filtered_among}
-use Rattle.follow_laws.specs.Past.{Past}
-use Rattle.follow_laws.proofs.Doing.{IsTaken, taking}
-use Rattle.follow_laws.proofs.Going.{rising_now}
-use Rattle.follow_laws.proofs.Reaching.{not_brought}
-use Rattle.follow_laws.proofs.Rising.{found_in, stands_found, there_in}
-use Rattle.follow_laws.proofs.Seen.{syncs_seen}
+use Rattle.view_laws.specs.Past.{Past}
+use Rattle.view_laws.proofs.Brought.{Brings, Copies, IsBrought, IsCopied, IsKept, IsSynced, Nothing}
+use Rattle.view_laws.proofs.Doing.{IsTaken, taking}
+use Rattle.view_laws.proofs.Viewed.{rising_now}
+use Rattle.view_laws.proofs.Reaching.{not_brought}
+use Rattle.view_laws.proofs.Rising.{found_in, stands_found, there_in}
+use Rattle.view_laws.proofs.Seen.{syncs_seen}
 
 -- the node behind the event
 abbrev pub behind : Carried → Node
@@ -39,64 +37,67 @@ NoSync x set =
     x.event.origin ≡ v.origin → ⊥
 
 abbrev NoCopy : Past → Carried → ℕ → Type 0
-NoCopy t x set = (k : IsCopy t.world x.seat x.event x.brought) → k.copying.set_id ≡ set → ⊥
+NoCopy t x set = (k : IsCopied t x.seat x.event x.brought) → k.copy.copying.set_id ≡ set → ⊥
 
 -- The view is as before; or the set was copied; or a SYNC of the origin of the set was followed.
 pub data ViewTaken (t : Past) (x : Carried) (set : ℕ) : Type 0 where
   Keeps : view_of set (knowledge (behind x)) ≡ view_of set (knowledge x.seat.node) → NoSync x set → NoCopy t x set →
       ViewTaken t x set
-  Copied : (k : IsCopy t.world x.seat x.event x.brought) → k.copying.set_id ≡ set →
+  Copied : (k : IsCopied t x.seat x.event x.brought) → k.copy.copying.set_id ≡ set →
       view_of set (knowledge (behind x))
-      ≡ Some (first_view k.copying.era k.provider.node.id x.event.number (taken k.provider.place)) → ViewTaken t x set
-  Followed : (f : IsFollowed t.world x.seat x.event x.brought) (v : View) →
+      ≡ Some (first_view k.copy.copying.era k.copy.provider.node.id x.event.number (taken k.copy.provider.place)) →
+      ViewTaken t x set
+  Followed : (y : IsSynced t x.seat x.event x.brought) (v : View) →
       view_of set (knowledge x.seat.node) ≡ Some v → v.origin ≡ x.event.origin →
       view_of set (knowledge (behind x)) ≡ Some (view_after x.event v) → ViewTaken t x set
 
 -- ---- nothing, and a copy
 
-nothing_taken : (t : Past) (x : Carried) (origin : ℕ) → IsTaken t.world origin x → (set : ℕ) →
+nothing_taken : (t : Past) (x : Carried) (origin : ℕ) → IsTaken t origin x → (set : ℕ) →
     x.brought ≡ nothing_brought → ViewTaken t x set
 nothing_taken t x origin is set none =
     Keeps (ap (λ (b : Brought). entry_at set (with_views b.views (knowledge x.seat.node).views)) none)
-    (λ v found sync from. not_brought t.world origin x is set v
+    (λ v found sync from. not_brought t origin x is set v
     (found, subst (λ (b : Brought). AllByRecursion (λ u. u.0 ≢ set) b.views) (sym none) tt) (sync, from))
     (λ k same. some_views (ap (λ (b : Brought). b.views) (sym k.is ∙ none)))
   where
     some_views : {v : ℕ × View} → v ∷ [] ≡ [] → ⊥
     some_views never = absurd cc
 
-pub one_copying : (a : Option Errand) (c d : Copying) → a ≡ Some (ToCopy c) → a ≡ Some (ToCopy d) → c ≡ d
-one_copying a c d one two = let same : Some (ToCopy c) ≡ Some (ToCopy d) = sym one ∙ two in cc
+-- the set of the first view
+abbrev first_id : Map View → ℕ
+first_id [] = 0
+first_id (v ∷ vs) = v.0
 
-copy_taken : (t : Past) (x : Carried) (origin : ℕ) → IsTaken t.world origin x → (set : ℕ) →
-    IsCopy t.world x.seat x.event x.brought → ViewTaken t x set
-copy_taken t x origin is set k = by (set == k.copying.set_id) refl
+copy_taken : (t : Past) (x : Carried) (origin : ℕ) → IsTaken t origin x → (set : ℕ) →
+    IsCopied t x.seat x.event x.brought → ViewTaken t x set
+copy_taken t x origin is set k = by (set == id) refl
   where
-    first : View
-    first = first_view k.copying.era k.provider.node.id x.event.number (taken k.provider.place)
+    id : ℕ
+    id = k.copy.copying.set_id
 
-    there : view_of set (knowledge (behind x))
-        ≡ cond (set == k.copying.set_id) (Some first) (view_of set (knowledge x.seat.node))
+    first : View
+    first = first_view k.copy.copying.era k.copy.provider.node.id x.event.number (taken k.copy.provider.place)
+
+    there : view_of set (knowledge (behind x)) ≡ cond (set == id) (Some first) (view_of set (knowledge x.seat.node))
     there =
         ap (λ (b : Brought). entry_at set (with_views b.views (knowledge x.seat.node).views)) k.is
-        ∙ entry-with set k.copying.set_id first (knowledge x.seat.node).views
+        ∙ entry-with set id first (knowledge x.seat.node).views
 
-    by : (b : Bool) → (set == k.copying.set_id) ≡ b → ViewTaken t x set
+    by : (b : Bool) → (set == id) ≡ b → ViewTaken t x set
     by true same =
-        Copied k (sym (eqb-true set k.copying.set_id same))
+        Copied k (sym (eqb-true set id same))
         (there ∙ ap (λ b. cond b (Some first) (view_of set (knowledge x.seat.node))) same)
     by false other =
         Keeps (there ∙ ap (λ b. cond b (Some first) (view_of set (knowledge x.seat.node))) other)
-        (λ v found sync from. not_brought t.world origin x is set v (
+        (λ v found sync from. not_brought t origin x is set v (
           found,
-          subst
-              (λ (b : Brought). AllByRecursion (λ u. u.0 ≢ set) b.views) (sym k.is) (apart, tt),
+          subst (λ (b : Brought). AllByRecursion (λ u. u.0 ≢ set) b.views) (sym k.is) (apart, tt),
         ) (sync, from))
-        (λ j same. apart (ap (λ (c : Copying). c.set_id) (one_copying (errand_of x.seat x.event) k.copying j.copying
-        k.asked j.asked) ∙ same))
+        (λ j same. apart (ap (λ (b : Brought). first_id b.views) (sym k.is ∙ j.is) ∙ same))
       where
-        apart : k.copying.set_id ≢ set
-        apart same = eqb-false set k.copying.set_id other (sym same)
+        apart : id ≢ set
+        apart same = eqb-false set id other (sym same)
 
 -- ---- a SYNC
 
@@ -109,51 +110,49 @@ sync_no_copy own receives origin body c sync asked =
     by true is = absurd cc
     by false is = absurd cc
 
-follow_taken : (t : Past) (x : Carried) (origin : ℕ) → IsTaken t.world origin x → (set : ℕ) →
-    IsFollowed t.world x.seat x.event x.brought → ViewTaken t x set
-follow_taken t x origin is set f = before (view_of set (knowledge n)) refl
+follow_taken : (t : Past) (x : Carried) (origin : ℕ) → IsTaken t origin x → (set : ℕ) →
+    IsSynced t x.seat x.event x.brought → ViewTaken t x set
+follow_taken t x origin is set s = before (view_of set (knowledge n)) refl
   where
     n : Node
     n = x.seat.node
 
-    -- the views that are brought are those that were kept of the origin, behind the SYNC
+    -- the views that are brought are those that are kept of the origin, behind the SYNC
     P : ℕ × View → Type 0
-    P u = (y : View) × IsAmong (u.0, y) (kept_from x.event.origin (knowledge n)) × (u.1 ≡ view_after x.event y)
-
-    log : List Logged
-    log = logged f.provider.node
+    P u = (y : View) × IsAmong (u.0, y) (knowledge n).views × (y.origin ≡ x.event.origin)
+        × (u.1 ≡ view_after x.event y)
 
     views : AllByRecursion P x.brought.views
     views =
-        subst (λ (b : Brought). AllByRecursion P b.views) (sym f.is)
-        (subst (λ (j : Knowledge). AllByRecursion P
-        (with_syncs x.seat.place (set_syncs n.id j x.event log) nothing_brought).views) (sym is.work.seat.known)
-        (syncs_seen P x.seat.place (set_syncs n.id (knowledge n) x.event log) nothing_brought
-        (all_mapped (λ u. IsAmong u (kept_from x.event.origin (knowledge n))) (λ (s : SetSync). P (s.set_id, s.view))
-        (set_sync n.id (knowledge n) x.event log) (λ u there. (u.1, there, refl))
-        (kept_from x.event.origin (knowledge n)) (among_all (λ u. IsAmong u (kept_from x.event.origin (knowledge n)))
-        (kept_from x.event.origin (knowledge n)) (λ u there. there))) tt))
+        subst (λ (b : Brought). AllByRecursion P b.views) (sym s.is)
+        (syncs_seen P x.seat.place s.syncs nothing_brought
+        (all_map (IsKept x.seat.known x.event) (λ (z : SetSync). P (z.set_id, z.view))
+        (λ z kept. (
+          z.before,
+          subst (λ (j : Knowledge). IsAmong (z.set_id, z.before) j.views) is.work.seat.known kept.among,
+          kept.origin,
+          kept.view,
+        )) s.syncs s.kept) tt)
 
     -- the view of which one of them is
     from : (y : View) → IsAmong (set, y) x.brought.views →
         (v : View) × (view_of set (knowledge n) ≡ Some v) × (v.origin ≡ x.event.origin) × (y ≡ view_after x.event v)
     from y among =
-        let of = all_among P (set, y) x.brought.views views among in
-        let kept = filtered_among (λ u. u.1.origin == x.event.origin) (set, of.0) (knowledge n).views of.1 in (
+        let of = all_among P (set, y) x.brought.views views among in (
           of.0,
           stands_found set of.0 (knowledge n).views
-              (rising_now t x.seat.name n (seat_node t.world.places x.seat is.work.seat)) kept.0,
-          eqb-true of.0.origin x.event.origin kept.1,
+              (rising_now t x.seat.name n (seat_node t.world.places x.seat is.work.seat)) of.1,
           of.2,
+          of.3,
         )
 
     sync : is_sync x.event.body ≡ true
-    sync = ap is_sync f.body
+    sync = ap is_sync s.follows.body
 
     no_copy : NoCopy t x set
     no_copy k same =
-        sync_no_copy n.id (receives_from x.event.origin x.seat.known) x.event.origin x.event.body k.copying f.body
-        k.asked
+        sync_no_copy k.at.seat.node.id (receives_from x.event.origin k.at.seat.known) x.event.origin x.event.body
+        k.copy.copying s.follows.body k.copy.asked
 
     -- what is found then is of the view before, if there was one
     found : (y : View) → view_of set (knowledge (behind x)) ≡ Some y →
@@ -192,10 +191,10 @@ follow_taken t x origin is set f = before (view_of set (knowledge n)) refl
             ViewTaken t x set
         by true same (inl of) =
             let is_one = one_found of.0 v (sym of.1 ∙ is_v) in
-            Followed f v is_v (eqb-true v.origin x.event.origin same)
+            Followed s v is_v (eqb-true v.origin x.event.origin same)
             (there ∙ ap Some of.3 ∙ ap (λ u. Some (view_after x.event u)) is_one)
         by true same (inr kept) =
-            absurd (not_brought t.world origin x is set v
+            absurd (not_brought t origin x is set v
             (is_v, kept.1) (sync, sym (eqb-true v.origin x.event.origin same)))
         by false other (inl of) =
             let is_one = one_found of.0 v (sym of.1 ∙ is_v) in
@@ -216,10 +215,10 @@ follow_taken t x origin is set f = before (view_of set (knowledge n)) refl
     before (Some v) is_v =
         one v is_v (there_in set v x.brought.views (knowledge n).views is_v) (v.origin == x.event.origin) refl
 
-pub view_taken : (t : Past) (x : Carried) (origin : ℕ) → IsTaken t.world origin x → (set : ℕ) → ViewTaken t x set
+pub view_taken : (t : Past) (x : Carried) (origin : ℕ) → IsTaken t origin x → (set : ℕ) → ViewTaken t x set
 view_taken t x origin is set = by is.brings
   where
-    by : IsBrought t.world x.seat x.event x.brought → ViewTaken t x set
-    by (Nothing none) = nothing_taken t x origin is set none
+    by : IsBrought t x.seat x.event x.brought → ViewTaken t x set
+    by (Nothing n) = nothing_taken t x origin is set n.none
     by (Copies k) = copy_taken t x origin is set k
-    by (Brings f) = follow_taken t x origin is set f
+    by (Brings s) = follow_taken t x origin is set s

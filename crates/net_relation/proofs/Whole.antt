@@ -23,17 +23,18 @@ use Rattle.stream_laws.proofs.Seats.{seat_node}
 use Rattle.image_laws.specs.Moments.{IsTaken, count_of}
 use Rattle.image_laws.proofs.Orders.{order_in}
 use Rattle.image_laws.proofs.Ticking.{ClockAt}
-use Rattle.follow_laws.specs.Past.{Past}
-use Rattle.follow_laws.proofs.Doing.{Hears, Takes}
-use Rattle.follow_laws.proofs.Moments.{regular_now, sound_now}
-use Rattle.follow_laws.proofs.Owned.{brought_own}
-use Rattle.follow_laws.proofs.Unfed.{may_emitted}
+use Rattle.view_laws.specs.Past.{Moment, Past, WasUpTo}
+use Rattle.view_laws.proofs.Doing.{Hears, Takes}
+use Rattle.view_laws.proofs.Moments.{regular_now, sound_now}
+use Rattle.view_laws.proofs.Owned.{brought_own}
+use Rattle.view_laws.proofs.Unfed.{may_emitted}
 use Rattle.net_relation.specs.Reading.{read, unfed}
 use Rattle.net_relation.specs.Matching.{HasRow, MatchesNode}
 use Rattle.net_relation.proofs.Applying.{coming_later}
 use Rattle.net_relation.proofs.Beginning.{new_net}
-use Rattle.net_relation.proofs.Behind.{begun_node, heard_node, taken_node, told_node}
+use Rattle.net_relation.proofs.Behind.{begun_node, heard_node, taken_node, told_logs, told_node}
 use Rattle.net_relation.proofs.Beside.{Work, beside_matches, other_row, row_stored}
+use Rattle.net_relation.proofs.Earlier.{IsOwn, WasThen, then_still}
 use Rattle.net_relation.proofs.Emitting.{next_number, told_matches, told_net}
 use Rattle.net_relation.proofs.Going.{NetAt, among_either}
 use Rattle.net_relation.proofs.Leading.{Known}
@@ -119,13 +120,25 @@ told_leader set ended t c p l d =
     (l.netted d.seat.node (ap (λ (q : Place). q.node) (sym d.at) ∙ d.is.node))))
     (ap (λ q. count_of (taken q)) (sym d.at))
 
+-- what a node has of its own behind an event of another one it had before
+taken_own : (t : Past) {c : Commit} {p : Place} (d : Takes t c p) (l : Logged) →
+    IsAmong l (logged (behind d.carried)) → l.origin ≡ d.carried.seat.node.id → IsAmong l (logged d.carried.seat.node)
+taken_own t d l among own = by (among_either l d.carried.brought.logs (logged d.carried.seat.node) among)
+  where
+    by : IsAmong l d.carried.brought.logs ⊎ IsAmong l (logged d.carried.seat.node) →
+        IsAmong l (logged d.carried.seat.node)
+    by (inl new) =
+        absurd (d.is.work.other (sym (all_among (λ (l : Logged). l.origin ≡ d.carried.event.origin) l
+        d.carried.brought.logs
+        (brought_own t d.carried.seat d.carried.event d.carried.brought d.is.brings) new) ∙ own))
+    by (inr old) = old
+
 taken_leader : (set : ℕ) (ended : List ℕ) (t : Past) (c : Commit) (p : Place) → Leading set ended t c p →
-    (d : Takes t.world c p) →
+    (d : Takes t c p) →
     Netted set ended (nodes_in t.world.places) (committing c p) (behind d.carried)
 taken_leader set ended t c p l d =
     leader_stays (l.netted x (ap (λ (q : Place). q.node) (sym d.at) ∙ d.is.work.seat.node)) (committing c p)
-    (behind d.carried) l.clock (refl, refl, refl)
-    (λ l among own. logs l own (among_either l d.carried.brought.logs (logged x) among))
+    (behind d.carried) l.clock (refl, refl, refl) (taken_own t d)
     (λ r u has stands. row_beside set r e (knowledge x).config u
     (may_emitted e.origin e.body (knowledge x).config d.is.work.may)
     (other_row t d.carried d.is known d.is.work.other set r
@@ -141,13 +154,6 @@ taken_leader set ended t c p l d =
     known : Known t
     known =
         record { name = d.carried.seat.name; node = x; is = seat_node t.world.places d.carried.seat d.is.work.seat }
-
-    logs : (l : Logged) → l.origin ≡ x.id → IsAmong l d.carried.brought.logs ⊎ IsAmong l (logged x) →
-        IsAmong l (logged x)
-    logs l own (inl new) =
-        absurd (d.is.work.other (sym (all_among (λ (l : Logged). l.origin ≡ e.origin) l d.carried.brought.logs
-        (brought_own t.world d.carried.seat e d.carried.brought d.is.brings) new) ∙ own))
-    logs l own (inr old) = old
 
 heard_leader : (set : ℕ) (ended : List ℕ) (t : Past) (c : Commit) (p : Place) → Leading set ended t c p →
     (d : Hears t.world c p) → Netted set ended (nodes_in t.world.places) (committing c p)
@@ -169,6 +175,7 @@ record Following (set : ℕ) (t : Past) (c : Commit) (p : Place) : Type 0 where
   ended : List ℕ
   clock : ClockAt place ended
   netted : Netted set ended (nodes_in t.world.places) place leader
+  then : (m : Moment (WasUpTo t)) → m.name ≡ name → WasThen set ended place.node m.session m.place m.node
   there : find_named c.name t.world.places ≡ Some p
   apart : bytes_eq name c.name ≡ false
 
@@ -196,7 +203,7 @@ told_follower set t c p f d =
     is : p.node ≡ Some d.seat.node
     is = ap (λ (q : Place). q.node) (sym d.at) ∙ d.is.node
 
-taken_follower : (set : ℕ) (t : Past) (c : Commit) (p : Place) (f : Following set t c p) (d : Takes t.world c p) →
+taken_follower : (set : ℕ) (t : Past) (c : Commit) (p : Place) (f : Following set t c p) (d : Takes t c p) →
     NodeLater f.netted d.carried.seat.name (behind d.carried)
 taken_follower set t c p f d = elim (cases_eq d.carried.event.origin f.leader.id) [
   | inl own ↦ coming_later set t (record { work = work; own = own })
@@ -218,6 +225,7 @@ taken_follower set t c p f d = elim (cases_eq d.carried.event.origin f.leader.id
       is = d.is;
       other = follower_other set t c p f d.carried.seat.node
           (ap (λ (q : Place). q.node) (sym d.at) ∙ d.is.work.seat.node);
+      then = f.then;
     }
 
 heard_follower : (set : ℕ) (t : Past) (c : Commit) (p : Place) (f : Following set t c p) (d : Hears t.world c p) →
@@ -237,7 +245,7 @@ heard_follower set t c p f d =
 -- ---- one commit
 
 does_leader : {set : ℕ} {ended : List ℕ} (t : Past) (c : Commit) (p : Place) → Leading set ended t c p →
-    Linked t.world c p → (y : Node) → (committing c p).node ≡ Some y →
+    Linked t c p → (y : Node) → (committing c p).node ≡ Some y →
     Netted set ended (placed c.name (Some y) (nodes_in t.world.places)) (committing c p) y
 does_leader {set} {ended} t c p l does y is = by does
   where
@@ -257,7 +265,7 @@ does_leader {set} {ended} t c p l does y is = by does
     one : (o : Node) → p.node ≡ Some o → (x : Node) → p.node ≡ Some x → x.id ≡ o.id
     one o at x there = ap (λ (m : Node). m.id) (one_found x o (sym there ∙ at))
 
-    by : Linked t.world c p → Netted set ended (placed c.name (Some y) all) q y
+    by : Linked t c p → Netted set ended (placed c.name (Some y) all) q y
     by (Tells d) =
         finish _ (told_node d) (one d.seat.node (ap (λ (r : Place). r.node) (sym d.at) ∙ d.is.node))
         (told_leader set ended t c p l d)
@@ -277,7 +285,7 @@ does_leader {set} {ended} t c p l does y is = by does
         no_node : {X : Type 0} (x : Node) → None ≡ Some x → X
         no_node x never = absurd cc
 
-does_follower : (set : ℕ) (t : Past) (c : Commit) (p : Place) (f : Following set t c p) → Linked t.world c p →
+does_follower : (set : ℕ) (t : Past) (c : Commit) (p : Place) (f : Following set t c p) → Linked t c p →
     Netted set f.ended (placed c.name (committing c p).node (nodes_in t.world.places)) f.place f.leader
 does_follower set t c p f does = by does
   where
@@ -291,7 +299,7 @@ does_follower set t c p f does = by does
         (node_later f.netted c.name m
         (λ i there. ap (λ (j : Node). j.id) (one_found i o (sym there ∙ ap node_in f.there ∙ at)) ∙ is.1) later)
 
-    by : Linked t.world c p → Netted set f.ended (placed c.name (committing c p).node all) f.place f.leader
+    by : Linked t c p → Netted set f.ended (placed c.name (committing c p).node all) f.place f.leader
     by (Tells d) =
         finish d.seat.node _ (ap (λ (r : Place). r.node) (sym d.at) ∙ d.is.node) (told_node d, refl)
         (told_follower set t c p f d)
@@ -305,8 +313,39 @@ does_follower set t c p f does = by does
     by (Begins d) =
         let never : None ≡ Some f.leader = sym (d.alone f.name) ∙ ap node_in f.found ∙ f.at in absurd cc
 
+-- what the node of the database has logged of its own it had logged before
+own_stays : (t : Past) (c : Commit) (p : Place) → find_named c.name t.world.places ≡ Some p → Linked t c p →
+    (l : Logged) → IsOwn (committing c p).node l → IsOwn p.node l
+own_stays t c p found does l (y, is, among, own) = by does
+  where
+    -- the node that it is behind the commit
+    behind_is : (m : Node) → (committing c p).node ≡ Some m → IsAmong l (logged m) × (l.origin ≡ m.id)
+    behind_is m at =
+        subst (λ (i : Node). IsAmong l (logged i) × (l.origin ≡ i.id)) (one_found y m (sym is ∙ at)) (among, own)
+
+    by : Linked t c p → IsOwn p.node l
+    by (Tells d) =
+        let of = behind_is _ (told_node d) in (
+          d.seat.node,
+          ap (λ (r : Place). r.node) (sym d.at) ∙ d.is.node,
+          subst (IsAmong l) (told_logs d.seat d.emits d.may) of.0,
+          of.1,
+        )
+    by (TakesOne d) =
+        let of = behind_is _ (taken_node d) in (
+          d.carried.seat.node,
+          ap (λ (r : Place). r.node) (sym d.at) ∙ d.is.work.seat.node,
+          taken_own t d l of.0 of.1,
+          of.1,
+        )
+    by (HearsSome d) =
+        let of = behind_is _ (heard_node d) in
+        (d.seat.node, ap (λ (r : Place). r.node) (sym d.at) ∙ d.is.node, of.0, of.1)
+    by (Begins d) = absurd (behind_is _ (begun_node d)).0
+
 pub does_net : (set : ℕ) (a : List ℕ) (t : Past) (c : Commit) (p : Place) → find_named c.name t.world.places ≡ Some p →
-    Linked t.world c p → NetAt set a (look t.world) → NetAt set a (with_look c.name (committing c p) (look t.world))
+    Linked t c p → NetAt set (WasUpTo t) a (look t.world) →
+    NetAt set (WasUpTo t) a (with_look c.name (committing c p) (look t.world))
 does_net set a t c p found does was r there = by (is_put c.name q f a r there)
   where
     q : Place
@@ -315,7 +354,7 @@ does_net set a t c p found does was r there = by (is_put c.name q f a r there)
     f : Looks
     f = look t.world
 
-    here : Origin set (nodes_of f) p → Origin set (nodes_of (with_look c.name q f)) q
+    here : Origin set (WasUpTo t) a (nodes_of f) p → Origin set (WasUpTo t) a (nodes_of (with_look c.name q f)) q
     here o = record {
       ended = o.ended;
       clock = record { each = o.clock.each; count = o.clock.count; apart = o.clock.apart };
@@ -323,11 +362,12 @@ does_net set a t c p found does was r there = by (is_put c.name q f a r there)
           subst (λ all. Netted set o.ended all q y)
           (sym (nodes_with c.name q f ∙ ap (λ k. placed c.name k (nodes_of f)) is))
           (does_leader t c p (record { found = found; clock = o.clock; netted = o.is }) does y is);
+      then = λ m same. then_still o.ended (own_stays t c p found does) (o.then m same);
     }
 
-    by : IsPut c.name q f a r → Origin set (nodes_of (with_look c.name q f)) r
+    by : IsPut c.name q f a r → Origin set (WasUpTo t) a (nodes_of (with_look c.name q f)) r
     by (Here at same) =
-        subst (Origin set (nodes_of (with_look c.name q f))) (sym same) (here (was p (ap f at ∙ found)))
+        subst (Origin set (WasUpTo t) a (nodes_of (with_look c.name q f))) (sym same) (here (was p (ap f at ∙ found)))
     by (There differs at) =
         let o = was r at in
         record {
@@ -344,7 +384,9 @@ does_net set a t c p found does was r there = by (is_put c.name q f a r there)
                 ended = o.ended;
                 clock = o.clock;
                 netted = o.is x is;
+                then = o.then;
                 there = found;
                 apart = differs;
               }) does);
+          then = o.then;
         }

@@ -150,7 +150,8 @@ pub record AreLogged (origin : ℕ) (logs : List Logged) (rows : List (ℕ × Lo
   pub can : AllByRecursion CanBeLogged rows
 
 pub has_logged : {n : Node} {e : Event} (b : Brought) (origin : ℕ) (logs : List Logged)
-    (rows : List (ℕ × LogRow)) (mid : Store) → AreLogged origin logs rows → HoldsKept n e b mid → HasKept n e (with_logs logs b) mid (put_logs origin rows mid)
+    (rows : List (ℕ × LogRow)) (mid : Store) → AreLogged origin logs rows → HoldsKept n e b mid →
+    HasKept n e (with_logs logs b) mid (put_logs origin rows mid)
 has_logged {n} {e} b origin logs rows mid a holds = record {
   held = λ fills count d is more.
       subst (λ (doing : Doing). NodeHeld (with_deeds (record d { doing = doing } ∷ []) n) new) (sym is)

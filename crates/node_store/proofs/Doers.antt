@@ -252,7 +252,8 @@ next_stamp : {p : Place} {b : Base} (at : UpAt p b) (store : Store) (mid : Kept)
 next_stamp at store mid is =
     is ∙ ap (λ s. Some (Some (put_at meta stamp_key (number_bytes (s + 1)) store))) (running at).1.stamp
 
-pub is_written : {p : Place} {b : Base} {mid : Kept} (at : UpAt p b) (d : Doer p) → brought_in d.doing ≡ nothing_brought →
+pub is_written : {p : Place} {b : Base} {mid : Kept} (at : UpAt p b) (d : Doer p) →
+    brought_in d.doing ≡ nothing_brought →
     WritesDone d.node at.ready.fits.held.0 d.doing (b.memory.stamp + 1) (Ok tt) mid → IsWritten at d mid
 is_written {mid = mid} at d none w = record {
   store = w.0;

@@ -149,7 +149,8 @@ split_first f test l more =
       | false ↦ refl
     ]
 
-moved_on : {Y : Type 0} (f : Logged → Y) (test : Logged → Bool) (l : Logged) (rest more : List Logged) (old new : List Y)
+moved_on : {Y : Type 0} (f : Logged → Y) (test : Logged → Bool) (l : Logged) (rest more : List Logged)
+    (old new : List Y)
     (end : List Y) → rest ≡ l ∷ more → new ≡ old ++ map f (filter test (l ∷ [])) →
     old ++ map f (filter test rest) ≡ end → new ++ map f (filter test more) ≡ end
 moved_on f test l rest more old new end splits is all =

@@ -69,7 +69,8 @@ ended_own origin first xmin p identity known is owned older =
     by None none owned = tt
     by (Some n) is owned =
         let own : n.id ≡ origin = cc in
-        subst (λ id. HaveEnded id first xmin (logged n)) own (own_ended n.id first xmin p.actions older (logged n) owned)
+        subst (λ id. HaveEnded id first xmin (logged n)) own (own_ended n.id first xmin p.actions older
+        (logged n) owned)
 
 -- no number is below the first one
 pub none_ended : (origin xmin : ℕ) (logs : List Logged) → HaveEnded origin 0 xmin logs

@@ -1,5 +1,6 @@
 -- What a node takes of a set with an event of another node, and what its store holds then.
-use Rattle.std.specs.Prelude.{◌≡◌, ℕ, ◌==◌, if◌then◌else◌, Bool, true, false, List, [], ◌∷◌, Option, Some, None, Result, length, map, sum_by}
+use Rattle.std.specs.Prelude.{◌≡◌, ℕ, ◌==◌, if◌then◌else◌, Bool, true, false, List}
+use Rattle.std.specs.Prelude.{[], ◌∷◌, Option, Some, None, Result, length, map, sum_by}
 use Rattle.std.specs.List.{AllByRecursion}
 use Rattle.slon_base.specs.Codec.{IsText}
 use Rattle.slon_base.specs.Keeper.{Store, Kept}

@@ -31,4 +31,4 @@ pub use looking::{
 };
 pub use node_change::Side;
 pub use polling::news_among;
-pub use syncing::is_synced;
+pub use syncing::{is_same, is_synced};

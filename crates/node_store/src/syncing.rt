@@ -14,7 +14,7 @@ use event_store::last_sync;
 use node_keeper::Keeper;
 
 /// Whether two snapshots are the same.
-fn is_same(one: &Snapshot, other: &Snapshot) -> bool
+pub fn is_same(one: &Snapshot, other: &Snapshot) -> bool
     ensures { result ≡ same_snapshot (seen_as one.now) (seen_as other.now) }
 {
     one.xmin == other.xmin

@@ -16,18 +16,19 @@ use Rattle.slon_model.specs.Names.{Named}
 use Rattle.slon_model.proofs.Names.{bytes_itself, bytes_same}
 use Rattle.slon_model.specs.Rows.{Row, Rows}
 use Rattle.slon_model.specs.Deeds.{Brought, nothing_brought}
-use Rattle.slon_model.specs.Following.{SetSync as RulesSync, with_sync, with_syncs}
+use Rattle.slon_model.specs.Following.{Found, FoundCopy, FoundNothing, FoundSyncs, SetSync as RulesSync}
+use Rattle.slon_model.specs.Following.{brought_of, count_of, rows_in, with_sync, with_syncs}
 use Rattle.slon_model.specs.Place.{Place}
-use Rattle.slon_model.specs.Working.{rows_at, rows_in}
+use Rattle.slon_model.specs.Working.{rows_at}
 use Rattle.slon_laws.specs.Spelled.{AreFormed, IsSpelled}
 use Rattle.slon_laws.proofs.Formed.{standing_formed}
 use Rattle.slon_laws.proofs.Keys.{key_test}
 use Rattle.change_apply.specs.Copied.{AreListed, AreRowsOf, CanCopy, CanCopyAll, Listed, row_in}
-use Rattle.node_store.specs.declared.bringing.Brought.{Brought as CodeBrought}
-use Rattle.node_store.specs.declared.bringing.Brought.TheVariants.{Copy, Syncs}
-use Rattle.node_store.specs.declared.bringing.SetSync.{SetSync}
-use Rattle.node_store.specs.Bringing.{HaveSyncs, IsBrought, row_of, rows_listed}
-use Rattle.remote_worker.specs.Working.{rows_given}
+use Rattle.node_store.specs.Bringing.{row_of, rows_listed}
+use Rattle.remote_worker.specs.declared.loading.Load.{Load}
+use Rattle.remote_worker.specs.declared.loading.Load.TheVariants.{Copy, Syncs}
+use Rattle.remote_worker.specs.declared.loading.SetFetch.{SetFetch}
+use Rattle.remote_worker.specs.Loading.{HasFound, HaveFetches, rows_fetched, rows_loaded}
 
 -- ---- one table
 
@@ -127,23 +128,36 @@ rows_read p names ts spelled can are = tables_counted (rows_at p names) ts (form
 
 -- ---- what was logged
 
-logged_counted : (origin : ℕ) (p : Place) (ts : List RulesSync) (given : List SetSync) (b : Brought) →
-    HaveSyncs origin ts given → (with_syncs p ts b).count ≡ b.count + sum_by (λ (t : SetSync). length t.rows) given
-logged_counted origin p [] [] b have = omega arith
-logged_counted origin p [] (g ∷ given) b have = absurd have
-logged_counted origin p (t ∷ ts) [] b have = absurd have
-logged_counted origin p (t ∷ ts) (g ∷ given) b have =
-    logged_counted origin p ts given (with_sync p t b) have.1
-    ∙ ap (λ n. b.count + n + sum_by (λ (s : SetSync). length s.rows) given)
-    (sym (ap length have.0.logged.rows_are ∙ length-map t.rows row_of))
-    ∙ omega (arith, length g.rows)
-    ∙ ap (λ n. b.count + n) (sym (sum_by-cons (λ (s : SetSync). length s.rows) g given))
+fetches_counted : (origin : ℕ) (ts : List RulesSync) (given : List SetFetch) → HaveFetches origin ts given →
+    sum_by (λ (t : RulesSync). length t.rows) ts ≡ rows_fetched given
+fetches_counted origin [] [] have = refl
+fetches_counted origin [] (g ∷ given) have = absurd have
+fetches_counted origin (t ∷ ts) [] have = absurd have
+fetches_counted origin (t ∷ ts) (g ∷ given) have =
+    sum_by-cons (λ (t : RulesSync). length t.rows) t ts
+    ∙ ap (λ n. n + sum_by (λ (t : RulesSync). length t.rows) ts)
+    (sym (ap length have.0.sync.logged.rows_are ∙ length-map t.rows row_of))
+    ∙ ap (λ n. length g.sync.rows + n) (fetches_counted origin ts given have.1)
+    ∙ sym (sum_by-cons (λ (f : SetFetch). length f.sync.rows) g given)
 
--- ---- what is brought
+-- ---- what is found
 
-pub rows_counted : (origin : ℕ) (p : Place) (b : Brought) (given : Option CodeBrought) → IsBrought origin p b given →
-    b.count ≡ rows_given given
-rows_counted origin p b None is = ap (λ (x : Brought). x.count) is
-rows_counted origin p b (Some (Copy copy)) is = is.count
-rows_counted origin p b (Some (Syncs syncs)) (ts, have, is) =
-    ap (λ (x : Brought). x.count) is ∙ logged_counted origin p ts syncs nothing_brought have ∙ omega arith
+pub rows_counted : (origin : ℕ) (f : Found) (given : Option Load) → HasFound origin f given →
+    count_of f ≡ rows_loaded given
+rows_counted origin f None is = ap count_of is
+rows_counted origin f (Some (Copy copy)) (rows, is, has) = ap count_of is ∙ has.count
+rows_counted origin f (Some (Syncs fetches)) (ts, is, have) = ap count_of is ∙ fetches_counted origin ts fetches have
+
+-- and that is what is brought
+syncs_brought : (p : Place) (ts : List RulesSync) (b : Brought) →
+    (with_syncs p ts b).count ≡ b.count + sum_by (λ (t : RulesSync). length t.rows) ts
+syncs_brought p [] b = omega arith
+syncs_brought p (t ∷ ts) b =
+    syncs_brought p ts (with_sync p t b)
+    ∙ omega (arith, sum_by (λ (t : RulesSync). length t.rows) ts)
+    ∙ ap (λ n. b.count + n) (sym (sum_by-cons (λ (t : RulesSync). length t.rows) t ts))
+
+pub brought_counted : (p : Place) (f : Found) → (brought_of p f).count ≡ count_of f
+brought_counted p FoundNothing = refl
+brought_counted p (FoundCopy set view rows) = refl
+brought_counted p (FoundSyncs ts) = syncs_brought p ts nothing_brought ∙ omega arith

@@ -1,5 +1,5 @@
 -- What a node finds of what it is to bring.
-use Rattle.std.proofs.Common.{◌≡◌, ◌∙◌, ◌++◌, ℕ, Bool, true, false, List, [], ◌∷◌, Option, Some, None, Result}
+use Rattle.std.proofs.Common.{◌≡◌, ◌∙◌, ℕ, Bool, true, false, List, [], ◌∷◌, Option, Some, None, Result}
 use Rattle.std.proofs.Common.{Ok, Err, refl, sym, ap, subst}
 use Rattle.std.specs.Prelude.{◌==◌, ◌&&◌, if◌then◌else◌, not, is_none, unwrap_or, option_map}
 use Rattle.node_rows.specs.declared.rows.SetRow.{SetRow}
@@ -8,27 +8,30 @@ use Rattle.slon_model.specs.declared.reply.Refusal.TheVariants as refused
 use Rattle.slon_model.specs.Names.{find_named}
 use Rattle.slon_model.specs.Config.{Config, is_known, leads_row, names_of, set_row}
 use Rattle.slon_model.specs.Events.{Event}
-use Rattle.slon_model.specs.Deeds.{Brought, Node, knowledge, nothing_brought}
+use Rattle.slon_model.specs.Deeds.{Node, knowledge}
+use Rattle.slon_model.specs.Following as following
+use Rattle.slon_model.specs.Following.{FoundCopy, FoundNothing, rows_in}
 use Rattle.slon_model.specs.Place.{Place, taken}
-use Rattle.slon_model.specs.Sessions.{bind, checked, first_refusal, seat, unless_refused, when, writer_of}
+use Rattle.slon_model.specs.Sessions.{bind, checked, first_refusal, seat, unless_refused, when}
 use Rattle.slon_model.specs.Views.{first_view}
 use Rattle.slon_model.specs.Working as rules
-use Rattle.slon_model.specs.Working.{brought_at, copy_checks, copy_of, rows_at, rows_in, width_checks, width_of}
+use Rattle.slon_model.specs.Working.{copy_checks, copy_of, found_at, rows_at, width_of}
 use Rattle.change_apply.specs.Copied.{AreListed}
 use Rattle.event_store.specs.Kept.{seen_view}
-use Rattle.node_store.specs.declared.bringing.Brought.TheVariants.{Copy as CopyOf}
 use Rattle.node_store.specs.declared.bringing.SetCopy.{SetCopy}
 use Rattle.node_store.specs.declared.looking.Reign.{Reign}
-use Rattle.node_store.specs.Bringing.{IsBrought, rows_listed}
+use Rattle.node_store.specs.Bringing.{rows_listed}
 use Rattle.node_store.specs.Looking.{reign_of}
 use Rattle.remote_worker.specs.declared.carrying.Copying.{Copying}
-use Rattle.remote_worker.specs.declared.carrying.Errand.TheVariants.{Copy, Follow}
+use Rattle.remote_worker.specs.declared.carrying.Errand.TheVariants.{Copy as CopyFrom, Follow}
 use Rattle.remote_worker.specs.declared.fetching.Found.{Found}
 use Rattle.remote_worker.specs.declared.fetching.Found.TheVariants as found
+use Rattle.remote_worker.specs.declared.loading.Load.TheVariants.{Copy}
 use Rattle.remote_worker.specs.declared.worker.Fetched.{Fetched}
 use Rattle.remote_worker.specs.declared.worker.Worker.{Worker}
-use Rattle.remote_worker.specs.Fetching.{Asked, Brings, Copies, CopyChecked, Fetches, Follows, IsFound, IsLed}
+use Rattle.remote_worker.specs.Fetching.{Asked, Brings, Copies, Fetches, Follows, IsFound, IsLed}
 use Rattle.remote_worker.specs.Fetching.{TableChecked, TablesChecked, leads_by, leads_in}
+use Rattle.remote_worker.specs.Loading.{HasFound}
 use Rattle.remote_worker.specs.Working.{seen_copying, seen_errand}
 
 -- ---- who leads the set
@@ -64,19 +67,6 @@ stop_two None None more r some = absurd cc
 stop_two None (Some s) more r some = some
 stop_two (Some s) b more r some = some
 
--- what stands behind others
-pub first_beyond : (front back : List (Option Refusal)) → first_refusal front ≡ None →
-    first_refusal (front ++ back) ≡ first_refusal back
-first_beyond [] back none = refl
-first_beyond (None ∷ front) back none = first_beyond front back none
-first_beyond (Some r ∷ front) back none = absurd cc
-
-pub first_within : (front back : List (Option Refusal)) (r : Refusal) → first_refusal front ≡ Some r →
-    first_refusal (front ++ back) ≡ Some r
-first_within [] back r some = absurd cc
-first_within (None ∷ front) back r some = first_within front back r some
-first_within (Some s ∷ front) back r some = some
-
 -- ---- one table
 
 -- what is refused of a table of this width here and there
@@ -103,34 +93,21 @@ has_width name p q here there some is =
 
 -- what is refused of them is what is refused of those that are left
 abbrev pub LeavesOf : List (List ℕ) → List (List ℕ) → Place → Place → Type 0
-LeavesOf names more p q = first_refusal (width_checks p q names) ≡ first_refusal (width_checks p q more)
+LeavesOf names more p q = first_refusal (copy_checks p q names) ≡ first_refusal (copy_checks p q more)
 
 pub next_table : (names more : List (List ℕ)) (name : List ℕ) (p q : Place) (o : Option Refusal) → o ≡ None →
     LeavesOf names (name ∷ more) p q → TableChecked name p q o → LeavesOf names more p q
 next_table names more name p q o none before is =
     before ∙ pass_two (when (is_none (find_named name p.tables)) (refused.NoTable name))
-    (when (not (width_of name p == width_of name q)) (refused.BadWidth (width_of name p))) (width_checks p q more)
+    (when (not (width_of name p == width_of name q)) (refused.BadWidth (width_of name p))) (copy_checks p q more)
     (is ∙ none)
 
 pub bad_table : (names more : List (List ℕ)) (name : List ℕ) (p q : Place) (o : Option Refusal) (r : Refusal) →
     o ≡ Some r → LeavesOf names (name ∷ more) p q → TableChecked name p q o → TablesChecked names p q (Some r)
 bad_table names more name p q o r some before is =
     before ∙ stop_two (when (is_none (find_named name p.tables)) (refused.NoTable name))
-    (when (not (width_of name p == width_of name q)) (refused.BadWidth (width_of name p))) (width_checks p q more) r
+    (when (not (width_of name p == width_of name q)) (refused.BadWidth (width_of name p))) (copy_checks p q more) r
     (is ∙ some)
-
--- ---- all of them, and the open transactions
-
-pub copy_within : (p q : Place) (names : List (List ℕ)) (o : Option Refusal) (r : Refusal) → o ≡ Some r →
-    TablesChecked names p q o → CopyChecked names p q (Some r)
-copy_within p q names o r some is =
-    first_within (width_checks p q names) (option_map refused.Busy (writer_of names p) ∷ []) r (is ∙ some)
-
-pub copy_beyond : (p q : Place) (names : List (List ℕ)) (o : Option Refusal) (writer : Option ℕ) → o ≡ None →
-    TablesChecked names p q o → writer ≡ writer_of names p → CopyChecked names p q (option_map refused.Busy writer)
-copy_beyond p q names o writer none is wrote =
-    first_beyond (width_checks p q names) (option_map refused.Busy (writer_of names p) ∷ []) (is ∙ none)
-    ∙ only_first (option_map refused.Busy (writer_of names p)) ∙ ap (option_map refused.Busy) (sym wrote)
 
 -- ---- what is found of a set that is copied
 
@@ -153,37 +130,37 @@ pub record IsRead (c : Copying) (number : ℕ) (names : List (List ℕ)) (given 
   pub counted : rows_in (rows_at q names) ≡ rows_listed given.tables
 
 abbrev pub to_copy : Copying → ℕ → Event → Asked
-to_copy c own e = record { errand = Copy c; own = own; event = e }
+to_copy c own e = record { errand = CopyFrom c; own = own; event = e }
 
 pub copied_found : (c : Copying) (own : ℕ) (e : Event) (p q : Place) (names : List (List ℕ)) (given : SetCopy)
-    (w : Worker Fetched) → IsRead c e.number names given p q → w.state.brought ≡ Some (CopyOf given) →
+    (w : Worker Fetched) → IsRead c e.number names given p q → w.state.load ≡ Some (Copy given) →
     Copies c (to_copy c own e) p q (found.Brings w)
 copied_found c own e p q names given w r brings n k name other here there is provider = (
   copy_of (seen_copying c) e.number (seat other q k) names,
   ap (λ ns. checked (copy_checks p q ns) (copy_of (seen_copying c) e.number (seat other q k) ns))
       (sym (r.names_are n here))
       ∙ ap (λ o. unless_refused o (copy_of (seen_copying c) e.number (seat other q k) names)) r.passed,
-  subst (IsBrought e.origin p (copy_of (seen_copying c) e.number (seat other q k) names)) (sym brings) (record {
-    views = ap (λ id. (c.set, first_view c.era id e.number (taken q)) ∷ []) provider
-        ∙ ap (λ v. (c.set, v) ∷ []) (sym r.view_is) ∙ ap (λ s. (s, seen_view given.view) ∷ []) (sym r.set_is);
-    rows = r.rows;
-    logs = refl;
-    count = r.counted;
-  }),
+  subst (HasFound e.origin (copy_of (seen_copying c) e.number (seat other q k) names)) (sym brings) (
+    rows_at q names,
+    ap (λ id. FoundCopy c.set (first_view c.era id e.number (taken q)) (rows_at q names)) provider
+        ∙ ap (λ v. FoundCopy c.set v (rows_at q names)) (sym r.view_is)
+        ∙ ap (λ s. FoundCopy s (seen_view given.view) (rows_at q names)) (sym r.set_is),
+    record { listed = r.rows; count = r.counted },
+  ),
 )
 
 -- where the provider does not lead the set nothing is copied
 pub other_found : (c : Copying) (own : ℕ) (e : Event) (p q : Place) (w : Worker Fetched) →
-    ((k : Node) → q.node ≡ Some k → IsLed (seen_copying c) (knowledge k).config false) → w.state.brought ≡ None →
+    ((k : Node) → q.node ≡ Some k → IsLed (seen_copying c) (knowledge k).config false) → w.state.load ≡ None →
     Brings (to_copy c own e) p q (found.Brings w)
 other_found c own e p q w led brings n k name other here there is provider =
     let names = names_of c.set (knowledge n).config in (
-      nothing_brought,
+      FoundNothing,
       ap (λ b. if b
           then checked (copy_checks p q names) (copy_of (seen_copying c) e.number (seat other q k) names)
-          else Ok nothing_brought)
+          else Ok FoundNothing)
           (ap (λ id. leads_in (seen_copying c) id (knowledge k).config) provider ∙ sym (led k there)),
-      subst (IsBrought e.origin p nothing_brought) (sym brings) refl,
+      subst (HasFound e.origin FoundNothing) (sym brings) refl,
     )
 
 pub led_found : (c : Copying) (own : ℕ) (e : Event) (p q : Place) (given : Found) →
@@ -191,20 +168,20 @@ pub led_found : (c : Copying) (own : ℕ) (e : Event) (p q : Place) (given : Fou
     Copies c (to_copy c own e) p q given → Brings (to_copy c own e) p q given
 led_found c own e p q given led copies n k name other here there is provider =
     let names = names_of c.set (knowledge n).config in
-    subst (λ due. IsFound e.origin p due given)
+    subst (λ due. IsFound e.origin due given)
     (sym (ap (λ b. if b
     then checked (copy_checks p q names) (copy_of (seen_copying c) e.number (seat other q k) names)
-    else Ok nothing_brought)
+    else Ok FoundNothing)
     (ap (λ id. leads_in (seen_copying c) id (knowledge k).config) provider ∙ sym (led k there))))
     (copies n k name other here there is provider)
 
 -- ---- what is fetched
 
 -- what comes of it, by whether the provider knows the node
-abbrev fetched_by : Asked → Place → Place → List ℕ → List ℕ → Node → Node → Bool → Result Brought Refusal
+abbrev fetched_by : Asked → Place → Place → List ℕ → List ℕ → Node → Node → Bool → Result following.Found Refusal
 fetched_by a p q name other n k knows =
     bind (checked (when (not knows) (refused.NotKnown n.id) ∷ []) (seat other q k))
-    (brought_at (seen_errand a.errand) (seat name p n) a.event)
+    (found_at (seen_errand a.errand) (seat name p n) a.event)
 
 pub unknown_found : (a : Asked) (p q : Place) → ((k : Node) → q.node ≡ Some k →
     is_known a.own (knowledge k).config ≡ false) → Fetches a p q (found.Refused (refused.NotKnown a.own))
@@ -217,7 +194,7 @@ pub known_found : (a : Asked) (p q : Place) (given : Found) →
     ((k : Node) → q.node ≡ Some k → is_known a.own (knowledge k).config ≡ true) → Brings a p q given →
     Fetches a p q given
 known_found a p q given known brings n k name other here there own provider =
-    subst (λ due. IsFound a.event.origin p due given)
+    subst (λ due. IsFound a.event.origin due given)
     (sym (ap (fetched_by a p q name other n k) (ap (λ id. is_known id (knowledge k).config) own ∙ known k there)))
     (brings n k name other here there own provider)
 

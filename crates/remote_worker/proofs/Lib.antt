@@ -1,6 +1,8 @@
 pub mod Abilities
 pub mod Counted
+pub mod Left
 pub mod Looking
 mod Taking
 mod Naming
 mod Finding
+mod Keys

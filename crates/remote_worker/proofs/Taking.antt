@@ -2,37 +2,29 @@
 use Rattle.std.proofs.Common.{◌≡◌, ◌∙◌, ◌++◌, ℕ, Bool, true, false, cond, List, [], ◌∷◌, map, filter, Option, Some}
 use Rattle.std.proofs.Common.{None}
 use Rattle.std.proofs.Common.{refl, sym, ap, subst}
-use Rattle.std.specs.Prelude.{◌==◌, ◌&&◌, if◌then◌else◌, flat_map, option_map}
+use Rattle.std.specs.Prelude.{◌==◌, ◌&&◌, if◌then◌else◌}
 use Rattle.std.proofs.lemmas.List.{append_assoc, append-nil, map-append}
-use Rattle.std.proofs.lemmas.List.Concat.{flat_map-cons}
 use Rattle.node_rows.specs.declared.rows.SetRow.{SetRow}
-use Rattle.slon_model.specs.declared.reply.Refusal.{Refusal}
-use Rattle.slon_model.specs.declared.reply.Refusal.TheVariants as refused
 use Rattle.slon_model.specs.Maps.{Map}
 use Rattle.slon_model.specs.Config.{Config, is_origin, leads_row, live_set, tables_of}
 use Rattle.slon_model.specs.Events.{Event}
-use Rattle.slon_model.specs.Deeds.{Knowledge, Logged, Node, knowledge, nothing_brought}
+use Rattle.slon_model.specs.Deeds.{Knowledge, Logged, Node, knowledge}
 use Rattle.slon_model.specs.Following as rules
-use Rattle.slon_model.specs.Following.{SetSync, kept_from, set_syncs, with_syncs}
+use Rattle.slon_model.specs.Following.{FoundSyncs, SetSync, kept_from, set_syncs}
 use Rattle.slon_model.specs.Logs.{logged}
 use Rattle.slon_model.specs.Place.{Place}
-use Rattle.slon_model.specs.Sessions.{first_refusal, seat, unless_refused, writer_of}
 use Rattle.slon_model.specs.Snapshots.{Snapshot, covers}
 use Rattle.slon_model.specs.Views.{View, Views, later_of}
-use Rattle.slon_model.specs.Working.{followed}
-use Rattle.slon_model.specs.Working as working
 use Rattle.event_store.specs.Spellings.{CanSnapshot}
-use Rattle.node_store.specs.declared.bringing.Brought.TheVariants.{Syncs}
-use Rattle.node_store.specs.declared.bringing.SetSync.{SetSync as SyncGiven}
-use Rattle.node_store.specs.Bringing.{HasSync, HaveSyncs, IsBrought}
 use Rattle.remote_worker.specs.declared.keeping.KeptSet.{KeptSet}
 use Rattle.remote_worker.specs.declared.fetching.Found.TheVariants as found
+use Rattle.remote_worker.specs.declared.loading.Load.TheVariants.{Syncs}
+use Rattle.remote_worker.specs.declared.loading.SetFetch.{SetFetch}
 use Rattle.remote_worker.specs.declared.worker.Fetched.{Fetched}
 use Rattle.remote_worker.specs.declared.worker.Worker.{Worker}
 use Rattle.remote_worker.specs.Fetching.{Follows}
-use Rattle.remote_worker.proofs.Finding.{only_first}
-use Rattle.remote_worker.specs.Keeping.{Kept, kept_among, kept_for, leads_in, names_among, seen_kept}
-use Rattle.remote_worker.specs.Keeping.{tables_among, taken_of}
+use Rattle.remote_worker.specs.Keeping.{Kept, kept_among, kept_for, leads_in, seen_kept, tables_among, taken_of}
+use Rattle.remote_worker.specs.Loading.{HasFetch, HasFound, HaveFetches}
 
 -- ---- one set
 
@@ -65,16 +57,7 @@ later_can a b can =
 
 -- ---- all that a node keeps
 
--- the names of the tables to which it takes rows
-pub names_same : (own : ℕ) (c : Config) (e : Event) (vs : Map View) →
-    names_among (map (kept_for own c e) vs) ≡ flat_map (λ v. map (λ t. t.1) (rules.tables_taken own v.0 c)) vs
-names_same own c e [] = refl
-names_same own c e (v ∷ vs) =
-    flat_map-cons (λ (k : Kept). map (λ t. t.1) k.tables) (kept_for own c e v) (map (kept_for own c e) vs)
-    ∙ ap (λ ns. map (λ t. t.1) (rules.tables_taken own v.0 c) ++ ns) (names_same own c e vs)
-    ∙ sym (flat_map-cons (λ (v : ℕ × View). map (λ t. t.1) (rules.tables_taken own v.0 c)) v vs)
-
--- and what it takes of each
+-- what it takes of each
 pub syncs_same : (own : ℕ) (k : Knowledge) (e : Event) (logs : List Logged) (vs : Map View) →
     map (taken_of e logs) (map (kept_for own k.config e) vs) ≡ map (rules.set_sync own k e logs) vs
 syncs_same own k e logs [] = refl
@@ -110,45 +93,20 @@ abbrev pub AreKept : ℕ → Event → List Kept → Place → Type 0
 AreKept own e kept p =
     (n : Node) → p.node ≡ Some n → kept ≡ kept_among own (knowledge n).config e (knowledge n).views
 
--- the tables to which the node takes rows
-kept_names : (own : ℕ) (e : Event) (kept : List Kept) (p : Place) (n : Node) (name : List ℕ) → n.id ≡ own →
-    kept ≡ kept_among own (knowledge n).config e (knowledge n).views →
-    names_among kept ≡ working.names_taken (seat name p n) (kept_from e.origin (knowledge n))
-kept_names own e kept p n name id is =
-    ap names_among is
-    ∙ names_same own (knowledge n).config e (kept_from e.origin (knowledge n))
-    ∙ ap (λ o. flat_map (λ v. map (λ t. t.1) (rules.tables_taken o v.0 (knowledge n).config))
-    (kept_from e.origin (knowledge n))) (sym id)
-
-pub busy_found : (own : ℕ) (e : Event) (kept : List Kept) (p q : Place) (writer : Option ℕ) (r : Refusal) →
-    AreKept own e kept p → writer ≡ writer_of (names_among kept) p → option_map refused.Busy writer ≡ Some r →
-    Follows own e p q (found.Refused r)
-busy_found own e kept p q writer r are wrote busy n k name here there id =
-    let names = kept_names own e kept p n name id (are n here) in
-    ap (λ o. unless_refused o (with_syncs p (set_syncs n.id (knowledge n) e (logged k)) nothing_brought))
-    (by (option_map refused.Busy (writer_of
-    (working.names_taken (seat name p n) (kept_from e.origin (knowledge n))) p))
-    (ap (λ ns. option_map refused.Busy (writer_of ns p)) (sym names) ∙ ap (option_map refused.Busy) (sym wrote) ∙ busy))
-  where
-    by : (o : Option Refusal) → o ≡ Some r → first_refusal (o ∷ []) ≡ Some r
-    by o is = only_first o ∙ is
-
-pub followed_found : (own : ℕ) (e : Event) (kept : List Kept) (p q : Place) (syncs : List SyncGiven)
-    (w : Worker Fetched) → AreKept own e kept p × (None ≡ writer_of (names_among kept) p) →
-    ((k : Node) → q.node ≡ Some k → HaveSyncs e.origin (map (taken_of e (logged k)) kept) syncs) →
-    w.state.brought ≡ Some (Syncs syncs) → Follows own e p q (found.Brings w)
-followed_found own e kept p q syncs w (are, wrote) have brings n k name here there id =
-    let names = kept_names own e kept p n name id (are n here) in
+pub followed_found : (own : ℕ) (e : Event) (kept : List Kept) (p q : Place) (fetches : List SetFetch)
+    (w : Worker Fetched) → AreKept own e kept p →
+    ((k : Node) → q.node ≡ Some k → HaveFetches e.origin (map (taken_of e (logged k)) kept) fetches) →
+    w.state.load ≡ Some (Syncs fetches) → Follows own e p q (found.Brings w)
+followed_found own e kept p q fetches w are have brings n k name here there id =
     let ts = set_syncs n.id (knowledge n) e (logged k) in
     let same : map (taken_of e (logged k)) kept ≡ ts =
     ap (map (taken_of e (logged k))) (are n here)
     ∙ syncs_same own (knowledge n) e (logged k) (kept_from e.origin (knowledge n))
     ∙ ap (λ o. set_syncs o (knowledge n) e (logged k)) (sym id) in (
-      with_syncs p ts nothing_brought,
-      ap (λ o. unless_refused (first_refusal (option_map refused.Busy o ∷ [])) (with_syncs p ts nothing_brought))
-          (ap (λ ns. writer_of ns p) (sym names) ∙ sym wrote),
-      subst (IsBrought e.origin p (with_syncs p ts nothing_brought)) (sym brings)
-          (ts, subst (λ xs. HaveSyncs e.origin xs syncs) same (have k there), refl),
+      FoundSyncs ts,
+      refl,
+      subst (HasFound e.origin (FoundSyncs ts)) (sym brings)
+          (ts, refl, subst (λ xs. HaveFetches e.origin xs fetches) same (have k there)),
     )
 
 -- ---- what is taken of each set in turn
@@ -158,20 +116,20 @@ abbrev pub dues_of : Event → Node → List KeptSet → List SetSync
 dues_of e n kept = map (taken_of e (logged n)) (map seen_kept kept)
 
 -- behind these, what is taken of the sets that are left makes up what is taken of all
-abbrev pub LeavesSyncs : Event → List KeptSet → List SyncGiven → List KeptSet → Place → Unit {0} → Type 0
-LeavesSyncs e all taken left p u =
-    (n : Node) → p.node ≡ Some n → (rest : List SyncGiven) → HaveSyncs e.origin (dues_of e n left) rest →
-    HaveSyncs e.origin (dues_of e n all) (taken ++ rest)
+abbrev pub LeavesFetches : Event → List KeptSet → List SetFetch → List KeptSet → Place → Unit {0} → Type 0
+LeavesFetches e all taken left p u =
+    (n : Node) → p.node ≡ Some n → (rest : List SetFetch) → HaveFetches e.origin (dues_of e n left) rest →
+    HaveFetches e.origin (dues_of e n all) (taken ++ rest)
 
-pub one_left : (e : Event) (all : List KeptSet) (taken : List SyncGiven) (kept : KeptSet) (left : List KeptSet)
-    (sync : SyncGiven) (p : Place) → LeavesSyncs e all taken (kept ∷ left) p tt
-    × ((n : Node) → p.node ≡ Some n → HasSync e.origin (taken_of e (logged n) (seen_kept kept)) sync) →
-    LeavesSyncs e all (taken ++ sync ∷ []) left p tt
-one_left e all taken kept left sync p (leaves, has) n is rest have =
-    subst (HaveSyncs e.origin (dues_of e n all)) (sym (append_assoc taken (sync ∷ []) rest))
-    (leaves n is (sync ∷ rest) (has n is, have))
+pub one_left : (e : Event) (all : List KeptSet) (taken : List SetFetch) (kept : KeptSet) (left : List KeptSet)
+    (fetch : SetFetch) (p : Place) → LeavesFetches e all taken (kept ∷ left) p tt
+    × ((n : Node) → p.node ≡ Some n → HasFetch e.origin (taken_of e (logged n) (seen_kept kept)) fetch) →
+    LeavesFetches e all (taken ++ fetch ∷ []) left p tt
+one_left e all taken kept left fetch p (leaves, has) n is rest have =
+    subst (HaveFetches e.origin (dues_of e n all)) (sym (append_assoc taken (fetch ∷ []) rest))
+    (leaves n is (fetch ∷ rest) (has n is, have))
 
-pub all_left : (e : Event) (all : List KeptSet) (taken : List SyncGiven) (p : Place) →
-    LeavesSyncs e all taken [] p tt → (n : Node) → p.node ≡ Some n → HaveSyncs e.origin (dues_of e n all) taken
+pub all_left : (e : Event) (all : List KeptSet) (taken : List SetFetch) (p : Place) →
+    LeavesFetches e all taken [] p tt → (n : Node) → p.node ≡ Some n → HaveFetches e.origin (dues_of e n all) taken
 all_left e all taken p leaves n is =
-    subst (HaveSyncs e.origin (dues_of e n all)) (append-nil taken) (leaves n is [] tt)
+    subst (HaveFetches e.origin (dues_of e n all)) (append-nil taken) (leaves n is [] tt)

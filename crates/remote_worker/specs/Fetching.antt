@@ -7,14 +7,14 @@ use Rattle.slon_model.specs.declared.reply.Refusal.TheVariants as refused
 use Rattle.slon_model.specs.Names.{find_named}
 use Rattle.slon_model.specs.Config.{Config, is_known, is_origin, era_of, names_of}
 use Rattle.slon_model.specs.Events.{Event}
-use Rattle.slon_model.specs.Deeds.{Node, Brought}
+use Rattle.slon_model.specs.Deeds.{Node}
+use Rattle.slon_model.specs.Following as following
 use Rattle.slon_model.specs.Place.{Place}
 use Rattle.slon_model.specs.Sessions.{Seat, bind, seat, when, checked, first_refusal}
 use Rattle.slon_model.specs.Working as rules
 use Rattle.slon_model.specs.Logs.{logged}
-use Rattle.slon_model.specs.Working.{brought_at, copy_checks, copy_of, followed, provider_in, width_checks, width_of}
+use Rattle.slon_model.specs.Working.{copy_checks, copy_of, followed, found_at, provider_in, width_of}
 use Rattle.node_store.specs.declared.looking.Reign.{Reign}
-use Rattle.node_store.specs.Bringing.{CanBring, IsBrought}
 use Rattle.remote_worker.specs.declared.carrying.Copying.{Copying}
 use Rattle.remote_worker.specs.declared.carrying.Errand.{Errand}
 use Rattle.remote_worker.specs.declared.carrying.Errand.TheVariants.{Copy, Follow}
@@ -22,6 +22,7 @@ use Rattle.remote_worker.specs.declared.fetching.Found.{Found}
 use Rattle.remote_worker.specs.declared.fetching.Found.TheVariants as found
 use Rattle.remote_worker.specs.declared.worker.Taken.{Taken}
 use Rattle.remote_worker.specs.declared.worker.Worker.{Worker}
+use Rattle.remote_worker.specs.Loading.{CanLoad, HasFound}
 use Rattle.remote_worker.specs.Working.{IsWith, seen_copying, seen_errand}
 
 -- ---- what is to be brought
@@ -63,37 +64,34 @@ TableChecked name p q refusal = first_refusal (table_checks p q name) ≡ refusa
 
 -- of all of them
 abbrev pub TablesChecked : List (List ℕ) → Place → Place → Option Refusal → Type 0
-TablesChecked names p q refusal = first_refusal (width_checks p q names) ≡ refusal
-
--- and 66
-abbrev pub CopyChecked : List (List ℕ) → Place → Place → Option Refusal → Type 0
-CopyChecked names p q refusal = first_refusal (copy_checks p q names) ≡ refusal
+TablesChecked names p q refusal = first_refusal (copy_checks p q names) ≡ refusal
 
 -- ---- what is found
 
--- the refusal tells of a store that failed
-abbrev pub is_fault : Refusal → Bool
-is_fault (refused.Fault database count) = true
-is_fault others = false
+-- the refusal tells of a store that failed, or of an open transaction
+abbrev pub is_loud : Refusal → Bool
+is_loud (refused.Fault database count) = true
+is_loud (refused.Busy xid) = true
+is_loud others = false
 
 abbrev pub IsCalm : Option Refusal → Type 0
 IsCalm None = Unit {0}
-IsCalm (Some refusal) = is_fault refusal ≡ false
+IsCalm (Some refusal) = is_loud refusal ≡ false
 
 abbrev pub IsCalmFound : Found → Type 0
-IsCalmFound (found.Refused refusal) = is_fault refusal ≡ false
+IsCalmFound (found.Refused refusal) = is_loud refusal ≡ false
 IsCalmFound (found.Brings w) = Unit {0}
 
--- 62, and what a node at this seat brings from a provider at that one
-abbrev pub fetched : rules.Errand → Event → Seat → Seat → Result Brought Refusal
+-- 62, and what a node at this seat finds at a provider at that one
+abbrev pub fetched : rules.Errand → Event → Seat → Seat → Result following.Found Refusal
 fetched a e s p =
     bind (checked (when (not (is_known s.node.id p.known.config)) (refused.NotKnown s.node.id) ∷ []) p)
-    (brought_at a s e)
+    (found_at a s e)
 
--- the node, whose database is at this place, found this with an event of this origin, by the rules
-abbrev pub IsFound : ℕ → Place → Result Brought Refusal → Found → Type 0
-IsFound origin p due (found.Refused refusal) = due ≡ Err refusal
-IsFound origin p due (found.Brings w) = (b : Brought) × (due ≡ Ok b) × IsBrought origin p b w.state.brought
+-- this was found with an event of this origin, by the rules
+abbrev pub IsFound : ℕ → Result following.Found Refusal → Found → Type 0
+IsFound origin due (found.Refused refusal) = due ≡ Err refusal
+IsFound origin due (found.Brings w) = (f : following.Found) × (due ≡ Ok f) × HasFound origin f w.state.load
 
 -- What the node is asked for: what it is to bring, its own id, and the event.
 pub record Asked : Type 0 where
@@ -102,18 +100,18 @@ pub record Asked : Type 0 where
   pub event : Event
 
 -- So it is of what is due at all seats of the two nodes.
-abbrev pub IsAt : Asked → (Seat → Seat → Result Brought Refusal) → Place → Place → Found → Type 0
+abbrev pub IsAt : Asked → (Seat → Seat → Result following.Found Refusal) → Place → Place → Found → Type 0
 IsAt a due p q given =
     (n k : Node) (name other : List ℕ) → p.node ≡ Some n → q.node ≡ Some k → n.id ≡ a.own →
     k.id ≡ provider_in (seen_errand a.errand) →
-    IsFound a.event.origin p (due (seat name p n) (seat other q k)) given
+    IsFound a.event.origin (due (seat name p n) (seat other q k)) given
 
 abbrev pub Fetches : Asked → Place → Place → Found → Type 0
 Fetches a = IsAt a (fetched (seen_errand a.errand) a.event)
 
 -- the same where the provider knows the node
 abbrev pub Brings : Asked → Place → Place → Found → Type 0
-Brings a = IsAt a (λ s p. brought_at (seen_errand a.errand) s a.event p)
+Brings a = IsAt a (λ s p. found_at (seen_errand a.errand) s a.event p)
 
 -- and of a set that is copied, where it leads the set
 abbrev pub Copies : Copying → Asked → Place → Place → Found → Type 0
@@ -124,14 +122,14 @@ Copies c a = IsAt a (λ s p. checked (copy_checks s.place p.place (names_of c.se
 abbrev pub Follows : ℕ → Event → Place → Place → Found → Type 0
 Follows own e p q given =
     (n k : Node) (name : List ℕ) → p.node ≡ Some n → q.node ≡ Some k → n.id ≡ own →
-    IsFound e.origin p (followed (seat name p n) e (logged k)) given
+    IsFound e.origin (followed (seat name p n) e (logged k)) given
 
 -- it is the same event
 abbrev pub IsOf : Worker Taken → Found → Type 0
 IsOf taken (found.Refused refusal) = Unit {0}
-IsOf taken (found.Brings w) = IsWith taken w.state.brought w
+IsOf taken (found.Brings w) = IsWith taken w.state.load w
 
--- what is brought can be spelled
+-- what was found can be spelled
 abbrev pub CanBringFound : Found → Type 0
 CanBringFound (found.Refused refusal) = Unit {0}
-CanBringFound (found.Brings w) = CanBring w.state.brought
+CanBringFound (found.Brings w) = CanLoad w.state.load

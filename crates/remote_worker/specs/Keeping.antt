@@ -1,11 +1,10 @@
 -- A set that a node keeps, as it is to take a SYNC.
-use Rattle.std.specs.Prelude.{ℕ, ◌==◌, ◌&&◌, Bool, false, List, filter, flat_map, map, Option, Some, None}
+use Rattle.std.specs.Prelude.{ℕ, ◌==◌, ◌&&◌, Bool, false, List, filter, map, Option, Some, None}
 use Rattle.store_rows.specs.Rows.{IsId}
 use Rattle.node_rows.specs.declared.rows.SetRow.{SetRow}
 use Rattle.node_rows.specs.declared.rows.Subscription.{Subscription}
 use Rattle.node_rows.specs.declared.rows.TableRow.{TableRow}
 use Rattle.slon_model.specs.Maps.{Map}
-use Rattle.slon_model.specs.Snapshots.{Snapshot}
 use Rattle.slon_model.specs.Events.{Event}
 use Rattle.slon_model.specs.Config.{Config, forwards, is_table_of}
 use Rattle.slon_model.specs.Views.{View, Views, view_after}
@@ -13,16 +12,14 @@ use Rattle.slon_model.specs.Deeds.{Logged}
 use Rattle.slon_model.specs.Following.{SetSync, delta, tables_taken}
 use Rattle.event_store.specs.Kept.{seen_view}
 use Rattle.event_store.specs.Spellings.{CanView}
-use Rattle.txn_core.specs.Snapshots.{seen_as}
 use Rattle.remote_worker.specs.declared.keeping.KeptSet.{KeptSet}
 
 -- ---- by the rules
 
--- What the tables of a set show so far, how far the node is in it behind the SYNC, to which tables it takes rows, and
--- whether it logs them.
+-- How far the node is in a set, and how far behind the SYNC, to which tables it takes rows, and whether it logs them.
 pub record Kept : Type 0 where
   pub set_id : ℕ
-  pub seen : Snapshot
+  pub before : View
   pub view : View
   pub tables : Map (List ℕ)
   pub forwards : Bool
@@ -31,7 +28,7 @@ pub record Kept : Type 0 where
 abbrev pub kept_for : ℕ → Config → Event → ℕ × View → Kept
 kept_for own c e v = record {
   set_id = v.0;
-  seen = v.1.seen;
+  before = v.1;
   view = view_after e v.1;
   tables = tables_taken own v.0 c;
   forwards = forwards v.0 own c;
@@ -45,21 +42,19 @@ kept_among own c e views = map (kept_for own c e) (filter (λ v. v.1.origin == e
 abbrev pub taken_of : Event → List Logged → Kept → SetSync
 taken_of e logs k = record {
   set_id = k.set_id;
+  before = k.before;
   view = k.view;
-  rows = delta e.origin k.tables k.seen e.taken logs;
+  tables = k.tables;
+  rows = delta e.origin k.tables k.before.seen e.taken logs;
   forwards = k.forwards;
 }
-
--- the names of all these tables
-abbrev pub names_among : List Kept → List (List ℕ)
-names_among sets = flat_map (λ k. map (λ t. t.1) k.tables) sets
 
 -- ---- in the code
 
 abbrev pub seen_kept : KeptSet → Kept
 seen_kept k = record {
   set_id = k.set;
-  seen = seen_as k.seen;
+  before = seen_view k.before;
   view = seen_view k.view;
   tables = k.tables;
   forwards = k.forwards;

@@ -1,5 +1,5 @@
 -- What a node takes of what waits there, and what becomes of that where it is applied.
-use Rattle.std.specs.Prelude.{◌≡◌, ◌==◌, ◌+◌, ℕ, nat_lt, Bool, true, false, List, filter, length, sum_by}
+use Rattle.std.specs.Prelude.{◌≡◌, ◌==◌, ◌+◌, ℕ, nat_lt, Bool, true, false, filter}
 use Rattle.std.specs.Prelude.{Option, Some, None}
 use Rattle.std.specs.Prelude.{option_map, Result}
 use Rattle.std.specs.List.{find}
@@ -16,18 +16,19 @@ use Rattle.event_store.specs.Queueing.{waiting}
 use Rattle.event_store.specs.Seen.{seen_event}
 use Rattle.app_store.specs.Base.{Base}
 use Rattle.node_store.specs.declared.bringing.Brought.{Brought}
-use Rattle.node_store.specs.declared.bringing.Brought.TheVariants.{Copy as CopyOf, Syncs}
-use Rattle.node_store.specs.declared.bringing.SetSync.{SetSync}
-use Rattle.node_store.specs.Bringing.{AppliesWith, rows_listed}
+use Rattle.node_store.specs.Bringing.{AppliesWith}
 use Rattle.remote_worker.specs.declared.carrying.Copying.{Copying}
 use Rattle.remote_worker.specs.declared.carrying.Errand.{Errand}
 use Rattle.remote_worker.specs.declared.carrying.Errand.TheVariants.{Copy, Follow}
+use Rattle.remote_worker.specs.declared.loading.Load.{Load}
 use Rattle.remote_worker.specs.declared.worker.Next.{Next}
 use Rattle.remote_worker.specs.declared.worker.Next.TheVariants.{Due, Missing, NotBuilt}
 use Rattle.remote_worker.specs.declared.worker.Fetched.{Fetched}
 use Rattle.remote_worker.specs.declared.worker.Ready.{Ready}
+use Rattle.remote_worker.specs.declared.worker.Settled.{Settled}
 use Rattle.remote_worker.specs.declared.worker.Taken.{Taken}
 use Rattle.remote_worker.specs.declared.worker.Worker.{Worker}
+use Rattle.remote_worker.specs.Loading.{brought_by}
 
 -- ---- what waits
 
@@ -64,21 +65,26 @@ abbrev pub IsAble : Option Event → Type 0
 IsAble found = (e : Event) × (found ≡ Some e) × KeepsViews e.body
 
 -- the event is the same, and this comes with it
-pub record IsWith (taken : Worker Taken) (brought : Option Brought) (w : Worker Fetched) : Type 0 where
+pub record IsWith (taken : Worker Taken) (load : Option Load) (w : Worker Fetched) : Type 0 where
   pub node : w.node ≡ taken.node
   pub origin : w.origin ≡ taken.origin
   pub number : w.state.number ≡ taken.state.number
   pub kind : w.state.kind ≡ taken.state.kind
-  pub brought_is : w.state.brought ≡ brought
+  pub load_is : w.state.load ≡ load
 
--- how many rows were logged of these sets
-abbrev pub rows_logged : List SetSync → ℕ
-rows_logged syncs = sum_by (λ t. length t.rows) syncs
+-- the event is the same
+pub record IsSameEvent (old new : Worker Fetched) : Type 0 where
+  pub node : new.node ≡ old.node
+  pub origin : new.origin ≡ old.origin
+  pub number : new.state.number ≡ old.state.number
+  pub kind : new.state.kind ≡ old.state.kind
 
-abbrev pub rows_given : Option Brought → ℕ
-rows_given None = 0
-rows_given (Some (CopyOf copy)) = rows_listed copy.tables
-rows_given (Some (Syncs syncs)) = rows_logged syncs
+-- and is to be applied with what comes with it
+pub record IsSettled (fetched : Worker Fetched) (w : Worker Settled) : Type 0 where
+  pub node : w.node ≡ fetched.node
+  pub origin : w.origin ≡ fetched.origin
+  pub number : w.state.number ≡ fetched.state.number
+  pub brought_is : w.state.brought ≡ brought_by fetched.state.load
 
 -- what the node of this id takes of the event of an origin with this number
 abbrev pub Takes : Worker Ready → Queue → Next → Type 0

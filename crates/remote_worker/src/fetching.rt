@@ -1,12 +1,12 @@
 // What a node brings with an event from another node: it looks at its own database, and at that of the provider.
-ghost use Rattle.std.specs.Prelude.{◌≡◌, ◌==◌, ◌<◌, ◌^◌, not, true, is_some, option_map, unwrap_or, IfOk};
+ghost use Rattle.std.specs.Prelude.{◌≡◌, ◌==◌, ◌<◌, ◌^◌, not, true, is_some, unwrap_or, IfOk};
 ghost use Rattle.slon_base.specs.Codec.{AllAre, IsText};
 ghost use Rattle.store_rows.specs.Rows.{IsId};
 ghost use Rattle.slon_model.specs.Config as config;
 ghost use Rattle.slon_model.specs.Place.{Place, is_running, taken};
 ghost use Rattle.slon_model.specs.Sessions.{when};
 ghost use Rattle.slon_model.specs.Views as views;
-ghost use Rattle.slon_model.specs.declared.reply.Refusal.TheVariants.{BadWidth, Busy};
+ghost use Rattle.slon_model.specs.declared.reply.Refusal.TheVariants.{BadWidth};
 ghost use Rattle.event_store.specs.Kept.{seen_view};
 ghost use Rattle.event_store.specs.Seen.{seen_event};
 ghost use Rattle.event_store.specs.Spellings.{CanView};
@@ -18,22 +18,21 @@ ghost use Rattle.node_store.specs.Acting.{Acts};
 ghost use Rattle.node_store.specs.Looking.{OfConfig};
 ghost use Rattle.remote_worker.specs.Looking.{Looking, Seen, sided};
 ghost use Rattle.remote_worker.specs.declared.carrying.Errand.TheVariants.{Copy};
-ghost use Rattle.remote_worker.specs.Fetching.{Brings, CanBringBy, CanBringFound, CanCopy, Copies, CopyChecked};
+ghost use Rattle.remote_worker.specs.Fetching.{Brings, CanBringBy, CanBringFound, CanCopy, Copies};
 ghost use Rattle.remote_worker.specs.Fetching.{Fetches, Follows, IsCalm, IsCalmFound, IsLed, IsOf, TableChecked};
 ghost use Rattle.remote_worker.specs.Fetching.{TablesChecked, leads_by};
 ghost use Rattle.remote_worker.specs.Working.{seen_copying};
 
 use crate::carrying::{Copying, Errand};
-use crate::following::{sets_of, syncs_of};
-use crate::keeping::names_taken;
+use crate::following::{fetches_of, sets_of};
+use crate::loading::Load;
 use crate::reading::names_of_set;
 use crate::worker::{Fetched, Taken, Worker};
 use app_store::{Database, DbFault, fall};
 use event_store::{Event, View};
 use node_keeper::Keeper;
 use node_store::{
-    Brought, Fell, Reign, SetCopy, Side, knows_live, read_tables, set_reign, stored_snapshot,
-    width, writer,
+    Fell, Reign, SetCopy, Side, knows_live, read_tables, set_reign, stored_snapshot, width,
 };
 use slon_base::{Many, Text};
 use slon_model::Refusal;
@@ -154,39 +153,6 @@ fn check_tables<K: Keeper>(
     Ok(None)
 }
 
-/// 66: this open transaction of the node wrote a table.
-fn busy(writer: Option<u64>) -> Option<Refusal>
-    ensures calm { IsCalm result }
-    ensures says { result ≡ option_map Busy writer }
-{
-    match writer {
-        None => None,
-        Some(xid) => Some(Refusal::Busy { xid }),
-    }
-}
-
-/// 52, 57 of each table in turn, and 66: an open transaction of the node wrote one of them.
-fn check_copy<K: Keeper>(
-    own: &mut Database<K>,
-    provider: &mut Database<K>,
-    names: &[Text],
-) -> Result<Option<Refusal>, Fell>
-    requires up { (own.old.state.up ≡ true) × (provider.old.state.up ≡ true) }
-    requires names { AllAre IsText names.now }
-    ensures calm { IfOk result IsCalm }
-    ensures looks { Looking (CopyChecked names.now)
-        (record { from = base_of K.kept own.old; to = base_of K.kept provider.old }) result
-        (record { from = base_of K.kept own.new; to = base_of K.kept provider.new }) }
-{
-    match check_tables(own, provider, names)? {
-        Some(refusal) => Ok(Some(refusal)),
-        None => {
-            let found = at(Side::From, writer(own, names))?;
-            Ok(busy(found))
-        }
-    }
-}
-
 /// How far a node is in a set that it copies with the event of this number: as far as its provider is now.
 fn first_view<K: Keeper>(
     provider: &Database<K>,
@@ -211,8 +177,8 @@ fn first_view<K: Keeper>(
 impl Worker<Taken> {
     /// Brings what comes with the event from its provider: a set that is to be copied, or nothing, where the provider
     /// does not lead the set in that era; or what it logged of the sets that the node keeps. It is refused where 62 the
-    /// provider does not know the node and 66 an open transaction of the node wrote a table of these sets, and a copy
-    /// before that where 52 the node lacks a table of the set and 57 it has another number of columns at the provider.
+    /// provider does not know the node, and a copy also where 52 the node lacks a table of the set and 57 it has another
+    /// number of columns at the provider.
     ///
     /// # Errors
     ///
@@ -287,13 +253,13 @@ impl Worker<Taken> {
             (record { from = base_of K.kept own.new; to = base_of K.kept provider.new }) }
     {
         let names = at(Side::From, tables_of(own, copying.set))?;
-        if let Some(refusal) = check_copy(own, provider, names.as_slice())? {
+        if let Some(refusal) = check_tables(own, provider, names.as_slice())? {
             return Ok(Found::Refused(refusal));
         }
         let view = first_view(provider, copying, event.number)?;
         let tables = at(Side::To, read_tables(provider, names.as_slice()))?;
         let set = copying.set;
-        Ok(Found::Brings(self.with(Some(Brought::Copy(SetCopy { set, view, tables })))))
+        Ok(Found::Brings(self.with(Some(Load::Copy(SetCopy { set, view, tables })))))
     }
 
     /// Takes what the provider logged of the sets that the node keeps.
@@ -313,11 +279,7 @@ impl Worker<Taken> {
             (record { from = base_of K.kept own.new; to = base_of K.kept provider.new }) }
     {
         let sets = at(Side::From, sets_of(own, self.node, event))?;
-        let names = names_taken(own.alloc, sets.as_slice())?;
-        if let Some(refusal) = busy(at(Side::From, writer(own, names.as_slice()))?) {
-            return Ok(Found::Refused(refusal));
-        }
-        let syncs = at(Side::To, syncs_of(provider, event, sets))?;
-        Ok(Found::Brings(self.with(Some(Brought::Syncs(syncs)))))
+        let fetches = at(Side::To, fetches_of(provider, event, sets))?;
+        Ok(Found::Brings(self.with(Some(Load::Syncs(fetches)))))
     }
 }

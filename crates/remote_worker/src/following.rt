@@ -10,12 +10,13 @@ ghost use Rattle.app_store.specs.Base.{base_of};
 ghost use Rattle.app_store.specs.Parts.{Looks, Remembers};
 ghost use Rattle.app_store.specs.Serves.{halts};
 ghost use Rattle.node_store.specs.Acting.{Acts};
-ghost use Rattle.node_store.specs.Bringing.{CanSync, HasSync, HaveSyncs};
 ghost use Rattle.node_store.specs.Polling.{OfNode};
 ghost use Rattle.remote_worker.specs.Keeping.{CanFollow, kept_among, seen_kept, taken_of};
+ghost use Rattle.remote_worker.specs.Loading.{CanFetch, HasFetch, HaveFetches};
 ghost use Rattle.remote_worker.specs.Looking.{Seen};
 
 use crate::keeping::{KeptSet, kept_sets};
+use crate::loading::SetFetch;
 use app_store::{Database, DbFault, fall};
 use event_store::Event;
 use node_keeper::Keeper;
@@ -45,21 +46,21 @@ pub(crate) fn sets_of<K: Keeper>(
 }
 
 /// What the node takes of one set, from a provider whose database this is.
-fn sync_of<K: Keeper>(
+fn fetch_of<K: Keeper>(
     provider: &mut Database<K>,
     event: &Event,
     kept: KeptSet,
-) -> Result<SetSync, DbFault>
+) -> Result<SetFetch, DbFault>
     requires up { provider.old.state.up ≡ true }
     requires can { CanFollow kept }
-    ensures can { IfOk result CanSync }
-    ensures looks { Seen (OfNode (λ n sync.
-        HasSync event.now.origin (taken_of (seen_event event.now) (logged n) (seen_kept kept)) sync))
+    ensures can { IfOk result CanFetch }
+    ensures looks { Seen (OfNode (λ n fetch.
+        HasFetch event.now.origin (taken_of (seen_event event.now) (logged n) (seen_kept kept)) fetch))
         (base_of K.kept provider.old) result (base_of K.kept provider.new) }
 {
     let KeptSet {
         set,
-        seen,
+        before,
         view,
         tables,
         forwards,
@@ -68,17 +69,22 @@ fn sync_of<K: Keeper>(
         provider,
         event.origin,
         tables.as_slice(),
-        &seen,
+        &before.seen,
         &event.taken,
     ) {
         Ok(found) => {
             let LoggedRows { rows, actions } = found;
-            Ok(SetSync {
+            let sync = SetSync {
                 set,
                 view,
                 rows,
                 actions,
                 forwards,
+            };
+            Ok(SetFetch {
+                before,
+                tables,
+                sync,
             })
         }
         Err(fault) => Err(fault),
@@ -86,21 +92,21 @@ fn sync_of<K: Keeper>(
 }
 
 /// What the node takes of each of these sets, from a provider whose database this is.
-pub(crate) fn syncs_of<K: Keeper>(
+pub(crate) fn fetches_of<K: Keeper>(
     provider: &mut Database<K>,
     event: &Event,
     sets: Many<KeptSet>,
-) -> Result<Many<SetSync>, DbFault>
+) -> Result<Many<SetFetch>, DbFault>
     requires up { provider.old.state.up ≡ true }
     requires can { AllAre CanFollow sets }
-    ensures can { IfOk result (AllByRecursion CanSync) }
-    ensures looks { Seen (OfNode (λ n syncs.
-        HaveSyncs event.now.origin (map (taken_of (seen_event event.now) (logged n)) (map seen_kept sets)) syncs))
+    ensures can { IfOk result (AllByRecursion CanFetch) }
+    ensures looks { Seen (OfNode (λ n fetches.
+        HaveFetches event.now.origin (map (taken_of (seen_event event.now) (logged n)) (map seen_kept sets)) fetches))
         (base_of K.kept provider.old) result (base_of K.kept provider.new) }
 {
-    let mut syncs = Many::new(provider.alloc);
+    let mut fetches = Many::new(provider.alloc);
     for kept in sets.into_vec() {
-        syncs.push(sync_of(provider, event, kept)?)?;
+        fetches.push(fetch_of(provider, event, kept)?)?;
     }
-    Ok(syncs)
+    Ok(fetches)
 }

@@ -1,5 +1,5 @@
 // What a node reads of the sets that it keeps, to bring what was logged of them with a SYNC.
-ghost use Rattle.std.specs.Prelude.{◌≡◌, ◌++◌, Some, OnOk, IfOk, IfErr, map};
+ghost use Rattle.std.specs.Prelude.{◌≡◌, Some, OnOk, IfOk, IfErr, map};
 ghost use Rattle.slon_base.specs.Codec.{AllAre, IsText};
 ghost use Rattle.slon_base.specs.Keeper.{Store, sight};
 ghost use Rattle.store_rows.specs.Rows.{IsId};
@@ -17,7 +17,7 @@ ghost use Rattle.event_store.specs.Seen.{seen_event};
 ghost use Rattle.event_store.specs.Spellings.{CanView};
 ghost use Rattle.node_state.specs.Held.{NodeHeld};
 ghost use Rattle.node_state.specs.Held.{seen_views};
-ghost use Rattle.remote_worker.specs.Keeping.{CanFollow, forwards_in, kept_among, kept_for, leads_in, names_among};
+ghost use Rattle.remote_worker.specs.Keeping.{CanFollow, forwards_in, kept_among, kept_for, leads_in};
 ghost use Rattle.remote_worker.specs.Keeping.{seen_kept, tables_among};
 
 use crate::reading::TABLES;
@@ -35,8 +35,8 @@ use txn_core::Snapshot;
 pub(crate) struct KeptSet {
     /// The id of the set.
     pub(crate) set: u32,
-    /// What the tables of the set show so far.
-    pub(crate) seen: Snapshot,
+    /// How far the node is in the set.
+    pub(crate) before: View,
     /// How far the node is in the set behind the SYNC.
     pub(crate) view: View,
     /// The ids and the names of the tables to which the node takes rows.
@@ -53,6 +53,20 @@ fn later_of(alloc: Global, kept: &Snapshot, taken: &Snapshot) -> Result<Snapshot
         return kept.copy(alloc);
     }
     taken.copy(alloc)
+}
+
+/// The same view of a set, copied.
+fn copy_view(alloc: Global, view: &View) -> Result<View, AllocError>
+    ensures { IfOk result (λ copy. seen_view copy ≡ seen_view view.now) }
+{
+    Ok(View {
+        era: view.era,
+        origin: view.origin,
+        number: view.number,
+        seen: view.seen.copy(alloc)?,
+        base_era: view.base_era,
+        base: view.base.copy(alloc)?,
+    })
 }
 
 /// How far a node is in a set behind a SYNC, where it was so far before.
@@ -175,7 +189,7 @@ fn kept_set<K: Keeper>(
     let forwards = is_forwarder(alloc, keeper, own, *set)?;
     Ok(KeptSet {
         set: *set,
-        seen: view.seen.copy(alloc)?,
+        before: copy_view(alloc, view)?,
         view: view_after(alloc, view, event)?,
         tables,
         forwards,
@@ -231,29 +245,4 @@ pub(crate) fn kept_sets<K: Keeper>(
     let views = kept_views(alloc, keeper)?;
     let rows = all_rows(alloc, keeper, TABLES)?;
     kept_among(alloc, keeper, own, event, views.as_slice(), rows.as_slice())
-}
-
-/// Adds the names of these tables.
-fn push_names(
-    alloc: Global,
-    names: &mut Many<Text>,
-    tables: &[(u32, Text)],
-) -> Result<(), AllocError>
-    ensures { OnOk result (names.new ≡ names.old ++ map (λ t. t.1) tables.now) }
-{
-    for (_, name) in tables {
-        names.push(name.copy(alloc)?)?;
-    }
-    Ok(())
-}
-
-/// The names of the tables to which the node takes rows of these sets.
-pub(crate) fn names_taken(alloc: Global, sets: &[KeptSet]) -> Result<Many<Text>, AllocError>
-    ensures { IfOk result (λ names. names ≡ names_among (map seen_kept sets.now)) }
-{
-    let mut names = Many::new(alloc);
-    for kept in sets {
-        push_names(alloc, &mut names, kept.tables.as_slice())?;
-    }
-    Ok(names)
 }

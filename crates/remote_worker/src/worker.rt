@@ -1,25 +1,28 @@
 // The states of the work of a node. Each is a value that holds what the next one needs.
 ghost use Rattle.std.specs.Prelude.{◌≡◌, true, is_some, IfOk, IfErr};
 ghost use Rattle.store_rows.specs.Rows.{IsId};
+ghost use Rattle.slon_model.specs.Deeds.{knowledge};
+ghost use Rattle.slon_model.specs.Sessions.{writer_of};
 ghost use Rattle.app_store.specs.Base.{base_of};
 ghost use Rattle.app_store.specs.Parts.{Looks, Remembers};
 ghost use Rattle.app_store.specs.Serves.{answered, halts, trouble};
 ghost use Rattle.node_store.specs.Acting.{Acts, joined, own_id};
-ghost use Rattle.node_store.specs.Bringing.{CanBring, rows_listed};
+ghost use Rattle.node_store.specs.Bringing.{CanBring};
 ghost use Rattle.node_store.specs.Polling.{OfNode};
-ghost use Rattle.remote_worker.specs.Working.{waits_as, rows_given, rows_logged, Applies, DropsUnless, IsAble};
-ghost use Rattle.remote_worker.specs.Working.{IsReady};
-ghost use Rattle.remote_worker.specs.Working.{IsWith, Takes};
+ghost use Rattle.remote_worker.specs.Loading.{CanLoad, IsStill, names_loaded, rows_loaded};
+ghost use Rattle.remote_worker.specs.Working.{waits_as, Applies, DropsUnless, IsAble, IsReady, IsSameEvent};
+ghost use Rattle.remote_worker.specs.Working.{IsSettled, IsWith, Takes};
 
 use crate::carrying::{Errand, can_carry_out, errand_in, kind_of};
+use crate::loading::{Load, brought_by, count_loaded, names_loaded};
 use crate::reading::next_of;
+use crate::standing::left_of;
 use app_store::{Database, DbFault, fall};
 use event_store::Queue;
 use node_keeper::Keeper;
-use node_store::{Brought, SetSync, apply};
-use slon_base::{Many, Text, TextList};
+use node_store::{Brought, apply, writer};
 use slon_model::EventKind;
-use std::alloc::AllocError;
+use std::alloc::{AllocError, Global};
 
 /// Where the node of this id is with the events of an origin.
 #[derive(Drop)]
@@ -60,6 +63,15 @@ pub struct Fetched {
     /// Its kind.
     pub kind: EventKind,
     /// What comes with it.
+    pub load: Option<Load>,
+}
+
+/// The event is to be applied with what comes with it.
+#[derive(Drop)]
+pub struct Settled {
+    /// Its number.
+    pub number: u64,
+    /// What it brings.
     pub brought: Option<Brought>,
 }
 
@@ -133,8 +145,8 @@ impl Worker<Ready> {
 
 impl Worker<Taken> {
     /// This comes with the event, or nothing but what it says.
-    pub fn with(self, brought: Option<Brought>) -> Worker<Fetched>
-        ensures { IsWith self brought result }
+    pub fn with(self, load: Option<Load>) -> Worker<Fetched>
+        ensures { IsWith self load result }
     {
         let Worker {
             node,
@@ -145,41 +157,9 @@ impl Worker<Taken> {
         Worker {
             node,
             origin,
-            state: Fetched {
-                number,
-                kind,
-                brought,
-            },
+            state: Fetched { number, kind, load },
         }
     }
-}
-
-/// How many rows these tables have.
-fn count_rows(tables: &[(Text, Many<(Text, TextList)>)]) -> Result<u64, AllocError>
-    ensures { IfOk result (λ count. count ≡ rows_listed tables.now) }
-{
-    let mut count: u64 = 0;
-    for (_, rows) in tables {
-        let Some(more) = count.checked_add(rows.len() as u64) else {
-            return Err(AllocError);
-        };
-        count = more;
-    }
-    Ok(count)
-}
-
-/// How many rows were logged of these sets.
-fn count_logged(syncs: &[SetSync]) -> Result<u64, AllocError>
-    ensures { IfOk result (λ count. count ≡ rows_logged syncs.now) }
-{
-    let mut count: u64 = 0;
-    for sync in syncs {
-        let Some(more) = count.checked_add(sync.rows.len() as u64) else {
-            return Err(AllocError);
-        };
-        count = more;
-    }
-    Ok(count)
 }
 
 impl Worker<Fetched> {
@@ -189,15 +169,87 @@ impl Worker<Fetched> {
     ///
     /// `AllocError` where there are more than a number can tell.
     pub fn rows(&self) -> Result<u64, AllocError>
-        ensures { IfOk result (λ count. count ≡ rows_given self.now.state.brought) }
+        ensures { IfOk result (λ count. count ≡ rows_loaded self.now.state.load) }
     {
-        match &self.state.brought {
-            None => Ok(0),
-            Some(Brought::Copy(copy)) => count_rows(copy.tables.as_slice()),
-            Some(Brought::Syncs(syncs)) => count_logged(syncs.as_slice()),
+        count_loaded(&self.state.load)
+    }
+
+    /// The same event with what is left of what comes with it at the node, whose database this is: that of the sets of
+    /// which the view that stood as it was fetched stands still.
+    ///
+    /// # Errors
+    ///
+    /// What stopped the store; the database is down then. `NoMemory`.
+    pub fn still<K: Keeper>(self, own: &mut Database<K>) -> Result<Worker<Fetched>, DbFault>
+        requires up { own.old.state.up ≡ true }
+        requires node { is_some own.old.state.node.identity ≡ true }
+        requires can { CanLoad self.state.load }
+        ensures can { IfOk result (λ w. CanLoad w.state.load) }
+        ensures event { IfOk result (IsSameEvent self) }
+        ensures acts { Acts (halts result) (base_of K.kept own.old) (base_of K.kept own.new) }
+        ensures looks { Looks (OfNode (λ n w. IsStill (knowledge n) self.state.load w.state.load))
+            (base_of K.kept own.old) result (base_of K.kept own.new) }
+        ensures same { Remembers (base_of K.kept own.old) result (base_of K.kept own.new) }
+    {
+        let Worker {
+            node,
+            origin,
+            state,
+        } = self;
+        let Fetched { number, kind, load } = state;
+        match left_of(own, load) {
+            Ok(load) => Ok(Worker {
+                node,
+                origin,
+                state: Fetched { number, kind, load },
+            }),
+            Err(fault) => Err(fault),
         }
     }
 
+    /// The least id of an open transaction of the node, whose database this is, that wrote one of the tables that are
+    /// filled, if one did.
+    ///
+    /// # Errors
+    ///
+    /// What stopped the store; the database is down then. `NoMemory`.
+    pub fn writer<K: Keeper>(&self, own: &mut Database<K>) -> Result<Option<u64>, DbFault>
+        requires { own.old.state.up ≡ true }
+        ensures acts { Acts (halts result) (base_of K.kept own.old) (base_of K.kept own.new) }
+        ensures looks { Looks (λ p found. found ≡ writer_of (names_loaded self.now.state.load) p)
+            (base_of K.kept own.old) result (base_of K.kept own.new) }
+        ensures same { Remembers (base_of K.kept own.old) result (base_of K.kept own.new) }
+    {
+        let names = names_loaded(own.alloc, &self.state.load)?;
+        writer(own, names.as_slice())
+    }
+
+    /// The event is to be applied with what comes with it.
+    ///
+    /// # Errors
+    ///
+    /// `AllocError` where there is no memory.
+    pub fn settle(self, alloc: Global) -> Result<Worker<Settled>, AllocError>
+        requires { CanLoad self.state.load }
+        ensures can { IfOk result (λ w. CanBring w.state.brought) }
+        ensures is { IfOk result (IsSettled self) }
+    {
+        let Worker {
+            node,
+            origin,
+            state,
+        } = self;
+        let Fetched { number, load, .. } = state;
+        let brought = brought_by(alloc, load)?;
+        Ok(Worker {
+            node,
+            origin,
+            state: Settled { number, brought },
+        })
+    }
+}
+
+impl Worker<Settled> {
     /// The node, whose database this is, applies the event, which waits in this queue, with what comes with it, in one
     /// transaction; then that event waits no more, nor does what is before it. Answers whether the commit is in doubt:
     /// the database is down then, and the same waits as before.
@@ -221,11 +273,7 @@ impl Worker<Fetched> {
         ensures stays { IfErr result (λ fault. queue.new ≡ queue.old) }
     {
         let Worker { origin, state, .. } = self;
-        let Fetched {
-            number,
-            brought,
-            ..
-        } = state;
+        let Settled { number, brought } = state;
         let Some(event) = queue.get(origin, number) else {
             return Err(DbFault::Down);
         };

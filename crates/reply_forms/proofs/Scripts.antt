@@ -20,11 +20,11 @@ use Rattle.slon_model.specs.declared.reply.Reply.TheVariants.{Refused}
 use Rattle.slon_model.specs.Names.{Named, find_named, without}
 use Rattle.slon_model.specs.Spoken.{IsLine, IsName, IsOrder, IsStatement, AreStatements, AreNodeLines, IsReading, IsAct}
 use Rattle.slon_model.specs.Tasks.{Act, ToRead, ToStep, ToForget, ToStart, ToStop, ToCut, ToJoin, ToSync, ToListen}
-use Rattle.slon_model.specs.Tasks.{ToWork}
+use Rattle.slon_model.specs.Tasks.{ToFetch, ToWork}
 use Rattle.slon_model.specs.Events.{Event}
 use Rattle.slon_model.specs.Config.{has_path, is_known, names_of}
 use Rattle.node_rows.specs.declared.body.Body.TheVariants.{Sync}
-use Rattle.slon_model.specs.Deeds.{Node, Logged, nothing_brought}
+use Rattle.slon_model.specs.Deeds.{Node}
 use Rattle.slon_model.specs.Place.{Place, is_running, node_id}
 use Rattle.slon_model.specs.Sessions.{World, Memory, Running, Stated, Outcome, Excess, Seat, seat_of, excess_of}
 use Rattle.slon_model.specs.Sessions.{no_change, bind, checked, tells, when, writer_of}
@@ -34,19 +34,18 @@ use Rattle.slon_model.specs.Turns.{is_id, at_node, switched, switched_at, is_cut
 use Rattle.slon_model.specs.Turns.{turned, turned_by, taken_turn, is_synced, sync_turn}
 use Rattle.slon_model.specs.Polls.{Poll, poll_of, hears_none, linked, server_for, brings_nothing, polled, hearing}
 use Rattle.slon_model.specs.Polls.{stated_by, left_by}
-use Rattle.slon_model.specs.Logs.{logged}
-use Rattle.slon_model.specs.Following.{kept_from, set_syncs, with_syncs}
+use Rattle.slon_model.specs.Following.{Found, FoundNothing, brought_of, tables_in}
 use Rattle.slon_model.specs.Working.{Carried, Copying, Errand, ToCopy, ToFollow, next_at, can_carry_out, taken_up}
-use Rattle.slon_model.specs.Working.{width_checks, copy_checks, linked_to, provided, provider_in, still_leads, copy_of}
-use Rattle.slon_model.specs.Working.{copied, names_taken, followed, brought_at, brought_by, errand_of, worked}
-use Rattle.slon_model.specs.Working.{applied_by, taken_from}
+use Rattle.slon_model.specs.Working.{Fetched, applied_by, carried, carried_at, copied, copy_checks, copy_of, errand_of}
+use Rattle.slon_model.specs.Working.{fetched, fetched_at, fetched_by, found_at, found_by, found_for, found_or, given_up}
+use Rattle.slon_model.specs.Working.{kept_fetch, linked_to, provided, provider_in, settled, still_leads, taken_from}
+use Rattle.slon_model.specs.Working.{with_fetch, work_ended, worked}
 use Rattle.slon_model.specs.Membership.{synced}
 use Rattle.slon_model.specs.Rows.{member}
 use Rattle.slon_model.specs.World.{outcome}
 use Rattle.slon_model.proofs.Names.{all_found}
 use Rattle.slon_laws.specs.Worlds.{AllPlaces}
 use Rattle.stream_laws.specs.Facts.{IsRegular}
-use Rattle.stream_laws.proofs.Lists.{all_appended}
 use Rattle.stream_laws.proofs.Seats as Seats
 use Rattle.stream_laws.proofs.Seats.{OnOk, turn_ok}
 use Rattle.reply_forms.proofs.Said.{PlaceReads, names_read}
@@ -293,7 +292,7 @@ also_gives P Q (Ok a) reads is = (reads, is)
 also_gives P Q (Err refusal) reads is = reads
 
 widths_tell : (here there : Place) (names : List (List ℕ)) → AllByRecursion IsLine names →
-    AllByRecursion Tells (width_checks here there names)
+    AllByRecursion Tells (copy_checks here there names)
 widths_tell here there [] lines = tt
 widths_tell here there (name ∷ more) lines =
     (when_tells _ (refused.NoTable name) lines.0, (when_tells _ _ tt, widths_tell here there more lines.1))
@@ -323,50 +322,82 @@ provided_gives provider w s known =
     Each found = (e : List ℕ × Place) → found ≡ Some e → IsOne e
 
 copied_gives : (c : Copying) (s : Seat) (e : Event) (p : Seat) →
-    AllByRecursion IsLine (names_of c.set_id s.known.config) → Gives (λ b. Unit {0}) (copied c s e p)
+    AllByRecursion IsLine (names_of c.set_id s.known.config) → Gives (λ f. Unit {0}) (copied c s e p)
 copied_gives c s e p lines =
     let names = names_of c.set_id s.known.config in
-    elim (still_leads c p) as (λ b. Gives (λ b. Unit {0})
-    (cond b (checked (copy_checks s.place p.place names) (copy_of c e.number p names)) (Ok nothing_brought))) [
-      | true ↦ checked_gives (λ b. Unit {0}) (copy_checks s.place p.place names) (copy_of c e.number p names)
-          (all_appended Tells (width_checks s.place p.place names) _ (widths_tell s.place p.place names lines)
-          (busy_tells (writer_of names s.place), tt)) tt
+    elim (still_leads c p) as (λ b. Gives (λ f. Unit {0})
+    (cond b (checked (copy_checks s.place p.place names) (copy_of c e.number p names)) (Ok FoundNothing))) [
+      | true ↦ checked_gives (λ f. Unit {0}) (copy_checks s.place p.place names) (copy_of c e.number p names)
+          (widths_tell s.place p.place names lines) tt
       | false ↦ tt
     ]
 
-followed_gives : (s : Seat) (e : Event) (logs : List Logged) → Gives (λ b. Unit {0}) (followed s e logs)
-followed_gives s e logs =
-    let names = names_taken s (kept_from e.origin s.known) in
-    checked_gives (λ b. Unit {0}) (option_map refused.Busy (writer_of names s.place) ∷ [])
-    (with_syncs s.place (set_syncs s.node.id s.known e logs) nothing_brought)
-    (busy_tells (writer_of names s.place), tt) tt
-
 at_gives : (w : World) (s : Seat) (e : Event) (a : Errand) → Known w → Seats.IsSeat w.places s → (p : Seat) →
-    Gives (λ b. Unit {0}) (brought_at a s e p)
+    Gives (λ f. Unit {0}) (found_at a s e p)
 at_gives w s e (ToCopy c) known is p =
     copied_gives c s e p (names_read w known.regular known.reads s is c.set_id)
-at_gives w s e (ToFollow provider) known is p = followed_gives s e (logged p.node)
+at_gives w s e (ToFollow provider) known is p = tt
 
-brought_gives : (w : World) (s : Seat) (e : Event) (o : Option Errand) → Known w → Seats.IsSeat w.places s →
-    Gives (λ b. Unit {0}) (brought_by w s e o)
-brought_gives w s e None known is = tt
-brought_gives w s e (Some a) known is =
-    bind_gives IsSeat (λ b. Unit {0}) (provided (provider_in a) w.memory s (at_node (provider_in a) w)) _
+found_gives : (w : World) (s : Seat) (e : Event) (o : Option Errand) → Known w → Seats.IsSeat w.places s →
+    Gives (λ f. Unit {0}) (found_by w s e o)
+found_gives w s e None known is = tt
+found_gives w s e (Some a) known is =
+    bind_gives IsSeat (λ f. Unit {0}) (provided (provider_in a) w.memory s (at_node (provider_in a) w)) _
     (provided_gives (provider_in a) w s known) (λ p named. at_gives w s e a known is p)
 
--- the name of the database of the node that applies is a name
+for_gives : (w : World) (s : Seat) (e : Event) → Known w → Seats.IsSeat w.places s →
+    Gives (λ f. Unit {0}) (found_for w s e)
+for_gives w s e known is = by (kept_fetch s.name e.origin e w.memory)
+  where
+    by : (o : Option Found) → Gives (λ f. Unit {0}) (found_or w s e o)
+    by None = found_gives w s e (errand_of s e) known is
+    by (Some f) = tt
+
+-- the node and its next event
+due_gives : {X : Type 0} (P : X → Type 0) (node origin : ℕ) (w : World) (f : Seat → Event → Result X Refusal) →
+    Known w → ((s : Seat) → IsSeat s → Seats.IsSeat w.places s → (e : Event) → Gives P (f s e)) →
+    Gives P (bind (on_turn node w) (λ s. bind (taken_up (next_at w.memory s origin)) (f s)))
+due_gives P node origin w f known each =
+    bind_gives (λ s. IsSeat s × Seats.IsSeat w.places s) P (on_turn node w) _
+    (also_gives IsSeat (Seats.IsSeat w.places) (on_turn node w) (turn_reads node w known)
+    (turn_ok node w known.regular.once))
+    (λ s is. bind_gives (λ e. IsSeat s) P (taken_up (next_at w.memory s origin)) (f s)
+    (taken_gives s (next_at w.memory s origin) is.0) (λ e named. each s is.0 is.1 e))
+
+-- the name of the database of the node that fetches is a name
+abbrev IsFetch : Fetched → Type 0
+IsFetch x = IsSeat x.seat
+
+fetched_gives : (node origin : ℕ) (w : World) → Known w → Gives IsFetch (fetched node origin w)
+fetched_gives node origin w known =
+    due_gives IsFetch node origin w (fetched_at w) known
+    (λ s named is e. bind_gives (λ f. Unit {0}) IsFetch (found_by w s e (errand_of s e)) _
+    (found_gives w s e (errand_of s e) known is) (λ f any. named))
+
+-- and so is that of the node that applies
 abbrev IsWork : Carried → Type 0
 IsWork c = IsSeat c.seat
 
 worked_gives : (node origin : ℕ) (w : World) → Known w → Gives IsWork (worked node origin w)
 worked_gives node origin w known =
-    bind_gives (λ s. IsSeat s × Seats.IsSeat w.places s) IsWork (on_turn node w) _
-    (also_gives IsSeat (Seats.IsSeat w.places) (on_turn node w) (turn_reads node w known)
-    (turn_ok node w known.regular.once))
-    (λ s is. bind_gives (λ e. IsSeat s) IsWork (taken_up (next_at w.memory s origin)) _
-    (taken_gives s (next_at w.memory s origin) is.0)
-    (λ e named. bind_gives (λ b. Unit {0}) IsWork (brought_by w s e (errand_of s e)) _
-    (brought_gives w s e (errand_of s e) known is.1) (λ b any. named)))
+    due_gives IsWork node origin w (carried_at w) known
+    (λ s named is e. bind_gives (λ f. Unit {0}) IsWork (found_for w s e) (settled s e) (for_gives w s e known is)
+    (λ f any. checked_gives IsWork (option_map refused.Busy (writer_of (tables_in f) s.place) ∷ [])
+    (carried s e (brought_of s.place f)) (busy_tells (writer_of (tables_in f) s.place), tt) named))
+
+-- what was fetched is used up, or given up, and the scripts stay
+work_ends : (node origin : ℕ) (w : World) (due : Result Carried Refusal) → Known w → Gives IsWork due →
+    Ends (work_ended node origin w due)
+work_ends node origin w (Err (refused.Busy xid)) known reads = by (at_node node w)
+  where
+    by : (o : Option (List ℕ × Place)) → Ends (record (no_change w (Refused (refused.Busy xid))) {
+      memory = given_up origin w.memory o;
+    })
+    by None = record { reply = reads; commits = tt; scripts = known.scripts }
+    by (Some e) = record { reply = reads; commits = tt; scripts = known.scripts }
+work_ends node origin w due known reads =
+    taken_ends IsWork w (λ c. taken_from c w.memory) applied_by due
+    (λ c. refl, λ c named. (tt, ((named, ((tt, tt), tt)), tt))) (known, reads)
 
 -- ---- each command
 
@@ -391,6 +422,8 @@ outcome_ends (ToSync node) w act known =
 outcome_ends (ToListen node server delivery) w act known =
     taken_ends IsPoll w (λ b. left_by delivery b w.memory) (stated_by delivery) (polled node server w)
     (λ b. left_scripts delivery b w.memory, poll_reads delivery) (known, polled_gives node server w known)
+outcome_ends (ToFetch node origin) w act known =
+    taken_ends IsFetch w (λ x. with_fetch x w.memory) fetched_by (fetched node origin w)
+    (λ x. refl, λ x named. (tt, tt)) (known, fetched_gives node origin w known)
 outcome_ends (ToWork node origin) w act known =
-    taken_ends IsWork w (λ c. taken_from c w.memory) applied_by (worked node origin w)
-    (λ c. refl, λ c named. (tt, ((named, ((tt, tt), tt)), tt))) (known, worked_gives node origin w known)
+    work_ends node origin w (worked node origin w) known (worked_gives node origin w known)

@@ -36,6 +36,7 @@ fn verb(command: &Command) -> &'static str {
         Command::Join { .. } => "join",
         Command::Sync { .. } => "sync",
         Command::Listen { .. } => "listen",
+        Command::Fetch { .. } => "fetch",
         Command::Work { .. } => "work",
     }
 }
@@ -99,6 +100,7 @@ fn push_rest(line: &mut String, command: &Command) -> Result<(), Fail> {
             write!(line, " {node} {server}")?;
             push_delivery(line, *delivery)
         }
+        Command::Fetch { node, origin } => Ok(write!(line, " {node} {origin}")?),
         Command::Work { node, origin } => Ok(write!(line, " {node} {origin}")?),
         _ => Ok(()),
     }
@@ -190,6 +192,7 @@ const COMMANDS: &[(&str, &str)] = &[
     ("listen 1 2", "listen 1 2"),
     ("listen 2147483647 1 lost", "listen 2147483647 1 lost"),
     (" listen  2 2  again ", "listen 2 2 again"),
+    ("fetch 2147483647 1", "fetch 2147483647 1"),
     ("work 2147483647 1", "work 2147483647 1"),
     (
         "database abcdefghijklmnopqrstuvwxyz01234",
@@ -249,6 +252,10 @@ const BAD_LINES: &[&str] = &[
     "listen 1 2 lost again",
     "listen 1 2 Lost",
     "listen lost 1 2",
+    "fetch 1",
+    "fetch 1 2 3",
+    "fetch 1 0",
+    "fetch 1 2147483648",
     "work 1",
     "work 1 2 3",
     "work 1 0",

@@ -102,6 +102,12 @@ fn applied_events_are_printed(rt: HostRuntime) -> Result<(), Fail> {
     Ok(())
 }
 
+#[test]
+fn fetched_events_are_printed(rt: HostRuntime) -> Result<(), Fail> {
+    let fetched = Answer::Fetched { number: 7, rows: 3 };
+    expect_answer(&rt, fetched, "ok fetched 7 rows 3")
+}
+
 /// The refusal of this code, with the number 7 where it has one.
 fn numbered(code: u32) -> Refusal {
     match code {

@@ -10,7 +10,7 @@ use Rattle.std.specs.Str.Parse.{digits_value}
 use Rattle.slon_model.specs.declared.reply.Answer.{Answer}
 use Rattle.slon_model.specs.declared.reply.Answer.TheVariants.{Done, Opened, Acted, Unchanged, Committed, Listed, Kept}
 use Rattle.slon_model.specs.declared.reply.Answer.TheVariants.{Lost, Status, Statements, Emitted, Echoed, Ended, Heard}
-use Rattle.slon_model.specs.declared.reply.Answer.TheVariants.{LostOnTheWay, Applied}
+use Rattle.slon_model.specs.declared.reply.Answer.TheVariants.{LostOnTheWay, Applied, Fetched}
 use Rattle.slon_model.specs.declared.reply.EventKind.{EventKind}
 use Rattle.slon_model.specs.declared.reply.EventKind.TheVariants as event
 use Rattle.slon_model.specs.Printed.{rows_text, progress_text, kept_text, kind_text, answer_text}
@@ -160,6 +160,11 @@ abbrev applied_of : EventKind → List (List ℕ) → Answer
 applied_of kind (number ∷ name ∷ rows) = Applied kind (digits_value 10 number) (number_of rows)
 applied_of kind others = Done
 
+-- what was fetched: a number, `rows` and a number
+abbrev fetched_of : List (List ℕ) → Answer
+fetched_of (number ∷ name ∷ rows) = Fetched (digits_value 10 number) (number_of rows)
+fetched_of others = Done
+
 -- the answer of the words behind `ok`
 abbrev pub answer_of : List (List ℕ) → Answer
 answer_of [] = Done
@@ -177,7 +182,8 @@ answer_of (kind ∷ rest) =
     else (if bytes_eq kind (codes "echo") then Echoed (text_of rest)
     else (if bytes_eq kind (codes "ended") then Ended (number_of rest)
     else (if bytes_eq kind (codes "node") then status_of rest
-    else applied_of (kind_in kind) rest))))))))))))
+    else (if bytes_eq kind (codes "fetched") then fetched_of rest
+    else applied_of (kind_in kind) rest)))))))))))))
 
 -- The text of an answer begins with `ok`, and the words behind it are read back.
 pub record IsAnswered (answer : Answer) : Type 0 where
@@ -274,6 +280,21 @@ applied_back kind number rows h =
           ∙ ap (Applied kind number) (number_text_back rows h.1);
     }
 
+fetched_back : (number rows : ℕ) → AnswerHasForm (Fetched number rows) → IsAnswered (Fetched number rows)
+fetched_back number rows h =
+    let digits = slice_split (λ b. eqb b 32) (decimal rows) in
+    record {
+      rest = codes "fetched" ∷ decimal number ∷ codes "rows" ∷ digits;
+      words =
+          ap (λ l. codes "ok" ∷ codes "fetched" ∷ l)
+          (ap (slice_split (λ b. eqb b 32)) (append_assoc (decimal number) (codes " rows ") (decimal rows))
+          ∙ split_word (decimal number) (codes "rows " ++ decimal rows) (codes "rows" ∷ digits)
+          (lacks-decimal 32 number refl h.0) refl);
+      back =
+          ap (λ n. Fetched n (number_of digits)) (number_back number h.0)
+          ∙ ap (Fetched number) (number_text_back rows h.1);
+    }
+
 pub answer_back : (answer : Answer) → AnswerHasForm answer → IsAnswered answer
 answer_back Done h = record { rest = []; words = refl; back = refl }
 answer_back (Opened xid) h = record { rest = _; words = refl; back = ap Opened (number_text_back xid h) }
@@ -303,6 +324,7 @@ answer_back (LostOnTheWay events confirms) h = record {
   back = counted_back LostOnTheWay events confirms h;
 }
 answer_back (Applied kind number rows) h = applied_back kind number rows h
+answer_back (Fetched number rows) h = fetched_back number rows h
 answer_back (Echoed text) h = record { rest = _; words = refl; back = ap Echoed (text_back text) }
 answer_back (Ended status) h =
     record { rest = _; words = refl; back = ap Ended (number_text_back status (below_word status h)) }
@@ -372,6 +394,10 @@ answer_lacks (Applied kind number rows) h =
     (lacks-append 10 (word ++ codes " " ++ first) (codes " rows ")
     (lacks-append 10 (word ++ codes " ") first (lacks-append 10 word (codes " ") (kind_lacks kind).1 refl)
     (lacks-decimal 10 number refl h.0)) refl)
+    (lacks-decimal 10 rows refl h.1)
+answer_lacks (Fetched number rows) h =
+    lacks-append 10 (decimal number ++ codes " rows ") (decimal rows)
+    (lacks-append 10 (decimal number) (codes " rows ") (lacks-decimal 10 number refl h.0) refl)
     (lacks-decimal 10 rows refl h.1)
 answer_lacks (Echoed text) h = h
 answer_lacks (Ended status) h = lacks-decimal 10 status refl (below_word status h)

@@ -8,6 +8,7 @@ use Rattle.slonik_script.specs.declared.refusal.ScriptRefusal.TheVariants.{Undef
 use Rattle.slon_model.specs.declared.reply.Answer.{Answer}
 use Rattle.slon_model.specs.declared.reply.Answer.TheVariants.{Opened, Acted, Committed, Listed, Status, Statements}
 use Rattle.slon_model.specs.declared.reply.Answer.TheVariants.{Emitted, Echoed, Ended, Heard, LostOnTheWay, Applied}
+use Rattle.slon_model.specs.declared.reply.Answer.TheVariants.{Fetched}
 use Rattle.slon_model.specs.declared.reply.Refusal.{Refusal}
 use Rattle.slon_model.specs.declared.reply.Refusal.TheVariants.{Fault, Locked, Full, BadRow, NotEmpty, Down, NoDatabase}
 use Rattle.slon_model.specs.declared.reply.Refusal.TheVariants.{IdUsed, IsUp, TooBig, NotInitialised, OtherNode}
@@ -45,6 +46,7 @@ AnswerFits (Ended status) = status < 256
 AnswerFits (Heard events confirms) = (events < 2 ^ 64) × (confirms < 2 ^ 64)
 AnswerFits (LostOnTheWay events confirms) = (events < 2 ^ 64) × (confirms < 2 ^ 64)
 AnswerFits (Applied kind number rows) = (number < 2 ^ 64) × (rows < 2 ^ 64)
+AnswerFits (Fetched number rows) = (number < 2 ^ 64) × (rows < 2 ^ 64)
 AnswerFits others = Unit {0}
 
 abbrev pub ScriptFits : ScriptRefusal → Type 0

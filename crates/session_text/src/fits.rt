@@ -75,7 +75,7 @@ fn answer_fits(answer: &Answer)
         Answer::Heard { events, confirms } | Answer::LostOnTheWay { events, confirms } => {
             let _numbers = (*events, *confirms);
         }
-        Answer::Applied { number, rows, .. } => {
+        Answer::Applied { number, rows, .. } | Answer::Fetched { number, rows } => {
             let _numbers = (*number, *rows);
         }
         Answer::Done | Answer::Unchanged | Answer::Kept | Answer::Lost | Answer::Echoed { .. } => {}

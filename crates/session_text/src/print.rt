@@ -161,6 +161,7 @@ fn push_answer(line: &mut String, answer: &Answer) -> Result<(), AllocError>
             write!(line, "ok lost events {events} confirms {confirms}")
         }
         Answer::Applied { kind, number, rows } => push_applied(line, *kind, *number, *rows),
+        Answer::Fetched { number, rows } => write!(line, "ok fetched {number} rows {rows}"),
     }
 }
 

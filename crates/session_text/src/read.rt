@@ -254,6 +254,19 @@ fn listen_of(words: &[&[u8]]) -> Result<Command, Misread>
     }
 }
 
+/// `fetch N N`
+fn fetch_of(words: &[&[u8]]) -> Result<Command, Misread>
+    ensures { Gives (lines.fetch_of (map (λ word. word.now) words.now)) result }
+{
+    let [node, origin] = words else {
+        return Err(Misread::BadForm);
+    };
+    Ok(Command::Fetch {
+        node: node_of(node)?,
+        origin: node_of(origin)?,
+    })
+}
+
 /// `work N N`
 fn work_of(words: &[&[u8]]) -> Result<Command, Misread>
     ensures { Gives (lines.work_of (map (λ word. word.now) words.now)) result }
@@ -311,6 +324,8 @@ fn command_of(alloc: Global, verb: &[u8], rest: &[&[u8]]) -> Result<Command, Mis
         sync_of(rest)
     } else if is_verb(verb, "listen") {
         listen_of(rest)
+    } else if is_verb(verb, "fetch") {
+        fetch_of(rest)
     } else if is_verb(verb, "work") {
         work_of(rest)
     } else {

@@ -13,7 +13,7 @@ use Rattle.slon_model.specs.declared.reply.Refusal.TheVariants as refused
 use Rattle.slon_model.specs.declared.reply.Reply.TheVariants.{Refused}
 use Rattle.slon_model.specs.Names.{Named, find_named, put_named}
 use Rattle.slon_model.specs.Tasks.{Act, ToRead, ToStep, ToForget, ToStart, ToStop, ToCut, ToJoin, ToSync, ToListen}
-use Rattle.slon_model.specs.Tasks.{ToWork}
+use Rattle.slon_model.specs.Tasks.{ToFetch, ToWork}
 use Rattle.slon_model.specs.Place.{Place, fallen}
 use Rattle.slon_model.specs.Moves.{is_last_stamp}
 use Rattle.slon_model.specs.Deciding.{Fate, AllStand, Breaks, DoubtsAt}
@@ -25,7 +25,8 @@ use Rattle.slon_model.specs.Scripts.{Stepping, done_by, single, order_step, stat
 use Rattle.slon_model.specs.Scripts.{ordered, kill_of}
 use Rattle.slon_model.specs.Turns.{at_node, switched_at, turned, turned_by, taken_turn, sync_turn}
 use Rattle.slon_model.specs.Polls.{polled}
-use Rattle.slon_model.specs.Working.{worked, applied_by, taken_from}
+use Rattle.slon_model.specs.Working.{Carried, fetched, fetched_by, with_fetch, worked, applied_by, taken_from}
+use Rattle.slon_model.specs.Working.{work_ended}
 use Rattle.slon_model.specs.World.{Happening, Acting, outcome, broken_at, wavering, wavering_at}
 use Rattle.slon_model.specs.World.{world_by}
 use Rattle.slon_laws.specs.Turning.{Commits, Falls, Doubts, Carries, HoldsAt, AllHold, IsWithin}
@@ -94,6 +95,11 @@ taken_within : {X : Type 0} (w : World) (left : X → Memory) (stated : X → St
 taken_within w left stated (Err refusal) = refl
 taken_within w left stated (Ok x) = turned_within w (left x) (stated x)
 
+work_within : (node origin : ℕ) (w : World) (due : Result Carried Refusal) →
+    AreWithin (work_ended node origin w due).commits w.places
+work_within node origin w (Err (refused.Busy xid)) = refl
+work_within node origin w due = taken_within w (λ c. taken_from c w.memory) applied_by due
+
 outcome_within : (act : Act) (w : World) → AreWithin (outcome act w).commits w.places
 outcome_within (ToRead name reading) w = by (is_some (find_named name w.memory.scripts))
   where
@@ -109,7 +115,9 @@ outcome_within (ToCut node other) w = refl
 outcome_within (ToJoin node other) w = refl
 outcome_within (ToSync node) w = taken_within w _ _ (sync_turn node w)
 outcome_within (ToListen node server delivery) w = taken_within w _ _ (polled node server w)
-outcome_within (ToWork node origin) w = taken_within w (λ c. taken_from c w.memory) applied_by (worked node origin w)
+outcome_within (ToFetch node origin) w =
+    taken_within w (λ x. with_fetch x w.memory) fetched_by (fetched node origin w)
+outcome_within (ToWork node origin) w = work_within node origin w (worked node origin w)
 
 -- a commit within the limit, and the others
 within_parts : (c : Commit) (p : Place) (more : Option (List ℕ)) → beyond_at c (Some p) more ≡ None →

@@ -1,55 +1,64 @@
 -- The commits of every command fill tables with rows that have their forms, and log such actions, where all databases
 -- hold such rows and have logged such actions.
-use Rattle.std.proofs.Common.{◌≡◌, refl, ℕ, ◌+◌, Bool, true, false, cond, List, [], ◌∷◌, Option, Some, None, Result, Ok}
-use Rattle.std.proofs.Common.{Err, is_some, subst, sym}
-use Rattle.std.specs.Prelude.{◌==◌, find, not, option_map, unwrap_or}
-use Rattle.std.specs.List.{AllByRecursion}
+use Rattle.std.proofs.Common.{◌≡◌, refl, ℕ, ◌+◌, Bool, true, false, cond, List, [], ◌∷◌, Option, Some, None, Ok}
+use Rattle.std.proofs.Common.{Err, ap, is_some, subst, sym, ◌∙◌}
+use Rattle.std.specs.Prelude.{◌==◌, find, filter_map, not, option_map, unwrap_or}
+use Rattle.std.specs.List.{AllByRecursion, cons_option}
+use Rattle.std.specs.Str.{bytes_eq}
 use Rattle.std.specs.Option.{option_or}
 use Rattle.slonik_script.specs.declared.script.Command.{Command as Order}
 use Rattle.slonik_script.specs.declared.script.Command.TheVariants as order
 use Rattle.slon_model.specs.declared.command.Delivery.{Delivery}
 use Rattle.slon_model.specs.declared.command.Delivery.TheVariants.{Once, Lost, Again}
 use Rattle.slon_model.specs.declared.reply.Answer.TheVariants.{Done}
-use Rattle.slon_model.specs.declared.reply.Refusal.{Refusal}
 use Rattle.slon_model.specs.declared.reply.Refusal.TheVariants as refused
-use Rattle.slon_model.specs.Names.{Named, find_named}
+use Rattle.slon_model.specs.Names.{Named, find_named, put_named}
 use Rattle.slon_model.specs.Rows.{Rows, member}
 use Rattle.slon_model.specs.Events.{Event}
 use Rattle.slon_model.specs.Config.{era_of, has_path, is_known, names_of}
-use Rattle.slon_model.specs.Deeds.{Node, Deed, Applies, Brought, Logged, brought_in, nothing_brought}
+use Rattle.slon_model.specs.Deeds.{Node, Deed, Applies, Brought, Knowledge, Logged, brought_in, nothing_brought}
+use Rattle.slon_model.specs.Deeds.{with_deeds}
 use Rattle.slon_model.specs.Place.{Place, deed, is_running, node_id, standing_rows}
 use Rattle.slon_model.specs.Maps.{entry_at}
 use Rattle.slon_model.specs.Sessions.{World, Memory, Running, Commit, Stated, Seat, Emission, emissions, seat_of}
-use Rattle.slon_model.specs.Sessions.{stood_at, checked, next_event, tells, when, writer_of}
-use Rattle.slon_model.specs.Reaching.{any_down, database_of_line, down_among, emitting, known_somewhere, origin_of}
+use Rattle.slon_model.specs.Sessions.{committing, stood_at, checked, next_event, tells, when, writer_of}
+use Rattle.slon_model.specs.Reaching.{any_down, commit_of, database_of_line, down_among, emitting, known_somewhere}
+use Rattle.slon_model.specs.Reaching.{origin_of}
 use Rattle.slon_model.specs.Reaching.{owner}
 use Rattle.slon_model.specs.Reaching.{reach}
-use Rattle.slon_model.specs.Membership.{already, becoming, comment_of, first_node, first_of_cluster, stored_by, synced}
+use Rattle.slon_model.specs.Membership.{already, becoming, comment_of, first_id, first_node, first_of_cluster}
+use Rattle.slon_model.specs.Membership.{init_cluster, joining, store_node, stored_by, synced}
 use Rattle.slon_model.specs.Sets.{NewTable, adding}
 use Rattle.slon_model.specs.Subscribing.{all_tell, feed_bodies, subscribing}
 use Rattle.slon_model.specs.Scripts.{ordered}
 use Rattle.node_rows.specs.declared.body.Body.TheVariants.{Sync, StoreNode, StorePath, DropPath, StoreSet}
-use Rattle.slon_model.specs.Turns.{at_node, is_cut, is_synced, on_turn, seat_at, sync_turn}
+use Rattle.slon_model.specs.Turns.{at_node, is_cut, is_synced, on_turn, seat_at}
 use Rattle.slon_model.specs.Polls.{Poll, brings_nothing, hearing, poll_of, served, stated_by}
-use Rattle.slon_model.specs.Following.{content, kept_from, set_syncs, with_syncs}
+use Rattle.slon_model.specs.Following.{Found, FoundCopy, FoundNothing, FoundSyncs, brought_of, content, is_on_one}
+use Rattle.slon_model.specs.Following.{kept_from, set_sync, set_syncs, tables_in, tables_taken}
 use Rattle.slon_model.specs.Logs.{logged}
-use Rattle.slon_model.specs.Working.{Carried, Copying, Errand, ToCopy, ToFollow, applied_by, brought_at, brought_by}
-use Rattle.slon_model.specs.Working.{copied, copy_checks, copy_of, errand_of, followed, linked_to, names_taken, next_at}
-use Rattle.slon_model.specs.Working.{provided, provider_in, rows_at, still_leads, taken_up, worked}
-use Rattle.slon_model.proofs.Names.{all_found, all_map}
+use Rattle.slon_model.specs.Working.{Carried, Copying, Errand, ToCopy, ToFollow, applied_by, carried}
+use Rattle.slon_model.specs.Working.{copied, copy_checks, copy_of, errand_of, fetched, found_at, found_by, found_for}
+use Rattle.slon_model.specs.Working.{found_or, kept_fetch, linked_to, next_at}
+use Rattle.slon_model.specs.Working.{provided, provider_in, rows_at, settled, stands, still, still_leads, taken_up}
+use Rattle.slon_model.specs.Working.{worked}
+use Rattle.slon_model.proofs.Names.{all_found, all_map, bytes_same, one_found, put_found, put_other}
 use Rattle.slon_model.specs.Tasks.{Act}
 use Rattle.slon_model.specs.World.{outcome}
+use Rattle.slon_laws.specs.Fetches.{IsFormedFound, IsFormedSync, KeepFormed}
 use Rattle.slon_laws.specs.Sound.{AreNamedOnce}
 use Rattle.slon_laws.specs.Spelled.{IsSpelled, IsWritten, AreFilled, AreFormed, AreWritten, IsFormedCommit}
-use Rattle.slon_laws.specs.Spelled.{AreForeign, IsFormedDeed, logs_in}
+use Rattle.slon_laws.specs.Spelled.{AreForeign, IsAlone, IsFormedDeed, logs_in}
 use Rattle.slon_laws.specs.Turning.{AllHold, HoldsAt, IsFormed, IsWithin}
 use Rattle.slon_laws.specs.Worlds.{AllPlaces}
-use Rattle.slon_laws.proofs.Following.{Makes, syncs_have, taken_have}
-use Rattle.slon_laws.proofs.Foreign.{CarriesForeign, work_foreign}
+use Rattle.slon_laws.proofs.Fetches.{kept_for}
+use Rattle.slon_laws.proofs.Following.{Makes, delta_has, syncs_have}
+use Rattle.slon_laws.proofs.Foreign.{CarriesForeign, KeepForeign, work_foreign}
 use Rattle.slon_laws.proofs.Formed.{applied_formed, standing_formed}
-use Rattle.slon_laws.proofs.Lists.{all_appended, all_each}
+use Rattle.slon_laws.proofs.Lists.{all_appended, all_each, all_filtered, all_mapped}
 use Rattle.slon_laws.proofs.Owners.{OnSome}
-use Rattle.slon_laws.proofs.Results.{OnOk, any_bind, bind_ok, both_ok, kept_ok, ok_then}
+use Rattle.slon_laws.proofs.Results.{OnOk, all_none, any_bind, any_ok, bind_ok, both_ok, checked_ok, kept_ok, ok_then}
+use Rattle.slon_laws.proofs.Seats.{IsFound, already_none, line_ok, no_node}
 use Rattle.slon_laws.proofs.Leaves.{outcome_has}
 
 -- P of what is found among all that have it
@@ -65,9 +74,9 @@ all_find P test (x ∷ xs) all =
 abbrev IsPlainDeed : Deed → Type 0
 IsPlainDeed d = ((brought_in d.doing).rows ≡ []) × (d.logs ≡ [])
 
--- so does each deed of a commit, and a node that it makes has logged nothing
+-- so does each deed of a commit, by which no database becomes a node
 abbrev IsPlain : Commit → Type 0
-IsPlain c = AllByRecursion IsPlainDeed c.deeds × (logs_in c.becomes ≡ [])
+IsPlain c = AllByRecursion IsPlainDeed c.deeds × (c.becomes ≡ None)
 
 abbrev ArePlain : List Commit → Type 0
 ArePlain cs = AllByRecursion IsPlain cs
@@ -77,8 +86,9 @@ plain_formed : (c : Commit) → IsPlain c → (p : Place) → IsFormedCommit c p
 plain_formed c plain p = record {
   deeds = all_map IsPlainDeed IsFormedDeed
       (λ d is. (subst AreFilled (sym is.0) tt, subst AreWritten (sym is.1) tt)) c.deeds plain.0;
-  fresh = plain.1;
+  fresh = ap logs_in plain.1;
   foreign = by (option_or c.becomes p.node);
+  alone = subst (λ o. IsAlone o p.node) (sym plain.1) tt;
 }
   where
     by : (o : Option Node) → AreForeign c.deeds o
@@ -108,56 +118,131 @@ emissions_plain s number [] = tt
 emissions_plain s number (m ∷ ms) =
     all_appended IsPlainDeed (emissions s (number + 1) ms) _ (emissions_plain s (number + 1) ms) ((refl, refl), tt)
 
-abbrev IsPlainStated : Stated → Type 0
-IsPlainStated stated = ArePlain stated.commits
+abbrev IsFormedStated : World → Stated → Type 0
+IsFormedStated w stated = AreFormedCommits w stated.commits
 
-abbrev ArePlainIn : Result Stated Refusal → Type 0
-ArePlainIn = OnOk IsPlainStated
+emitting_formed : (w : World) (s : Seat) (ms : List Emission) → IsFormedStated w (emitting s ms)
+emitting_formed w s ms =
+    plain_all (emitting s ms).commits w.places ((emissions_plain s (next_event s) ms, refl), tt)
 
-emitting_plain : (s : Seat) (ms : List Emission) → ArePlainIn (Ok (emitting s ms))
-emitting_plain s ms = ((emissions_plain s _ ms, refl), tt)
+-- ---- databases that become nodes
 
-ordered_plain : (o : Order) (run : Running) (w : World) → ArePlainIn (ordered o run w)
-ordered_plain (order.InitCluster id comment) run w =
-    any_bind IsPlainStated (database_of_line run id w) _
-    (λ e. kept_ok IsPlainStated (down_among w.places ∷ already (first_node w) ∷ []) (record {
-      answer = Done;
-      commits = becoming e.0 (first_of_cluster id (comment_of comment) run) ∷ [];
-    }) ((tt, refl), tt))
-ordered_plain (order.StoreNode id event_node comment) run w =
-    any_bind IsPlainStated (reach run event_node w) _ (λ s. any_bind IsPlainStated (database_of_line run id w) _
-    (λ e. kept_ok IsPlainStated
-    (already (node_id e.1) ∷ any_down w
-    ∷ when (known_somewhere (λ c. is_some (entry_at id c.nodes)) w) (refused.IdUsed id) ∷ [])
-    (stored_by s e.0 id (comment_of comment) run) (
-      (emissions_plain s (next_event s) (tells (StoreNode id (comment_of comment)) ∷ []), refl),
-      ((tt, refl), tt),
+-- a database that is none becomes one
+becomes_formed : (name : List ℕ) (n : Node) (o : Option Place) → logged n ≡ [] → OnSome (λ p. p.node ≡ None) o →
+    HoldsAt IsFormedCommit (becoming name n) o
+becomes_formed name n None fresh none = tt
+becomes_formed name n (Some p) fresh none = record { deeds = tt; fresh = fresh; foreign = tt; alone = none }
+
+none_nodes : (ps : Named Place) → first_id (filter_map (λ e. node_id e.1) ps) ≡ None →
+    AllByRecursion (λ e. e.1.node ≡ None) ps
+none_nodes [] none = tt
+none_nodes (e ∷ es) none = by (node_id e.1) refl none (none_nodes es)
+  where
+    by : (o : Option ℕ) → node_id e.1 ≡ o → first_id (cons_option o (filter_map (λ e. node_id e.1) es)) ≡ None →
+        (first_id (filter_map (λ e. node_id e.1) es) ≡ None → AllByRecursion (λ e. e.1.node ≡ None) es) →
+        (e.1.node ≡ None) × AllByRecursion (λ e. e.1.node ≡ None) es
+    by None is none later = (no_node e.1 is, later none)
+    by (Some id) is none later = absurd cc
+
+-- what is found among databases of which none is a node
+found_none : (name : List ℕ) (ps : Named Place) → AllByRecursion (λ e. e.1.node ≡ None) ps →
+    OnSome (λ p. p.node ≡ None) (find_named name ps)
+found_none name ps all = by (find_named name ps) refl
+  where
+    by : (o : Option Place) → find_named name ps ≡ o → OnSome (λ p. p.node ≡ None) o
+    by None found = tt
+    by (Some p) found = all_found (λ p. p.node ≡ None) name p ps all found
+
+-- a database that is no node is none behind a commit by which no database becomes one
+none_behind : (k : List ℕ) (p : Place) (c : Commit) (ps : Named Place) → c.becomes ≡ None →
+    (find_named k ps ≡ Some p) × (p.node ≡ None) →
+    OnSome (λ p. p.node ≡ None) (find_named k (stood_at c (find_named c.name ps) ps))
+none_behind k p c ps plain (found, none) = by (find_named c.name ps) refl
+  where
+    here : (q : Place) → p ≡ q → (committing c q).node ≡ None
+    here q one =
+        ap (λ o. option_map (with_deeds c.deeds) (option_or o q.node)) plain
+        ∙ ap (option_map (with_deeds c.deeds)) (subst (λ (r : Place). r.node ≡ None) one none)
+
+    at : (q : Place) → find_named c.name ps ≡ Some q → (b : Bool) → bytes_eq k c.name ≡ b →
+        OnSome (λ p. p.node ≡ None) (find_named k (put_named c.name (committing c q) ps))
+    at q is true same =
+        let key = bytes_same k c.name same in
+        subst (OnSome (λ p. p.node ≡ None))
+        (sym (ap (λ i. find_named i (put_named c.name (committing c q) ps)) key
+        ∙ put_found c.name (committing c q) q ps is))
+        (here q (one_found p q (sym found ∙ ap (λ i. find_named i ps) key ∙ is)))
+    at q is false other =
+        subst (OnSome (λ p. p.node ≡ None)) (sym (put_other k c.name (committing c q) ps other ∙ found)) none
+
+    by : (o : Option Place) → find_named c.name ps ≡ o →
+        OnSome (λ p. p.node ≡ None) (find_named k (stood_at c o ps))
+    by None is = subst (OnSome (λ p. p.node ≡ None)) (sym found) none
+    by (Some q) is = at q is (bytes_eq k c.name) refl
+
+init_formed : (id : ℕ) (comment : Option (List ℕ)) (run : Running) (w : World) →
+    OnOk (IsFormedStated w) (init_cluster id comment run w)
+init_formed id comment run w =
+    any_bind (IsFormedStated w) (database_of_line run id w) _
+    (λ e. let checks = down_among w.places ∷ already (first_node w) ∷ [] in
+    let n = first_of_cluster id (comment_of comment) run in
+    checked_ok (IsFormedStated w) checks (record { answer = Done; commits = becoming e.0 n ∷ [] })
+    (λ none. (
+      becomes_formed e.0 n (find_named e.0 w.places) refl
+          (found_none e.0 w.places (none_nodes w.places (already_none (first_node w) (all_none checks none).1.0))),
+      tt,
     )))
-ordered_plain (order.StorePath server client conninfo retry) run w =
-    any_bind IsPlainStated (reach run client w) _
-    (λ s. let done = emitting_plain s (tells (StorePath server client conninfo) ∷ []) in
-    search (kept_ok IsPlainStated, done))
-ordered_plain (order.DropPath server client) run w =
-    any_bind IsPlainStated (reach run client w) _
-    (λ s. let done = emitting_plain s (tells (DropPath server client) ∷ []) in
-    search (kept_ok IsPlainStated, done))
-ordered_plain (order.CreateSet id origin comment) run w =
-    any_bind IsPlainStated (reach run origin w) _
-    (λ s. let done = emitting_plain s (tells (StoreSet id origin (comment_of comment)) ∷ []) in
-    search (kept_ok IsPlainStated, done))
-ordered_plain (order.SetAddTable set origin id name key comment) run w =
-    any_bind IsPlainStated (origin_of run origin set w) _
+
+store_formed : (id event_node : ℕ) (comment : Option (List ℕ)) (run : Running) (w : World) →
+    OnOk (IsFormedStated w) (store_node id event_node comment run w)
+store_formed id event_node comment run w =
+    any_bind (IsFormedStated w) (reach run event_node w) _
+    (λ s. bind_ok (IsFound w.places) (IsFormedStated w) (database_of_line run id w) _ (line_ok run id w)
+    (λ e found. let checks = already (node_id e.1) ∷ any_down w
+    ∷ when (known_somewhere (λ c. is_some (entry_at id c.nodes)) w) (refused.IdUsed id) ∷ [] in
+    checked_ok (IsFormedStated w) checks (stored_by s e.0 id (comment_of comment) run)
+    (λ none. let first = commit_of s (tells (StoreNode id (comment_of comment)) ∷ []) in
+    let plain = emissions_plain s (next_event s) (tells (StoreNode id (comment_of comment)) ∷ []) in (
+      (plain_all (first ∷ []) w.places ((plain, refl), tt)).0,
+      (
+        becomes_formed e.0 (joining id (with_deeds first.deeds s.node) run)
+            (find_named e.0 (stood_at first (find_named first.name w.places) w.places)) refl
+            (none_behind e.0 e.1 first w.places refl
+            (found, no_node e.1 (already_none (node_id e.1) (all_none checks none).0))),
+        tt,
+      ),
+    ))))
+
+-- ---- every statement
+
+ordered_formed : (o : Order) (run : Running) (w : World) → OnOk (IsFormedStated w) (ordered o run w)
+ordered_formed (order.InitCluster id comment) run w = init_formed id comment run w
+ordered_formed (order.StoreNode id event_node comment) run w = store_formed id event_node comment run w
+ordered_formed (order.StorePath server client conninfo retry) run w =
+    any_bind (IsFormedStated w) (reach run client w) _
+    (λ s. let done = emitting_formed w s (tells (StorePath server client conninfo) ∷ []) in
+    search (kept_ok (IsFormedStated w), done))
+ordered_formed (order.DropPath server client) run w =
+    any_bind (IsFormedStated w) (reach run client w) _
+    (λ s. let done = emitting_formed w s (tells (DropPath server client) ∷ []) in
+    search (kept_ok (IsFormedStated w), done))
+ordered_formed (order.CreateSet id origin comment) run w =
+    any_bind (IsFormedStated w) (reach run origin w) _
+    (λ s. let done = emitting_formed w s (tells (StoreSet id origin (comment_of comment)) ∷ []) in
+    search (kept_ok (IsFormedStated w), done))
+ordered_formed (order.SetAddTable set origin id name key comment) run w =
+    any_bind (IsFormedStated w) (origin_of run origin set w) _
     (λ s. let t : NewTable = record { set_id = set; id = id; name = name; comment = comment_of comment } in
-    let done = emitting_plain s (adding s t ∷ []) in
-    search (kept_ok IsPlainStated, done))
-ordered_plain (order.SubscribeSet set provider receiver forward) run w =
-    any_bind IsPlainStated (owner run set w) _
+    let done = emitting_formed w s (adding s t ∷ []) in
+    search (kept_ok (IsFormedStated w), done))
+ordered_formed (order.SubscribeSet set provider receiver forward) run w =
+    any_bind (IsFormedStated w) (owner run set w) _
     (λ s. let f = subscribing set provider receiver forward in
-    let done = emitting_plain s (all_tell (feed_bodies (era_of set s.known.config) f)) in
-    search (kept_ok IsPlainStated, done))
-ordered_plain (order.Sync id) run w =
-    any_bind IsPlainStated (reach run id w) _ (λ s. emitting_plain s (tells Sync ∷ []))
-ordered_plain others run w = tt
+    let done = emitting_formed w s (all_tell (feed_bodies (era_of set s.known.config) f)) in
+    search (kept_ok (IsFormedStated w), done))
+ordered_formed (order.Sync id) run w =
+    any_bind (IsFormedStated w) (reach run id w) _ (λ s. emitting_formed w s (tells Sync ∷ []))
+ordered_formed others run w = tt
 
 poll_plain : (delivery : Delivery) (s : Seat) (confirms : List (ℕ × ℕ × ℕ)) → ArePlain (hearing s confirms)
 poll_plain delivery s [] = tt
@@ -215,16 +300,67 @@ tables_formed p spelled [] = tt
 tables_formed p spelled (name ∷ more) = (standing_formed p name spelled, tables_formed p spelled more)
 
 copied_formed : (c : Copying) (s : Seat) (e : Event) (p : Seat) → IsSpelled p.place →
-    OnOk IsFormedBrought (copied c s e p)
+    OnOk IsFormedFound (copied c s e p)
 copied_formed c s e p spelled =
     let names = names_of c.set_id s.known.config in
-    elim (still_leads c p) as (λ b. OnOk IsFormedBrought
-    (cond b (checked (copy_checks s.place p.place names) (copy_of c e.number p names))
-    (Ok nothing_brought))) [
-      | true ↦ kept_ok IsFormedBrought (copy_checks s.place p.place names)
-          (copy_of c e.number p names) (tables_formed p.place spelled names, tt)
-      | false ↦ (tt, tt)
+    elim (still_leads c p) as (λ b. OnOk IsFormedFound
+    (cond b (checked (copy_checks s.place p.place names) (copy_of c e.number p names)) (Ok FoundNothing))) [
+      | true ↦ kept_ok IsFormedFound (copy_checks s.place p.place names) (copy_of c e.number p names)
+          (tables_formed p.place spelled names)
+      | false ↦ tt
     ]
+
+-- what is read of a log of such actions
+syncs_formed : (own : ℕ) (k : Knowledge) (e : Event) (logs : List Logged) → AreWritten logs →
+    AllByRecursion IsFormedSync (set_syncs own k e logs)
+syncs_formed own k e logs written =
+    all_mapped (λ v. Unit {0}) IsFormedSync (set_sync own k e logs) (λ v any. record {
+      written =
+          delta_has (λ l. IsWritten l.action) (λ l. IsWritten l.action) (tables_taken own v.0 k.config)
+          (λ l is on. is) e.origin v.1.seen e.taken logs written;
+      on =
+          delta_has (λ l. Unit {0}) (λ l. is_on_one (tables_taken own v.0 k.config) l ≡ true)
+          (tables_taken own v.0 k.config) (λ l any on. on) e.origin v.1.seen e.taken logs
+          (all_each (λ l. Unit {0}) (λ l. tt) logs);
+    }) (kept_from e.origin k) (all_each (λ v. Unit {0}) (λ v. tt) (kept_from e.origin k))
+
+-- at a provider at this seat
+at_formed : (a : Errand) (s : Seat) (e : Event) (p : Seat) → IsSpelledSeat p → OnOk IsFormedFound (found_at a s e p)
+at_formed (ToCopy c) s e p there = copied_formed c s e p there.place
+at_formed (ToFollow provider) s e p there = syncs_formed s.node.id s.known e (logged p.node) there.logged
+
+found_formed : (w : World) → AllPlaces IsSpelled w → (s : Seat) (e : Event) (a : Option Errand) →
+    OnOk IsFormedFound (found_by w s e a)
+found_formed w all s e None = tt
+found_formed w all s e (Some a) =
+    bind_ok IsSpelledSeat IsFormedFound (provided (provider_in a) w.memory s (at_node (provider_in a) w)) _
+    (provided_spelled (provider_in a) w.memory s (at_node (provider_in a) w) (place_spelled w all (provider_in a)))
+    (λ p there. at_formed a s e p there)
+
+-- what a turn fetches
+pub fetch_formed : (w : World) → AllPlaces IsSpelled w → (node origin : ℕ) →
+    OnOk (λ x. IsFormedFound x.found) (fetched node origin w)
+fetch_formed w all node origin =
+    any_bind (λ x. IsFormedFound x.found) (on_turn node w) _
+    (λ s. any_bind (λ x. IsFormedFound x.found) (taken_up (next_at w.memory s origin)) _
+    (λ e. bind_ok IsFormedFound (λ x. IsFormedFound x.found) (found_by w s e (errand_of s e)) _
+    (found_formed w all s e (errand_of s e)) (λ f is. is)))
+
+still_formed : (k : Knowledge) (f : Found) → IsFormedFound f → IsFormedFound (still k f)
+still_formed k (FoundSyncs ts) is = all_filtered IsFormedSync (stands k) ts is
+still_formed k FoundNothing is = is
+still_formed k (FoundCopy set view rows) is = is
+
+-- what a turn finds for an event that it applies
+pub for_formed : (w : World) → AllPlaces IsSpelled w → KeepFormed w → (s : Seat) (e : Event) →
+    OnOk IsFormedFound (found_for w s e)
+for_formed w all keep s e = by (kept_fetch s.name e.origin e w.memory) refl
+  where
+    by : (o : Option Found) → kept_fetch s.name e.origin e w.memory ≡ o → OnOk IsFormedFound (found_or w s e o)
+    by None none = found_formed w all s e (errand_of s e)
+    by (Some f) some =
+        let k = kept_for (λ name origin f. IsFormedFound f.found) s.name e w.memory f keep some in
+        still_formed s.known f (subst IsFormedFound k.found k.has)
 
 -- an action that a write made makes rows that have their forms
 makes_formed : (here : Place) → IsSpelled here → Makes here (λ r. AreFormed r.1) (λ l. IsWritten l.action)
@@ -237,39 +373,23 @@ makes_formed here spelled rows l formed written =
     by None none = standing_formed here l.action.table spelled
     by (Some r) found = all_found AreFormed l.action.table r rows formed found
 
-followed_formed : (s : Seat) (e : Event) (logs : List Logged) → IsSpelled s.place → AreWritten logs →
-    OnOk IsFormedBrought (followed s e logs)
-followed_formed s e logs spelled written =
-    kept_ok IsFormedBrought
-    (option_map refused.Busy (writer_of (names_taken s (kept_from e.origin s.known)) s.place) ∷ [])
-    (with_syncs s.place (set_syncs s.node.id s.known e logs) nothing_brought)
-    (syncs_have s.place (λ r. AreFormed r.1) (λ l. IsWritten l.action) (makes_formed s.place spelled)
-    (set_syncs s.node.id s.known e logs) nothing_brought
-    (taken_have s.node.id s.known e logs (λ l. IsWritten l.action) (λ l. IsWritten l.action) written
-    (kept_from e.origin s.known) (all_each _ (λ v l is on. is) (kept_from e.origin s.known))) (tt, tt))
-
--- from a provider at this seat
-at_formed : (a : Errand) (s : Seat) (e : Event) (p : Seat) → IsSpelled s.place → IsSpelledSeat p →
-    OnOk IsFormedBrought (brought_at a s e p)
-at_formed (ToCopy c) s e p here there = copied_formed c s e p there.place
-at_formed (ToFollow provider) s e p here there = followed_formed s e (logged p.node) here there.logged
-
-brought_formed : (w : World) → AllPlaces IsSpelled w → (s : Seat) → IsSpelled s.place → (e : Event)
-    (a : Option Errand) → OnOk IsFormedBrought (brought_by w s e a)
-brought_formed w all s here e None = (tt, tt)
-brought_formed w all s here e (Some a) =
-    bind_ok IsSpelledSeat IsFormedBrought (provided (provider_in a) w.memory s (at_node (provider_in a) w)) _
-    (provided_spelled (provider_in a) w.memory s (at_node (provider_in a) w) (place_spelled w all (provider_in a)))
-    (λ p there. at_formed a s e p here there)
+-- what comes of what is found
+brought_formed : (here : Place) (f : Found) → IsSpelled here → IsFormedFound f → IsFormedBrought (brought_of here f)
+brought_formed here FoundNothing spelled is = (tt, tt)
+brought_formed here (FoundCopy set view rows) spelled is = (is, tt)
+brought_formed here (FoundSyncs ts) spelled is =
+    syncs_have here (λ r. AreFormed r.1) (λ l. IsWritten l.action) (makes_formed here spelled) ts nothing_brought
+    (all_map IsFormedSync (λ t. AreWritten t.rows) (λ t is. is.written) ts is) (tt, tt)
 
 -- what a turn brings has rows that have their forms, and logs actions that do
-pub work_brings : (w : World) → AllPlaces IsSpelled w → (node origin : ℕ) →
-    OnOk (λ c. AreFilled c.brought.rows × AreWritten c.brought.logs) (worked node origin w)
-work_brings w all node origin =
+pub work_brings : (w : World) → AllPlaces IsSpelled w → KeepFormed w → (node origin : ℕ) →
+    OnOk (λ c. IsFormedBrought c.brought) (worked node origin w)
+work_brings w all keep node origin =
     bind_ok IsSpelledSeat IsFormedCarried (on_turn node w) _ (turn_spelled w all node)
     (λ s here. any_bind IsFormedCarried (taken_up (next_at w.memory s origin)) _
-    (λ e. bind_ok IsFormedBrought IsFormedCarried (brought_by w s e (errand_of s e)) _
-    (brought_formed w all s here.place e (errand_of s e)) (λ b is. is)))
+    (λ e. bind_ok IsFormedFound IsFormedCarried (found_for w s e) (settled s e) (for_formed w all keep s e)
+    (λ f is. kept_ok IsFormedCarried (option_map refused.Busy (writer_of (tables_in f) s.place) ∷ [])
+    (carried s e (brought_of s.place f)) (brought_formed s.place f here.place is))))
   where
     IsFormedCarried : Carried → Type 0
     IsFormedCarried c = IsFormedBrought c.brought
@@ -282,6 +402,7 @@ carried_formed w c formed carries = (
     deeds = (formed, tt);
     fresh = refl;
     foreign = subst (AreForeign made.deeds) (sym carries.seat.node) (carries.foreign, tt);
+    alone = tt;
   }),
   tt,
 )
@@ -293,43 +414,44 @@ carried_formed w c formed carries = (
       deeds = deed c.seat.place [] c.brought.logs (Applies c.event c.brought) ∷ [];
     }
 
-work_formed_commits : (w : World) → AreNamedOnce w.places → AllPlaces IsSpelled w → (node origin : ℕ) →
+-- What is known of the databases of a session, and of what their nodes keep.
+pub record IsFormedWorld (w : World) : Type 0 where
+  pub once : AreNamedOnce w.places
+  pub spelled : AllPlaces IsSpelled w
+  pub formed : KeepFormed w
+  pub foreign : KeepForeign w
+
+work_formed_commits : (w : World) → IsFormedWorld w → (node origin : ℕ) →
     OnOk (λ c. AreFormedCommits w (applied_by c).commits) (worked node origin w)
-work_formed_commits w once all node origin =
+work_formed_commits w is node origin =
     ok_then (λ c. IsFormedBrought c.brought × CarriesForeign w.places c)
     (λ c. AreFormedCommits w (applied_by c).commits) (worked node origin w)
     (both_ok (λ c. IsFormedBrought c.brought) (CarriesForeign w.places) (worked node origin w)
-    (work_brings w all node origin) (work_foreign w once node origin))
+    (work_brings w is.spelled is.formed node origin) (work_foreign w is.once is.foreign node origin))
     (λ c is. carried_formed w c is.0 is.1)
 
 -- ---- every command
 
--- what is stated where it is plain
-stated_formed : (w : World) (r : Result Stated Refusal) → ArePlainIn r →
-    OnOk (λ stated. AreFormedCommits w stated.commits) r
-stated_formed w r plain =
-    ok_then IsPlainStated (λ stated. AreFormedCommits w stated.commits) r plain
-    (λ stated is. plain_all stated.commits w.places is)
-
 abbrev IsFormedPoll : World → Delivery → Poll → Type 0
 IsFormedPoll w delivery b = AreFormedCommits w (stated_by delivery b).commits
 
-outcome_is_formed : (w : World) → AreNamedOnce w.places → AllPlaces IsSpelled w → (act : Act) →
-    AreFormedCommits w (outcome act w).commits
-outcome_is_formed w once all act =
-    outcome_has w (λ cs queues. AreFormedCommits w cs) (record {
+outcome_is_formed : (w : World) → IsFormedWorld w → (act : Act) → AreFormedCommits w (outcome act w).commits
+outcome_is_formed w is act =
+    outcome_has w (λ cs queues fetches. AreFormedCommits w cs) (record {
       nothing = tt;
       stops = λ name. tt;
-      orders = λ o run. stated_formed w (ordered o run w) (ordered_plain o run w);
-      syncs = λ node. stated_formed w (sync_turn node w) (any_bind IsPlainStated (on_turn node w) _
-          (λ s. kept_ok IsPlainStated (when (is_synced s) refused.Nothing ∷ []) (synced s)
-          (emitting_plain s (tells Sync ∷ []))));
+      gives_up = λ name origin. tt;
+      orders = λ o run. ordered_formed o run w;
+      syncs = λ node. any_bind (IsFormedStated w) (on_turn node w) _
+          (λ s. kept_ok (IsFormedStated w) (when (is_synced s) refused.Nothing ∷ []) (synced s)
+          (emitting_formed w s (tells Sync ∷ [])));
       polls = λ node server delivery. any_bind (IsFormedPoll w delivery) (on_turn node w) _
           (λ s. any_bind (IsFormedPoll w delivery) (served server w.memory s (at_node server w)) _
           (λ p. let b = poll_of w.memory s p in
           kept_ok (IsFormedPoll w delivery) (when (brings_nothing b) refused.Nothing ∷ []) b
           (plain_all (stated_by delivery b).commits w.places (polled delivery b))));
-      works = work_formed_commits w once all;
+      fetches = λ node origin. any_ok (λ x. Unit {0}) (fetched node origin w) (λ x. tt);
+      works = work_formed_commits w is;
     }) act
   where
     polled : (delivery : Delivery) (b : Poll) → ArePlain (stated_by delivery b).commits
@@ -350,7 +472,7 @@ both_hold F G (c ∷ cs) ps one other = (
     by None one other = tt
     by (Some p) one other = (one, other)
 
-pub outcome_formed : (w : World) → AreNamedOnce w.places → AllPlaces IsSpelled w → (act : Act) →
+pub outcome_formed : (w : World) → IsFormedWorld w → (act : Act) →
     AllHold IsWithin (outcome act w).commits w.places → AllHold IsFormed (outcome act w).commits w.places
-outcome_formed w once all act within =
-    both_hold IsWithin IsFormedCommit (outcome act w).commits w.places within (outcome_is_formed w once all act)
+outcome_formed w is act within =
+    both_hold IsWithin IsFormedCommit (outcome act w).commits w.places within (outcome_is_formed w is act)

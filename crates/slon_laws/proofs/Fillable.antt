@@ -1,7 +1,7 @@
 -- What a turn brings can be filled: no open transaction of the node wrote one of the tables, and the rows have their
 -- forms. So the test `has_writer` in `filled` never keeps back a table that is copied, or to which a SYNC brings rows.
 use Rattle.std.proofs.Common.{◌≡◌, ℕ, Bool, true, false, cond, List, [], ◌∷◌, Option, Some, None, Ok, refl, sym, ap}
-use Rattle.std.proofs.Common.{subst, ◌∙◌, find, eq-eqb}
+use Rattle.std.proofs.Common.{subst, ◌∙◌, find, map, eq-eqb}
 use Rattle.std.specs.Prelude.{◌==◌, ◌&&◌, ◌||◌, option_map}
 use Rattle.std.specs.List.{AllByRecursion, list_any}
 use Rattle.std.specs.Str.{bytes_eq}
@@ -11,23 +11,26 @@ use Rattle.slon_model.specs.Rows.{Action, Rows, member}
 use Rattle.slon_model.specs.Logs.{named}
 use Rattle.slon_model.specs.Events.{Event}
 use Rattle.slon_model.specs.Config.{names_of}
-use Rattle.slon_model.specs.Deeds.{Brought, Logged, nothing_brought}
+use Rattle.slon_model.specs.Deeds.{Knowledge, nothing_brought}
 use Rattle.slon_model.specs.Logs.{logged}
 use Rattle.slon_model.specs.declared.reply.Refusal.TheVariants as refused
 use Rattle.slon_model.specs.Place.{Place, has_writer, open_xids}
 use Rattle.slon_model.specs.Sessions.{World, Seat, checked, writer_of}
 use Rattle.slon_model.specs.Turns.{at_node, on_turn}
-use Rattle.slon_model.specs.Following.{kept_from, set_syncs, with_syncs}
-use Rattle.slon_model.specs.Working.{Carried, Copying, Errand, ToCopy, ToFollow, brought_at, brought_by, copied}
-use Rattle.slon_model.specs.Working.{copy_checks, copy_of, errand_of, followed, names_taken, next_at, provided}
-use Rattle.slon_model.specs.Working.{provider_in, rows_at, still_leads, taken_up, width_checks, worked}
+use Rattle.slon_model.specs.Following.{Found, FoundCopy, FoundNothing, FoundSyncs, brought_of, is_on_one, tables_in}
+use Rattle.slon_model.specs.Working.{Carried, Errand, ToCopy, ToFollow, carried, copy_checks, copy_of, errand_of}
+use Rattle.slon_model.specs.Working.{fetched, found_by, found_for, found_or, kept_fetch, next_at, provided, settled}
+use Rattle.slon_model.specs.Working.{stands, still, still_leads, taken_up, worked}
+use Rattle.slon_model.specs.World.{Happening, Leads, start}
 use Rattle.slon_model.proofs.Names.{all_map, bytes_itself, bytes_same}
+use Rattle.slon_laws.specs.Fetches.{FoundOn, IsFormedFound, IsFormedSync, KeepFormed, KeepOn}
 use Rattle.slon_laws.specs.Spelled.{IsSpelled, AreFilled, AreFormed, AreWritten}
 use Rattle.slon_laws.specs.Worlds.{AllPlaces}
 use Rattle.slon_laws.proofs.Bringing.{work_brings}
-use Rattle.slon_laws.proofs.Following.{all_takes_named, syncs_have, taken_have}
-use Rattle.slon_laws.proofs.Lists.{all_each}
-use Rattle.slon_laws.proofs.Results.{OnOk, any_bind, bind_ok, checked_ok, last_none, none_busy}
+use Rattle.slon_laws.proofs.Fetches.{all_kept, kept_for, kept_step}
+use Rattle.slon_laws.proofs.Following.{all_taken_named, syncs_have, syncs_on}
+use Rattle.slon_laws.proofs.Lists.{all_filtered}
+use Rattle.slon_laws.proofs.Results.{OnOk, any_bind, bind_ok, checked_ok, kept_ok, last_none, none_busy}
 
 -- ---- tables that no open transaction wrote
 
@@ -79,87 +82,117 @@ named_unwritten here names none rs are =
     (λ r is. one_unwritten names (open_xids here) r.0 is here.actions
     (none_passes (λ x. list_any (λ a. a.xid == x && named a.table names) here.actions) (open_xids here) none)) rs are
 
--- rows that are read of tables are theirs
-rows_named : (there : Place) (names : List (List ℕ)) → AreNamed names (rows_at there names)
-rows_named there [] = tt
-rows_named there (name ∷ more) = (
-  ap (λ b. b || named name more) (bytes_itself name),
-  all_map (λ r. named r.0 more ≡ true) (λ r. named r.0 (name ∷ more) ≡ true)
-      (λ r is. or_right (bytes_eq r.0 name) _ is) (rows_at there more) (rows_named there more),
+-- rows are of the tables that they name
+rows_named : (rows : Named Rows) → AreNamed (map (λ r. r.0) rows) rows
+rows_named [] = tt
+rows_named (r ∷ more) = (
+  ap (λ b. b || named r.0 (map (λ r. r.0) more)) (bytes_itself r.0),
+  all_map (λ q. named q.0 (map (λ r. r.0) more) ≡ true) (λ q. named q.0 (map (λ r. r.0) (r ∷ more)) ≡ true)
+      (λ q is. or_right (bytes_eq q.0 r.0) (named q.0 (map (λ r. r.0) more)) is) more (rows_named more),
 )
 
 -- ---- what is brought
 
-copied_unwritten : (k : Copying) (s : Seat) (e : Event) (p : Seat) →
-    OnOk (λ b. AreUnwritten s.place b.rows) (copied k s e p)
-copied_unwritten k s e p =
-    let names = names_of k.set_id s.known.config in
-    elim (still_leads k p) as (λ b. OnOk (λ b. AreUnwritten s.place b.rows)
-    (cond b (checked (copy_checks s.place p.place names) (copy_of k e.number p names)) (Ok nothing_brought))) [
-      | true ↦ checked_ok (λ (b : Brought). AreUnwritten s.place b.rows) (copy_checks s.place p.place names)
-          (copy_of k e.number p names)
-          (λ none. named_unwritten s.place names (none_busy (writer_of names s.place)
-          (last_none (width_checks s.place p.place names) _ none)) (rows_at p.place names) (rows_named p.place names))
+-- what is found brings rows to the tables that it names
+brought_named : (here : Place) (f : Found) → FoundOn f → AreNamed (tables_in f) (brought_of here f).rows
+brought_named here FoundNothing is = tt
+brought_named here (FoundCopy set view rows) is = rows_named rows
+brought_named here (FoundSyncs ts) is =
+    (syncs_have here (λ r. named r.0 (tables_in (FoundSyncs ts)) ≡ true)
+    (λ l. named l.action.table (tables_in (FoundSyncs ts)) ≡ true) (λ rows l old is. is) ts nothing_brought
+    (all_taken_named ts is) (tt, tt)).0
+
+-- and none where no open transaction wrote one of these tables
+pub brought_unwritten : (here : Place) (f : Found) → FoundOn f → writer_of (tables_in f) here ≡ None →
+    AreUnwritten here (brought_of here f).rows
+brought_unwritten here f is free =
+    named_unwritten here (tables_in f) free (brought_of here f).rows (brought_named here f is)
+
+-- ---- what is found
+
+found_on : (w : World) (s : Seat) (e : Event) (a : Option Errand) → OnOk FoundOn (found_by w s e a)
+found_on w s e None = tt
+found_on w s e (Some (ToCopy c)) =
+    any_bind FoundOn (provided c.provider w.memory s (at_node c.provider w)) _ (λ p.
+    let names = names_of c.set_id s.known.config in
+    elim (still_leads c p) as (λ b. OnOk FoundOn
+    (cond b (checked (copy_checks s.place p.place names) (copy_of c e.number p names)) (Ok FoundNothing))) [
+      | true ↦ kept_ok FoundOn (copy_checks s.place p.place names) (copy_of c e.number p names) tt
       | false ↦ tt
-    ]
+    ])
+found_on w s e (Some (ToFollow provider)) =
+    any_bind FoundOn (provided provider w.memory s (at_node provider w)) _
+    (λ p. syncs_on s.node.id s.known e (logged p.node))
 
--- a SYNC brings rows to the tables of which an action is taken
-pub followed_named : (s : Seat) (e : Event) (logs : List Logged) →
-    AreNamed (names_taken s (kept_from e.origin s.known))
-    (with_syncs s.place (set_syncs s.node.id s.known e logs) nothing_brought).rows
-followed_named s e logs =
-    (syncs_have s.place (λ r. named r.0 names ≡ true) (λ l. named l.action.table names ≡ true) (λ rows l old is. is)
-    (set_syncs s.node.id s.known e logs) nothing_brought
-    (taken_have s.node.id s.known e logs (λ l. Unit {0}) (λ l. named l.action.table names ≡ true)
-    (all_each (λ l. Unit {0}) (λ l. tt) logs) (kept_from e.origin s.known)
-    (all_takes_named s.node.id s.known (λ l. Unit {0}) (kept_from e.origin s.known))) (tt, tt)).0
+pub still_on : (k : Knowledge) (f : Found) → FoundOn f → FoundOn (still k f)
+still_on k (FoundSyncs ts) is =
+    all_filtered (λ t. AllByRecursion (λ l. is_on_one t.tables l ≡ true) t.rows) (stands k) ts is
+still_on k others is = tt
+
+for_on : (w : World) → KeepOn w → (s : Seat) (e : Event) → OnOk FoundOn (found_for w s e)
+for_on w keep s e = by (kept_fetch s.name e.origin e w.memory) refl
   where
-    names : List (List ℕ)
-    names = names_taken s (kept_from e.origin s.known)
+    by : (o : Option Found) → kept_fetch s.name e.origin e w.memory ≡ o → OnOk FoundOn (found_or w s e o)
+    by None none = found_on w s e (errand_of s e)
+    by (Some f) some =
+        let k = kept_for (λ name origin f. FoundOn f.found) s.name e w.memory f keep some in
+        still_on s.known f (subst FoundOn k.found k.has)
 
-followed_unwritten : (s : Seat) (e : Event) (logs : List Logged) →
-    OnOk (λ b. AreUnwritten s.place b.rows) (followed s e logs)
-followed_unwritten s e logs =
-    let names = names_taken s (kept_from e.origin s.known) in
-    checked_ok (λ (b : Brought). AreUnwritten s.place b.rows) (option_map refused.Busy (writer_of names s.place) ∷ [])
-    (with_syncs s.place (set_syncs s.node.id s.known e logs) nothing_brought)
-    (λ none. named_unwritten s.place names (none_busy (writer_of names s.place) (last_none [] _ none)) _
-    (followed_named s e logs))
+fetch_on : (w : World) (node origin : ℕ) → OnOk (λ x. FoundOn x.found) (fetched node origin w)
+fetch_on w node origin =
+    any_bind (λ x. FoundOn x.found) (on_turn node w) _
+    (λ s. any_bind (λ x. FoundOn x.found) (taken_up (next_at w.memory s origin)) _
+    (λ e. bind_ok FoundOn (λ x. FoundOn x.found) (found_by w s e (errand_of s e)) _
+    (found_on w s e (errand_of s e)) (λ f is. is)))
 
-at_unwritten : (a : Errand) (s : Seat) (e : Event) (p : Seat) →
-    OnOk (λ b. AreUnwritten s.place b.rows) (brought_at a s e p)
-at_unwritten (ToCopy c) s e p = copied_unwritten c s e p
-at_unwritten (ToFollow provider) s e p = followed_unwritten s e (logged p.node)
-
-brought_unwritten : (w : World) (s : Seat) (e : Event) (a : Option Errand) →
-    OnOk (λ b. AreUnwritten s.place b.rows) (brought_by w s e a)
-brought_unwritten w s e None = tt
-brought_unwritten w s e (Some a) =
-    any_bind (λ b. AreUnwritten s.place b.rows) (provided (provider_in a) w.memory s (at_node (provider_in a) w)) _
-    (at_unwritten a s e)
+-- so it is with what is kept in every session
+pub keep_on_world : (limit : ℕ) (history : List Happening) (w : World) → Leads (start limit) history w → KeepOn w
+keep_on_world limit [] w is = subst KeepOn (sym is) tt
+keep_on_world limit (h ∷ hs) w leads =
+    kept_step (λ name origin f. FoundOn f.found) leads.0 w h leads.2 (fetch_on leads.0)
+    (keep_on_world limit hs leads.0 leads.1)
 
 -- ---- the turn
 
+settled_unwritten : (s : Seat) (e : Event) (f : Found) → FoundOn f →
+    OnOk (λ c. AreUnwritten c.seat.place c.brought.rows) (settled s e f)
+settled_unwritten s e f is =
+    checked_ok (λ (c : Carried). AreUnwritten c.seat.place c.brought.rows)
+    (option_map refused.Busy (writer_of (tables_in f) s.place) ∷ []) (carried s e (brought_of s.place f))
+    (λ none. brought_unwritten s.place f is (none_busy (writer_of (tables_in f) s.place) (last_none [] _ none)))
+
 -- no open transaction of the node wrote one of the tables to which it brings rows
-pub work_unwritten : (node origin : ℕ) (w : World) (c : Carried) → worked node origin w ≡ Ok c →
+pub work_unwritten : (node origin : ℕ) (w : World) (c : Carried) → KeepOn w → worked node origin w ≡ Ok c →
     AreUnwritten c.seat.place c.brought.rows
-work_unwritten node origin w c is =
+work_unwritten node origin w c keep is =
     subst (OnOk Unwritten) is (any_bind Unwritten (on_turn node w) _
     (λ s. any_bind Unwritten (taken_up (next_at w.memory s origin)) _
-    (λ e. bind_ok (λ b. AreUnwritten s.place b.rows) Unwritten (brought_by w s e (errand_of s e)) _
-    (brought_unwritten w s e (errand_of s e)) (λ b free. free))))
+    (λ e. bind_ok FoundOn Unwritten (found_for w s e) (settled s e) (for_on w keep s e) (settled_unwritten s e))))
   where
     Unwritten : Carried → Type 0
     Unwritten c = AreUnwritten c.seat.place c.brought.rows
 
+-- what has its forms is on its tables
+pub formed_on : (f : Found) → IsFormedFound f → FoundOn f
+formed_on (FoundSyncs ts) is =
+    all_map IsFormedSync (λ t. AllByRecursion (λ l. is_on_one t.tables l ≡ true) t.rows) (λ t is. is.on) ts is
+formed_on others is = tt
+
+pub formed_keep_on : (w : World) → KeepFormed w → KeepOn w
+formed_keep_on w keep =
+    all_kept (λ name origin f. IsFormedFound f.found) (λ name origin f. FoundOn f.found)
+    (λ name origin f. formed_on f.found) w.memory.fetches keep
+
 -- the rows that it brings have their forms
-pub work_formed : (node origin : ℕ) (w : World) (c : Carried) → AllPlaces IsSpelled w → worked node origin w ≡ Ok c →
-    AllByRecursion (λ r. AreFormed r.1) c.brought.rows
-work_formed node origin w c all is =
-    (subst (OnOk (λ c. AreFilled c.brought.rows × AreWritten c.brought.logs)) is (work_brings w all node origin)).0
+pub work_formed : (node origin : ℕ) (w : World) (c : Carried) → AllPlaces IsSpelled w → KeepFormed w →
+    worked node origin w ≡ Ok c → AllByRecursion (λ r. AreFormed r.1) c.brought.rows
+work_formed node origin w c all keep is =
+    (subst (OnOk (λ c. AreFilled c.brought.rows × AreWritten c.brought.logs)) is
+    (work_brings w all keep node origin)).0
 
 -- and so have the actions that it logs
-pub work_written : (node origin : ℕ) (w : World) (c : Carried) → AllPlaces IsSpelled w → worked node origin w ≡ Ok c →
-    AreWritten c.brought.logs
-work_written node origin w c all is =
-    (subst (OnOk (λ c. AreFilled c.brought.rows × AreWritten c.brought.logs)) is (work_brings w all node origin)).1
+pub work_written : (node origin : ℕ) (w : World) (c : Carried) → AllPlaces IsSpelled w → KeepFormed w →
+    worked node origin w ≡ Ok c → AreWritten c.brought.logs
+work_written node origin w c all keep is =
+    (subst (OnOk (λ c. AreFilled c.brought.rows × AreWritten c.brought.logs)) is
+    (work_brings w all keep node origin)).1

@@ -1,5 +1,5 @@
 -- What a node takes with a SYNC: what all that is logged has, and the tables to which it takes rows.
-use Rattle.std.proofs.Common.{◌≡◌, ℕ, Bool, true, false, cond, List, [], ◌∷◌, map, flat_map, refl, ap, ◌∙◌}
+use Rattle.std.proofs.Common.{◌≡◌, ℕ, Bool, true, false, cond, List, [], ◌∷◌, ◌++◌, map, refl, ap, ◌∙◌}
 use Rattle.std.specs.Prelude.{◌==◌, ◌&&◌, ◌||◌}
 use Rattle.std.specs.List.{AllByRecursion}
 use Rattle.std.specs.Str.{bytes_eq}
@@ -15,8 +15,10 @@ use Rattle.slon_model.specs.Deeds.{Brought, Knowledge, Logged, nothing_brought}
 use Rattle.slon_model.specs.Logs.{named}
 use Rattle.slon_model.specs.Place.{Place}
 use Rattle.slon_model.specs.Following.{SetSync, content, delta, is_new, is_on_one, kept_from, numbered, onto, set_sync}
-use Rattle.slon_model.specs.Following.{set_syncs, tables_taken, with_actions, with_sync, with_syncs}
+use Rattle.slon_model.specs.Following.{FoundSyncs, set_syncs, tables_in, tables_taken, with_actions, with_sync}
+use Rattle.slon_model.specs.Following.{with_syncs}
 use Rattle.slon_model.proofs.Names.{all_map}
+use Rattle.slon_laws.specs.Fetches.{AreOn}
 use Rattle.slon_laws.proofs.Lists.{all_each, all_filtered, all_mapped, all_passed, all_with}
 
 -- ---- what is read of a log
@@ -114,24 +116,42 @@ taken_have own k e logs P Q all vs each =
     all_mapped (TakesOf own k P Q) (λ (t : SetSync). AllByRecursion Q t.rows) (set_sync own k e logs)
     (λ v takes. delta_has P Q (tables_taken own v.0 k.config) takes e.origin v.1.seen e.taken logs all) vs each
 
--- the names of the tables of these sets
-abbrev names_in : ℕ → Knowledge → ℕ × View → List (List ℕ)
-names_in own k v = map (λ t. t.1) (tables_taken own v.0 k.config)
+-- ---- the tables of what is taken
 
--- what is taken of them is on a table of these names
-pub all_takes_named : (own : ℕ) (k : Knowledge) (P : Logged → Type 0) (vs : Map View) →
-    AllByRecursion (TakesOf own k P (λ l. named l.action.table (flat_map (names_in own k) vs) ≡ true)) vs
-all_takes_named own k P [] = tt
-all_takes_named own k P (v ∷ vs) = (
-  λ l has on. list_any-append (bytes_eq l.action.table) (names_in own k v) (flat_map (names_in own k) vs)
-      ∙ ap (λ b. b || named l.action.table (flat_map (names_in own k) vs))
-      (on_named (tables_taken own v.0 k.config) l on),
-  all_map (TakesOf own k P (λ l. named l.action.table (flat_map (names_in own k) vs) ≡ true))
-      (TakesOf own k P (λ l. named l.action.table (flat_map (names_in own k) (v ∷ vs)) ≡ true))
-      (λ w takes l has on. list_any-append (bytes_eq l.action.table) (names_in own k v) (flat_map (names_in own k) vs)
-      ∙ or_right (named l.action.table (names_in own k v)) _ (takes l has on))
-      vs (all_takes_named own k P vs),
+-- what is read of a log is on the tables of the set
+pub syncs_on : (own : ℕ) (k : Knowledge) (e : Event) (logs : List Logged) → AreOn (set_syncs own k e logs)
+syncs_on own k e logs =
+    all_mapped (λ v. Unit {0}) (λ (t : SetSync). AllByRecursion (λ l. is_on_one t.tables l ≡ true) t.rows)
+    (set_sync own k e logs)
+    (λ v any. delta_has (λ l. Unit {0}) (λ l. is_on_one (tables_taken own v.0 k.config) l ≡ true)
+    (tables_taken own v.0 k.config) (λ l has on. on) e.origin v.1.seen e.taken logs
+    (all_each (λ l. Unit {0}) (λ l. tt) logs)) (kept_from e.origin k)
+    (all_each (λ v. Unit {0}) (λ v. tt) (kept_from e.origin k))
+
+-- so it is on tables of these names
+pub all_taken_named : (ts : List SetSync) → AreOn ts →
+    AllTaken (λ l. named l.action.table (tables_in (FoundSyncs ts)) ≡ true) ts
+all_taken_named [] are = tt
+all_taken_named (t ∷ ts) are = (
+  all_map (λ l. is_on_one t.tables l ≡ true) Here
+      (λ l on. list_any-append (bytes_eq l.action.table) names more
+      ∙ ap (λ b. b || named l.action.table more) (on_named t.tables l on)) t.rows are.0,
+  all_map (λ (u : SetSync). AllByRecursion (λ l. named l.action.table more ≡ true) u.rows)
+      (λ u. AllByRecursion Here u.rows)
+      (λ u. all_map (λ l. named l.action.table more ≡ true) Here
+      (λ l is. list_any-append (bytes_eq l.action.table) names more
+      ∙ or_right (named l.action.table names) (named l.action.table more) is) u.rows) ts
+      (all_taken_named ts are.1),
 )
+  where
+    names : List (List ℕ)
+    names = map (λ u. u.1) t.tables
+
+    more : List (List ℕ)
+    more = tables_in (FoundSyncs ts)
+
+    Here : Logged → Type 0
+    Here l = named l.action.table (names ++ more) ≡ true
 
 -- ---- whose rows they are
 
@@ -158,12 +178,16 @@ rows_own own k e logs v =
     (all_mapped (λ (f : ℕ × Logged). f.1.origin ≡ e.origin) (λ l. l.origin ≡ e.origin) (λ f. f.1) (λ f is. is)
     (numbered e.origin logs) (numbered_own e.origin logs))
 
--- and what the node logs of it
-pub syncs_own : (here : Place) (own : ℕ) (k : Knowledge) (e : Event) (logs : List Logged) →
-    AllByRecursion (λ l. l.origin ≡ e.origin) (with_syncs here (set_syncs own k e logs) nothing_brought).logs
-syncs_own here own k e logs =
-    (syncs_have here (λ r. Unit {0}) (λ l. l.origin ≡ e.origin) (λ rows l old is. tt) (set_syncs own k e logs)
-    nothing_brought
-    (all_mapped (λ v. Unit {0}) (λ (t : SetSync). AllByRecursion (λ l. l.origin ≡ e.origin) t.rows)
+-- so is what is taken of all sets
+pub syncs_taken_own : (own : ℕ) (k : Knowledge) (e : Event) (logs : List Logged) →
+    AllTaken (λ l. l.origin ≡ e.origin) (set_syncs own k e logs)
+syncs_taken_own own k e logs =
+    all_mapped (λ v. Unit {0}) (λ (t : SetSync). AllByRecursion (λ l. l.origin ≡ e.origin) t.rows)
     (set_sync own k e logs) (λ v any. rows_own own k e logs v) (kept_from e.origin k)
-    (all_each (λ v. Unit {0}) (λ v. tt) (kept_from e.origin k))) (tt, tt)).1
+    (all_each (λ v. Unit {0}) (λ v. tt) (kept_from e.origin k))
+
+-- and what a node logs of it
+pub logs_own : (here : Place) (origin : ℕ) (ts : List SetSync) → AllTaken (λ l. l.origin ≡ origin) ts →
+    AllByRecursion (λ l. l.origin ≡ origin) (with_syncs here ts nothing_brought).logs
+logs_own here origin ts all =
+    (syncs_have here (λ r. Unit {0}) (λ l. l.origin ≡ origin) (λ rows l old is. tt) ts nothing_brought all (tt, tt)).1

@@ -1,6 +1,6 @@
 -- A node that applies an event logs nothing of its own: the rows come from the origin of the event, another node.
 use Rattle.std.proofs.Common.{◌≡◌, ◌∙◌, ℕ, Bool, true, false, cond, List, [], ◌∷◌, Option, Some, None, Ok, refl, sym}
-use Rattle.std.proofs.Common.{not, subst}
+use Rattle.std.proofs.Common.{ap, not, subst}
 use Rattle.std.specs.Prelude.{◌==◌, option_map}
 use Rattle.std.specs.List.{AllByRecursion}
 use Rattle.std.proofs.lemmas.Bool.{eq-eqb, false≢true}
@@ -11,18 +11,27 @@ use Rattle.slon_model.specs.declared.reply.Refusal.TheVariants as refused
 use Rattle.slon_model.specs.Names.{Named}
 use Rattle.slon_model.specs.Config.{has_path, is_known, names_of}
 use Rattle.slon_model.specs.Events.{Event}
-use Rattle.slon_model.specs.Deeds.{Brought, Logged, nothing_brought}
+use Rattle.slon_model.specs.Deeds.{Brought, Knowledge}
 use Rattle.slon_model.specs.Logs.{logged}
-use Rattle.slon_model.specs.Following.{kept_from, set_syncs, with_syncs}
+use Rattle.slon_model.specs.Following.{Found, FoundNothing, FoundSyncs, brought_of, tables_in}
 use Rattle.slon_model.specs.Place.{Place}
 use Rattle.slon_model.specs.Sessions.{World, Memory, Seat, checked, when, writer_of}
+use Rattle.slon_model.specs.Tasks.{Act}
 use Rattle.slon_model.specs.Turns.{at_node, is_cut, on_turn, seat_at}
-use Rattle.slon_model.specs.Working.{Carried, Copying, Errand, ToCopy, ToFollow, brought_by, copied, copy_checks}
-use Rattle.slon_model.specs.Working.{copy_of, errand_in, errand_of, followed, linked_to, names_taken, next_at, provided}
-use Rattle.slon_model.specs.Working.{receives_from, still_leads, taken_up, worked}
-use Rattle.slon_model.proofs.Names.{all_map}
+use Rattle.slon_model.specs.Working.{Carried, Copying, Errand, Fetched, ToCopy, ToFollow, carried, copied, copy_checks}
+use Rattle.slon_model.specs.Working.{copy_of, errand_in, errand_of, fetch_of, fetched, found_by, found_for, found_or}
+use Rattle.slon_model.specs.Working.{kept_fetch, linked_to, next_at, provided, receives_from, settled, stands, still}
+use Rattle.slon_model.specs.Working.{still_leads, taken_up, worked}
+use Rattle.slon_model.specs.World.{Happening, Step, outcome}
+use Rattle.slon_model.proofs.Names.{all_map, one_found}
+use Rattle.slon_laws.specs.Fetches.{AllKept}
 use Rattle.slon_laws.specs.Sound.{AreNamedOnce}
-use Rattle.slon_laws.proofs.Following.{syncs_own}
+use Rattle.slon_laws.specs.Turning.{AllHold, IsFormed}
+use Rattle.slon_laws.proofs.Fetches.{OfFetch, all_kept, kept_for, kept_step}
+use Rattle.slon_laws.proofs.Following.{AllTaken, logs_own, syncs_taken_own}
+use Rattle.slon_laws.proofs.Holds.{HoldsOf, on_step}
+use Rattle.slon_laws.proofs.Identity.{IsNodeOf, id_of, keeps_id}
+use Rattle.slon_laws.proofs.Lists.{all_filtered}
 use Rattle.slon_laws.proofs.Owners.{OnSome}
 use Rattle.slon_laws.proofs.Results.{OnOk, all_none, any_bind, any_ok, bind_ok, checked_ok, kept_ok, when_none}
 use Rattle.slon_laws.proofs.Seats.{IsSeat, turn_ok}
@@ -31,18 +40,43 @@ use Rattle.slon_laws.proofs.Seats.{IsSeat, turn_ok}
 abbrev pub IsForeign : Seat → Brought → Type 0
 IsForeign s b = AllByRecursion (λ l. l.origin ≡ s.node.id → ⊥) b.logs
 
--- ---- a copy
+-- what is found for a SYNC is of this origin, while P holds
+abbrev pub IsOfOrigin : Type 0 → ℕ → Found → Type 0
+IsOfOrigin P origin (FoundSyncs ts) = P × AllTaken (λ l. l.origin ≡ origin) ts
+IsOfOrigin P origin others = Unit {0}
 
-copied_foreign : (c : Copying) (s : Seat) (e : Event) (p : Seat) → OnOk (IsForeign s) (copied c s e p)
-copied_foreign c s e p =
+origin_then : (P Q : Type 0) → (P → Q) → (origin : ℕ) (f : Found) → IsOfOrigin P origin f → IsOfOrigin Q origin f
+origin_then P Q on origin (FoundSyncs ts) is = (on is.0, is.1)
+origin_then P Q on origin others is = tt
+
+still_origin : (P : Type 0) (origin : ℕ) (k : Knowledge) (f : Found) → IsOfOrigin P origin f →
+    IsOfOrigin P origin (still k f)
+still_origin P origin k (FoundSyncs ts) is =
+    (is.0, all_filtered (λ t. AllByRecursion (λ l. l.origin ≡ origin) t.rows) (stands k) ts is.1)
+still_origin P origin k others is = tt
+
+-- the origin is another node than this one
+abbrev pub IsApart : ℕ → Seat → Type 0
+IsApart origin s = (origin == s.node.id) ≡ false
+
+brought_foreign : (s : Seat) (origin : ℕ) (f : Found) → IsOfOrigin (IsApart origin s) origin f →
+    IsForeign s (brought_of s.place f)
+brought_foreign s origin (FoundSyncs ts) is =
+    all_map (λ l. l.origin ≡ origin) (λ l. l.origin ≡ s.node.id → ⊥)
+    (λ l of own. false≢true (sym is.0 ∙ eq-eqb origin s.node.id (sym of ∙ own))) _ (logs_own s.place origin ts is.1)
+brought_foreign s origin others is = tt
+
+-- ---- what is found
+
+copied_origin : (P : Type 0) (origin : ℕ) (c : Copying) (s : Seat) (e : Event) (p : Seat) →
+    OnOk (IsOfOrigin P origin) (copied c s e p)
+copied_origin P origin c s e p =
     let names = names_of c.set_id s.known.config in
-    elim (still_leads c p) as (λ b. OnOk (IsForeign s)
-    (cond b (checked (copy_checks s.place p.place names) (copy_of c e.number p names)) (Ok nothing_brought))) [
-      | true ↦ kept_ok (IsForeign s) (copy_checks s.place p.place names) (copy_of c e.number p names) tt
+    elim (still_leads c p) as (λ b. OnOk (IsOfOrigin P origin)
+    (cond b (checked (copy_checks s.place p.place names) (copy_of c e.number p names)) (Ok FoundNothing))) [
+      | true ↦ kept_ok (IsOfOrigin P origin) (copy_checks s.place p.place names) (copy_of c e.number p names) tt
       | false ↦ tt
     ]
-
--- ---- the rows of a SYNC
 
 -- what a node follows is the log of the origin of the event
 abbrev ComesFrom : ℕ → Errand → Type 0
@@ -83,41 +117,96 @@ provided_other provider m s found =
         ∷ when (is_cut s.node.id provider m) (refused.Severed s.node.id provider)
         ∷ when (provider == s.node.id) (refused.NoNode provider) ∷ []
 
-followed_foreign : (s : Seat) (e : Event) (logs : List Logged) → (e.origin == s.node.id) ≡ false →
-    OnOk (IsForeign s) (followed s e logs)
-followed_foreign s e logs other =
-    kept_ok (IsForeign s)
-    (option_map refused.Busy (writer_of (names_taken s (kept_from e.origin s.known)) s.place) ∷ [])
-    (with_syncs s.place (set_syncs s.node.id s.known e logs) nothing_brought)
-    (all_map (λ l. l.origin ≡ e.origin) (λ l. l.origin ≡ s.node.id → ⊥)
-    (λ l of own. false≢true (sym other ∙ eq-eqb e.origin s.node.id (sym of ∙ own))) _
-    (syncs_own s.place s.node.id s.known e logs))
+found_origin : (w : World) (s : Seat) (e : Event) (a : Option Errand) → OnSome (ComesFrom e.origin) a →
+    OnOk (IsOfOrigin (IsApart e.origin s) e.origin) (found_by w s e a)
+found_origin w s e None comes = tt
+found_origin w s e (Some (ToCopy c)) comes =
+    any_bind (IsOfOrigin (IsApart e.origin s) e.origin) (provided c.provider w.memory s (at_node c.provider w)) _
+    (copied_origin (IsApart e.origin s) e.origin c s e)
+found_origin w s e (Some (ToFollow provider)) comes =
+    bind_ok (λ p. (provider == s.node.id) ≡ false) (IsOfOrigin (IsApart e.origin s) e.origin)
+    (provided provider w.memory s (at_node provider w)) _
+    (provided_other provider w.memory s (at_node provider w))
+    (λ p other. (
+      subst (λ id. (id == s.node.id) ≡ false) comes other,
+      syncs_taken_own s.node.id s.known e (logged p.node),
+    ))
+
+errand_found : (w : World) (s : Seat) (e : Event) →
+    OnOk (IsOfOrigin (IsApart e.origin s) e.origin) (found_by w s e (errand_of s e))
+errand_found w s e =
+    found_origin w s e (errand_of s e) (errand_comes s.node.id (receives_from e.origin s.known) e.origin e.body)
+
+-- ---- what is kept
+
+-- the database of this name is a node, and the origin is another one
+abbrev pub IsOtherThan : ℕ → List ℕ → Named Place → Type 0
+IsOtherThan origin name ps = (id : ℕ) × ((origin == id) ≡ false) × HoldsOf (IsNodeOf id) name ps
+
+abbrev IsKeptForeign : Named Place → OfFetch
+IsKeptForeign ps name origin f = IsOfOrigin (IsOtherThan origin name ps) origin f.found
+
+-- so it is with all that is kept
+abbrev pub KeepForeign : World → Type 0
+KeepForeign w = AllKept (λ name origin f. IsOfOrigin (IsOtherThan origin name w.places) origin f.found) w.memory.fetches
+
+fetched_foreign : (w : World) → AreNamedOnce w.places → (node origin : ℕ) →
+    OnOk (λ x. IsKeptForeign w.places x.seat.name x.event.origin (fetch_of x)) (fetched node origin w)
+fetched_foreign w once node origin =
+    bind_ok (IsSeat w.places) Kept (on_turn node w) _ (turn_ok node w once)
+    (λ s seat. any_bind Kept (taken_up (next_at w.memory s origin)) _
+    (λ e. bind_ok (IsOfOrigin (IsApart e.origin s) e.origin) Kept (found_by w s e (errand_of s e)) _
+    (errand_found w s e)
+    (λ f is. origin_then (IsApart e.origin s) (IsOtherThan e.origin s.name w.places)
+    (λ other. (s.node.id, other, (s.place, seat.found, ap id_of seat.node))) e.origin f is)))
+  where
+    Kept : Fetched → Type 0
+    Kept x = IsKeptForeign w.places x.seat.name x.event.origin (fetch_of x)
+
+pub foreign_step : (w v : World) (h : Happening) → Step w h v → AreNamedOnce w.places →
+    ((act : Act) → AllHold IsFormed (outcome act w).commits w.places) → KeepForeign w → KeepForeign v
+foreign_step w v h step once acts keep =
+    all_kept (IsKeptForeign w.places) (IsKeptForeign v.places)
+    (λ name origin f. origin_then (IsOtherThan origin name w.places) (IsOtherThan origin name v.places)
+    (λ (id, other, there). (id, other, on_step (keeps_id id) name w v h step acts there)) origin f.found)
+    v.memory.fetches
+    (kept_step (IsKeptForeign w.places) w v h step (fetched_foreign w once) keep)
 
 -- ---- a turn
 
-brought_foreign : (w : World) (s : Seat) (e : Event) (a : Option Errand) → OnSome (ComesFrom e.origin) a →
-    OnOk (IsForeign s) (brought_by w s e a)
-brought_foreign w s e None comes = tt
-brought_foreign w s e (Some (ToCopy c)) comes =
-    any_bind (IsForeign s) (provided c.provider w.memory s (at_node c.provider w)) _ (λ p. copied_foreign c s e p)
-brought_foreign w s e (Some (ToFollow provider)) comes =
-    bind_ok (λ p. (provider == s.node.id) ≡ false) (IsForeign s)
-    (provided provider w.memory s (at_node provider w)) _
-    (provided_other provider w.memory s (at_node provider w))
-    (λ p other. followed_foreign s e (logged p.node)
-    (subst (λ id. (id == s.node.id) ≡ false) comes other))
+apart_at : (w : World) (s : Seat) (origin : ℕ) → IsSeat w.places s → IsOtherThan origin s.name w.places →
+    IsApart origin s
+apart_at w s origin seat (id, other, (q, found, is)) =
+    let one = one_found q s.place (sym found ∙ seat.found) in
+    let same = one_found id s.node.id (sym is ∙ ap (λ (p : Place). id_of p.node) one ∙ ap id_of seat.node) in
+    subst (λ i. (origin == i) ≡ false) same other
+
+for_foreign : (w : World) (s : Seat) (e : Event) → IsSeat w.places s → KeepForeign w →
+    OnOk (IsOfOrigin (IsApart e.origin s) e.origin) (found_for w s e)
+for_foreign w s e seat keep = by (kept_fetch s.name e.origin e w.memory) refl
+  where
+    by : (o : Option Found) → kept_fetch s.name e.origin e w.memory ≡ o →
+        OnOk (IsOfOrigin (IsApart e.origin s) e.origin) (found_or w s e o)
+    by None none = errand_found w s e
+    by (Some f) some =
+        let k = kept_for (IsKeptForeign w.places) s.name e w.memory f keep some in
+        still_origin (IsApart e.origin s) e.origin s.known f
+        (subst (IsOfOrigin (IsApart e.origin s) e.origin) k.found
+        (origin_then (IsOtherThan e.origin s.name w.places) (IsApart e.origin s) (apart_at w s e.origin seat) e.origin
+        k.fetch.found k.has))
 
 -- An event that a node of the session applies, with which it logs nothing of its own.
 pub record CarriesForeign (ps : Named Place) (c : Carried) : Type 0 where
   pub seat : IsSeat ps c.seat
   pub foreign : IsForeign c.seat c.brought
 
-pub work_foreign : (w : World) → AreNamedOnce w.places → (node origin : ℕ) →
+pub work_foreign : (w : World) → AreNamedOnce w.places → KeepForeign w → (node origin : ℕ) →
     OnOk (CarriesForeign w.places) (worked node origin w)
-work_foreign w once node origin =
+work_foreign w once keep node origin =
     bind_ok (IsSeat w.places) (CarriesForeign w.places) (on_turn node w) _ (turn_ok node w once)
     (λ s seat. any_bind (CarriesForeign w.places) (taken_up (next_at w.memory s origin)) _
-    (λ e. bind_ok (IsForeign s) (CarriesForeign w.places) (brought_by w s e (errand_of s e)) _
-    (brought_foreign w s e (errand_of s e)
-    (errand_comes s.node.id (receives_from e.origin s.known) e.origin e.body))
-    (λ b foreign. record { seat = seat; foreign = foreign })))
+    (λ e. bind_ok (IsOfOrigin (IsApart e.origin s) e.origin) (CarriesForeign w.places) (found_for w s e) (settled s e)
+    (for_foreign w s e seat keep)
+    (λ f is. kept_ok (CarriesForeign w.places)
+    (option_map refused.Busy (writer_of (tables_in f) s.place) ∷ []) (carried s e (brought_of s.place f))
+    (record { seat = seat; foreign = brought_foreign s e.origin f is }))))

@@ -1,15 +1,14 @@
 -- What every step keeps of a database holds of what that database becomes.
-use Rattle.std.proofs.Common.{◌≡◌, ℕ, Bool, true, false, List, [], ◌∷◌, Some, refl, sym, ap, subst, ◌∙◌}
-use Rattle.std.specs.Str.{bytes_eq}
-use Rattle.slon_model.specs.Names.{Named, find_named, put_named}
+use Rattle.std.proofs.Common.{ℕ, List, [], ◌∷◌, sym, subst}
 use Rattle.slon_model.specs.Place.{Place}
 use Rattle.slon_model.specs.Deciding.{place_by}
 use Rattle.slon_model.specs.World.{World, Step, Grants, Denies, Misses, Asks, Acts, Happening, Leads}
-use Rattle.slon_model.proofs.Names.{bytes_same, found_behind, put_found, put_other, all_found, one_found}
+use Rattle.slon_model.proofs.Names.{found_behind, all_found}
 use Rattle.slon_laws.specs.Sound.{Sound}
 use Rattle.slon_laws.specs.Worlds.{AllPlaces}
 use Rattle.slon_laws.specs.Turning.{IsWithin}
 use Rattle.slon_laws.specs.Keeps.{Keeps}
+pub use Rattle.slon_laws.proofs.Holds.{HoldsOf, Becoming, put_holds}
 use Rattle.slon_laws.proofs.Keeps.{kept, turned_keeps}
 use Rattle.slon_laws.proofs.Acting.{acting_carries}
 use Rattle.slon_laws.proofs.Worlds.{sound_world_step}
@@ -17,32 +16,6 @@ use Rattle.slon_laws.proofs.Worlds.{sound_world_step}
 -- each step of a database keeps it, where the database is sound
 abbrev pub KeptBySteps : (Place → Type 0) → Type 0
 KeptBySteps R = Keeps IsWithin (λ task. Unit {0}) (λ p. Sound p × R p) R
-
--- it holds of the database of this name
-abbrev pub HoldsOf : (Place → Type 0) → List ℕ → Named Place → Type 0
-HoldsOf R name ps = (q : Place) × (find_named name ps ≡ Some q) × R q
-
--- A database of this name becomes another one, and what held of it holds still.
-pub record Becoming (R : Place → Type 0) (ps : Named Place) : Type 0 where
-  pub name : List ℕ
-  pub before : Place
-  pub behind : Place
-  pub at : find_named name ps ≡ Some before
-  pub on : R before → R behind
-
-pub put_holds : {R : Place → Type 0} (name : List ℕ) (ps : Named Place) (b : Becoming R ps) → HoldsOf R name ps →
-    HoldsOf R name (put_named b.name b.behind ps)
-put_holds {R} name ps b (q, found, is) = by (bytes_eq name b.name) refl
-  where
-    by : (c : Bool) → bytes_eq name b.name ≡ c → HoldsOf R name (put_named b.name b.behind ps)
-    by true same =
-        let here : name ≡ b.name = bytes_same name b.name same in
-        let one : q ≡ b.before = one_found q b.before (sym found ∙ ap (λ k. find_named k ps) here ∙ b.at) in (
-          b.behind,
-          ap (λ k. find_named k (put_named b.name b.behind ps)) here ∙ put_found b.name b.behind b.before ps b.at,
-          b.on (subst R one is),
-        )
-    by false differ = (q, put_other name b.name b.behind ps differ ∙ found, is)
 
 holds_step : {R : Place → Type 0} → KeptBySteps R → (name : List ℕ) (w v : World) (h : Happening) → Step w h v →
     AllPlaces Sound w → HoldsOf R name w.places → HoldsOf R name v.places

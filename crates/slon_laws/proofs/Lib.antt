@@ -4,10 +4,13 @@ pub mod Committing
 pub mod Covering
 pub mod Decides
 pub mod Drawing
+pub mod Fetches
 pub mod Fillable
 pub mod Following
 pub mod Foreign
 pub mod Formed
+pub mod Holds
+pub mod Identity
 pub mod Keeps
 pub mod Keys
 pub mod Later

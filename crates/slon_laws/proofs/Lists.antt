@@ -1,10 +1,14 @@
 -- What holds of all elements of a list.
 use Rattle.std.proofs.Common.{◌≡◌, ℕ, Bool, true, false, cond, List, [], ◌∷◌, ◌++◌, map, filter, reverse, flat_map}
 use Rattle.std.proofs.Common.{refl, sym, subst, inl, inr, Option, Some, None}
+use Rattle.std.proofs.lemmas.Bool.{eqb-true}
 use Rattle.std.specs.Prelude.{◌==◌, nat_lt, filter_map}
 use Rattle.std.specs.List.{AllByRecursion, cons_option}
 use Rattle.std.proofs.lemmas.List.{reverse-append}
-use Rattle.slon_model.specs.Maps.{Map, with_entry}
+use Rattle.std.specs.Str.{bytes_eq}
+use Rattle.slon_model.specs.Names.{Named, find_named}
+use Rattle.slon_model.specs.Maps.{Map, entry_at, with_entry}
+use Rattle.slon_model.proofs.Names.{bytes_same}
 use Rattle.slon_laws.specs.Lists.{IsAmong}
 use Rattle.slon_laws.proofs.Owners.{OnSome}
 
@@ -81,3 +85,30 @@ all_with P id x (e ∷ es) here all =
         | false ↦ (all.0, all_with P id x es here all.1)
       ]
     ]
+
+-- ---- maps from names
+
+-- what all entries have, the one that is found has
+pub all_named : {X : Type 0} (P : List ℕ × X → Type 0) (name : List ℕ) (x : X) (es : Named X) → AllByRecursion P es →
+    find_named name es ≡ Some x → P (name, x)
+all_named P name x [] all found = absurd cc
+all_named P name x (e ∷ es) all found =
+    elim (bytes_eq name e.0)
+    as (λ b. bytes_eq name e.0 ≡ b → cond b (Some e.1) (find_named name es) ≡ Some x → P (name, x)) [
+      | true ↦ λ same here. let is : e.1 ≡ x = cc in
+          subst (λ k. P (k, x)) (sym (bytes_same name e.0 same)) (subst (λ y. P (e.0, y)) is all.0)
+      | false ↦ λ other later. all_named P name x es all.1 later
+    ] refl found
+
+-- ---- maps from ids
+
+-- what all entries have, the one that is found has
+pub all_entry : {X : Type 0} (P : ℕ × X → Type 0) (id : ℕ) (x : X) (es : Map X) → AllByRecursion P es →
+    entry_at id es ≡ Some x → P (id, x)
+all_entry P id x [] all found = absurd cc
+all_entry P id x (e ∷ es) all found =
+    elim (id == e.0) as (λ b. (id == e.0) ≡ b → cond b (Some e.1) (entry_at id es) ≡ Some x → P (id, x)) [
+      | true ↦ λ same here. let is : e.1 ≡ x = cc in
+          subst (λ k. P (k, x)) (sym (eqb-true id e.0 same)) (subst (λ y. P (e.0, y)) is all.0)
+      | false ↦ λ other later. all_entry P id x es all.1 later
+    ] refl found

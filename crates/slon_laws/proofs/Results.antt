@@ -31,6 +31,12 @@ pub ok_then : {A : Type 0} (P Q : A → Type 0) (r : Result A Refusal) → OnOk 
 ok_then P Q (Ok a) is on = on a is
 ok_then P Q (Err refusal) is on = tt
 
+-- with that there is it
+pub ok_is : {A : Type 0} (P Q : A → Type 0) (r : Result A Refusal) → OnOk P r → ((a : A) → r ≡ Ok a → P a → Q a) →
+    OnOk Q r
+ok_is P Q (Ok a) is on = on a refl is
+ok_is P Q (Err refusal) is on = tt
+
 pub both_ok : {A : Type 0} (P Q : A → Type 0) (r : Result A Refusal) → OnOk P r → OnOk Q r → OnOk (λ a. P a × Q a) r
 both_ok P Q (Ok a) one other = (one, other)
 both_ok P Q (Err refusal) one other = tt

@@ -1,13 +1,18 @@
 -- The node that a turn finds is that of a database of the session.
-use Rattle.std.proofs.Common.{◌≡◌, ℕ, true, false, cond, List, [], ◌∷◌, Option, Some, None, Err, refl, not}
+use Rattle.std.proofs.Common.{◌≡◌, ℕ, true, false, cond, List, [], ◌∷◌, Option, Some, None, Ok, Err, refl, not}
+use Rattle.std.specs.Prelude.{option_map}
+use Rattle.std.specs.Option.{option_or}
 use Rattle.std.specs.List.{AllByRecursion}
 use Rattle.slon_model.specs.declared.reply.Refusal.{Refusal}
 use Rattle.slon_model.specs.declared.reply.Refusal.TheVariants as refused
 use Rattle.slon_model.specs.Names.{Named, find_named}
 use Rattle.slon_model.specs.Rows.{member}
 use Rattle.slon_model.specs.Deeds.{Node, knowledge}
-use Rattle.slon_model.specs.Place.{Place, is_running}
-use Rattle.slon_model.specs.Sessions.{World, Seat, when, seat_of}
+use Rattle.slon_model.specs.Maps.{entry_at}
+use Rattle.slon_model.specs.Membership.{already}
+use Rattle.slon_model.specs.Place.{Place, is_running, node_id}
+use Rattle.slon_model.specs.Reaching.{database_by, database_of_line, database_up}
+use Rattle.slon_model.specs.Sessions.{World, Running, Seat, when, seat_of}
 use Rattle.slon_model.specs.Turns.{at_node, seat_at, on_turn}
 use Rattle.slon_model.proofs.Names.{all_map}
 use Rattle.slon_laws.specs.Sound.{AreNamedOnce}
@@ -60,3 +65,36 @@ turn_ok node w once =
     bind_ok (IsSeat w.places) (IsSeat w.places) (seat_at node (at_node node w)) _
     (seat_at_ok node w (at_node node w) (λ e is. at_node_found node w e once is))
     (λ s is. kept_ok (IsSeat w.places) (when (not (member node w.memory.started)) (refused.Off node) ∷ []) s is)
+
+-- ---- databases that are reached
+
+up_ok : (w : World) (name : List ℕ) → OnOk (IsFound w.places) (database_up name (find_named name w.places))
+up_ok w name = by (find_named name w.places) refl
+  where
+    by : (o : Option Place) → find_named name w.places ≡ o → OnOk (IsFound w.places) (database_up name o)
+    by None is = tt
+    by (Some p) is =
+        elim (is_running p.standing)
+        as (λ b. OnOk (IsFound w.places) (cond b (Ok (name, p)) (Err (refused.Down name)))) [
+          | true ↦ is
+          | false ↦ tt
+        ]
+
+pub line_ok : (run : Running) (id : ℕ) (w : World) → OnOk (IsFound w.places) (database_of_line run id w)
+line_ok run id w = by (entry_at id run.lines)
+  where
+    by : (o : Option (List ℕ)) → OnOk (IsFound w.places) (database_by w id o)
+    by None = tt
+    by (Some conninfo) = up_ok w _
+
+-- a database that is no node, nor would be one by a commit in doubt
+pub already_none : (o : Option ℕ) → already o ≡ None → o ≡ None
+already_none None none = refl
+already_none (Some node) none = absurd cc
+
+pub no_node : (p : Place) → node_id p ≡ None → p.node ≡ None
+no_node p none = by p.node none
+  where
+    by : (o : Option Node) → option_or (option_map (λ n. n.id) o) p.promised ≡ None → o ≡ None
+    by None none = refl
+    by (Some n) none = absurd cc

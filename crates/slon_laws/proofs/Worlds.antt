@@ -1,12 +1,12 @@
 -- Every database of a legal history is sound, spelled and small.
 use Rattle.std.proofs.Common.{◌≡◌, ℕ, List, [], ◌∷◌, sym, subst}
-use Rattle.std.specs.List.{AllByRecursion}
 use Rattle.slon_model.specs.Tasks.{Task, ToFound, OnOne, Act, subject_of}
 use Rattle.slon_model.specs.Sessions.{Commit}
 use Rattle.slon_model.specs.Spoken.{IsTask, IsSubject, IsSpoken}
 use Rattle.slon_model.specs.Place.{Place, bare_place}
 use Rattle.slon_model.specs.World.{World, start, Happening, Step, Grants, Denies, Misses, Asks, Acts, Leads, outcome}
 use Rattle.slon_model.proofs.Names.{all_map, all_put, all_behind, all_found}
+use Rattle.slon_laws.specs.Fetches.{IsFormedFound, KeepFormed}
 use Rattle.slon_laws.specs.Sound.{AreNamedOnce, Sound}
 use Rattle.slon_laws.specs.Spelled.{IsSpelled}
 use Rattle.slon_laws.specs.Keeps.{Keeps}
@@ -14,7 +14,9 @@ use Rattle.slon_laws.specs.Turning.{AllHold, IsFormed, IsWithin}
 use Rattle.slon_laws.specs.Worlds.{AllPlaces, AllSpoken}
 use Rattle.slon_laws.proofs.Keeps.{kept, carried}
 use Rattle.slon_laws.proofs.Acting.{acting_turns, outcome_all}
-use Rattle.slon_laws.proofs.Bringing.{outcome_formed}
+use Rattle.slon_laws.proofs.Bringing.{fetch_formed, outcome_formed}
+use Rattle.slon_laws.proofs.Fetches.{kept_step}
+use Rattle.slon_laws.proofs.Foreign.{KeepForeign, foreign_step}
 use Rattle.slon_laws.proofs.Named.{named_world}
 use Rattle.slon_laws.proofs.Sounds.{sound_bare, keeps_sound}
 use Rattle.slon_laws.proofs.Spells.{spelled_bare, keeps_spelled}
@@ -85,33 +87,42 @@ formed_task : (h : Happening) → IsSpoken h.command → (name : List ℕ) (task
     subject_of h.command ≡ OnOne name task → IsTask task
 formed_task h spoken name task about = (subst IsSubject about spoken).1
 
+-- What is known of a session: of its databases, and of what their nodes fetched and keep.
+pub record IsFitWorld (w : World) : Type 0 where
+  pub places : AllPlaces (λ p. Sound p × IsSpelled p) w
+  pub formed : KeepFormed w
+  pub foreign : KeepForeign w
+
+pub fit_spelled : (w : World) → AllPlaces (λ p. Sound p × IsSpelled p) w → AllPlaces IsSpelled w
+fit_spelled w all = all_map (λ e. Sound e.1 × IsSpelled e.1) (λ e. IsSpelled e.1) (λ e s. s.1) w.places all
+
 fit_world_step : (w v : World) (h : Happening) → IsSpoken h.command → Step w h v → AreNamedOnce w.places →
-    AllPlaces (λ p. Sound p × IsSpelled p) w → AllPlaces (λ p. Sound p × IsSpelled p) v
-fit_world_step w v h spoken step once all =
-    let spelled = all_map (λ e. Sound e.1 × IsSpelled e.1) (λ e. IsSpelled e.1) (λ e s. s.1) w.places all in
-    all_step lasts_spelled (stepped w v h step) (formed_task h spoken)
-    (λ act. outcome_formed w once spelled act (outcome_all act w)) all
-
-pub fit_world : (limit : ℕ) (history : List Happening) (w : World) → AllSpoken history → Leads (start limit) history w →
-    AllPlaces (λ p. Sound p × IsSpelled p) w
-fit_world limit [] w spoken is = subst (AllPlaces (λ p. Sound p × IsSpelled p)) (sym is) tt
-fit_world limit (h ∷ hs) w spoken leads =
-    fit_world_step leads.0 w h spoken.0 leads.2 (named_world limit hs leads.0 leads.1)
-    (fit_world limit hs leads.0 spoken.1 leads.1)
-
-pub spelled_world_step : (w v : World) (h : Happening) → IsSpoken h.command → Step w h v → AreNamedOnce w.places →
-    AllPlaces Sound w → AllPlaces IsSpelled w → AllPlaces IsSpelled v
-spelled_world_step w v h spoken step once sound all =
-    all_map (λ e. Sound e.1 × IsSpelled e.1) (λ e. IsSpelled e.1) (λ e s. s.1) v.places
-    (fit_world_step w v h spoken step once (both w.places sound all))
+    IsFitWorld w → IsFitWorld v
+fit_world_step w v h spoken step once fit = record {
+  places = all_step lasts_spelled (stepped w v h step) (formed_task h spoken) acts fit.places;
+  formed = kept_step (λ name origin f. IsFormedFound f.found) w v h step (fetch_formed w spelled) fit.formed;
+  foreign = foreign_step w v h step once acts fit.foreign;
+}
   where
-    both : (es : List (List ℕ × Place)) → AllByRecursion (λ e. Sound e.1) es → AllByRecursion (λ e. IsSpelled e.1) es →
-        AllByRecursion (λ e. Sound e.1 × IsSpelled e.1) es
-    both [] ss ws = tt
-    both (e ∷ es) ss ws = ((ss.0, ws.0), both es ss.1 ws.1)
+    spelled : AllPlaces IsSpelled w
+    spelled = fit_spelled w fit.places
+
+    acts : (act : Act) → AllHold IsFormed (outcome act w).commits w.places
+    acts act = outcome_formed w (record { once = once; spelled = spelled; formed = fit.formed; foreign = fit.foreign })
+        act (outcome_all act w)
+
+pub fit_now : (limit : ℕ) (history : List Happening) (w : World) → AllSpoken history → Leads (start limit) history w →
+    IsFitWorld w
+fit_now limit [] w spoken is = subst IsFitWorld (sym is) (record { places = tt; formed = tt; foreign = tt })
+fit_now limit (h ∷ hs) w spoken leads =
+    fit_world_step leads.0 w h spoken.0 leads.2 (named_world limit hs leads.0 leads.1)
+    (fit_now limit hs leads.0 spoken.1 leads.1)
 
 pub spelled_world : (limit : ℕ) (history : List Happening) (w : World) → AllSpoken history →
     Leads (start limit) history w → AllPlaces IsSpelled w
-spelled_world limit history w spoken leads =
-    all_map (λ e. Sound e.1 × IsSpelled e.1) (λ e. IsSpelled e.1) (λ e s. s.1) w.places
-    (fit_world limit history w spoken leads)
+spelled_world limit history w spoken leads = fit_spelled w (fit_now limit history w spoken leads).places
+
+-- what nodes keep has its forms
+pub keep_formed_world : (limit : ℕ) (history : List Happening) (w : World) → AllSpoken history →
+    Leads (start limit) history w → KeepFormed w
+keep_formed_world limit history w spoken leads = (fit_now limit history w spoken leads).formed

@@ -1,4 +1,5 @@
 pub mod Allowed
+pub mod Fetches
 pub mod Keeps
 pub mod Keys
 pub mod Laws

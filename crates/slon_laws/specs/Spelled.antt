@@ -62,12 +62,18 @@ abbrev pub AreForeign : List Deed → Option Node → Type 0
 AreForeign deeds None = Unit {0}
 AreForeign deeds (Some n) = AllByRecursion (λ d. AllByRecursion (λ l. l.origin ≡ n.id → ⊥) d.logs) deeds
 
--- A commit of a database: each deed is formed, a node that the database becomes has logged nothing, and the deeds log
--- nothing of the node's own.
+-- a database that becomes a node was none
+abbrev pub IsAlone : Option Node → Option Node → Type 0
+IsAlone None own = Unit {0}
+IsAlone (Some n) own = own ≡ None
+
+-- A commit of a database: each deed is formed, a node that the database becomes has logged nothing, the deeds log
+-- nothing of the node's own, and a node becomes no other one.
 pub record IsFormedCommit (c : Commit) (p : Place) : Type 0 where
   pub deeds : AllByRecursion IsFormedDeed c.deeds
   pub fresh : logs_in c.becomes ≡ []
   pub foreign : AreForeign c.deeds (option_or c.becomes p.node)
+  pub alone : IsAlone c.becomes p.node
 
 -- what is stored is at most the limit of stored numbers
 pub record IsSmall (p : Place) : Type 0 where

@@ -23,7 +23,7 @@ use Rattle.slon_main.specs.Ending.{EndsInPart, InReply, InLast, EndsRun, EndsAt,
 use Rattle.slon_main.specs.Ending.{hands_back, is_cut, is_run, is_whole, session_word, database_limit, bad_line}
 use Rattle.slon_main.specs.Ending.{read_line}
 use Rattle.slon_main.specs.Ending.{store_line, long_line}
-use Rattle.cluster_engine.proofs.Walking.{none_fit, none_wait}
+use Rattle.cluster_engine.proofs.Walking.{none_fit, none_kept, none_wait}
 use Rattle.slon_main.proofs.Causes.{rose_since}
 use Rattle.slon_main.proofs.Runs.{ran_nothing}
 
@@ -211,6 +211,7 @@ ends_short shelf told unread written status has is none =
           limit = refl;
           fits = tt;
           memory = record { scripts = none_fit empty refl; switches = refl; waits = none_wait empty refl };
+          keeps = λ name up. none_kept empty refl name;
         };
         given = refl;
       }),
@@ -221,7 +222,7 @@ ends_short shelf told unread written status has is none =
       limit = database_limit;
       given = 0;
       bases = [];
-      memory = record { scripts = empty; switches = record { started = []; cuts = [] }; queues = empty };
+      memory = record { scripts = empty; switches = record { started = []; cuts = [] }; held = empty };
     }
 
 -- where the session could not be entered

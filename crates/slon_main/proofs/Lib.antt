@@ -2,4 +2,3 @@ pub mod Asks
 pub mod Causes
 pub mod Ends
 pub mod Runs
-pub mod Subscribing

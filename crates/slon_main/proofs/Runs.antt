@@ -12,8 +12,6 @@ use Rattle.slon_model.specs.Names.{Named, find_named}
 use Rattle.slon_model.specs.Printed.{reply_line}
 use Rattle.slon_model.specs.Spoken.{IsSpoken}
 use Rattle.slon_model.specs.World.{World, start, commands_of, replies_of, lines_of}
-use Rattle.slon_laws.proofs.Worlds.{sound_world, spelled_world}
-use Rattle.stream_laws.proofs.Steps.{regular_world}
 use Rattle.session_text.specs.Reading.{session_limit}
 use Rattle.session_text.specs.Handing.{Comes}
 use Rattle.session_text.specs.Replies.{NumbersFit}
@@ -28,8 +26,8 @@ use Rattle.cluster_engine.specs.Agreed.{Clustered, Agrees, Follows}
 use Rattle.cluster_engine.specs.Calls.{arms_later, happened, AllCertain}
 use Rattle.cluster_engine.specs.Failing.{IsWithin}
 use Rattle.cluster_engine.specs.Telling.{AreTold}
-use Rattle.cluster_engine.proofs.Living.{live_world}
 use Rattle.cluster_engine.proofs.Stepping.{sure_step}
+use Rattle.cluster_engine.proofs.Subscribing.{led_follows}
 use Rattle.slon_main.specs.declared.run.Stop.{Stop}
 use Rattle.slon_main.specs.declared.run.Stop.TheVariants.{BadLine, Read, Write, NoMemory, NoStore, TooLong}
 use Rattle.slon_main.specs.Going.{behind_commands, Came, Point, Spot, Running}
@@ -37,7 +35,7 @@ use Rattle.slon_main.specs.Running.{Begun, Pieces, Starts, NoneArms, FetchesSo, 
 use Rattle.slon_main.specs.Running.{NamesMade, is_no_store, is_of_command, Ran, RanOn, IsUnread, InLine}
 use Rattle.slon_main.specs.Running.{InFile, RunsSession, StopsAt}
 use Rattle.slon_main.proofs.Causes.{never_still}
-use Rattle.slon_main.proofs.Subscribing.{subscribed}
+use Rattle.follow_laws.proofs.Subscribing.{subscribed}
 
 -- one command more before the others
 one_more : (commands : List Command) (command : Command) (session : Session) →
@@ -175,13 +173,8 @@ begins b bytes at first = record {
 
 -- the databases are as each legal history leaves them
 pub follows : (b : Begun) (at : Spot) → (running : Running b at) → Follows running.world at.cluster
-follows b at running = record {
-  agrees = running.agrees;
-  sound = sound_world b.limit running.history running.world running.leads;
-  spelled = spelled_world b.limit running.history running.world running.spoken running.leads;
-  regular = regular_world b.limit running.history running.world running.leads;
-  live = live_world b.limit running.history running.world running.leads;
-}
+follows b at running = led_follows b.limit running.history running.world at.cluster
+    (record { leads = running.leads; spoken = running.spoken; agrees = running.agrees })
 
 -- the last command and those before it
 none_before : (before : List Command) (last : Command) → NoneArms (before ++ last ∷ []) → NoneArms before

@@ -2,4 +2,3 @@ pub mod Ending
 pub mod Going
 pub mod Running
 pub mod Statuses
-pub mod Subscribed

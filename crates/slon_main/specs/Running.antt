@@ -25,7 +25,7 @@ use Rattle.cluster_engine.specs.Failing.{IsWithin, Pays}
 use Rattle.cluster_engine.specs.Telling.{AreTold, KeepsTelling}
 use Rattle.slon_main.specs.declared.run.Stop.{Stop}
 use Rattle.slon_main.specs.declared.run.Stop.TheVariants.{BadLine, Read, Write, NoMemory, NoStore, TooLong}
-use Rattle.slon_main.specs.Subscribed.{Subscribed}
+use Rattle.follow_laws.specs.Subscribed.{Subscribed}
 
 -- the shelf tells that its stores begin empty and tell their rows
 abbrev pub Tells : Shelved → Type 0

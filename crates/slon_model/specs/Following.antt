@@ -1,7 +1,8 @@
 -- What a node takes with a SYNC of the sets that it keeps: the rows that its provider has logged between two snapshots.
 use Rattle.std.specs.Prelude.{ℕ, ◌+◌, ◌==◌, ◌&&◌, not, if◌then◌else◌, Bool, List, [], ◌∷◌, filter, length, map}
-use Rattle.std.specs.Prelude.{unwrap_or}
+use Rattle.std.specs.Prelude.{flat_map, sum_by, unwrap_or}
 use Rattle.std.specs.List.{list_any}
+use Rattle.std.specs.FinMap.{entries}
 use Rattle.std.specs.Str.{bytes_eq}
 use Rattle.slon_model.specs.Names.{Named, find_named}
 use Rattle.slon_model.specs.Maps.{Map, with_entry}
@@ -10,7 +11,7 @@ use Rattle.slon_model.specs.Snapshots.{Snapshot, sees}
 use Rattle.slon_model.specs.Events.{Event}
 use Rattle.slon_model.specs.Config.{Config, forwards, is_origin, tables_of}
 use Rattle.slon_model.specs.Views.{View, view_after}
-use Rattle.slon_model.specs.Deeds.{Brought, Knowledge, Logged}
+use Rattle.slon_model.specs.Deeds.{Brought, Knowledge, Logged, nothing_brought}
 use Rattle.slon_model.specs.Place.{Place, standing_rows}
 
 -- ---- the rows of a log
@@ -36,11 +37,13 @@ delta origin tables old new logs =
 
 -- ---- a SYNC
 
--- What a node takes of a set with a SYNC: how far it is in the set then, the rows of the log, in their order, and whether
--- it logs them too.
+-- What a node takes of a set with a SYNC: how far it was in the set as this was read, and how far it is behind the
+-- SYNC, the tables to which it takes rows, the rows of the log, in their order, and whether it logs them too.
 pub record SetSync : Type 0 where
   pub set_id : ℕ
+  pub before : View
   pub view : View
+  pub tables : Map (List ℕ)
   pub rows : List Logged
   pub forwards : Bool
 
@@ -52,7 +55,9 @@ abbrev pub set_sync : ℕ → Knowledge → Event → List Logged → ℕ × Vie
 set_sync own k e logs v =
     record {
       set_id = v.0;
+      before = v.1;
       view = view_after e v.1;
+      tables = tables_taken own v.0 k.config;
       rows = delta e.origin (tables_taken own v.0 k.config) v.1.seen e.taken logs;
       forwards = forwards v.0 own k.config;
     }
@@ -94,3 +99,34 @@ with_sync here t b =
 abbrev pub with_syncs : Place → List SetSync → Brought → Brought
 with_syncs here [] b = b
 with_syncs here (t ∷ more) b = with_syncs here more (with_sync here t b)
+
+-- ---- what is found for an event
+
+-- how many rows these tables have
+abbrev pub rows_in : Named Rows → ℕ
+rows_in rows = sum_by (λ r. length (entries r.1)) rows
+
+-- What a node finds that is to come with an event: nothing, a copy of a set, or what it takes of sets with a SYNC.
+pub data Found : Type 0 where
+  FoundNothing : Found
+  FoundCopy : (set_id : ℕ) (view : View) (rows : Named Rows) → Found
+  FoundSyncs : (syncs : List SetSync) → Found
+
+-- what that brings to a database
+abbrev pub brought_of : Place → Found → Brought
+brought_of here FoundNothing = nothing_brought
+brought_of here (FoundCopy set view rows) =
+    record { views = (set, view) ∷ []; rows = rows; logs = []; count = rows_in rows }
+brought_of here (FoundSyncs syncs) = with_syncs here syncs nothing_brought
+
+-- how many rows were found
+abbrev pub count_of : Found → ℕ
+count_of FoundNothing = 0
+count_of (FoundCopy set view rows) = rows_in rows
+count_of (FoundSyncs syncs) = sum_by (λ t. length t.rows) syncs
+
+-- the names of the tables that it fills
+abbrev pub tables_in : Found → List (List ℕ)
+tables_in FoundNothing = []
+tables_in (FoundCopy set view rows) = map (λ r. r.0) rows
+tables_in (FoundSyncs syncs) = flat_map (λ t. map (λ u. u.1) t.tables) syncs

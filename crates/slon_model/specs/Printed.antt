@@ -8,7 +8,7 @@ use Rattle.slonik_script.specs.declared.refusal.ScriptRefusal.TheVariants.{NotIn
 use Rattle.slon_model.specs.declared.reply.Answer.{Answer}
 use Rattle.slon_model.specs.declared.reply.Answer.TheVariants.{Done, Opened, Acted, Unchanged, Committed, Listed, Kept}
 use Rattle.slon_model.specs.declared.reply.Answer.TheVariants.{Lost, Status, Statements, Emitted, Echoed, Ended, Heard}
-use Rattle.slon_model.specs.declared.reply.Answer.TheVariants.{LostOnTheWay, Applied}
+use Rattle.slon_model.specs.declared.reply.Answer.TheVariants.{LostOnTheWay, Applied, Fetched}
 use Rattle.slon_model.specs.declared.reply.EventKind.{EventKind}
 use Rattle.slon_model.specs.declared.reply.EventKind.TheVariants as kind
 use Rattle.slon_model.specs.declared.reply.Refusal.{Refusal}
@@ -86,6 +86,7 @@ answer_text (LostOnTheWay events confirms) =
     codes "ok lost events " ++ decimal events ++ codes " confirms " ++ decimal confirms
 answer_text (Applied kind number rows) =
     codes "ok " ++ kind_text kind ++ codes " " ++ decimal number ++ codes " rows " ++ decimal rows
+answer_text (Fetched number rows) = codes "ok fetched " ++ decimal number ++ codes " rows " ++ decimal rows
 
 abbrev pub script_text : ScriptRefusal → List ℕ
 script_text (BadToken line) = codes "no 80 badtoken " ++ decimal line

@@ -10,28 +10,18 @@ use Rattle.slon_model.specs.declared.reply.Reply.{Reply}
 use Rattle.slon_model.specs.Names.{Named, find_named, put_named, without}
 use Rattle.slon_model.specs.Maps.{Map}
 use Rattle.slon_model.specs.Rows.{Rows}
-use Rattle.node_rows.specs.declared.rows.Fence.{Fence}
 use Rattle.node_rows.specs.declared.body.Body.{Body}
 use Rattle.slon_model.specs.Events.{Event}
-use Rattle.slon_model.specs.Views.{View}
 use Rattle.slon_model.specs.Deeds.{Node, Deed, Emits, Knowledge, knowledge, with_deeds, progress, emitted_by}
+use Rattle.slon_model.specs.Following.{Found}
 use Rattle.slon_model.specs.Logs.{named}
 use Rattle.slon_model.specs.Place.{Place, is_running, fallen, doubted, deed, filled_by, open_xids, taken}
 use Rattle.slon_model.specs.Moves.{is_last_stamp, stored_limit}
 
--- What a node read for its next event of an origin: of each set the view that stood then and how many rows there were,
--- or the view that was copied; and the fence that stood then.
-pub record Share : Type 0 where
-  pub set_id : ℕ
-  pub view : View
-  pub rows : ℕ
-
+-- What a node fetched for its next event of an origin: the number of the event, and what it found.
 pub record Fetch : Type 0 where
-  pub event : Event
-  pub fence : Option Fence
-  pub shares : List Share
-  pub copied : Option View
-  pub rows : ℕ
+  pub number : ℕ
+  pub found : Found
 
 -- A script that runs: its cluster, its NODE lines, what is left of it, the last number that it has emitted at each
 -- node, and since when it waits.

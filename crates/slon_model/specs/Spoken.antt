@@ -15,7 +15,7 @@ use Rattle.slon_model.specs.Forms.{is_name, is_table_name, is_value, is_line, gr
 use Rattle.slon_model.specs.Rows.{Change, Put, Set, Remove}
 use Rattle.slon_model.specs.Tasks.{Task, ToMake, ToOpen, ToWrite, ToCommit, ToAbort, ToList, Act, ToRead, ToStart}
 use Rattle.slon_model.specs.Tasks.{ToStop, ToCut, ToJoin, ToSync, ToListen, Subject, OnNew, OnOne, OnAll, script_named}
-use Rattle.slon_model.specs.Tasks.{ToWork, subject_of}
+use Rattle.slon_model.specs.Tasks.{ToFetch, ToWork, subject_of}
 
 abbrev pub IsName : List ℕ → Type 0
 IsName word = is_name word ≡ true
@@ -105,6 +105,7 @@ IsRead (ToCut node other) = IsNode node × IsNode other
 IsRead (ToJoin node other) = IsNode node × IsNode other
 IsRead (ToSync node) = IsNode node
 IsRead (ToListen node server delivery) = IsNode node × IsNode server
+IsRead (ToFetch node origin) = IsNode node × IsNode origin
 IsRead (ToWork node origin) = IsNode node × IsNode origin
 IsRead others = Unit {0}
 

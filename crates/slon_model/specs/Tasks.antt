@@ -7,7 +7,7 @@ use Rattle.slon_model.specs.declared.command.Command.{Command}
 use Rattle.slon_model.specs.declared.command.Command.TheVariants.{Database, Table, Begin, Insert, Update, Delete}
 use Rattle.slon_model.specs.declared.command.Command.TheVariants.{Commit, Abort, Rows, Status, Crash, Up}
 use Rattle.slon_model.specs.declared.command.Command.TheVariants.{Slonik, Step, Kill, Start, Stop, Cut, Join}
-use Rattle.slon_model.specs.declared.command.Command.TheVariants.{Sync, Listen, Work}
+use Rattle.slon_model.specs.declared.command.Command.TheVariants.{Sync, Listen, Fetch, Work}
 use Rattle.slon_model.specs.declared.reading.Reading.{Reading}
 use Rattle.slon_model.specs.Rows.{Row, Change, Put, Set, Remove}
 
@@ -41,6 +41,7 @@ pub data Act : Type 0 where
   ToJoin : (node : ℕ) (other : ℕ) → Act
   ToSync : (node : ℕ) → Act
   ToListen : (node : ℕ) (server : ℕ) (delivery : Delivery) → Act
+  ToFetch : (node : ℕ) (origin : ℕ) → Act
   ToWork : (node : ℕ) (origin : ℕ) → Act
 
 pub data Subject : Type 0 where
@@ -83,6 +84,7 @@ subject_of (Cut node other) = OnAll (ToCut node other)
 subject_of (Join node other) = OnAll (ToJoin node other)
 subject_of (Sync node) = OnAll (ToSync node)
 subject_of (Listen node server delivery) = OnAll (ToListen node server delivery)
+subject_of (Fetch node origin) = OnAll (ToFetch node origin)
 subject_of (Work node origin) = OnAll (ToWork node origin)
 
 -- ---- the words that a command names

@@ -20,7 +20,7 @@ use Rattle.slon_model.specs.declared.reply.Reply.TheVariants.{Accepted, Refused,
 use Rattle.std.specs.Str.{bytes_eq}
 use Rattle.slon_model.specs.Names.{find_named}
 use Rattle.slon_model.specs.Tasks.{Task, ToFound, Act, ToRead, ToStep, ToForget, ToStart, ToStop, ToCut}
-use Rattle.slon_model.specs.Tasks.{ToJoin, ToSync, ToListen, ToWork, Subject, OnNew, OnOne, OnAll, subject_of}
+use Rattle.slon_model.specs.Tasks.{ToJoin, ToSync, ToListen, ToFetch, ToWork, Subject, OnNew, OnOne, OnAll, subject_of}
 use Rattle.slon_model.specs.Tasks.{Words, words_of}
 use Rattle.slon_model.specs.Place.{Place, is_running, bare_place, fallen}
 use Rattle.slon_model.specs.Deciding.{Choice, AsDue, Among, Fate, AllStand, Breaks, DoubtsAt, decide, result_of, sure}
@@ -30,7 +30,7 @@ use Rattle.slon_model.specs.Sessions.{Memory, Running, Commit, in_doubt, stand, 
 use Rattle.slon_model.specs.Scripts.{slonik_outcome, step_outcome, kill_outcome, without_script}
 use Rattle.slon_model.specs.Turns.{at_node, start_outcome, stop_outcome, cut_outcome, join_outcome, sync_outcome}
 use Rattle.slon_model.specs.Polls.{listen_outcome}
-use Rattle.slon_model.specs.Working.{work_outcome, source_of}
+use Rattle.slon_model.specs.Working.{fetch_outcome, work_outcome, fetch_source_of, source_of}
 use Rattle.slon_model.specs.Printed.{reply_line}
 
 -- ---- replies
@@ -93,6 +93,7 @@ outcome (ToCut node other) = cut_outcome node other
 outcome (ToJoin node other) = join_outcome node other
 outcome (ToSync node) = sync_outcome node
 outcome (ToListen node server delivery) = listen_outcome node server delivery
+outcome (ToFetch node origin) = fetch_outcome node origin
 outcome (ToWork node origin) = work_outcome node origin
 
 abbrev pub due_on : Subject → World → Reply
@@ -140,11 +141,12 @@ is_of name None = false
 is_of name (Some e) = bytes_eq name e.0
 
 -- a step may call on the store of each database, where something is left to do; a turn on that of its node, a poll on
--- that of the server too, and a turn that copies on that of the provider
+-- that of the server too, and a turn that reads what comes with an event on that of the provider
 abbrev pub may_break : Act → List ℕ → World → Bool
 may_break (ToStep script) name w = has_todo (find_named script w.memory.scripts)
 may_break (ToSync node) name w = is_of name (at_node node w)
 may_break (ToListen node server delivery) name w = is_of name (at_node node w) || is_of name (at_node server w)
+may_break (ToFetch node origin) name w = is_of name (at_node node w) || is_of name (fetch_source_of node origin w)
 may_break (ToWork node origin) name w = is_of name (at_node node w) || is_of name (source_of node origin w)
 may_break others name w = false
 

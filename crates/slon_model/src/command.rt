@@ -138,6 +138,11 @@ pub enum Command {
         server: u32,
         delivery: Delivery,
     },
+    /// Has a node read what comes with the next event of another one, and keep it.
+    Fetch {
+        node: u32,
+        origin: u32,
+    },
     /// Has a node apply the next event of another one.
     Work {
         node: u32,
@@ -157,6 +162,7 @@ impl Command {
             | Command::Join { .. }
             | Command::Sync { .. }
             | Command::Listen { .. }
+            | Command::Fetch { .. }
             | Command::Work { .. } => None,
             Command::Database { name } => Some(name),
             Command::Slonik { script, .. } | Command::Step { script } | Command::Kill { script } =>

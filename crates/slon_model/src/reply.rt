@@ -149,6 +149,11 @@ pub enum Answer {
         number: u64,
         rows: u64,
     },
+    /// The number of the event for which rows were fetched, and how many.
+    Fetched {
+        number: u64,
+        rows: u64,
+    },
 }
 
 /// What one database answers to a command that it accepted.

@@ -6,6 +6,8 @@ mod copies;
 #[cfg(test)]
 mod crashes;
 #[cfg(test)]
+mod fetches;
+#[cfg(test)]
 mod known;
 #[cfg(test)]
 mod outside;

@@ -23,7 +23,7 @@ const FORWARDING: &[Step] = &[
 ];
 
 /// It has copied a table without rows.
-const EMPTY: &[Step] = &[
+pub(crate) const EMPTY: &[Step] = &[
     SUBSCRIBE,
     ("step t", "ok event 1 7"),
     ("start 1", "ok"),

@@ -13,9 +13,11 @@ use Rattle.slon_model.specs.Place.{Place}
 use Rattle.slon_model.specs.Sessions.{Memory, Seat, bind, checked, unless_refused, first_refusal, when}
 use Rattle.slon_model.specs.Polls.{Poll, brings_nothing, served, poll_of, poll_at, queue_at, left_by, delivered}
 use Rattle.slon_model.specs.Polls.{all_queued}
+use Rattle.slon_model.specs.Working.{fetches_at}
 use Rattle.event_store.specs.declared.queue.Queue.{Queue}
 use Rattle.slon_turns.specs.Polling.{Waits, left_when, Spot, ListensBetween, AtOwn, AtServer}
-use Rattle.slon_turns.specs.Turning.{Queues, WaitsIn}
+use Rattle.slon_turns.specs.declared.held.Held.{Held}
+use Rattle.slon_turns.specs.Holding.{Holdings, WaitsIn}
 use Rattle.slon_turns.proofs.Listens.{left_refused}
 use Rattle.slon_turns.proofs.Waiting.{queue_beside, waits_beside}
 use Rattle.node_store.specs.Joining.{Pair}
@@ -71,17 +73,26 @@ same_beside delivery other name (Err refusal) reply m own apart = refl
 
 -- the queue of one database is another one
 pub waits_left : (delivery : Delivery) (name : List ℕ) (due : Result Poll Refusal) (reply : Reply) (m : Memory)
-    (queues : Queues) (queue : Queue) → OwnPoll name due × Waits name (left_when delivery due reply m) queue →
-    (other : List ℕ) → WaitsIn other m (get queues other) →
-    WaitsIn other (left_when delivery due reply m) (get (insert (remove queues name) name queue) other)
-waits_left delivery name due reply m queues queue (own, here) =
-    waits_beside m queues (record {
+    (held : Holdings) (at : Held) → OwnPoll name due × Waits name (left_when delivery due reply m) at.queue →
+    (other : List ℕ) → WaitsIn other m (get held other) →
+    WaitsIn other (left_when delivery due reply m) (get (insert (remove held name) name at) other)
+waits_left delivery name due reply m held at (own, here) =
+    waits_beside m held (record {
       name = name;
       memory = left_when delivery due reply m;
-      queue = queue;
+      held = at;
       here = here;
       beside = λ other apart. same_beside delivery other name due reply m own apart;
     })
+
+-- what was fetched is kept
+pub fetches_left : (delivery : Delivery) (due : Result Poll Refusal) (reply : Reply) (m : Memory) (other : List ℕ) →
+    fetches_at other (left_when delivery due reply m) ≡ fetches_at other m
+fetches_left Once (Ok b) (Accepted answer) m other = refl
+fetches_left Lost (Ok b) (Accepted answer) m other = refl
+fetches_left Again (Ok b) (Accepted answer) m other = refl
+fetches_left delivery (Ok b) others m other = refl
+fetches_left delivery (Err refusal) reply m other = refl
 
 -- what waits at the node by what the poll came to
 pub waits_between : {s : Spot} {server : List ℕ × Place} {due : Result Poll Refusal} {reply : Reply} {new : Pair}

@@ -10,6 +10,8 @@ pub mod Lifted
 pub mod Linking
 pub mod Listens
 pub mod Mids
+pub mod Recalling
+pub mod Settling
 pub mod Taking
 pub mod Turned
 pub mod Twice

@@ -39,12 +39,14 @@ use Rattle.slonik_exec.proofs.Stores.{ChangedAt, Whole, whole_at, ready_here}
 use Rattle.slon_turns.specs.declared.polling.Listen.{Listen}
 use Rattle.slon_turns.specs.Pairing.{AreMeeting, PolledAt}
 use Rattle.slon_turns.specs.Polling.{left_when, Meeting, due_in}
-use Rattle.slon_turns.specs.Turning.{Queues, WaitsIn, IsTaken, Kept, Polls}
+use Rattle.slon_turns.specs.declared.held.Held.{Held}
+use Rattle.slon_turns.specs.Holding.{Holdings, IsTaken, KeepsIn, WaitsIn}
+use Rattle.slon_turns.specs.Turning.{Kept, Polls}
 use Rattle.slon_turns.proofs.Due.{unlisted}
-use Rattle.slon_turns.proofs.Left.{own_poll, waits_left, waits_between}
+use Rattle.slon_turns.proofs.Left.{fetches_left, own_poll, waits_left, waits_between}
 use Rattle.slon_turns.proofs.Lifted.{runs_between, told_of_two, comes_between}
 use Rattle.slon_turns.proofs.Listens.{left_refused}
-use Rattle.slon_turns.proofs.Waiting.{taken_waits}
+use Rattle.slon_turns.proofs.Waiting.{keeps_on, taken_keeps, taken_waits}
 
 -- ---- refusals
 
@@ -53,21 +55,23 @@ pub refused_polls : (l : Listen) (started : List ℕ) (old : Kept) (refusal : Re
     told_by (replied.Refused refusal) ≡ None →
     ((w : World) → AreReady w old.bases → w.memory.started ≡ started → polled l.node l.server w ≡ Err refusal) →
     Polls l started old (replied.Refused refusal) old
-refused_polls l started old refusal calm is w ready on cut waits = record {
+refused_polls l started old refusal calm is w ready on cut holds = record {
   comes = Refuses refusal (ap (stated_of l.delivery) (is w ready on)) refl ready.fits;
   own = λ name halt told. let none = calm in absurd cc;
-  waits = λ name here. subst (λ m. WaitsIn name m (get old.queues name))
+  waits = λ name here. subst (λ m. WaitsIn name m (get old.held name))
+      (sym (left_refused l.delivery (polled l.node l.server w) refusal w.memory)) here;
+  keeps = λ name here. subst (λ m. KeepsIn name m (get old.held name))
       (sym (left_refused l.delivery (polled l.node l.server w) refusal w.memory)) here;
 }
 
 -- the turn is refused
 pub turn_refused : {K : Type 0} {g : Ghosts K} (kept : K → KeptStore) (l : Listen) (started : List ℕ)
-    (ds : List (NamedDatabase K g)) (queues : Queues) (refusal : Refusal) →
+    (ds : List (NamedDatabase K g)) (held : Holdings) (refusal : Refusal) →
     (told_by (replied.Refused refusal) ≡ None) × HasTurn kept l.node started ds (Refused refusal) →
-    let old : Kept = record { bases = bases_of kept ds; queues = queues } in
+    let old : Kept = record { bases = bases_of kept ds; held = held } in
     Polls l started old (replied.Refused refusal) old
-turn_refused kept l started ds queues refusal (calm, turns) =
-    refused_polls l started (record { bases = bases_of kept ds; queues = queues }) refusal calm
+turn_refused kept l started ds held refusal (calm, turns) =
+    refused_polls l started (record { bases = bases_of kept ds; held = held }) refusal calm
     (λ w ready on. ap (λ r. bind r (λ s. poll_at l.server w.memory s (at_node l.server w))) (turns w ready.fits on))
 
 -- what is polled at the seat of the node, and the server as it is found
@@ -89,13 +93,13 @@ held_one node (x ∷ xs) i at = (
 
 -- no database is the server
 pub server_missed : {K : Type 0} {g : Ghosts K} (kept : K → KeptStore) (l : Listen) (started : List ℕ)
-    (ds : List (NamedDatabase K g)) (queues : Queues) (i : ℕ) → position (is_this l.server) ds ≡ None →
+    (ds : List (NamedDatabase K g)) (held : Holdings) (i : ℕ) → position (is_this l.server) ds ≡ None →
     HasTurn kept l.node started ds (At i) × (position (is_this l.node) ds ≡ Some i) →
-    let old : Kept = record { bases = bases_of kept ds; queues = queues } in
+    let old : Kept = record { bases = bases_of kept ds; held = held } in
     Polls l started old (replied.Refused (refused.NoNode l.server)) old
-server_missed kept l started ds queues i none (turns, at) =
+server_missed kept l started ds held i none (turns, at) =
     let own = held_one l.node ds i at in
-    refused_polls l started (record { bases = bases_of kept ds; queues = queues }) (refused.NoNode l.server) refl
+    refused_polls l started (record { bases = bases_of kept ds; held = held }) (refused.NoNode l.server) refl
     (λ w ready on. polled_at l.server (turns w ready.fits on own.0 own.1) None
     (none_at kept l.server w.places ds ready.fits none))
 
@@ -128,12 +132,12 @@ own_id node w name s =
 
 -- the node is named as its own server
 pub self_listed : {K : Type 0} {g : Ghosts K} (kept : K → KeptStore) (l : Listen) (started : List ℕ)
-    (ds : List (NamedDatabase K g)) (queues : Queues) (i : ℕ) → l.server ≡ l.node →
+    (ds : List (NamedDatabase K g)) (held : Holdings) (i : ℕ) → l.server ≡ l.node →
     HasTurn kept l.node started ds (At i) × (position (is_this l.node) ds ≡ Some i) →
-    let old : Kept = record { bases = bases_of kept ds; queues = queues } in
+    let old : Kept = record { bases = bases_of kept ds; held = held } in
     Polls l started old (replied.Refused (refused.NotListed l.server)) old
-self_listed kept l started ds queues i same (turns, at) =
-    refused_polls l started (record { bases = bases_of kept ds; queues = queues }) (refused.NotListed l.server) refl
+self_listed kept l started ds held i same (turns, at) =
+    refused_polls l started (record { bases = bases_of kept ds; held = held }) (refused.NotListed l.server) refl
     (λ w ready on.
     let own = held_one l.node ds i at in
     let d = own.0 in
@@ -230,37 +234,37 @@ runs_polled {kept = kept} {old = old} {reply = reply} p f =
 
 -- what a poll came to at both places is what the turn comes to
 pub polls_polled : {K : Type 0} {g : Ghosts K} {kept : K → KeptStore} {l : Listen} {started : List ℕ} {at : Spots}
-    {old new : List (NamedDatabase K g) × Queue} {reply : Reply} (queues : Queues)
-    (p : PolledAt kept (l, at) old reply new) → Found kept l started old.0 at →
-    IsTaken (get queues p.own_old.name) old.1 →
-    Polls l started (record { bases = bases_of kept old.0; queues = queues }) reply
+    {olds : List (NamedDatabase K g)} {new : List (NamedDatabase K g) × Queue} {reply : Reply} (own : Held)
+    (held : Holdings) (p : PolledAt kept (l, at) (olds, own.queue) reply new) → Found kept l started olds at →
+    IsTaken (get held p.own_old.name) own →
+    Polls l started (record { bases = bases_of kept olds; held = held }) reply
     (record {
       bases = bases_of kept new.0;
-      queues = insert (remove queues p.own_old.name) p.own_old.name new.1;
+      held = insert (remove held p.own_old.name) p.own_old.name (record own { queue = new.1 });
     })
-polls_polled {kept = kept} {l} {at = at} {old} {new} {reply} queues p f taken w ready on cut waits =
+polls_polled {kept = kept} {l} {at = at} {olds} {new} {reply} own held p f taken w ready on cut holds =
     let couple = couple_of kept p.own_old p.server_old in
     let pair = pair_of kept p.own_new p.server_new in
     let all = both p f in
     let sits = f.turns w ready.fits on p.own_old p.own_held in
     let there : IsFoundAt kept l.server w.places p.server_old =
     turning_at w.places (record { at = f.server_at; held = p.server_held; distinct = f.distinct }) ready.fits in
-    let meeting : Meeting l couple old.1 = record {
+    let meeting : Meeting l couple own.queue = record {
       spot = record { delivery = l.delivery; name = p.own_old.name; place = sits.place; memory = w.memory };
       node = sits.own;
       server = there.place;
       named = refl;
       delivery = refl;
       fits = record {
-        ready = ready_here p.own_old.name (base_of kept p.own_old.database) w (bases_of kept old.0)
+        ready = ready_here p.own_old.name (base_of kept p.own_old.database) w (bases_of kept olds)
             sits.place ready all.two.from sits.found;
         is = sits.is;
-        waits = taken_waits p.own_old.name w.memory (get queues p.own_old.name) old.1 taken
-            (waits p.own_old.name sits.place sits.found sits.running);
+        waits = taken_waits p.own_old.name w.memory (get held p.own_old.name) own taken
+            (holds.waits p.own_old.name sits.place sits.found sits.running);
       };
       own = own_id l.node w p.own_old.name sits;
       cut = cut;
-      ready = ready_here p.server_old.name (base_of kept p.server_old.database) w (bases_of kept old.0)
+      ready = ready_here p.server_old.name (base_of kept p.server_old.database) w (bases_of kept olds)
           there.place ready all.two.to there.found;
       id = place_id l.server w p.server_old.name there.place there.first;
     } in
@@ -283,8 +287,8 @@ polls_polled {kept = kept} {l} {at = at} {old} {new} {reply} queues p f taken w 
           ∙ ap (λ o. bytes_eq name p.own_old.name || is_of name o) there.first
           ∙ told_of_two couple reply pair name halt p.runs told;
       waits = λ name here. subst (λ due. WaitsIn name (left_when l.delivery due reply w.memory)
-          (get (insert (remove queues p.own_old.name) p.own_old.name new.1) name)) (sym due_is)
-          (waits_left l.delivery p.own_old.name (due_in meeting) reply w.memory queues new.1 (
+          (get (insert (remove held p.own_old.name) p.own_old.name (record own { queue = new.1 })) name)) (sym due_is)
+          (waits_left l.delivery p.own_old.name (due_in meeting) reply w.memory held (record own { queue = new.1 }) (
             record {
               own = λ b is. ap (λ s. s.name)
                   (own_poll l.server w.memory (seat p.own_old.name sits.place sits.own)
@@ -292,19 +296,24 @@ polls_polled {kept = kept} {l} {at = at} {old} {new} {reply} queues p f taken w 
             },
             waits_between listens,
           ) name here);
+      keeps = λ name here. keeps_on w.memory (left_when l.delivery (polled l.node l.server w) reply w.memory) held
+          p.own_old.name (record own { queue = new.1 })
+          (fetches_left l.delivery (polled l.node l.server w) reply w.memory)
+          (taken_keeps p.own_old.name w.memory (get held p.own_old.name) own taken
+          (holds.keeps p.own_old.name sits.place sits.found sits.running)) name here;
     }
 
 -- the same under a key that is its name
 pub polls_under : {K : Type 0} {g : Ghosts K} {kept : K → KeptStore} {l : Listen} {started : List ℕ} {at : Spots}
-    {old new : List (NamedDatabase K g) × Queue} {reply : Reply} (queues : Queues) (key : List ℕ)
-    (p : PolledAt kept (l, at) old reply new) → Found kept l started old.0 at →
-    (key ≡ p.own_old.name) × IsTaken (get queues key) old.1 →
-    Polls l started (record { bases = bases_of kept old.0; queues = queues }) reply
-    (record { bases = bases_of kept new.0; queues = insert (remove queues key) key new.1 })
-polls_under {kept = kept} {l} {started} {old = old} {new} {reply} queues key p f (same, taken) =
-    subst (λ n. Polls l started (record { bases = bases_of kept old.0; queues = queues }) reply
-    (record { bases = bases_of kept new.0; queues = insert (remove queues n) n new.1 })) (sym same)
-    (polls_polled queues p f (subst (λ n. IsTaken (get queues n) old.1) same taken))
+    {olds : List (NamedDatabase K g)} {new : List (NamedDatabase K g) × Queue} {reply : Reply} (own : Held)
+    (held : Holdings) (key : List ℕ) (p : PolledAt kept (l, at) (olds, own.queue) reply new) →
+    Found kept l started olds at → (key ≡ p.own_old.name) × IsTaken (get held key) own →
+    Polls l started (record { bases = bases_of kept olds; held = held }) reply
+    (record { bases = bases_of kept new.0; held = insert (remove held key) key (record own { queue = new.1 }) })
+polls_under {kept = kept} {l} {started} {olds = olds} {new} {reply} own held key p f (same, taken) =
+    subst (λ n. Polls l started (record { bases = bases_of kept olds; held = held }) reply
+    (record { bases = bases_of kept new.0; held = insert (remove held n) n (record own { queue = new.1 }) })) (sym same)
+    (polls_polled own held p f (subst (λ n. IsTaken (get held n) own) same taken))
 
 -- the name of what stands at the place of the node
 pub own_named : {K : Type 0} {g : Ghosts K} {kept : K → KeptStore} {l : Listen} {started : List ℕ} {at : Spots}

@@ -1,5 +1,5 @@
 -- What the turn of a node comes to that brings something with an event, at its database and at that of the provider.
-use Rattle.std.specs.Prelude.{◌≡◌, ◌<◌, ◌||◌, true, ℕ, List, get_or, length, set, is_some, Some, Result, Ok}
+use Rattle.std.specs.Prelude.{◌≡◌, ◌<◌, ◌||◌, true, ℕ, List, get_or, length, set, is_some, Some, Result}
 use Rattle.std.specs.Str.{bytes_eq}
 use Rattle.slon_base.specs.Keeper.{Kept}
 use Rattle.slon_base.specs.declared.fault.Halt.{Halt as HaltOf}
@@ -13,18 +13,14 @@ use Rattle.slon_model.specs.Deeds.{Node}
 use Rattle.slon_model.specs.Place.{Place, fallen}
 use Rattle.slon_model.specs.Sessions.{World, bind, seat}
 use Rattle.slon_model.specs.Turns.{at_node}
-use Rattle.slon_model.specs.Working.{Carried, carried, brought_from}
+use Rattle.slon_model.specs.Working.{found_from}
 use Rattle.slon_model.specs.World.{is_of}
 use Rattle.event_store.specs.declared.event.Event.{Event}
-use Rattle.event_store.specs.declared.queue.Queue.{Queue}
 use Rattle.event_store.specs.Seen.{seen_event}
 use Rattle.app_store.specs.Base.{Base}
 use Rattle.app_store.specs.Fits.{Fits, Ready}
 use Rattle.node_store.specs.Acting.{own_id}
 use Rattle.node_store.specs.Joining.{Pair}
-use Rattle.remote_worker.specs.declared.carrying.Errand.{Errand}
-use Rattle.remote_worker.specs.declared.worker.Taken.{Taken}
-use Rattle.remote_worker.specs.declared.worker.Worker.{Worker}
 use Rattle.remote_worker.specs.Fetching.{fetched}
 use Rattle.remote_worker.specs.Working.{seen_errand}
 use Rattle.slonik_exec.specs.declared.databases.Named.{Named as NamedDatabase}
@@ -33,48 +29,51 @@ use Rattle.slonik_exec.specs.Databases.{AreReady, bases_of, told_by}
 use Rattle.slonik_exec.specs.Executing.{Comes}
 use Rattle.slonik_exec.specs.Stored.{Couple, couple_of, pair_of}
 use Rattle.slonik_exec.specs.Turning.{SitsOn}
-use Rattle.slon_turns.specs.Applying.{Post, PostFits, WorksHere, seat_in}
+use Rattle.slon_turns.specs.declared.fetching.Trip.{Trip}
+use Rattle.slon_turns.specs.declared.held.Held.{Held}
+use Rattle.slon_turns.specs.Applying.{Post, PostFits, WorksHere, end_at, left_in, seat_in}
+use Rattle.slon_turns.specs.Holding.{Holds, IsUpIn, Keeps}
 use Rattle.slon_turns.specs.Planning.{Reaches, TookUp, provider_by}
 use Rattle.slon_turns.specs.Polling.{CanFall, RunsBetween, Waits}
-use Rattle.slon_turns.specs.Working.{CanCarry, left_by_work, stated_work}
+use Rattle.slon_turns.specs.Working.{CanTurn, Due, Goal, stated_turn}
 
--- What is done: the event that was taken, and what is brought with it.
-pub record Trip : Type 0 where
-  pub taken : Worker Taken
-  pub errand : Errand
+-- what a turn aims at that brings something
+abbrev pub goal_of : Trip → Goal
+goal_of a = record { aim = a.aim; origin = a.taken.origin }
 
 -- The places of both databases agree with them; the provider is up.
-pub record Visit (a : Trip) (old : Couple) (queue : Queue) : Type 0 where
+pub record Visit (a : Trip) (old : Couple) (held : Held) : Type 0 where
   pub post : Post
+  pub aimed : post.goal ≡ goal_of a
   pub event : Event
   pub provider : Place
   pub node : Node
   pub named : post.name ≡ old.names.from
-  pub fits : PostFits post (old.bases.from, queue)
-  pub took : TookUp post a.taken queue event
+  pub fits : PostFits post (old.bases.from, held)
+  pub took : TookUp post a.taken held.queue event
   pub ready : Ready provider old.bases.to
   pub is : provider.node ≡ Some node
   pub id : node.id ≡ provider_by a.errand
 
--- what the node is to apply then
-abbrev pub due_from : {a : Trip} {old : Couple} {queue : Queue} → Visit a old queue → Result Carried Refusal
+-- what the turn comes to then
+abbrev pub due_from : {a : Trip} {old : Couple} {held : Held} → Visit a old held → Result Due Refusal
 due_from {a} {old} v =
     bind (fetched (seen_errand a.errand) (seen_event v.event) (seat_in v.post) (seat old.names.to v.provider v.node))
-    (λ b. Ok (carried (seat_in v.post) (seen_event v.event) b))
+    (end_at v.post v.event)
 
 -- All is done at the database of the node, and that of the provider is as it was; or the store of the provider failed,
 -- and the other one is as it was.
-pub data WorksBetween (s : Post) (provider : List ℕ × Place) (due : Result Carried Refusal) (reply : Reply)
-    (new : Pair) (queue : Queue) : Type 0 where
-  ByOwn : WorksHere s due reply (new.from, queue) → Fits provider.1 new.to →
-      WorksBetween s provider due reply new queue
+pub data WorksBetween (s : Post) (provider : List ℕ × Place) (due : Result Due Refusal) (reply : Reply)
+    (new : Pair) (held : Held) : Type 0 where
+  ByOwn : WorksHere s due reply (new.from, held) → Fits provider.1 new.to →
+      WorksBetween s provider due reply new held
   ByProvider : (count : ℕ) → reply ≡ Refused (refused.Fault provider.0 count) → CanFall count provider.1 →
-      Fits (fallen count provider.1) new.to → Fits s.place new.from → Waits s.name s.memory queue →
-      WorksBetween s provider due reply new queue
+      Fits (fallen count provider.1) new.to → Fits s.place new.from → Holds s.name s.memory held →
+      WorksBetween s provider due reply new held
 
-abbrev pub BringsTo : Trip → Couple → Queue → Reply → Pair → Queue → Type 0
-BringsTo a old queue reply new left =
-    (v : Visit a old queue) → ((c : Carried) → due_from v ≡ Ok c → CanCarry c) →
+abbrev pub BringsTo : Trip → Couple → Held → Reply → Pair → Held → Type 0
+BringsTo a old held reply new left =
+    (v : Visit a old held) → CanTurn (due_from v) →
     WorksBetween v.post (old.names.to, v.provider) (due_from v) reply new left
 
 -- ---- at two places of a list
@@ -90,7 +89,7 @@ pub record AreVisiting {K : Type 0} {g : Ghosts K} (databases : List (NamedDatab
 
 -- these two were changed so
 pub record BroughtAt {K : Type 0} {g : Ghosts K} (kept : K → Kept) (by : Trip × Spots)
-    (old : List (NamedDatabase K g) × Queue) (reply : Reply) (new : List (NamedDatabase K g) × Queue) : Type 0 where
+    (old : List (NamedDatabase K g) × Held) (reply : Reply) (new : List (NamedDatabase K g) × Held) : Type 0 where
   pub own_old : NamedDatabase K g
   pub own_new : NamedDatabase K g
   pub server_old : NamedDatabase K g
@@ -111,37 +110,40 @@ IsOwnAt {K} {g} databases index node =
     (d : NamedDatabase K g) → d ≡ get_or databases index d → own_id d.database.state.node.identity ≡ node
 
 -- the node of a database that has its turn
-abbrev pub post_of : {node : ℕ} {w : World} {name : List ℕ} → SitsOn node w name → Post
-post_of {w = w} {name} sits = record { name = name; place = sits.place; node = sits.own; memory = w.memory }
+abbrev pub post_of : {node : ℕ} {w : World} {name : List ℕ} → Goal → SitsOn node w name → Post
+post_of {w = w} {name} goal sits =
+    record { goal = goal; name = name; place = sits.place; node = sits.own; memory = w.memory }
 
 -- A node on that errand, which can reach the provider.
-pub record Sent (a : Trip) (w : World) (name : List ℕ) (queue : Queue) : Type 0 where
+pub record Sent (a : Trip) (w : World) (name : List ℕ) (held : Held) : Type 0 where
   pub id : ℕ
   pub sits : SitsOn id w name
-  pub waits : Waits name w.memory queue
+  pub holds : Holds name w.memory held
   pub event : Event
-  pub took : TookUp (post_of sits) a.taken queue event
-  pub reaches : Reaches (post_of sits) (provider_by a.errand)
+  pub took : TookUp (post_of (goal_of a) sits) a.taken held.queue event
+  pub reaches : Reaches (post_of (goal_of a) sits) (provider_by a.errand)
 
--- what it is to apply then
-abbrev pub due_sent : {a : Trip} {w : World} {name : List ℕ} {queue : Queue} → Sent a w name queue →
-    Result Carried Refusal
+abbrev pub sent_post : {a : Trip} {w : World} {name : List ℕ} {held : Held} → Sent a w name held → Post
+sent_post {a} s = post_of (goal_of a) s.sits
+
+-- what the turn comes to then
+abbrev pub due_sent : {a : Trip} {w : World} {name : List ℕ} {held : Held} → Sent a w name held → Result Due Refusal
 due_sent {a} {w} s =
-    let p = seat_in (post_of s.sits) in
-    bind (brought_from (seen_errand a.errand) w.memory p (seen_event s.event) (at_node (provider_by a.errand) w)) (λ b.
-    Ok (carried p (seen_event s.event) b))
+    let p = sent_post s in
+    bind (found_from (seen_errand a.errand) w.memory (seat_in p) (seen_event s.event)
+    (at_node (provider_by a.errand) w)) (end_at p s.event)
 
--- what comes of it at all databases, and at what waits for the node
-pub record Delivers {a : Trip} {w : World} {name : List ℕ} {queue : Queue} (s : Sent a w name queue)
-    (reply : Reply) (new : Named Base) (left : Queue) : Type 0 where
-  pub comes : Comes w (stated_work (due_sent s)) reply new
+-- what comes of it at all databases, and at what the node holds
+pub record Delivers {a : Trip} {w : World} {name : List ℕ} {held : Held} (s : Sent a w name held)
+    (reply : Reply) (new : Named Base) (left : Held) : Type 0 where
+  pub comes : Comes w (stated_turn (due_sent s)) reply new
   pub own : (other : List ℕ) (halt : HaltOf) → told_by reply ≡ Some (other, halt) →
       (bytes_eq other name || is_of other (at_node (provider_by a.errand) w)) ≡ true
-  pub waits : Waits name (left_by_work (due_sent s) reply w.memory) left
+  pub waits : Waits name (left_in (sent_post s) (due_sent s) reply) left.queue
+  pub keeps : IsUpIn name new → Keeps name (left_in (sent_post s) (due_sent s) reply) left.fetches
 
 abbrev pub BringsFrom : {K : Type 0} {g : Ghosts K} → (K → Kept) → Trip → ℕ →
-    List (NamedDatabase K g) × Queue → Reply → List (NamedDatabase K g) × Queue → Type 0
+    List (NamedDatabase K g) × Held → Reply → List (NamedDatabase K g) × Held → Type 0
 BringsFrom {K} {g} kept a index old reply new =
     (w : World) (d : NamedDatabase K g) → AreReady w (bases_of kept old.0) → d ≡ get_or old.0 index d →
-    (s : Sent a w d.name old.1) → ((c : Carried) → due_sent s ≡ Ok c → CanCarry c) →
-    Delivers s reply (bases_of kept new.0) new.1
+    (s : Sent a w d.name old.1) → CanTurn (due_sent s) → Delivers s reply (bases_of kept new.0) new.1

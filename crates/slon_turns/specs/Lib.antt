@@ -1,7 +1,9 @@
 pub mod Applying
 pub mod Fetching
+pub mod Holding
 pub mod Pairing
 pub mod Planning
 pub mod Polling
+pub mod Recalling
 pub mod Turning
 pub mod Working

@@ -1,17 +1,17 @@
-// A node brings what comes with an event from another one and applies it, at the two databases that this concerns.
+// A node brings what comes with an event from another one, at the two databases that this concerns.
 ghost use Rattle.std.specs.Prelude.{◌≡◌, true, is_some, IfOk};
 ghost use Rattle.slonik_exec.specs.Databases.{bases_of, Runs};
 ghost use Rattle.slonik_exec.specs.Heard.{AreDistinct};
 ghost use Rattle.slonik_exec.specs.Stored.{couple_of, pair_of};
 ghost use Rattle.slonik_exec.specs.Turning.{IsSeatHere};
 ghost use Rattle.slonik_exec.specs.declared.reaching.Reached.TheVariants.{At};
-ghost use Rattle.slon_turns.specs.declared.planning.Plan.TheVariants.{Fetch};
+ghost use Rattle.slon_turns.specs.declared.planning.Plan.TheVariants.{Bring};
 ghost use Rattle.slon_turns.specs.Fetching.{AreVisiting, BroughtAt, BringsFrom, BringsTo, IsOwnAt};
 ghost use Rattle.slon_turns.specs.Planning.{CanPlan};
 ghost use Rattle.slon_turns.specs.Polling.{RunsBetween};
 
-use crate::working::apply_at;
-use event_store::Queue;
+use crate::held::Held;
+use crate::working::{Aim, end_at};
 use node_keeper::Keeper;
 use node_store::Side;
 use remote_worker::{Errand, Found, Taken, Worker, provider_of};
@@ -19,33 +19,44 @@ use slon_model::{Refusal, Reply};
 use slonik_exec::{Named, NoMemory, Spots, index_of_node, told};
 use std::alloc::Global;
 
+/// What is done: the event that was taken, what is brought with it, and what becomes of that.
+#[derive(Drop)]
+pub(crate) struct Trip {
+    /// The event.
+    pub(crate) taken: Worker<Taken>,
+    /// What is brought.
+    pub(crate) errand: Errand,
+    /// What becomes of it.
+    pub(crate) aim: Aim,
+}
+
 /// The node of the one database brings what comes with the event from the provider, which is the node of the other one,
-/// and applies the event. It is refused where 62 the provider does not know the node, 66 an open transaction of the
-/// node wrote a table that is to be changed, and a copy also where 52 the node lacks a table of the set and 57 it has
-/// another number of columns at the provider.
+/// and keeps it or applies the event. It is refused where 62 the provider does not know the node, a copy also where 52
+/// the node lacks a table of the set and 57 it has another number of columns at the provider, and where the event is
+/// applied 66 an open transaction of the node wrote a table that is to be changed.
 fn fetch_between<K: Keeper>(
     alloc: Global,
     own: &mut Named<K>,
     provider: &mut Named<K>,
-    queue: &mut Queue,
-    taken: Worker<Taken>,
-    errand: Errand,
+    held: &mut Held,
+    trip: Trip,
 ) -> Result<Reply, NoMemory>
     requires up { (own.old.database.state.up ≡ true) × (provider.old.database.state.up ≡ true) }
     requires node { is_some own.old.database.state.node.identity ≡ true }
-    requires can { CanPlan queue.old (Fetch taken errand) }
+    requires can { CanPlan held.old.queue (Bring trip.taken trip.errand) }
     ensures runs { IfOk result (λ reply. RunsBetween (couple_of K.kept own.old provider.old) reply
         (pair_of K.kept own.new provider.new)) }
-    ensures brings { IfOk result (λ reply. BringsTo (record { taken = taken; errand = errand })
-        (couple_of K.kept own.old provider.old) queue.old reply (pair_of K.kept own.new provider.new) queue.new) }
+    ensures brings { IfOk result (λ reply. BringsTo trip
+        (couple_of K.kept own.old provider.old) held.old reply (pair_of K.kept own.new provider.new) held.new) }
     ensures names { (own.new.name ≡ own.old.name) × (provider.new.name ≡ provider.old.name) }
 {
-    let Some(event) = queue.get(taken.origin, taken.state.number) else {
+    let Trip { taken, errand, aim } = trip;
+    let Some(event) = held.queue.get(taken.origin, taken.state.number) else {
         unreachable!()
     };
     match taken.fetch(&mut own.database, &mut provider.database, errand, event) {
         Ok(Found::Refused(refusal)) => Ok(Reply::Refused(refusal)),
-        Ok(Found::Brings(fetched)) => apply_at(alloc, own, queue, fetched),
+        Ok(Found::Brings(fetched)) => end_at(alloc, own, held, fetched, aim),
         Err(fell) => match fell.side {
             Side::From => told(alloc, &own.name, fell.fault),
             Side::To => told(alloc, &provider.name, fell.fault),
@@ -58,35 +69,20 @@ fn fetch_both<K: Keeper>(
     alloc: Global,
     databases: &mut [Named<K>],
     spots: Spots,
-    queue: &mut Queue,
-    taken: Worker<Taken>,
-    errand: Errand,
+    held: &mut Held,
+    trip: Trip,
 ) -> Result<Reply, NoMemory>
     requires visiting { AreVisiting databases.old spots }
-    requires can { CanPlan queue.old (Fetch taken errand) }
-    ensures brought { IfOk result (λ reply. BroughtAt K.kept (record { taken = taken; errand = errand }, spots)
-        (databases.old, queue.old) reply (databases.new, queue.new)) }
+    requires can { CanPlan held.old.queue (Bring trip.taken trip.errand) }
+    ensures brought { IfOk result (λ reply. BroughtAt K.kept (trip, spots)
+        (databases.old, held.old) reply (databases.new, held.new)) }
 {
     if spots.from < spots.to {
         let (front, back) = databases.split_at_mut(spots.to);
-        fetch_between(
-            alloc,
-            &mut front[spots.from],
-            &mut back[0],
-            queue,
-            taken,
-            errand,
-        )
+        fetch_between(alloc, &mut front[spots.from], &mut back[0], held, trip)
     } else {
         let (front, back) = databases.split_at_mut(spots.from);
-        fetch_between(
-            alloc,
-            &mut back[0],
-            &mut front[spots.to],
-            queue,
-            taken,
-            errand,
-        )
+        fetch_between(alloc, &mut back[0], &mut front[spots.to], held, trip)
     }
 }
 
@@ -96,20 +92,19 @@ pub(crate) fn fetch_from<K: Keeper>(
     alloc: Global,
     databases: &mut [Named<K>],
     index: usize,
-    queue: &mut Queue,
-    taken: Worker<Taken>,
-    errand: Errand,
+    held: &mut Held,
+    trip: Trip,
 ) -> Result<Reply, NoMemory>
     requires distinct { AreDistinct (bases_of K.kept databases.old) }
     requires seat { IsSeatHere databases.old (At index) }
-    requires own { IsOwnAt databases.old index taken.node }
-    requires can { CanPlan queue.old (Fetch taken errand) }
+    requires own { IsOwnAt databases.old index trip.taken.node }
+    requires can { CanPlan held.old.queue (Bring trip.taken trip.errand) }
     ensures runs { IfOk result (λ reply. Runs (bases_of K.kept databases.old) reply
         (bases_of K.kept databases.new)) }
-    ensures brings { IfOk result (λ reply. BringsFrom K.kept (record { taken = taken; errand = errand }) index
-        (databases.old, queue.old) reply (databases.new, queue.new)) }
+    ensures brings { IfOk result (λ reply. BringsFrom K.kept trip index
+        (databases.old, held.old) reply (databases.new, held.new)) }
 {
-    let node = provider_of(errand);
+    let node = provider_of(trip.errand);
     let Some(to) = index_of_node(databases, node) else {
         return Ok(Reply::Refused(Refusal::NoNode { node }));
     };
@@ -119,5 +114,5 @@ pub(crate) fn fetch_from<K: Keeper>(
         return Ok(Reply::Refused(Refusal::Down { database }));
     }
     let spots = Spots { from: index, to };
-    fetch_both(alloc, databases, spots, queue, taken, errand)
+    fetch_both(alloc, databases, spots, held, trip)
 }

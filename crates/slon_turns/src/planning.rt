@@ -1,17 +1,21 @@
 // What a node is to do at its turn, as far as its own database tells.
-ghost use Rattle.std.specs.Prelude.{◌≡◌, ◌==◌, true, is_some, IfOk};
+ghost use Rattle.std.specs.Prelude.{◌≡◌, ◌==◌, ◌&&◌, if◌then◌else◌, true, is_some, None, ℕ, IfOk};
 ghost use Rattle.store_rows.specs.Rows.{IsId};
 ghost use Rattle.slon_model.specs.Turns as rules;
 ghost use Rattle.app_store.specs.Base.{base_of};
 ghost use Rattle.node_store.specs.Acting.{own_id};
 ghost use Rattle.slonik_exec.specs.Answering.{AtSeat, Checks};
-ghost use Rattle.slon_turns.specs.Planning.{CanPlan, IsApart, PlanRuns, PlansAt, PlansOwn, apart_reply};
-ghost use Rattle.slon_turns.specs.Planning.{link_checks};
+ghost use Rattle.remote_worker.specs.Kept.{kept_at};
+ghost use Rattle.slon_turns.specs.Applying.{goal_in};
+ghost use Rattle.slon_turns.specs.Planning.{CanPlan, IsApart, PlanRuns, PlansAt, PlansFrom, PlansOwn, apart_reply};
+ghost use Rattle.slon_turns.specs.Planning.{link_checks, kept_to};
+ghost use Rattle.slon_turns.specs.Recalling.{IsAnew, IsBringer, IsRecalled, PlansAnew, Recalls};
 
-use event_store::Queue;
+use crate::held::Held;
+use crate::working::{Aim, Work};
 use node_keeper::Keeper;
 use node_store::knows_path;
-use remote_worker::{Errand, Next, Taken, Worker, provider_of};
+use remote_worker::{Errand, Fetched, Fetches, Kept, Next, Taken, Worker, provider_of};
 use slon_base::Text;
 use slon_model::{Refusal, Reply};
 use slonik_exec::{Named, NoMemory, told};
@@ -22,10 +26,10 @@ use std::alloc::Global;
 pub(crate) enum Plan {
     /// It replies this, and is done.
     Told(Reply),
-    /// It applies the event that it took, with which nothing comes.
-    Alone(Worker<Taken>),
+    /// All is there that comes with the event.
+    Has(Worker<Fetched>),
     /// It brings this first, from another node that it has a path to.
-    Fetch(Worker<Taken>, Errand),
+    Bring(Worker<Taken>, Errand),
 }
 
 /// Whether a cut is between these two nodes, whichever of them it names first.
@@ -82,44 +86,103 @@ fn check_link<K: Keeper>(
     }
 }
 
-/// The node of the database is to apply the next event of the origin, unless 60 that does not wait, 98 the node cannot
-/// carry it out, or it cannot reach the node from which it is to bring something.
-pub(crate) fn plan_at<K: Keeper>(
+/// What the node keeps of the event that it took, where it is to apply that. It is taken out.
+fn take_kept(fetches: &mut Fetches, taken: &Worker<Taken>, aim: Aim) -> Option<Kept>
+    ensures value { result ≡ kept_to aim taken.now.state.number (kept_at taken.now.origin fetches.old) }
+    ensures rest { (other : ℕ) → kept_at other fetches.new
+        ≡ (if is_some result && taken.now.origin == other then None else kept_at other fetches.old) }
+{
+    match aim {
+        Aim::Fetch => None,
+        Aim::Apply => fetches.take_for(taken.origin, taken.state.number),
+    }
+}
+
+/// What is left of what the node kept of the event.
+fn recall<K: Keeper>(
     alloc: Global,
     own: &mut Named<K>,
-    queue: &Queue,
-    cuts: &[(u32, u32)],
-    origin: u32,
+    taken: Worker<Taken>,
+    kept: Kept,
 ) -> Result<Plan, NoMemory>
     requires up { own.old.database.state.up ≡ true }
     requires node { is_some own.old.database.state.node.identity ≡ true }
-    requires origin { IsId origin }
-    ensures can { IfOk result (CanPlan queue.now) }
-    ensures own { IfOk result (PlansOwn (own_id own.old.database.state.node.identity)) }
+    ensures same { IfOk result (IsRecalled taken) }
     ensures runs { IfOk result (λ plan. PlanRuns own.old.name (base_of K.kept own.old.database) plan
         (base_of K.kept own.new.database)) }
-    ensures plans { IfOk result (λ plan. PlansAt origin cuts.now own.old.name
-        (base_of K.kept own.old.database, queue.now) plan (base_of K.kept own.new.database)) }
+    ensures recalls { IfOk result (λ plan. Recalls own.old.name kept.load (base_of K.kept own.old.database) plan
+        (base_of K.kept own.new.database)) }
     ensures name { own.new.name ≡ own.old.name }
 {
-    let ready = match Worker::resume(&mut own.database, origin) {
+    let Kept { load, .. } = kept;
+    match taken.with(load).still(&mut own.database) {
+        Ok(fetched) => Ok(Plan::Has(fetched)),
+        Err(fault) => Ok(Plan::Told(told(alloc, &own.name, fault)?)),
+    }
+}
+
+/// The node took an event of which it keeps nothing: it has all that comes with that, unless it is to bring something,
+/// and then it reaches the node from which, or not.
+fn plan_anew<K: Keeper>(
+    alloc: Global,
+    own: &mut Named<K>,
+    cuts: &[(u32, u32)],
+    taken: Worker<Taken>,
+) -> Result<Plan, NoMemory>
+    requires up { own.old.database.state.up ≡ true }
+    requires node { IsId taken.node × IsBringer taken.state.errand }
+    ensures anew { IfOk result (IsAnew taken) }
+    ensures runs { IfOk result (λ plan. PlanRuns own.old.name (base_of K.kept own.old.database) plan
+        (base_of K.kept own.new.database)) }
+    ensures plans { IfOk result (λ plan. PlansAnew taken cuts.now own.old.name (base_of K.kept own.old.database) plan
+        (base_of K.kept own.new.database)) }
+    ensures name { own.new.name ≡ own.old.name }
+{
+    let Some(errand) = taken.state.errand else {
+        return Ok(Plan::Has(taken.with(None)));
+    };
+    match check_link(alloc, own, cuts, taken.node, provider_of(errand))? {
+        Some(reply) => Ok(Plan::Told(reply)),
+        None => Ok(Plan::Bring(taken, errand)),
+    }
+}
+
+/// The node of the database is to fetch what comes with the next event of the origin, or to apply it, unless 60 that
+/// does not wait, 98 the node cannot carry it out, or it cannot reach the node from which it is to bring something.
+/// Where it is to apply what it fetched before, that is taken out of what it holds, and it brings nothing.
+pub(crate) fn plan_at<K: Keeper>(
+    alloc: Global,
+    own: &mut Named<K>,
+    held: &mut Held,
+    cuts: &[(u32, u32)],
+    work: Work,
+) -> Result<Plan, NoMemory>
+    requires up { own.old.database.state.up ≡ true }
+    requires node { is_some own.old.database.state.node.identity ≡ true }
+    requires origin { IsId work.origin }
+    ensures can { IfOk result (CanPlan held.old.queue) }
+    ensures queue { held.new.queue ≡ held.old.queue }
+    ensures own { IfOk result (PlansOwn (own_id own.old.database.state.node.identity)) }
+    ensures from { IfOk result (PlansFrom work.origin) }
+    ensures runs { IfOk result (λ plan. PlanRuns own.old.name (base_of K.kept own.old.database) plan
+        (base_of K.kept own.new.database)) }
+    ensures plans { IfOk result (λ plan. PlansAt (goal_in work) cuts.now own.old.name
+        (base_of K.kept own.old.database, held.old) plan (base_of K.kept own.new.database, held.new)) }
+    ensures name { own.new.name ≡ own.old.name }
+{
+    let ready = match Worker::resume(&mut own.database, work.origin) {
         Ok(ready) => ready,
         Err(fault) => return Ok(Plan::Told(told(alloc, &own.name, fault)?)),
     };
-    match ready.take(queue) {
+    match ready.take(&held.queue) {
         Next::Missing => Ok(Plan::Told(Reply::Refused(Refusal::Nothing))),
         Next::NotBuilt => {
             let word = Text::from_str(alloc, "work")?;
             Ok(Plan::Told(Reply::Refused(Refusal::NotBuilt { word })))
         }
-        Next::Due(taken) => match taken.state.errand {
-            None => Ok(Plan::Alone(taken)),
-            Some(errand) => {
-                match check_link(alloc, own, cuts, taken.node, provider_of(errand))? {
-                    Some(reply) => Ok(Plan::Told(reply)),
-                    None => Ok(Plan::Fetch(taken, errand)),
-                }
-            }
+        Next::Due(taken) => match take_kept(&mut held.fetches, &taken, work.aim) {
+            Some(kept) => recall(alloc, own, taken, kept),
+            None => plan_anew(alloc, own, cuts, taken),
         },
     }
 }

@@ -4,9 +4,9 @@ ghost use Rattle.store_rows.specs.Rows.{IsId};
 ghost use Rattle.slonik_exec.specs.Databases.{bases_of, Runs};
 ghost use Rattle.slonik_exec.specs.Heard.{AreDistinct};
 ghost use Rattle.slon_turns.specs.Pairing.{AreMeeting, PolledAt};
-ghost use Rattle.std.specs.FinMap.{get, remove};
-ghost use Rattle.slon_turns.specs.Turning.{IsTaken, Polls};
+ghost use Rattle.slon_turns.specs.Turning.{Polls};
 
+use crate::held::Held;
 use crate::polling::{Listen, poll_between};
 use event_store::Queue;
 use node_keeper::Keeper;
@@ -46,17 +46,6 @@ pub(crate) fn key_of(alloc: Global, name: &Text) -> Result<Vec<u8>, AllocError>
     Ok(key)
 }
 
-/// Takes out what waits under a name; where there is no queue nothing does.
-pub(crate) fn take_queue(alloc: Global, queues: &mut ByteMap<Queue>, name: &[u8]) -> Queue
-    ensures map { queues.new ≡ remove queues.old name.now }
-    ensures is { IsTaken (get queues.old name.now) result }
-{
-    match queues.remove(name) {
-        Some(queue) => queue,
-        None => Queue::new(alloc),
-    }
-}
-
 /// The slon of a node has its turn to poll a server, and replies: 44, 16, 67 of the node, 44, 61, 68, 16, 62 of the
 /// server, 60, or what the poll brought.
 ///
@@ -66,7 +55,7 @@ pub(crate) fn take_queue(alloc: Global, queues: &mut ByteMap<Queue>, name: &[u8]
 pub fn take_poll<K: Keeper>(
     alloc: Global,
     databases: &mut [Named<K>],
-    queues: &mut ByteMap<Queue>,
+    held: &mut ByteMap<Held>,
     started: &[u32],
     listen: Listen,
 ) -> Result<Reply, NoMemory>
@@ -75,8 +64,8 @@ pub fn take_poll<K: Keeper>(
     ensures runs { IfOk result (λ reply. Runs (bases_of K.kept databases.old) reply
         (bases_of K.kept databases.new)) }
     ensures polls { IfOk result (λ reply. Polls listen started.now
-        (record { bases = bases_of K.kept databases.old; queues = queues.old }) reply
-        (record { bases = bases_of K.kept databases.new; queues = queues.new })) }
+        (record { bases = bases_of K.kept databases.old; held = held.old }) reply
+        (record { bases = bases_of K.kept databases.new; held = held.new })) }
 {
     let from = match turn_of(alloc, databases, started, listen.node)? {
         Reached::At(from) => from,
@@ -91,8 +80,9 @@ pub fn take_poll<K: Keeper>(
         return Ok(Reply::Refused(Refusal::NotListed { server }));
     }
     let key = key_of(alloc, &databases[from].name)?;
-    let mut queue = take_queue(alloc, queues, key.as_slice());
-    let reply = poll_both(alloc, databases, Spots { from, to }, &mut queue, listen)?;
-    queues.insert(key, queue)?;
+    let mut own = Held::take(alloc, held, key.as_slice());
+    let spots = Spots { from, to };
+    let reply = poll_both(alloc, databases, spots, &mut own.queue, listen)?;
+    held.insert(key, own)?;
     Ok(reply)
 }

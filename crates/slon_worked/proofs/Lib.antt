@@ -2,6 +2,7 @@ pub mod Bytes
 pub mod Capture
 pub mod Copies
 pub mod Doubts
+pub mod Fetches
 pub mod Polls
 pub mod Refusals
 pub mod Running

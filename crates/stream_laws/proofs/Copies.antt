@@ -1,5 +1,5 @@
--- What a turn brings with an event: a copy of a set, or what its origin logged for the sets that the node keeps, from
--- another node.
+-- What a node finds for an event at another node: a copy of a set, or what the origin logged for the sets that the
+-- node keeps.
 use Rattle.std.proofs.Common.{◌≡◌, ◌≢◌, ℕ, Bool, true, false, cond, List, [], ◌∷◌, Option, Some, None, Ok, Err, refl}
 use Rattle.std.proofs.Common.{sym, ap, subst, ◌∙◌, not}
 use Rattle.std.specs.List.{AllByRecursion}
@@ -13,18 +13,17 @@ use Rattle.slon_model.specs.declared.reply.Refusal.{Refusal}
 use Rattle.slon_model.specs.declared.reply.Refusal.TheVariants as refused
 use Rattle.node_rows.specs.declared.rows.TableRow.{TableRow}
 use Rattle.slon_model.specs.Maps.{Map, entry_at}
-use Rattle.slon_model.specs.Events.{Event}
+use Rattle.slon_model.specs.Events.{Event, is_sync}
 use Rattle.slon_model.specs.Config.{Config, has_path, is_known, is_origin, era_of, is_table_of, leads_row, live_set}
 use Rattle.slon_model.specs.Config.{names_of}
-use Rattle.slon_model.specs.Deeds.{Node, Brought, Knowledge, knowledge, nothing_brought}
+use Rattle.slon_model.specs.Deeds.{Node, Knowledge, knowledge}
 use Rattle.slon_model.specs.Place.{Place, is_running}
-use Rattle.slon_model.specs.Sessions.{World, Seat, when, first_refusal, checked, seat_of, writer_of}
+use Rattle.slon_model.specs.Sessions.{World, Seat, when, checked, seat_of}
 use Rattle.slon_model.specs.Turns.{at_node, is_cut, is_id, seat_at}
 use Rattle.slon_model.specs.Logs.{logged}
-use Rattle.slon_model.specs.Following.{kept_from, set_syncs, with_syncs}
-use Rattle.slon_model.specs.Working.{Copying, Errand, ToCopy, ToFollow, brought_by, copied, copy_checks, copy_of}
-use Rattle.slon_model.specs.Working.{errand_in, errand_of, followed, linked_to, names_taken, provided, receives_from}
-use Rattle.slon_model.specs.Working.{still_leads}
+use Rattle.slon_model.specs.Following.{Found, FoundNothing, FoundSyncs, set_syncs}
+use Rattle.slon_model.specs.Working.{Copying, Errand, ToCopy, ToFollow, copied, copy_checks, copy_of, errand_in}
+use Rattle.slon_model.specs.Working.{errand_of, followed, found_by, linked_to, provided, receives_from, still_leads}
 use Rattle.slon_model.proofs.Names.{one_found}
 use Rattle.stream_laws.specs.Nodes.{IsAmong, Nodes, nodes_in}
 use Rattle.stream_laws.specs.Making.{OfSet}
@@ -32,7 +31,7 @@ use Rattle.slon_laws.specs.Sound.{AreNamedOnce}
 use Rattle.stream_laws.specs.Facts.{AreRegular, IsRegular}
 use Rattle.stream_laws.proofs.Lists.{all_each, all_mapped, all_passed, among_all, found_all}
 use Rattle.stream_laws.proofs.Seats.{OnOk, IsSeat, IsReached, at_node_found, bind_ok, checked_ok, kept_ok}
-use Rattle.stream_laws.proofs.Seats.{last_none, none_busy, ok_then, all_none, seat_node, when_none}
+use Rattle.stream_laws.proofs.Seats.{ok_then, all_none, seat_node, when_none}
 use Rattle.stream_laws.proofs.Applies.{IsSetOf}
 
 -- ---- the origin of a set
@@ -143,7 +142,7 @@ provided_ok provider w s regular =
 -- ---- the copy
 
 -- A copy of a set that the node at its seat is to make by an event, from the origin of the set, which is another node.
-pub record IsCopy (w : World) (s : Seat) (e : Event) (b : Brought) : Type 0 where
+pub record IsCopy (w : World) (s : Seat) (e : Event) (f : Found) : Type 0 where
   pub copying : Copying
   pub asked : errand_of s e ≡ Some (ToCopy copying)
   pub provider : Seat
@@ -152,31 +151,55 @@ pub record IsCopy (w : World) (s : Seat) (e : Event) (b : Brought) : Type 0 wher
   pub apart : copying.provider ≢ s.node.id
   pub leads : still_leads copying provider ≡ true
   pub other : is_origin s.node.id copying.set_id (knowledge s.node).config ≡ false
-  pub free : first_refusal (copy_checks s.place provider.place (names_of copying.set_id s.known.config)) ≡ None
-  pub is : b ≡ copy_of copying e.number provider (names_of copying.set_id s.known.config)
+  pub is : f ≡ copy_of copying e.number provider (names_of copying.set_id s.known.config)
 
--- What the origin of a SYNC, which is another node, logged for the sets that the node at its seat keeps of it. No open
--- transaction there wrote one of their tables.
-pub record IsFollowed (w : World) (s : Seat) (e : Event) (b : Brought) : Type 0 where
+-- What the origin of a SYNC, which is another node, logged for the sets that the node at its seat keeps of it.
+pub record IsFollowed (w : World) (s : Seat) (e : Event) (f : Found) : Type 0 where
   pub body : e.body ≡ Sync
   pub receives : receives_from e.origin s.known ≡ true
   pub provider : Seat
   pub seat : IsSeat w.places provider
   pub own : provider.node.id ≡ e.origin
   pub apart : e.origin ≢ s.node.id
-  pub free : writer_of (names_taken s (kept_from e.origin s.known)) s.place ≡ None
-  pub is : b ≡ with_syncs s.place (set_syncs s.node.id s.known e (logged provider.node)) nothing_brought
+  pub is : f ≡ FoundSyncs (set_syncs s.node.id s.known e (logged provider.node))
 
--- what a turn brings with an event
-pub data IsBrought (w : World) (s : Seat) (e : Event) (b : Brought) : Type 0 where
-  Nothing : b ≡ nothing_brought → IsBrought w s e b
-  Copies : IsCopy w s e b → IsBrought w s e b
-  Brings : IsFollowed w s e b → IsBrought w s e b
+-- Nothing is to come with an event, or a set that its provider leads no more.
+pub data IsVain (w : World) (s : Seat) (e : Event) : Type 0 where
+  NoErrand : errand_of s e ≡ None → IsVain w s e
+  LedNoMore : (k : Copying) → errand_of s e ≡ Some (ToCopy k) → (p : Seat) → IsOther w k.provider s p →
+      still_leads k p ≡ false → IsVain w s e
+
+-- what a node finds for an event
+pub data Finds (w : World) (s : Seat) (e : Event) (f : Found) : Type 0 where
+  Nothing : f ≡ FoundNothing → IsVain w s e → Finds w s e f
+  Copies : IsCopy w s e f → Finds w s e f
+  Brings : IsFollowed w s e f → Finds w s e f
+
+-- a set is copied with an event that is no SYNC
+pub copies_silent : (own : ℕ) (receives : Bool) (origin : ℕ) (body : Body) (k : Copying) →
+    errand_in own receives origin body ≡ Some (ToCopy k) → is_sync body ≡ true → receives ≡ false
+copies_silent own true origin Sync k asked sync = absurd cc
+copies_silent own false origin Sync k asked sync = refl
+copies_silent own receives origin others k asked sync = absurd (false≢true sync)
+
+-- where nothing is to come with a SYNC, the node keeps no set of its origin
+none_follows : (own : ℕ) (receives : Bool) (origin : ℕ) (body : Body) → errand_in own receives origin body ≡ None →
+    is_sync body ≡ true → receives ≡ false
+none_follows own true origin Sync none sync = absurd cc
+none_follows own false origin Sync none sync = refl
+none_follows own receives origin others none sync = absurd (false≢true sync)
+
+pub vain_silent : (w : World) (s : Seat) (e : Event) → IsVain w s e → is_sync e.body ≡ true →
+    receives_from e.origin s.known ≡ false
+vain_silent w s e (NoErrand none) =
+    none_follows s.node.id (receives_from e.origin s.known) e.origin e.body none
+vain_silent w s e (LedNoMore k asked p at over) =
+    copies_silent s.node.id (receives_from e.origin s.known) e.origin e.body k asked
 
 copied_ok : (w : World) (s : Seat) (e : Event) → IsRegular w → IsSeat w.places s → (k : Copying) →
-    errand_of s e ≡ Some (ToCopy k) → OnOk (IsBrought w s e) (brought_by w s e (Some (ToCopy k)))
+    errand_of s e ≡ Some (ToCopy k) → OnOk (Finds w s e) (found_by w s e (Some (ToCopy k)))
 copied_ok w s e regular is k asked =
-    bind_ok (IsOther w k.provider s) (IsBrought w s e) (provided k.provider w.memory s (at_node k.provider w)) _
+    bind_ok (IsOther w k.provider s) (Finds w s e) (provided k.provider w.memory s (at_node k.provider w)) _
     (provided_ok k.provider w s regular) copies
   where
     names : List (List ℕ)
@@ -195,12 +218,12 @@ copied_ok w s e regular is k asked =
               leads).0;
         }) (record { name = s.name; node = s.node; is = seat_node w.places s is; leads = own })))
 
-    copies : (p : Seat) → IsOther w k.provider s p → OnOk (IsBrought w s e) (copied k s e p)
+    copies : (p : Seat) → IsOther w k.provider s p → OnOk (Finds w s e) (copied k s e p)
     copies p at =
         elim (still_leads k p)
-        as (λ b. still_leads k p ≡ b → OnOk (IsBrought w s e)
-        (cond b (checked (copy_checks s.place p.place names) (copy_of k e.number p names)) (Ok nothing_brought))) [
-          | true ↦ λ leads. checked_ok (IsBrought w s e) (copy_checks s.place p.place names)
+        as (λ b. still_leads k p ≡ b → OnOk (Finds w s e)
+        (cond b (checked (copy_checks s.place p.place names) (copy_of k e.number p names)) (Ok FoundNothing))) [
+          | true ↦ λ leads. checked_ok (Finds w s e) (copy_checks s.place p.place names)
               (copy_of k e.number p names) (λ none. Copies (record {
                 copying = k;
                 asked = asked;
@@ -210,10 +233,9 @@ copied_ok w s e regular is k asked =
                 apart = at.1;
                 leads = leads;
                 other = not_own p at leads;
-                free = none;
                 is = refl;
               }))
-          | false ↦ λ over. Nothing refl
+          | false ↦ λ over. Nothing refl (LedNoMore k asked p at over)
         ] refl
 
 -- what a node that keeps sets of the origin of a SYNC follows is that origin
@@ -233,37 +255,30 @@ follows_by own false origin Sync provider asked = absurd cc
 follows_by own receives origin others provider asked = absurd cc
 
 followed_ok : (w : World) (s : Seat) (e : Event) → IsRegular w → (provider : ℕ) →
-    errand_of s e ≡ Some (ToFollow provider) → OnOk (IsBrought w s e) (brought_by w s e (Some (ToFollow provider)))
+    errand_of s e ≡ Some (ToFollow provider) → OnOk (Finds w s e) (found_by w s e (Some (ToFollow provider)))
 followed_ok w s e regular provider asked =
-    bind_ok (IsOther w provider s) (IsBrought w s e) (provided provider w.memory s (at_node provider w)) _
+    bind_ok (IsOther w provider s) (Finds w s e) (provided provider w.memory s (at_node provider w)) _
     (provided_ok provider w s regular) follows
   where
-    names : List (List ℕ)
-    names = names_taken s (kept_from e.origin s.known)
-
     asks : (e.body ≡ Sync) × (receives_from e.origin s.known ≡ true) × (e.origin ≡ provider)
     asks = follows_by s.node.id (receives_from e.origin s.known) e.origin e.body provider asked
 
-    follows : (p : Seat) → IsOther w provider s p → OnOk (IsBrought w s e) (followed s e (logged p.node))
-    follows p at =
-        checked_ok (IsBrought w s e) (option_map refused.Busy (writer_of names s.place) ∷ [])
-        (with_syncs s.place (set_syncs s.node.id s.known e (logged p.node)) nothing_brought)
-        (λ none. Brings (record {
-          body = asks.0;
-          receives = asks.1;
-          provider = p;
-          seat = at.0.0;
-          own = at.0.1 ∙ sym asks.2;
-          apart = λ same. at.1 (sym asks.2 ∙ same);
-          free = none_busy (writer_of names s.place) (last_none [] _ none);
-          is = refl;
-        }))
+    follows : (p : Seat) → IsOther w provider s p → OnOk (Finds w s e) (followed s e (logged p.node))
+    follows p at = Brings (record {
+      body = asks.0;
+      receives = asks.1;
+      provider = p;
+      seat = at.0.0;
+      own = at.0.1 ∙ sym asks.2;
+      apart = λ same. at.1 (sym asks.2 ∙ same);
+      is = refl;
+    })
 
-pub brought_ok : (w : World) → IsRegular w → (s : Seat) (e : Event) → IsSeat w.places s →
-    OnOk (IsBrought w s e) (brought_by w s e (errand_of s e))
-brought_ok w regular s e is = by (errand_of s e) refl
+pub found_ok : (w : World) → IsRegular w → (s : Seat) (e : Event) → IsSeat w.places s →
+    OnOk (Finds w s e) (found_by w s e (errand_of s e))
+found_ok w regular s e is = by (errand_of s e) refl
   where
-    by : (a : Option Errand) → errand_of s e ≡ a → OnOk (IsBrought w s e) (brought_by w s e a)
-    by None none = Nothing refl
+    by : (a : Option Errand) → errand_of s e ≡ a → OnOk (Finds w s e) (found_by w s e a)
+    by None none = Nothing refl (NoErrand none)
     by (Some (ToCopy k)) asked = copied_ok w s e regular is k asked
     by (Some (ToFollow provider)) asked = followed_ok w s e regular provider asked

@@ -3,14 +3,11 @@ use Rattle.std.proofs.Common.{◌≡◌, ◌≢◌, inl, inr, ℕ, Bool, true, f
 use Rattle.std.proofs.Common.{find, Some, refl, sym, ap, subst, ◌∙◌, is_some, unwrap_or, arith, eq-eqb}
 use Rattle.std.specs.Prelude.{◌==◌, ◌||◌, nat_lt}
 use Rattle.std.specs.List.{AllByRecursion, list_any}
-use Rattle.std.specs.Str.{bytes_eq}
 use Rattle.std.proofs.lemmas.Bool.{eqb-true, false≢true, false_from_ne_true, or_right, true≢false}
 use Rattle.std.proofs.lemmas.Grind.{common_steps}
-use Rattle.slon_model.specs.Names.{Named, find_named}
 use Rattle.slon_model.specs.Maps.{Map, entry_at, with_entry, number_at}
-use Rattle.slon_model.proofs.Names.{bytes_same}
 pub use Rattle.slon_laws.proofs.Lists.{all_appended, all_passed, all_filtered, all_reversed, all_mapped, all_flat}
-pub use Rattle.slon_laws.proofs.Lists.{all_among, all_each, all_with, among_all}
+pub use Rattle.slon_laws.proofs.Lists.{all_among, all_each, all_entry, all_named, all_with, among_all}
 use Rattle.stream_laws.specs.Nodes.{IsAmong}
 
 -- ---- all elements
@@ -47,32 +44,7 @@ any_among {X = X} test (x ∷ xs) passes = by (test x) refl (any_among test xs) 
     by true is on some = (x, inl refl, is)
     by false is on some = let later = on some in (later.0, inr later.1, later.2)
 
--- ---- maps from names
-
--- what all entries have, the one that is found has
-pub all_named : {X : Type 0} (P : List ℕ × X → Type 0) (name : List ℕ) (x : X) (es : Named X) → AllByRecursion P es →
-    find_named name es ≡ Some x → P (name, x)
-all_named P name x [] all found = absurd cc
-all_named P name x (e ∷ es) all found =
-    elim (bytes_eq name e.0)
-    as (λ b. bytes_eq name e.0 ≡ b → cond b (Some e.1) (find_named name es) ≡ Some x → P (name, x)) [
-      | true ↦ λ same here. let is : e.1 ≡ x = cc in
-          subst (λ k. P (k, x)) (sym (bytes_same name e.0 same)) (subst (λ y. P (e.0, y)) is all.0)
-      | false ↦ λ other later. all_named P name x es all.1 later
-    ] refl found
-
 -- ---- maps from ids
-
--- what all entries have, the one that is found has
-pub all_entry : {X : Type 0} (P : ℕ × X → Type 0) (id : ℕ) (x : X) (es : Map X) → AllByRecursion P es →
-    entry_at id es ≡ Some x → P (id, x)
-all_entry P id x [] all found = absurd cc
-all_entry P id x (e ∷ es) all found =
-    elim (id == e.0) as (λ b. (id == e.0) ≡ b → cond b (Some e.1) (entry_at id es) ≡ Some x → P (id, x)) [
-      | true ↦ λ same here. let is : e.1 ≡ x = cc in
-          subst (λ k. P (k, x)) (sym (eqb-true id e.0 same)) (subst (λ y. P (e.0, y)) is all.0)
-      | false ↦ λ other later. all_entry P id x es all.1 later
-    ] refl found
 
 -- a look where an entry was put
 pub entry-with : {X : Type 0} (q id : ℕ) (x : X) (es : Map X) →

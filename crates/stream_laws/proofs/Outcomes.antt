@@ -12,9 +12,10 @@ use Rattle.slon_model.specs.Sessions.{World, Commit, Stated, tells}
 use Rattle.slon_model.specs.Scripts.{ordered}
 use Rattle.slon_model.specs.Turns.{sync_turn, on_turn}
 use Rattle.slon_model.specs.Polls.{Poll, polled, left_by, stated_by}
-use Rattle.slon_model.specs.Working.{Carried, worked, applied_by, taken_from}
+use Rattle.slon_model.specs.Working.{Carried, fetched, worked, applied_by, taken_from}
 use Rattle.slon_model.specs.World.{outcome}
 use Rattle.slon_laws.proofs.Leaves.{outcome_has}
+use Rattle.slon_laws.proofs.Results.{any_ok}
 use Rattle.stream_laws.specs.Nodes.{nodes_in}
 use Rattle.stream_laws.specs.Facts.{IsRegular, AllWait}
 use Rattle.stream_laws.proofs.Growing.{go_nowhere}
@@ -22,7 +23,7 @@ use Rattle.stream_laws.proofs.Seats.{OnOk, ok_then, IsSeat, bind_ok, kept_ok, tu
 use Rattle.stream_laws.proofs.Commits.{AllGoOn, hears_all, applies_all}
 use Rattle.stream_laws.proofs.Statements.{IsStated, free_stated, ordered_stated}
 use Rattle.stream_laws.proofs.Waiting.{IsPoll, polled_ok, left_waits, taken_waits, forgotten_waits}
-use Rattle.stream_laws.proofs.Works.{IsCarried, worked_ok}
+use Rattle.stream_laws.proofs.Works.{IsWork, work_ok}
 
 -- Commits go on from the session, and what waits behind them is of streams of the session.
 pub record IsOutcome (w : World) (commits : List Commit) (queues : Named (Map (List Event))) : Type 0 where
@@ -53,10 +54,10 @@ poll_left delivery w regular b is = record {
   waits = left_waits (nodes_in w.places) delivery b w.memory is.events regular.waits;
 }
 
-work_left : (w : World) → IsRegular w → (origin : ℕ) (c : Carried) → IsCarried w origin c →
+work_left : (w : World) → IsRegular w → (origin : ℕ) (c : Carried) → IsWork w origin c.seat c.event →
     IsOutcome w (applied_by c).commits (taken_from c w.memory).queues
 work_left w regular origin c is = record {
-  goes_on = applies_all w.places c is.work.seat regular.nodes is.work.event is.work.next;
+  goes_on = applies_all w.places c is.seat regular.nodes is.event is.next;
   waits = taken_waits (nodes_in w.places) c w.memory regular.waits;
 }
 
@@ -66,14 +67,17 @@ silent w regular queues waits = record { goes_on = go_nowhere (nodes_in w.places
 
 pub act_outcome : (act : Act) (w : World) → IsRegular w →
     IsOutcome w (outcome act w).commits (outcome act w).memory.queues
-act_outcome act w regular = outcome_has w (IsOutcome w) (record {
+act_outcome act w regular = outcome_has w (λ commits queues fetches. IsOutcome w commits queues) (record {
   nothing = silent w regular w.memory.queues regular.waits;
   stops = λ name. silent w regular _ (forgotten_waits (nodes_in w.places) name w.memory regular.waits);
+  gives_up = λ name origin. silent w regular w.memory.queues regular.waits;
   orders = λ o run. leaves_waiting w regular (ordered o run w) (ordered_stated o run w regular);
   syncs = λ node. leaves_waiting w regular (sync_turn node w) (sync_stated node w regular);
   polls = λ node server delivery.
       ok_then (IsPoll w) _ (polled node server w) (polled_ok node server w regular) (poll_left delivery w regular);
+  fetches = λ node origin. any_ok _ (fetched node origin w)
+      (λ x. silent w regular w.memory.queues regular.waits);
   works = λ node origin.
-      ok_then (IsCarried w origin) _ (worked node origin w) (worked_ok node origin w regular)
+      ok_then (λ c. IsWork w origin c.seat c.event) _ (worked node origin w) (work_ok node origin w regular)
       (work_left w regular origin);
 }) act

@@ -1,60 +1,34 @@
 -- What a script or a turn reaches is a node of the session, and what it was not refused for is not so.
-use Rattle.std.proofs.Common.{◌≡◌, ℕ, Bool, true, false, cond, List, [], ◌∷◌, Option, Some, None, Ok, Err, refl}
+use Rattle.std.proofs.Common.{◌≡◌, ℕ, Bool, true, false, cond, List, [], ◌∷◌, Option, Some, None, refl}
 use Rattle.std.proofs.Common.{sym, ap, subst, ◌∙◌, not}
 use Rattle.std.specs.Prelude.{◌==◌, ◌||◌, filter_map, option_map}
-use Rattle.std.specs.Option.{option_or}
 use Rattle.std.specs.List.{list_any, cons_option}
 use Rattle.std.specs.Str.{bytes_eq}
 use Rattle.std.proofs.lemmas.Bool.{false≢true, eqb-true, not-false, and_parts}
 use Rattle.slon_model.specs.declared.reply.Refusal.TheVariants as refused
 use Rattle.slon_model.specs.Names.{Named, find_named}
-use Rattle.slon_model.specs.Maps.{entry_at}
 use Rattle.slon_model.specs.Config.{Config, is_origin}
 use Rattle.slon_model.specs.Deeds.{Node, knowledge}
-use Rattle.slon_model.specs.Place.{Place, is_running, node_id}
+use Rattle.slon_model.specs.Place.{Place, node_id}
 use Rattle.slon_model.specs.Sessions.{World, Running, Seat, when}
-use Rattle.slon_model.specs.Reaching.{database_up, database_by, database_of_line, is_node_of, reach, origin_checks}
+use Rattle.slon_model.specs.Reaching.{database_of_line, is_node_of, reach, origin_checks}
 use Rattle.slon_model.specs.Reaching.{origin_of, best_of, found_owner, owner}
-use Rattle.slon_model.specs.Membership.{already, first_id}
+use Rattle.slon_model.specs.Membership.{first_id}
 use Rattle.slon_model.proofs.Names.{all_map, one_found}
 pub use Rattle.slon_laws.proofs.Results.{OnOk, bind_ok, ok_then, checked_ok, kept_ok, none_first, all_none, when_none}
 pub use Rattle.slon_laws.proofs.Results.{last_none, none_busy}
-pub use Rattle.slon_laws.proofs.Seats.{IsSeat, IsFound, at_node_found, seat_at_ok, turn_ok}
+pub use Rattle.slon_laws.proofs.Seats.{IsSeat, IsFound, already_none, at_node_found, line_ok, no_node, seat_at_ok}
+pub use Rattle.slon_laws.proofs.Seats.{turn_ok}
 use Rattle.slon_laws.specs.Sound.{AreNamedOnce}
 use Rattle.slon_laws.proofs.Owners.{OnSome, OfNode, owner_is}
 use Rattle.slon_laws.proofs.Seats.{all_once, seat_of_ok}
 use Rattle.stream_laws.specs.Nodes.{nodes_in, node_in}
-
--- ---- results
-
-pub already_none : (o : Option ℕ) → already o ≡ None → o ≡ None
-already_none None none = refl
-already_none (Some node) none = absurd cc
 
 -- ---- seats
 
 -- the node of a seat, by the name of its database
 pub seat_node : (ps : Named Place) (s : Seat) → IsSeat ps s → nodes_in ps s.name ≡ Some s.node
 seat_node ps s is = ap node_in is.found ∙ is.node
-
-up_ok : (w : World) (name : List ℕ) → OnOk (IsFound w.places) (database_up name (find_named name w.places))
-up_ok w name = by (find_named name w.places) refl
-  where
-    by : (o : Option Place) → find_named name w.places ≡ o → OnOk (IsFound w.places) (database_up name o)
-    by None is = tt
-    by (Some p) is =
-        elim (is_running p.standing)
-        as (λ b. OnOk (IsFound w.places) (cond b (Ok (name, p)) (Err (refused.Down name)))) [
-          | true ↦ is
-          | false ↦ tt
-        ]
-
-pub line_ok : (run : Running) (id : ℕ) (w : World) → OnOk (IsFound w.places) (database_of_line run id w)
-line_ok run id w = by (entry_at id run.lines)
-  where
-    by : (o : Option (List ℕ)) → OnOk (IsFound w.places) (database_by w id o)
-    by None = tt
-    by (Some conninfo) = up_ok w _
 
 -- the seat is that of the node of this id
 abbrev pub IsReached : Named Place → ℕ → Seat → Type 0
@@ -122,13 +96,6 @@ unknown test (e ∷ es) none name n is =
     by later (Some m) at none true here =
         subst (λ x. test (knowledge x).config ≡ false) (one_found m n (sym at ∙ here)) (neither _ _ none).0
     by later (Some m) at none false there = later (neither _ _ none).1 there
-
-no_node : (p : Place) → node_id p ≡ None → p.node ≡ None
-no_node p none = by p.node none
-  where
-    by : (o : Option Node) → option_or (option_map (λ n. n.id) o) p.promised ≡ None → o ≡ None
-    by None none = refl
-    by (Some n) none = absurd cc
 
 -- where no database is a node, or would be one
 pub no_nodes : (ps : Named Place) → first_id (filter_map (λ e. node_id e.1) ps) ≡ None → (name : List ℕ) →

@@ -27,6 +27,22 @@ number_within own (f ∷ fs) e are (inl is) =
 number_within own (f ∷ fs) e are (inr later) =
     let rest = number_within own fs e are.3 later in (rest.0, omega (arith, rest.1))
 
+-- two events of one stream with one number
+pub same_number : (own : ℕ) (es : List Event) (a b : Event) → AreEmitted own es → IsAmong a es → IsAmong b es →
+    a.number ≡ b.number → a ≡ b
+same_number own [] a b are among_a among_b same = absurd among_a
+same_number own (e ∷ es) a b are (inl is_a) (inl is_b) same = is_a ∙ sym is_b
+same_number own (e ∷ es) a b are (inl is_a) (inr later) same =
+    let at = ap (λ (f : Event). f.number) is_a in
+    let within = number_within own es b are.3 later in
+    absurd (omega (arith, at, within.1, are.1, same))
+same_number own (e ∷ es) a b are (inr later) (inl is_b) same =
+    let at = ap (λ (f : Event). f.number) is_b in
+    let within = number_within own es a are.3 later in
+    absurd (omega (arith, at, within.1, are.1, same))
+same_number own (e ∷ es) a b are (inr later_a) (inr later_b) same =
+    same_number own es a b are.3 later_a later_b same
+
 -- the events that were emitted before
 pub emitted_before : (own : ℕ) (later earlier : List Event) → AreEmitted own (later ++ earlier) →
     AreEmitted own earlier
@@ -34,7 +50,7 @@ emitted_before own [] earlier are = are
 emitted_before own (f ∷ later) earlier are = emitted_before own later earlier are.3
 
 -- an event with a low number is an early one
-among_earlier : (own : ℕ) (later earlier : List Event) (e : Event) → AreEmitted own (later ++ earlier) →
+pub among_earlier : (own : ℕ) (later earlier : List Event) (e : Event) → AreEmitted own (later ++ earlier) →
     IsAmong e (later ++ earlier) → e.number ≤ length earlier → IsAmong e earlier
 among_earlier own [] earlier e are among low = among
 among_earlier own (f ∷ later) earlier e are (inl is) low =

@@ -9,7 +9,8 @@ pub returns-clause-turns : goal.returns-clause-turns
 returns-clause-turns g c n e b m logs is holds from are =
     let rows = c.args.rows.now in
     becomes {P = λ s. s ≡ m} (HasKept n e (with_logs logs b) m) (put_logs c.args.origin rows)
-    {old = g.K.Keeper.kept c.args.keeper.now} (g.K.Keeper.kept c.append.new.keeper) c.append.result c.append.ensures.put c.append.ensures.only
+    {old = g.K.Keeper.kept c.args.keeper.now} (g.K.Keeper.kept c.append.new.keeper) c.append.result
+    c.append.ensures.put c.append.ensures.only
     (record { store = m; is = is; has = refl }) (λ s same.
     subst (λ t. HasKept n e (with_logs logs b) m (put_logs c.args.origin rows t)) (sym same)
     (has_logged b c.args.origin logs rows m

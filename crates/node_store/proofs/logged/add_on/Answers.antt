@@ -5,7 +5,8 @@ use Rattle.node_store.proofs.logged.add_on.Goals as goal
 
 pub returns-in_ok-add-in-Ok-clause-can : goal.returns-in_ok-add-in-Ok-clause-can
 returns-in_ok-add-in-Ok-clause-can c all =
-    can_added c.in-Ok.action c.requires.can c.in-Ok.ensures.found c.in_ok-add-in-Ok.ensures.rows c.in_ok-add-in-Ok.ensures.actions
+    can_added c.in-Ok.action c.requires.can c.in-Ok.ensures.found
+    c.in_ok-add-in-Ok.ensures.rows c.in_ok-add-in-Ok.ensures.actions
     all
 
 pub returns-in_ok-add-in-Ok-clause-says : goal.returns-in_ok-add-in-Ok-clause-says

@@ -37,7 +37,8 @@ returns-in-Err-clause-looks g c p ready memory =
       rose = λ failed. c.in-Err.ensures.safe.rises failed _ (omega arith);
       fault_is = c.fall.ensures.fault;
     }) memory
-    (look_gives (λ (k : Config) (found : Option Subscription). found ≡ pair_at c.args.set c.args.receiver k.subscriptions) p
+    (look_gives (λ (k : Config) (found : Option Subscription).
+    found ≡ pair_at c.args.set c.args.receiver k.subscriptions) p
     ready.fits.held.0
     (Err c.in-Err.stop) ready.fits.held.2.node_held
     (λ k held orderly. c.in-Err.ensures.says ready.fits.held.0 k seen held))

@@ -2,7 +2,7 @@ use Rattle.std.proofs.Common.{◌∙◌, ◌+◌, ◌∷◌, List, ℕ, Ok, Err,
 use Rattle.std.proofs.lemmas.List.{drop_more, drop_all}
 use Rattle.std.proofs.lemmas.Result.{err_from_is_err_and}
 use Rattle.slon_model.specs.Sessions.{first_refusal}
-use Rattle.slon_model.specs.Working.{width_checks}
+use Rattle.slon_model.specs.Working.{copy_checks}
 use Rattle.slon_base.specs.Codec.{AllAre, IsText}
 use Rattle.remote_worker.proofs.Finding.{LeavesOf, bad_table, next_table}
 use Rattle.remote_worker.proofs.Looking.{fails, so, then}
@@ -46,4 +46,4 @@ pub returns-clause-looks : goal.returns-clause-looks
 returns-clause-looks g c =
     let names = c.args.names.now in
     let end = drop_all c.loop-name.name-index names c.loop-name-test.false in
-    so (λ p q leaves. leaves ∙ ap (λ ns. first_refusal (width_checks p q ns)) end) c.loop-name.invariant.looks
+    so (λ p q leaves. leaves ∙ ap (λ ns. first_refusal (copy_checks p q ns)) end) c.loop-name.invariant.looks

@@ -8,7 +8,8 @@ use Rattle.slonik_exec.specs.Databases.{bases_of}
 use Rattle.slonik_exec.specs.Turning.{is_this}
 use Rattle.slonik_exec.proofs.Seated.{found_inside}
 use Rattle.slonik_exec.proofs.Seating.{runs_quiet}
-use Rattle.slon_turns.specs.Fetching.{BringsFrom, Trip}
+use Rattle.slon_turns.specs.declared.fetching.Trip.{Trip}
+use Rattle.slon_turns.specs.Fetching.{BringsFrom}
 use Rattle.slon_turns.specs.Planning.{provider_by}
 use Rattle.slon_turns.proofs.Fetched.{Pointed, brings_brought, provider_down, provider_missed, runs_brought}
 use Rattle.slon_turns.proofs.Fetched.{visiting_at}
@@ -18,12 +19,12 @@ pub returns-in_default : goal.returns-in_default
 returns-in_default g c =
     let kept = g.K.Keeper.kept in
     let items = c.args.databases.now in
-    let a : Trip = record { taken = c.args.taken; errand = c.args.errand } in
+    let a : Trip = c.args.trip in
     record {
       runs = runs_quiet (refused.NoNode c.provider_of-node.result) (bases_of kept items) refl;
-      brings = subst (λ n. BringsFrom kept a c.args.index (items, c.args.queue.now)
-          (replied.Refused (refused.NoNode n)) (items, c.args.queue.now)) (sym c.provider_of-node.ensures)
-          (provider_missed kept a c.args.index items c.args.queue.now
+      brings = subst (λ n. BringsFrom kept a c.args.index (items, c.args.held.now)
+          (replied.Refused (refused.NoNode n)) (items, c.args.held.now)) (sym c.provider_of-node.ensures)
+          (provider_missed kept a c.args.index items c.args.held.now
           (ap (λ n. position (is_this n) items) (sym c.provider_of-node.ensures) ∙ sym c.index_of_node.ensures
           ∙ c.in_default.is));
     }
@@ -32,7 +33,7 @@ pub returns-then-not-is_up : goal.returns-then-not-is_up
 returns-then-not-is_up g c =
     let kept = g.K.Keeper.kept in
     let items = c.args.databases.now in
-    let a : Trip = record { taken = c.args.taken; errand = c.args.errand } in
+    let a : Trip = c.args.trip in
     let e = get_or items c.in-Some.to c.index-databases-to.result in
     let at = ap (λ n. position (is_this n) items) (sym c.provider_of-node.ensures) ∙ sym c.index_of_node.ensures
     ∙ c.in-Some.is
@@ -41,9 +42,9 @@ returns-then-not-is_up g c =
     (found_inside (is_this (provider_by a.errand)) items c.in-Some.to c.index-databases-to.result at) in
     record {
       runs = runs_quiet (refused.Down c.in_ok-database.database) (bases_of kept items) refl;
-      brings = subst (λ n. BringsFrom kept a c.args.index (items, c.args.queue.now)
-          (replied.Refused (refused.Down n)) (items, c.args.queue.now)) (sym c.in_ok-database.ensures)
-          (provider_down kept a c.args.index c.in-Some.to items c.args.queue.now e (c.requires.distinct, at)
+      brings = subst (λ n. BringsFrom kept a c.args.index (items, c.args.held.now)
+          (replied.Refused (refused.Down n)) (items, c.args.held.now)) (sym c.in_ok-database.ensures)
+          (provider_down kept a c.args.index c.in-Some.to items c.args.held.now e (c.requires.distinct, at)
           (held, sym c.is_up.ensures ∙ c.if-not-is_up.true));
     }
 
@@ -55,7 +56,7 @@ fetch_both-requires-clause-visiting g c =
     let at = ap (λ n. position (is_this n) items) (sym c.provider_of-node.ensures) ∙ sym c.index_of_node.ensures
     ∙ c.in-Some.is
     in
-    let p : Pointed g.K.Keeper.kept (record { taken = c.args.taken; errand = c.args.errand }) items
+    let p : Pointed g.K.Keeper.kept c.args.trip items
     (record { from = c.args.index; to = to }) = record {
       distinct = c.requires.distinct;
       seat = c.requires.seat;
@@ -65,7 +66,7 @@ fetch_both-requires-clause-visiting g c =
     } in
     visiting_at x p (λ e held.
     ap (λ z. z.database.state.up)
-    (held ∙ get_or_default items to e x (found_inside (is_this (provider_by c.args.errand)) items to x at))
+    (held ∙ get_or_default items to e x (found_inside (is_this (provider_by c.args.trip.errand)) items to x at))
     ∙ sym c.is_up.ensures ∙ c.if-not-is_up.false)
 
 pub returns : goal.returns
@@ -77,7 +78,7 @@ returns g c =
     let at = ap (λ n. position (is_this n) items) (sym c.provider_of-node.ensures) ∙ sym c.index_of_node.ensures
     ∙ c.in-Some.is
     in
-    let p : Pointed kept (record { taken = c.args.taken; errand = c.args.errand }) items
+    let p : Pointed kept c.args.trip items
     (record { from = c.args.index; to = to }) = record {
       distinct = c.requires.distinct;
       seat = c.requires.seat;
@@ -89,6 +90,6 @@ returns g c =
       runs = IfOk-weaker c.fetch_both.result _ _ (λ reply d. runs_brought d p) c.fetch_both.ensures.brought;
       brings = IfOk-weaker c.fetch_both.result _ _ (λ reply d. brings_brought d p (λ e held.
           ap (λ z. z.database.state.up)
-          (held ∙ get_or_default items to e x (found_inside (is_this (provider_by c.args.errand)) items to x at))
+          (held ∙ get_or_default items to e x (found_inside (is_this (provider_by c.args.trip.errand)) items to x at))
           ∙ sym c.is_up.ensures ∙ c.if-not-is_up.false)) c.fetch_both.ensures.brought;
     }

@@ -5,7 +5,9 @@ use Rattle.slonik_exec.specs.Databases.{bases_of}
 use Rattle.slonik_exec.specs.Reached.{IsQuietly}
 use Rattle.slonik_exec.specs.Turning.{HasTurn, IsSeatHere, IsThisAt}
 use Rattle.slonik_exec.proofs.Seating.{runs_quiet}
-use Rattle.slon_turns.specs.Turning.{IsTaken, Polls}
+use Rattle.slon_turns.specs.declared.held.Held.{Held}
+use Rattle.slon_turns.specs.Holding.{IsTaken}
+use Rattle.slon_turns.specs.Turning.{Polls}
 use Rattle.slon_turns.proofs.Turned.{turn_refused, server_missed, self_listed, Found, meeting_at}
 use Rattle.slon_turns.proofs.Turned.{runs_polled, polls_under, own_named}
 use Rattle.slon_turns.proofs.turn.take_poll.Goals as goal
@@ -17,7 +19,7 @@ returns-in-Refused g c =
     let quiet = subst IsQuietly c.in-Refused.is c.in_ok-from.ensures.quiet in
     record {
       runs = runs_quiet c.in-Refused.refusal (bases_of kept items) quiet;
-      polls = turn_refused kept c.args.listen c.args.started.now items c.args.queues.now c.in-Refused.refusal (
+      polls = turn_refused kept c.args.listen c.args.started.now items c.args.held.now c.in-Refused.refusal (
         quiet,
         subst (HasTurn kept c.args.listen.node c.args.started.now items) c.in-Refused.is c.in_ok-from.ensures.turns,
       );
@@ -32,7 +34,7 @@ returns-in_default g c =
     let at = subst (IsThisAt {g = g.K.Keeper} c.args.listen.node items) c.in-At.is c.in_ok-from.ensures.at in
     record {
       runs = runs_quiet (refused.NoNode c.args.listen.server) (bases_of kept items) refl;
-      polls = server_missed kept c.args.listen c.args.started.now items c.args.queues.now c.in-At.from
+      polls = server_missed kept c.args.listen c.args.started.now items c.args.held.now c.in-At.from
           (sym c.index_of_node.ensures ∙ c.in_default.is) (turns, at);
     }
 
@@ -45,7 +47,7 @@ returns-then-listen g c =
     let at = subst (IsThisAt {g = g.K.Keeper} c.args.listen.node items) c.in-At.is c.in_ok-from.ensures.at in
     record {
       runs = runs_quiet (refused.NotListed c.args.listen.server) (bases_of kept items) refl;
-      polls = self_listed kept c.args.listen c.args.started.now items c.args.queues.now c.in-At.from
+      polls = self_listed kept c.args.listen c.args.started.now items c.args.held.now c.in-At.from
           c.if-listen.true (turns, at);
     }
 
@@ -68,7 +70,7 @@ pub returns : goal.returns
 returns g c =
     let items = c.args.databases.now in
     let kept = g.K.Keeper.kept in
-    let queues = c.args.queues.now in
+    let held = c.args.held.now in
     let p = c.in_ok-reply.ensures.polled in
     let key = c.in_ok-key.key.items in
     let f : Found kept c.args.listen c.args.started.now items (record { from = c.in-At.from; to = c.in-Some.to }) =
@@ -80,16 +82,17 @@ returns g c =
       apart = c.if-listen.false;
     } in
     let sliced = c.as_slice.ensures.value in
+    let own : Held = record c.take-own.result { queue = c.poll_both.new.queue } in
     record {
       runs = runs_polled p f;
       polls = subst (λ q. Polls c.args.listen c.args.started.now
-          (record { bases = bases_of kept items; queues = queues }) c.in_ok-reply.reply
-          (record { bases = bases_of kept c.poll_both.new.databases; queues = q }))
-          (ap (λ n. insert (remove queues n) key c.poll_both.new.queue) (sym sliced)
-          ∙ ap (λ m. insert m key c.poll_both.new.queue) (sym c.take_queue-queue.ensures.map)
+          (record { bases = bases_of kept items; held = held }) c.in_ok-reply.reply
+          (record { bases = bases_of kept c.poll_both.new.databases; held = q }))
+          (ap (λ n. insert (remove held n) key own) (sym sliced)
+          ∙ ap (λ m. insert m key own) (sym c.take-own.ensures.map)
           ∙ sym c.in_ok-insert.ensures.ok)
-          (polls_under queues key p f (
+          (polls_under c.take-own.result held key p f (
             c.in_ok-key.ensures ∙ own_named p f c.index-databases-from.result,
-            subst (λ n. IsTaken (get queues n) c.take_queue-queue.result) sliced c.take_queue-queue.ensures.is,
+            subst (λ n. IsTaken (get held n) c.take-own.result) sliced c.take-own.ensures.is,
           ));
     }

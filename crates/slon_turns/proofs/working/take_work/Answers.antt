@@ -6,7 +6,8 @@ use Rattle.slonik_exec.specs.Reached.{IsQuietly}
 use Rattle.slonik_exec.specs.Turning.{IsSeatHere, HasTurn}
 use Rattle.slonik_exec.proofs.Seating.{runs_quiet}
 use Rattle.slon_model.specs.Turns.{Switches}
-use Rattle.slon_turns.specs.Turning.{IsTaken}
+use Rattle.slon_turns.specs.Applying.{goal_in}
+use Rattle.slon_turns.specs.Holding.{IsTaken}
 use Rattle.slon_turns.specs.Working.{Works}
 use Rattle.slon_turns.proofs.Taking.{work_refused, works_carried}
 use Rattle.slon_turns.proofs.working.take_work.Goals as goal
@@ -19,7 +20,7 @@ returns-in-Refused g c =
     let on : Switches = record { started = c.args.on.started.now; cuts = c.args.on.cuts.now } in
     record {
       runs = runs_quiet c.in-Refused.refusal (bases_of kept items) quiet;
-      works = work_refused kept c.args.work on items c.args.queues.now c.in-Refused.refusal (
+      works = work_refused kept c.args.work on items c.args.held.now c.in-Refused.refusal (
         quiet,
         subst (HasTurn kept c.args.work.node on.started items) c.in-Refused.is c.in_ok-index.ensures.turns,
       );
@@ -29,7 +30,7 @@ pub returns : goal.returns
 returns g c =
     let items = c.args.databases.now in
     let kept = g.K.Keeper.kept in
-    let queues = c.args.queues.now in
+    let held_old = c.args.held.now in
     let i = c.in-At.index in
     let x = get_or items i c.index-databases-index.result in
     let key = c.in_ok-key.key.items in
@@ -38,21 +39,22 @@ returns g c =
     let turns = subst (HasTurn kept c.args.work.node on.started items) c.in-At.is c.in_ok-index.ensures.turns in
     let held = get_or_default items i c.index-databases-index.result x here.0 in
     let sliced = c.as_slice.ensures.value in
+    let own = c.work_at.new.held in
     record {
       runs = c.in_ok-reply.ensures.runs;
-      works = subst (λ q. Works c.args.work.node c.args.work.origin on
-          (record { bases = bases_of kept items; queues = queues }) c.in_ok-reply.reply
-          (record { bases = bases_of kept c.work_at.new.databases; queues = q }))
-          (ap (λ n. insert (remove queues n) key c.work_at.new.queue) (sym sliced)
-          ∙ ap (λ m. insert m key c.work_at.new.queue) (sym c.take_queue-queue.ensures.map)
+      works = subst (λ q. Works (goal_in c.args.work) c.args.work.node on
+          (record { bases = bases_of kept items; held = held_old }) c.in_ok-reply.reply
+          (record { bases = bases_of kept c.work_at.new.databases; held = q }))
+          (ap (λ n. insert (remove held_old n) key own) (sym sliced)
+          ∙ ap (λ m. insert m key own) (sym c.take-own.ensures.map)
           ∙ sym c.in_ok-insert.ensures.ok)
-          (works_carried {kept = kept} queues key (record {
-            old = (items, c.take_queue-queue.result);
+          (works_carried {kept = kept} held_old key (record {
+            old = (items, c.take-own.result);
             reply = c.in_ok-reply.reply;
-            new = (c.work_at.new.databases, c.work_at.new.queue);
+            new = (c.work_at.new.databases, own);
             carries = c.in_ok-reply.ensures.carries;
           }) x (turns, refl) held (
             c.in_ok-key.ensures,
-            subst (λ n. IsTaken (get queues n) c.take_queue-queue.result) sliced c.take_queue-queue.ensures.is,
+            subst (λ n. IsTaken (get held_old n) c.take-own.result) sliced c.take-own.ensures.is,
           ));
     }

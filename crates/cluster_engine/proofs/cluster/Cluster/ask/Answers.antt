@@ -33,7 +33,7 @@ returns-in-Ok g c =
       hands = c.in-Ok.ensures.hands;
       memory = answer_memory c.in-Ok.done;
     })
-    (c.forget.ensures ∙ ap (λ b. cond b (remove c.args.self.now.queues c.in-Some.database.now) c.args.self.now.queues)
+    (c.forget.ensures ∙ ap (λ b. cond b (remove c.args.self.now.held c.in-Some.database.now) c.args.self.now.held)
     (c.came_up-risen.ensures ∙ ap (λ b. b && not c.is_up-was_up.result) c.is_up.ensures
     ∙ ap (λ b. c.obey-served.new.self.state.up && not b) c.is_up-was_up.ensures)))
 
@@ -54,6 +54,6 @@ returns-in-Err g c =
       hands = c.in-Err.ensures.hands;
       memory = memory;
     })
-    (c.forget.ensures ∙ ap (λ b. cond b (remove c.args.self.now.queues c.in-Some.database.now) c.args.self.now.queues)
+    (c.forget.ensures ∙ ap (λ b. cond b (remove c.args.self.now.held c.in-Some.database.now) c.args.self.now.held)
     (c.came_up-risen.ensures ∙ ap (λ b. b && not c.is_up-was_up.result) c.is_up.ensures
     ∙ ap (λ b. c.obey-served.new.self.state.up && not b) c.is_up-was_up.ensures)))

@@ -15,7 +15,7 @@ returns g c =
     let kept = g.K.Keeper.kept in
     let old = cluster_of kept c.args.self.now in
     let news = bases_of kept c.take_poll.new.databases in
-    let queues = c.take_poll.new.queues in
+    let queues = c.take_poll.new.held in
     let l : Listen =
     record { node = c.args.node; server = c.args.server; delivery = c.args.delivery; cut = c.are_cut-cut.result } in
     let items =
@@ -27,9 +27,9 @@ returns g c =
       subst (λ xs. IfOk c.take_poll.result (λ reply. Runs (bases_of {g = g.K.Keeper} kept xs) reply news))
           c.deref_mut.ensures.value c.take_poll.ensures.runs,
       subst (λ xs. IfOk c.take_poll.result (λ reply. Polls l old.memory.switches.started
-          (kept_as (bases_of {g = g.K.Keeper} kept xs) old.memory.queues) reply (kept_as news queues)))
+          (kept_as (bases_of {g = g.K.Keeper} kept xs) old.memory.held) reply (kept_as news queues)))
           c.deref_mut.ensures.value
           (subst (λ started. IfOk c.take_poll.result (λ reply. Polls l started
-          (kept_as (bases_of kept c.deref_mut.result.now) old.memory.queues) reply (kept_as news queues)))
+          (kept_as (bases_of kept c.deref_mut.result.now) old.memory.held) reply (kept_as news queues)))
           c.deref.ensures.value c.take_poll.ensures.polls),
     ) (sym (c.are_cut-cut.ensures ∙ ap (are_cut l.node l.server) c.as_slice.ensures.value)))

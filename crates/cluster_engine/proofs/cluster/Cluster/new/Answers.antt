@@ -1,7 +1,7 @@
 use Rattle.std.proofs.Common.{ℕ, List, refl, sym, ap, subst, ◌∙◌, []}
 use Rattle.slon_model.specs.Turns.{Switches}
 use Rattle.slonik_exec.specs.Databases.{FitsAll, bases_of}
-use Rattle.cluster_engine.proofs.Walking.{none_fit, none_wait}
+use Rattle.cluster_engine.proofs.Walking.{none_fit, none_kept, none_wait}
 use Rattle.cluster_engine.proofs.cluster.Cluster.new.Goals as goal
 
 abbrev switched_by : List ℕ → List (ℕ × ℕ) → Switches
@@ -17,4 +17,5 @@ returns-clause-agrees g c = record {
         ∙ ap (switched_by c.new-3.result.items) (sym c.new-4.ensures.items);
     waits = none_wait c.new-5.result c.new-5.ensures;
   };
+  keeps = λ name up. none_kept c.new-5.result c.new-5.ensures name;
 }

@@ -2,7 +2,7 @@ use Rattle.std.proofs.Common.{Bool, ap, subst, arith}
 use Rattle.slon_model.specs.declared.command.Command.{Command}
 use Rattle.slon_model.specs.Spoken.{IsSpoken}
 use Rattle.slon_model.specs.Tasks.{subject_of, ToStep, ToForget, ToStart, ToStop, ToCut, ToJoin, ToSync, ToListen}
-use Rattle.slon_model.specs.Tasks.{ToWork}
+use Rattle.slon_model.specs.Tasks.{ToFetch, ToWork}
 use Rattle.cluster_engine.specs.Calls.{Acts, takes_none}
 use Rattle.cluster_engine.specs.Clustered.{cluster_of}
 use Rattle.cluster_engine.proofs.Moving.{granted_moves, acts_moves, one_left, none_left, spared}
@@ -57,6 +57,12 @@ returns-in-Listen-clause-moves g c =
     (cluster_of g.K.Keeper.kept c.args.self.now) (cluster_of g.K.Keeper.kept c.listen.new.self)
     (ap subject_of c.in-Listen.is) c.listen.ensures
 
+pub returns-in-Fetch-clause-moves : goal.returns-in-Fetch-clause-moves
+returns-in-Fetch-clause-moves g c =
+    acts_moves c.fetch.result c.args.command.now (ToFetch c.in-Fetch.node c.in-Fetch.origin)
+    (cluster_of g.K.Keeper.kept c.args.self.now) (cluster_of g.K.Keeper.kept c.fetch.new.self)
+    (ap subject_of c.in-Fetch.is) c.fetch.ensures
+
 pub returns-in-Work-clause-moves : goal.returns-in-Work-clause-moves
 returns-in-Work-clause-moves g c =
     acts_moves c.work.result c.args.command.now (ToWork c.in-Work.node c.in-Work.origin)
@@ -67,6 +73,11 @@ pub listen-requires-clause-id : goal.listen-requires-clause-id
 listen-requires-clause-id g c =
     let server = (subst IsSpoken c.in-Listen.is c.requires.spoken).1.1 in
     (server.0, omega (arith, server.1))
+
+pub fetch-requires-clause-id : goal.fetch-requires-clause-id
+fetch-requires-clause-id g c =
+    let origin = (subst IsSpoken c.in-Fetch.is c.requires.spoken).1.1 in
+    (origin.0, omega (arith, origin.1))
 
 pub work-requires-clause-id : goal.work-requires-clause-id
 work-requires-clause-id g c =
@@ -85,6 +96,7 @@ ask-requires-clause-one g c = one_left c.args.command.now (record {
   join = c.in_default.not-Join;
   sync = c.in_default.not-Sync;
   listen = c.in_default.not-Listen;
+  fetch = c.in_default.not-Fetch;
   work = c.in_default.not-Work;
 })
 
@@ -112,6 +124,9 @@ returns-in-Sync-clause-spares g c = spared c.args.command.now _ (ap takes c.in-S
 pub returns-in-Listen-clause-spares : goal.returns-in-Listen-clause-spares
 returns-in-Listen-clause-spares g c = spared c.args.command.now _ (ap takes c.in-Listen.is)
 
+pub returns-in-Fetch-clause-spares : goal.returns-in-Fetch-clause-spares
+returns-in-Fetch-clause-spares g c = spared c.args.command.now _ (ap takes c.in-Fetch.is)
+
 pub returns-in-Work-clause-spares : goal.returns-in-Work-clause-spares
 returns-in-Work-clause-spares g c = spared c.args.command.now _ (ap takes c.in-Work.is)
 
@@ -127,5 +142,6 @@ returns-in_default-clause-spares g c = spared c.args.command.now _ (none_left c.
   join = c.in_default.not-Join;
   sync = c.in_default.not-Sync;
   listen = c.in_default.not-Listen;
+  fetch = c.in_default.not-Fetch;
   work = c.in_default.not-Work;
 }))

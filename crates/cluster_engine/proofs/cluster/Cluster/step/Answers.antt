@@ -23,6 +23,7 @@ returns-in-Slonik g c =
       certain = all.certain;
       quiet = all.quiet;
       distinct = all.distinct c.requires.distinct;
+      subscribes = all.subscribes c.requires.spoken;
       spares = spared c.args.command _ (ap (λ x. takes_none (subject_of x)) c.in-Slonik.is);
     }
 
@@ -38,5 +39,6 @@ returns-in_default g c =
       certain = all.certain;
       quiet = all.quiet;
       distinct = all.distinct c.requires.distinct;
+      subscribes = all.subscribes c.requires.spoken;
       spares = c.obey.ensures.spares;
     }

@@ -2,10 +2,11 @@ use Rattle.std.proofs.Common.{◌∙◌, IfOk, sym, subst}
 use Rattle.std.proofs.lemmas.List.{with_items_is}
 use Rattle.slon_model.specs.Tasks.{ToWork}
 use Rattle.slonik_exec.specs.Databases.{bases_of, Runs}
-use Rattle.slon_turns.specs.Working.{Works}
+use Rattle.slon_turns.specs.declared.working.Aim.TheVariants.{Apply}
+use Rattle.slon_turns.specs.Working.{Goal, Works}
 use Rattle.cluster_engine.specs.Calls.{IsActed}
 use Rattle.cluster_engine.specs.Clustered.{cluster_of}
-use Rattle.cluster_engine.proofs.Taking.{with_queues, kept_as, work_if}
+use Rattle.cluster_engine.proofs.Taking.{with_queues, kept_as, turn_if}
 use Rattle.cluster_engine.proofs.cluster.Cluster.work.Goals as goal
 
 pub returns : goal.returns
@@ -14,20 +15,21 @@ returns g c =
     let old = cluster_of kept c.args.self.now in
     let node = c.args.node in
     let origin = c.args.origin in
+    let aimed : Goal = record { aim = Apply; origin = origin } in
     let news = bases_of kept c.take_work.new.databases in
-    let queues = c.take_work.new.queues in
+    let queues = c.take_work.new.held in
     let items =
     with_items_is c.args.self.now.databases c.take_work.new.databases
     (c.take_work.auto.databases ∙ c.deref_mut.ensures.len) in
     subst (λ xs. IfOk c.take_work.result (λ reply. IsActed (ToWork node origin) old reply
     (with_queues (bases_of {g = g.K.Keeper} kept xs) queues old))) (sym items)
-    (work_if node origin old news queues c.take_work.result
+    (turn_if aimed node old news queues c.take_work.result
     (subst (λ xs. IfOk c.take_work.result (λ reply. Runs (bases_of {g = g.K.Keeper} kept xs) reply news))
     c.deref_mut.ensures.value c.take_work.ensures.runs)
-    (subst (λ xs. IfOk c.take_work.result (λ reply. Works node origin old.memory.switches
-    (kept_as (bases_of {g = g.K.Keeper} kept xs) old.memory.queues) reply (kept_as news queues)))
+    (subst (λ xs. IfOk c.take_work.result (λ reply. Works aimed node old.memory.switches
+    (kept_as (bases_of {g = g.K.Keeper} kept xs) old.memory.held) reply (kept_as news queues)))
     c.deref_mut.ensures.value
-    (subst (λ on. IfOk c.take_work.result (λ reply. Works node origin on
-    (kept_as (bases_of kept c.deref_mut.result.now) old.memory.queues) reply (kept_as news queues)))
+    (subst (λ on. IfOk c.take_work.result (λ reply. Works aimed node on
+    (kept_as (bases_of kept c.deref_mut.result.now) old.memory.held) reply (kept_as news queues)))
     (λ i. record { started = c.deref.ensures.value i; cuts = c.deref-2.ensures.value i })
     c.take_work.ensures.works)))

@@ -3,7 +3,8 @@ use Rattle.std.proofs.lemmas.Result.{err_from_is_err_and}
 use Rattle.slon_model.specs.Config.{names_of}
 use Rattle.slon_model.specs.Place.{Place, is_running, standing_rows, taken}
 use Rattle.slon_model.specs.Views.{first_view}
-use Rattle.slon_model.specs.Working.{rows_at, rows_in}
+use Rattle.slon_model.specs.Following.{rows_in}
+use Rattle.slon_model.specs.Working.{rows_at}
 use Rattle.change_apply.specs.Copied.{AreListed, CanCopyAll, Listed}
 use Rattle.event_store.specs.declared.view.View.{View}
 use Rattle.node_change.specs.declared.side.Side.TheVariants.{To}
@@ -64,7 +65,7 @@ returns-in_err-tables-clause-copies g c =
     (looked_up (NamesAt set) c.tables_of.result c.tables_of.ensures.acts c.tables_of.ensures.looks
     c.tables_of.ensures.same))
     c.in_ok-refusal.ensures.looks)
-    (provider_look (RowsAt names) (base_of g.K.Keeper.kept c.check_copy.new.own) c.read_tables.result
+    (provider_look (RowsAt names) (base_of g.K.Keeper.kept c.check_tables.new.own) c.read_tables.result
     (Err c.in_err-tables.field-0.0) c.in_err-tables.ensures
     (looked_up (RowsAt names) c.read_tables.result c.read_tables.ensures.acts c.read_tables.ensures.looks
     c.read_tables.ensures.same)))
@@ -80,7 +81,10 @@ returns-clause-copies g c =
     let tables = c.in_ok-tables.tables in
     let given : SetCopy = record { set = copying.set; view = view; tables = tables } in
     let up = ap (λ m. m.up) c.in_ok-refusal.ensures.looks.same.1 ∙ c.requires.up.1 in
-    let mid : Pair = record { from = base_of kept c.check_copy.new.own; to = base_of kept c.check_copy.new.provider } in
+    let mid : Pair = record {
+      from = base_of kept c.check_tables.new.own;
+      to = base_of kept c.check_tables.new.provider;
+    } in
     so (λ p q all.
     let rows = subst (λ ns. RowsAt ns q tables) (c.as_slice-2.ensures.value ∙ sym c.as_slice.ensures.value) all.1 in
     copied_found copying c.args.self.node e p q names given c.with.result (record {
@@ -92,7 +96,7 @@ returns-clause-copies g c =
       counted = all.0.1.1 names tables
           (found_at CanCopyAll To c.read_tables.result tables c.in_ok-tables.ensures c.read_tables.ensures.can)
           rows;
-    }) c.with.ensures.brought_is)
+    }) c.with.ensures.load_is)
     (then (Ok tables)
     (then (Ok view)
     (then (Ok c.in_ok-refusal.field-0)
@@ -109,7 +113,7 @@ returns-clause-copies g c =
       c.in_ok-view.ensures.first q there (ap is_running (running (up_at there up)).0),
       λ ns ts can are. rows_read q ns ts there.spelled can are,
     ))))
-    (provider_look (RowsAt later) (base_of kept c.check_copy.new.own) c.read_tables.result
+    (provider_look (RowsAt later) (base_of kept c.check_tables.new.own) c.read_tables.result
     (Ok c.in_ok-tables.tables) c.in_ok-tables.ensures
     (looked_up (RowsAt later) c.read_tables.result c.read_tables.ensures.acts c.read_tables.ensures.looks
     c.read_tables.ensures.same)))

@@ -39,6 +39,6 @@ returns-clause-brings g c =
     let e = seen_event c.args.event.now in
     so (λ p q led. other_found copying c.args.self.node e p q c.with.result
     (λ k there. subst (IsLed (seen_copying copying) (knowledge k).config) c.if-branch.false (led k there))
-    c.with.ensures.brought_is)
+    c.with.ensures.load_is)
     (provider_look (LedAt copying) (base_of g.K.Keeper.kept c.args.own.now) c.leads.result (Ok c.in_ok-at.field-0)
     c.in_ok-at.ensures c.leads.ensures)

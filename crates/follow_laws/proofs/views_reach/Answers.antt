@@ -1,5 +1,0 @@
-use Rattle.follow_laws.proofs.Reaching.{views_reach}
-use Rattle.follow_laws.proofs.views_reach.Goals as goal
-
-pub returns : goal.returns
-returns c = views_reach

@@ -1,0 +1,37 @@
+-- What holds of the nodes that keep sets in the session that a history led to.
+use Rattle.std.specs.Prelude.{◌≡◌, ◌++◌, ℕ, List, Some}
+use Rattle.slon_model.specs.Names.{find_named}
+use Rattle.slon_model.specs.Config.{names_of}
+use Rattle.slon_model.specs.Views.{View}
+use Rattle.slon_model.specs.Deeds.{Node, knowledge, view_of}
+use Rattle.slon_model.specs.Place.{Place}
+use Rattle.slon_model.specs.World.{World, Happening, Leads, start}
+use Rattle.stream_laws.specs.Nodes.{IsAmong}
+use Rattle.stream_laws.specs.Laws.{AreApplied}
+use Rattle.view_laws.specs.Laws.{GoesOn}
+use Rattle.follow_laws.specs.Laws.{HoldsAsSeen, WasSo}
+
+-- A node of a session that keeps a set: its database, and how far it is in the set.
+pub record Keeping (w : World) : Type 0 where
+  pub name : List ℕ
+  pub place : Place
+  pub found : find_named name w.places ≡ Some place
+  pub node : Node
+  pub at : place.node ≡ Some node
+  pub set_id : ℕ
+  pub view : View
+  pub keeps : view_of set_id (knowledge node) ≡ Some view
+
+-- all of it together
+pub record Subscribed (limit : ℕ) (history : List Happening) (w : World) : Type 0 where
+  -- each table of the set holds what the snapshot that the node keeps sees at the origin of the set
+  pub tables : (k : Keeping w) (table : List ℕ) → IsAmong table (names_of k.set_id (knowledge k.node).config) →
+      HoldsAsSeen w k.place k.node k.set_id k.view table
+  -- all tables of the set stood so at the origin, at one moment of the history
+  pub sets : (k : Keeping w) → WasSo limit history w k.place k.node k.set_id k.view
+  -- who kept a set in an earlier session of the history keeps it, and its snapshot has not gone back
+  pub views : (earlier later : List Happening) (u : World) → later ++ earlier ≡ history →
+      Leads (start limit) earlier u → Leads u later w → (k : Keeping u) (q : Place) →
+      find_named k.name w.places ≡ Some q → (m : Node) → q.node ≡ Some m → GoesOn k.set_id k.view m
+  -- each event of another node was applied once, in the order of its stream
+  pub events : AreApplied w

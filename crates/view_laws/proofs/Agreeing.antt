@@ -1,0 +1,139 @@
+-- A node that keeps a set knows the tables that the origin has in it.
+use Rattle.std.proofs.Common.{◌≡◌, ℕ, ◌≤◌, true, List, Option, Some, None, refl, sym, ap, subst, ◌∙◌, arith}
+use Rattle.std.specs.Prelude.{◌==◌, ◌&&◌, is_some, option_map}
+use Rattle.std.specs.Str.{bytes_eq}
+use Rattle.std.proofs.lemmas.Bool.{and_from, and_parts, eq-eqb, eqb-true}
+use Rattle.node_rows.specs.declared.rows.TableRow.{TableRow}
+use Rattle.slon_model.specs.Config.{Config, is_table_of, member_of, names_of, set_of, set_row, tables_of}
+use Rattle.slon_model.specs.Deeds.{Node, knowledge, progress, view_of}
+use Rattle.slon_model.specs.Views.{View}
+use Rattle.slon_model.specs.Maps.{number_at}
+use Rattle.slon_model.proofs.Names.{bytes_itself, bytes_same, one_found}
+use Rattle.stream_laws.specs.Nodes.{IsAmong, nodes_in, node_in}
+use Rattle.stream_laws.specs.Making.{OfName, tells_of}
+use Rattle.stream_laws.proofs.Laws.{marks_are_made_once}
+use Rattle.stream_laws.proofs.Lists.{among_all, any_among, found_all}
+use Rattle.stream_laws.proofs.Streams.{one_node}
+use Rattle.image_laws.specs.Facts.{IsHeldBy}
+use Rattle.image_laws.proofs.Logging.{among_filtered, filtered_among}
+use Rattle.view_laws.specs.Known.{IsSeen}
+use Rattle.view_laws.specs.Laws.{TablesAgree}
+use Rattle.view_laws.specs.Past.{Past, past, WasUpTo}
+use Rattle.view_laws.proofs.Viewed.{seen_now}
+use Rattle.view_laws.proofs.Within.{came_within}
+use Rattle.view_laws.proofs.Moments.{regular_now, NodeAt, now_stays}
+use Rattle.view_laws.proofs.Numbered.{among_map, mapped_among}
+use Rattle.view_laws.proofs.Tables.{KnownTable, Table, entry_told, one_table, table_of, held_today, held_then}
+use Rattle.view_laws.proofs.Tables.{moment_today}
+use Rattle.slon_laws.proofs.Later.{HoldsOf}
+use Rattle.image_laws.proofs.Staying.{Stays}
+
+-- a table of a set is a known one
+pub table_known : (set : ℕ) (c : Config) (table : List ℕ) → IsAmong table (names_of set c) →
+    (e : ℕ × TableRow) × IsAmong e c.tables × (e.1.set_id ≡ set) × (table ≡ e.1.name)
+table_known set c table among =
+    let made = mapped_among (λ (e : ℕ × TableRow). e.1.name) table (tables_of set c) among in
+    let there = filtered_among (is_table_of set) made.0 c.tables made.1 in
+    (made.0, there.0, eqb-true made.0.1.set_id set (and_parts made.0.1.live (made.0.1.set_id == set) there.1).1, made.2)
+
+-- a table that is found in a set is known in it
+pub member_known : (table : List ℕ) (c : Config) (set : ℕ) → set_of table c ≡ Some set →
+    (e : ℕ × TableRow) × IsAmong e c.tables × (e.1.set_id ≡ set) × (table ≡ e.1.name)
+member_known table c set is = by (member_of table c) refl is
+  where
+    by : (o : Option (ℕ × TableRow)) → member_of table c ≡ o → option_map (λ e. e.1.set_id) o ≡ Some set →
+        (e : ℕ × TableRow) × IsAmong e c.tables × (e.1.set_id ≡ set) × (table ≡ e.1.name)
+    by None found none = absurd cc
+    by (Some e) found some =
+        let both = found_all (λ e. IsAmong e c.tables) _ c.tables e
+        (among_all (λ e. IsAmong e c.tables) c.tables (λ e among. among)) found in
+        let named = (and_parts (e.1.live && bytes_eq table e.1.name) (is_some (set_row e.1.set_id c)) both.1).0 in (
+          e,
+          both.0,
+          one_found e.1.set_id set some,
+          bytes_same table e.1.name (and_parts e.1.live (bytes_eq table e.1.name) named).1,
+        )
+
+-- the node that keeps the set knows the table
+known_there : (t : Past) (k : KnownTable t) (name : List ℕ) (n : Node) → nodes_in t.world.places name ≡ Some n →
+    (v : View) → IsSeen (WasUpTo t) n k.entry.1.set_id v →
+    IsAmong k.entry.1.name (names_of k.entry.1.set_id (knowledge n).config)
+known_there t k name n is v seen =
+    subst (λ text. IsAmong text (names_of set (knowledge n).config)) (sym named)
+    (among_map (λ (e : ℕ × TableRow). e.1.name) mark.0 (tables_of set (knowledge n).config)
+    (among_filtered (is_table_of set) mark.0 (knowledge n).config.tables mark.1
+    (and_from mark.0.1.live (mark.0.1.set_id == set) (entry_told t other).live
+    (eq-eqb mark.0.1.set_id set (one_table t (table_of t other) table (sym named)).0))))
+  where
+    set : ℕ
+    set = k.entry.1.set_id
+
+    table : Table t
+    table = table_of t k
+
+    within : table.event.number ≤ progress table.event.origin (knowledge n)
+    within = let less = came_within t name n is table v seen in omega (arith, less)
+
+    mark : (f : ℕ × TableRow) × IsAmong f (knowledge n).config.tables × (bytes_eq k.entry.1.name f.1.name ≡ true)
+    mark =
+        any_among (λ f. bytes_eq k.entry.1.name f.1.name) (knowledge n).config.tables
+        ((marks_are_made_once t.limit t.history t.world t.leads).known name n is (OfName k.entry.1.name) (record {
+          made = record {
+            name = table.is.name;
+            node = table.is.node;
+            is = table.is.is;
+            event = table.event;
+            among = table.is.among;
+            makes =
+                ap (λ body. tells_of body (OfName k.entry.1.name)) table.body ∙ bytes_itself k.entry.1.name;
+          };
+          within =
+              subst (λ id. table.event.number ≤ number_at id (knowledge n).progress) (sym table.is.own) within;
+        }))
+
+    named : k.entry.1.name ≡ mark.0.1.name
+    named = bytes_same k.entry.1.name mark.0.1.name mark.2
+
+    other : KnownTable t
+    other = record { name = name; node = n; is = is; entry = mark.0; among = mark.1 }
+
+-- the origin of a set that a node keeps has each table in the set that the node knows
+origin_holds : (t : Past) (k : KnownTable t) (v : View) → view_of k.entry.1.set_id (knowledge k.node) ≡ Some v →
+    (x : NodeAt t) → x.node.id ≡ v.origin →
+    IsHeldBy x.node.id (knowledge x.node).config k.entry.1.set_id k.entry.1.name
+origin_holds t k v found x own =
+    subst (λ (m : Node). IsHeldBy m.id (knowledge m).config k.entry.1.set_id k.entry.1.name) one
+    (held_today t seen.moment (moment_today t seen.moment) k.entry.1.set_id k.entry.1.name (held_then t k v seen)).0
+  where
+    seen : IsSeen (WasUpTo t) k.node k.entry.1.set_id v
+    seen = seen_now t k.name k.node k.is k.entry.1.set_id v found
+
+    now : HoldsOf (Stays seen.moment.node) seen.moment.name t.world.places
+    now = now_stays t seen.moment.session seen.moment.was seen.moment.name seen.moment.place seen.moment.node
+        seen.moment.found seen.moment.at
+
+    one : now.2.node ≡ x.node
+    one = one_node (nodes_in t.world.places) (regular_now t).nodes seen.moment.name x.name now.2.node x.node
+        (ap node_in now.1 ∙ now.2.is) (ap node_in x.found ∙ x.at, now.2.id ∙ seen.own ∙ sym own)
+
+pub tables_agree : TablesAgree
+tables_agree limit history w leads a b p q found_a found_b n m is_n is_m set v view own table = (
+  λ held.
+      let e = member_known table (knowledge m).config set held.0 in
+      let seen = seen_now t a n (ap node_in found_a ∙ is_n) set v view in
+      let k : KnownTable t =
+      record { name = b; node = m; is = ap node_in found_b ∙ is_m; entry = e.0; among = e.1 } in
+      subst (λ text. IsAmong text (names_of set (knowledge n).config)) (sym e.3)
+      (subst (λ i. IsAmong e.0.1.name (names_of i (knowledge n).config)) e.2
+      (known_there t k a n (ap node_in found_a ∙ is_n) v (subst (λ i. IsSeen (WasUpTo t) n i v) (sym e.2) seen))),
+  λ among.
+      let e = table_known set (knowledge n).config table among in
+      subst (IsHeldBy m.id (knowledge m).config set) (sym e.3)
+      (subst (λ i. IsHeldBy m.id (knowledge m).config i e.0.1.name) e.2
+      (origin_holds t (record { name = a; node = n; is = ap node_in found_a ∙ is_n; entry = e.0; among = e.1 }) v
+      (ap (λ i. view_of i (knowledge n)) e.2 ∙ view)
+      (record { name = b; place = q; found = found_b; node = m; at = is_m }) own)),
+)
+  where
+    t : Past
+    t = past limit history w leads

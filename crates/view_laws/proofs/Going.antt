@@ -1,0 +1,242 @@
+-- The snapshot that a node keeps of a set never goes back.
+use Rattle.std.proofs.Common.{◌≡◌, ◌≢◌, ◌⊎◌, inl, inr, ℕ, Bool, true, false, cond, [], ◌∷◌, Some, refl}
+use Rattle.std.proofs.Common.{sym, ap, subst, ◌∙◌}
+use Rattle.std.specs.Prelude.{◌==◌}
+use Rattle.std.specs.List.{AllByRecursion}
+use Rattle.std.proofs.lemmas.Bool.{eqb-true}
+use Rattle.slon_model.specs.Names.{find_named}
+use Rattle.slon_model.specs.Maps.{entry_at}
+use Rattle.slon_model.specs.Snapshots.{Covers, covers}
+use Rattle.slon_model.specs.Events.{Event}
+use Rattle.slon_model.specs.Config.{Config, era_of, is_origin}
+use Rattle.slon_model.specs.Views.{View, first_view, view_after, with_views}
+use Rattle.slon_model.specs.Deeds.{Node, Brought, Hears as HearsOf, Knowledge, knowledge, nothing_brought}
+use Rattle.slon_model.specs.Deeds.{view_of, with_deeds}
+use Rattle.slon_model.specs.Moves.{with_commit}
+use Rattle.slon_model.specs.Place.{Place, deed, taken}
+use Rattle.slon_model.specs.Sessions.{Seat}
+use Rattle.slon_model.specs.Following.{Found, SetSync}
+use Rattle.slon_model.specs.Working.{Carried}
+use Rattle.slon_model.proofs.Names.{all_map, one_found}
+use Rattle.slon_laws.proofs.Later.{HoldsOf}
+use Rattle.stream_laws.specs.Nodes.{IsAmong, nodes_in, node_in}
+use Rattle.stream_laws.proofs.Copies.{IsCopy, one_leader}
+use Rattle.stream_laws.proofs.Lists.{all_among}
+use Rattle.stream_laws.proofs.Seats.{IsSeat, seat_node}
+use Rattle.stream_laws.proofs.Streams.{one_node}
+use Rattle.view_laws.proofs.Doing.{IsTaken}
+use Rattle.view_laws.specs.Known.{IsEmitted, IsSeen}
+use Rattle.view_laws.specs.Laws.{GoesOn, ViewsGoOn}
+use Rattle.view_laws.specs.Past.{Past, past, WasUpTo}
+use Rattle.view_laws.proofs.Brought.{IsBrought, IsKept, Nothing, Copies, Brings}
+use Rattle.view_laws.proofs.Doing.{taking}
+use Rattle.view_laws.proofs.Unmoved.{copied_old, copy_from, since, view_then}
+use Rattle.view_laws.proofs.Viewed.{rising_now, seen_now}
+use Rattle.view_laws.proofs.Emitted.{emitted_in}
+use Rattle.view_laws.proofs.Living.{HasNode, NodeGoes, deed_of, event_of}
+use Rattle.view_laws.proofs.Living.{node_passes}
+use Rattle.view_laws.proofs.Moments.{node_now, now_stays, one_name, regular_now, taken_covers}
+use Rattle.image_laws.proofs.Staying.{Stays}
+use Rattle.view_laws.proofs.Rising.{found_in, stands_found, there_in}
+use Rattle.view_laws.proofs.Seen.{copy_leads, is_older, same_views, stays_leading, syncs_seen}
+use Rattle.view_laws.proofs.Unfed.{says_emitted}
+use Rattle.view_laws.proofs.Walking.{passing_later}
+
+-- ---- a SYNC
+
+-- a view behind a SYNC of its origin covers what it covered
+pub after_covers : (t : Past) (n : Node) (set : ℕ) (v : View) (e : Event) → IsEmitted (WasUpTo t) e →
+    e.origin ≡ v.origin → IsSeen (WasUpTo t) n set v → Covers (view_after e v).seen v.seen
+after_covers t n set v e emitted origin is = by (covers v.seen e.taken) refl
+  where
+    by : (b : Bool) → covers v.seen e.taken ≡ b → Covers (cond b v.seen e.taken) v.seen
+    by true same = λ x sees. sees
+    by false differ =
+        subst (Covers e.taken) (sym is.seen) (subst (λ k. Covers k (taken is.moment.place)) (sym emitted.taken)
+        (is_older t n set v e (emitted, origin) is differ).covers)
+
+-- ---- an event
+
+-- The view goes on from that of before.
+abbrev GoesFrom : View → View → Type 0
+GoesFrom before v = (v.origin ≡ before.origin) × (v.era ≡ before.era) × Covers v.seen before.seen
+
+-- a set that is copied goes on from the view that the node keeps
+copies_goes : (t : Past) (s : Seat) (e : Event) → IsSeat t.world.places s → (v : View) (f : Found)
+    (k : IsCopy t.world s e f) → view_of k.copying.set_id (knowledge s.node) ≡ Some v →
+    GoesFrom v (first_view k.copying.era k.provider.node.id e.number (taken k.provider.place))
+copies_goes t s e is v f k found = (
+  sym id ∙ seen.own,
+  sym (eqb-true (era_of set known) k.copying.era leads.1) ∙ leading ∙ sym seen.era,
+  subst (Covers (taken k.provider.place)) (sym seen.seen) (subst (λ p. Covers (taken p) (taken seen.moment.place)) place
+      (taken_covers t seen.moment.session seen.moment.was seen.moment.name seen.moment.place now.0 seen.moment.found
+      now.1)),
+)
+  where
+    set : ℕ
+    set = k.copying.set_id
+
+    known : Config
+    known = (knowledge k.provider.node).config
+
+    seen : IsSeen (WasUpTo t) s.node set v
+    seen = seen_now t s.name s.node (seat_node t.world.places s is) set v found
+
+    leads : (is_origin k.provider.node.id set known ≡ true) × ((era_of set known == k.copying.era) ≡ true)
+    leads = copy_leads t.world s e f k
+
+    -- the node that was the origin then, now
+    now : HoldsOf (Stays seen.moment.node) seen.moment.name t.world.places
+    now = now_stays t seen.moment.session seen.moment.was seen.moment.name seen.moment.place seen.moment.node
+        seen.moment.found seen.moment.at
+
+    there : nodes_in t.world.places seen.moment.name ≡ Some now.2.node
+    there = ap node_in now.1 ∙ now.2.is
+
+    then : (is_origin now.2.node.id set (knowledge now.2.node).config ≡ true)
+        × (era_of set (knowledge now.2.node).config ≡ era_of set (knowledge seen.moment.node).config)
+    then = stays_leading seen.moment.node now.0 now.2.node now.2 now.2.is set seen.leads
+
+    one : now.2.node ≡ k.provider.node
+    one = one_node (nodes_in t.world.places) (regular_now t).nodes seen.moment.name k.provider.name now.2.node
+        k.provider.node there (
+          seat_node t.world.places k.provider k.seat,
+          one_leader (nodes_in t.world.places) (regular_now t).nodes set
+              (record { name = seen.moment.name; node = now.2.node; is = there; leads = then.0 })
+              (record {
+                name = k.provider.name;
+                node = k.provider.node;
+                is = seat_node t.world.places k.provider k.seat;
+                leads = leads.0;
+              }),
+        )
+
+    id : seen.moment.node.id ≡ k.provider.node.id
+    id = sym now.2.id ∙ ap (λ (n : Node). n.id) one
+
+    leading : era_of set known ≡ era_of set (knowledge seen.moment.node).config
+    leading = ap (λ (n : Node). era_of set (knowledge n).config) (sym one) ∙ then.1
+
+    place : now.0 ≡ k.provider.place
+    place = one_found now.0 k.provider.place (sym now.1
+        ∙ ap (λ name. find_named name t.world.places) (one_name t (node_now t seen.moment now) (record {
+          name = k.provider.name;
+          place = k.provider.place;
+          found = k.seat.found;
+          node = k.provider.node;
+          at = k.seat.node;
+        }) (ap (λ (n : Node). n.id) one)) ∙ k.seat.found)
+
+brought_goes : (t : Past) (x : Carried) (origin : ℕ) → IsTaken t origin x → (set : ℕ) (v : View) →
+    view_of set (knowledge x.seat.node) ≡ Some v → IsBrought t x.seat x.event x.brought →
+    AllByRecursion (λ y. y.0 ≡ set → GoesFrom v y.1) x.brought.views
+brought_goes t x origin is set v found (Nothing n) =
+    subst (λ (c : Brought). AllByRecursion (λ y. y.0 ≡ set → GoesFrom v y.1) c.views) (sym n.none) tt
+brought_goes t x origin is set v found (Copies k) =
+    subst (λ (c : Brought). AllByRecursion (λ y. y.0 ≡ set → GoesFrom v y.1) c.views) (sym k.is) (
+      λ same. let there = ap (λ i. view_of i (knowledge x.seat.node)) same ∙ found in
+          copies_goes k.at.to k.at.seat x.event k.at.work.seat v k.found k.copy
+          (view_then t (since origin x is k.at) k.copy.copying.set_id v there
+          (copied_old t x.seat x.event x.brought is.work.seat k v there ∙ copy_from t x.seat x.event x.brought k)),
+      tt,
+    )
+brought_goes t x origin is set v found (Brings y) =
+    subst (λ (c : Brought). AllByRecursion P c.views) (sym y.is)
+    (syncs_seen P s.place y.syncs nothing_brought
+    (all_map (IsKept s.known x.event) (λ (z : SetSync). P (z.set_id, z.view)) goes y.syncs y.kept) tt)
+  where
+    P : ℕ × View → Type 0
+    P y = y.0 ≡ set → GoesFrom v y.1
+
+    s : Seat
+    s = x.seat
+
+    own : nodes_in t.world.places s.name ≡ Some s.node
+    own = seat_node t.world.places s is.work.seat
+
+    goes : (z : SetSync) → IsKept s.known x.event z → P (z.set_id, z.view)
+    goes z k same =
+        let among = subst (λ (j : Knowledge). IsAmong (z.set_id, z.before) j.views) is.work.seat.known k.among in
+        let stands = stands_found z.set_id z.before (knowledge s.node).views (rising_now t s.name s.node own) among in
+        let one : z.before ≡ v =
+        one_found z.before v (sym stands ∙ ap (λ i. entry_at i (knowledge s.node).views) same ∙ found) in
+        subst (GoesFrom v) (sym k.view) (subst (λ u. GoesFrom u (view_after x.event z.before)) one (
+          refl,
+          refl,
+          after_covers t s.node z.set_id z.before x.event (emitted_in t x.event is.work.event) (sym k.origin)
+              (seen_now t s.name s.node own z.set_id z.before stands),
+        ))
+
+-- ---- a node
+
+goes_same : (set : ℕ) (before : View) (n m : Node) → (knowledge m).views ≡ (knowledge n).views →
+    GoesOn set before n → GoesOn set before m
+goes_same set before n m same on = record {
+  view = on.view;
+  found = ap (entry_at set) same ∙ on.found;
+  origin = on.origin;
+  era = on.era;
+  covers = on.covers;
+}
+
+pub takes_on : (t : Past) (x : Carried) (origin : ℕ) → IsTaken t origin x → (set : ℕ) (before : View) →
+    GoesOn set before x.seat.node → GoesOn set before (with_deeds (taking x).deeds x.seat.node)
+takes_on t x origin is set before on =
+    by (found_in set there.0 x.brought.views (knowledge x.seat.node).views there.1)
+  where
+    there : (y : View) × (entry_at set (with_views x.brought.views (knowledge x.seat.node).views) ≡ Some y)
+    there = there_in set on.view x.brought.views (knowledge x.seat.node).views on.found
+
+    by : IsAmong (set, there.0) x.brought.views
+        ⊎ ((entry_at set (knowledge x.seat.node).views ≡ Some there.0)
+        × AllByRecursion (λ v. v.0 ≢ set) x.brought.views) →
+        GoesOn set before (with_deeds (taking x).deeds x.seat.node)
+    by (inl among) =
+        let goes =
+        all_among (λ y. y.0 ≡ set → GoesFrom on.view y.1) (set, there.0) x.brought.views
+        (brought_goes t x origin is set on.view on.found is.brings) among refl in
+        record {
+          view = there.0;
+          found = there.1;
+          origin = goes.0 ∙ on.origin;
+          era = goes.1 ∙ on.era;
+          covers = λ y sees. goes.2 y (on.covers y sees);
+        }
+    by (inr kept) =
+        let one = one_found on.view there.0 (sym on.found ∙ kept.0) in
+        record {
+          view = there.0;
+          found = there.1;
+          origin = ap (λ (v : View). v.origin) (sym one) ∙ on.origin;
+          era = ap (λ (v : View). v.era) (sym one) ∙ on.era;
+          covers = subst (λ (v : View). Covers v.seen before.seen) one on.covers;
+        }
+
+goes_on : (t : Past) (set : ℕ) (before : View) → NodeGoes t (GoesOn set before)
+goes_on t set before = record {
+  logs = λ n p xid on. goes_same set before n (with_commit xid p n) refl on;
+  does = record {
+    tells = λ s is number m n says on.
+        goes_same set before n (with_deeds (deed_of s number m ∷ []) n)
+        (same_views (event_of s number m.body) m.body (knowledge n).views (says_emitted s n m says)) on;
+    takes = λ x origin is on. takes_on t x origin is set before on;
+    hears = λ s confirms on.
+        goes_same set before s.node (with_deeds (deed s.place [] [] (HearsOf confirms) ∷ []) s.node) refl on;
+  };
+}
+
+pub views_go_on : ViewsGoOn
+views_go_on limit history later w v leads leads_on name p q found found_later n m is_n is_m set before view =
+    subst (GoesOn set before) (one_found there.2.0 m (sym there.2.1 ∙ ap (λ (r : Place). r.node) same ∙ is_m))
+    there.2.2
+  where
+    first : GoesOn set before n
+    first = record { view = before; found = view; origin = refl; era = refl; covers = λ x sees. sees }
+
+    there : HoldsOf (HasNode (GoesOn set before)) name v.places
+    there =
+        passing_later (λ t. node_passes t (goes_on t set before)) (past limit history w leads) later v leads_on name
+        (p, found, (n, is_n, first))
+
+    same : there.0 ≡ q
+    same = one_found there.0 q (sym there.1 ∙ found_later)

@@ -1,0 +1,386 @@
+-- Nodes agree on the tables of sets, and the origin of a set knew all of them as a node copied the set, and has them
+-- still.
+use Rattle.std.proofs.Common.{◌≡◌, inl, inr, ℕ, Bool, true, false, cond, List, [], ◌∷◌, ◌++◌, Option, Some, None}
+use Rattle.std.proofs.Common.{refl, sym, ap, subst, ◌∙◌, arith, is_some}
+use Rattle.std.specs.Prelude.{◌&&◌, option_map}
+use Rattle.std.specs.Str.{bytes_eq}
+use Rattle.std.specs.List.{AllByRecursion}
+use Rattle.std.proofs.lemmas.Bool.{false≢true, true≢false, and_parts, and_from}
+use Rattle.node_rows.specs.declared.body.Body.TheVariants.{SetAddTable}
+use Rattle.node_rows.specs.declared.rows.SetRow.{SetRow}
+use Rattle.node_rows.specs.declared.rows.TableRow.{TableRow}
+use Rattle.slon_model.specs.Names.{find_named}
+use Rattle.slon_model.specs.Maps.{entry_at}
+use Rattle.slon_model.specs.Events.{Event}
+use Rattle.slon_model.specs.Config.{Config, live_set, member_of, set_of, set_row, era_of}
+use Rattle.slon_model.specs.Deeds.{Node, Logged, knowledge, stream}
+use Rattle.slon_model.specs.Place.{Place}
+use Rattle.slon_model.specs.Views.{View}
+use Rattle.slon_model.proofs.Names.{all_found, bytes_itself, bytes_same, one_found}
+use Rattle.slon_laws.proofs.Later.{HoldsOf}
+use Rattle.stream_laws.specs.Nodes.{IsAmong, nodes_in, node_in, IsEvent}
+use Rattle.stream_laws.specs.Making.{Mark, OfSet, OfName, tells_of, IsMade, MayFollow}
+use Rattle.stream_laws.specs.Facts.{Facts}
+use Rattle.stream_laws.proofs.Copies.{Leading, origin_row}
+use Rattle.stream_laws.proofs.Laws.{marks_are_made_once}
+use Rattle.stream_laws.proofs.Lists.{all_among, all_entry, among_all, among_behind, any_among, found_all}
+use Rattle.stream_laws.proofs.Streams.{among_found, number_within, one_node, same_number}
+use Rattle.image_laws.specs.Facts.{Holds, IsHeldBy}
+use Rattle.image_laws.specs.Fits.{IsWhole}
+use Rattle.image_laws.proofs.Found.{find_none}
+use Rattle.image_laws.proofs.Images.{ready_world}
+use Rattle.view_laws.specs.Known.{AreTold, AreUnfed, IsLoggedAs, IsSeen, IsTold, IsUnfed, feeds}
+use Rattle.view_laws.specs.Past.{Past, WasBefore, WasUpTo, Moment}
+use Rattle.view_laws.proofs.Living.{knew, node_lives}
+use Rattle.view_laws.proofs.Moments.{Reached, event_now, now_stays, past_of, reached_up_to, regular_now}
+use Rattle.view_laws.proofs.Seen.{stays_leading, unfed_now}
+use Rattle.image_laws.proofs.Staying.{Stays}
+use Rattle.view_laws.proofs.Told.{heard_was, tables_told}
+use Rattle.view_laws.proofs.Walking.{lives_in}
+
+-- ---- one event
+
+abbrev pub made_by : (t : Past) (e : Event) → IsEvent (nodes_in t.world.places) e → (mark : Mark) →
+    tells_of e.body mark ≡ true →
+    IsMade (nodes_in t.world.places) mark
+made_by t e is mark makes =
+    record { name = is.name; node = is.node; is = is.is; event = e; among = is.among; makes = makes }
+
+-- a mark is made by one event
+one_event : (t : Past) (a b : Event) → IsEvent (nodes_in t.world.places) a → IsEvent (nodes_in t.world.places) b →
+    (mark : Mark) → (tells_of a.body mark ≡ true) × (tells_of b.body mark ≡ true) → a ≡ b
+one_event t a b is_a is_b mark make =
+    same_number is_b.node.id (stream is_b.node) a b ((regular_now t).nodes.each is_b.name is_b.node is_b.is).emitted
+    (subst (λ n. IsAmong a (stream n)) node is_a.among) is_b.among once.1
+  where
+    once : (is_a.name ≡ is_b.name) × (a.number ≡ b.number)
+    once = (regular_now t).nodes.once mark (made_by t a is_a mark make.0) (made_by t b is_b mark make.1)
+
+    node : is_a.node ≡ is_b.node
+    node = one_found is_a.node is_b.node (sym is_a.is ∙ ap (nodes_in t.world.places) once.0 ∙ is_b.is)
+
+-- ---- one table
+
+-- A table that an event of the session says.
+pub record Table (t : Past) : Type 0 where
+  pub event : Event
+  pub is : IsEvent (nodes_in t.world.places) event
+  pub set_id : ℕ
+  pub id : ℕ
+  pub name : List ℕ
+  pub comment : List ℕ
+  pub body : event.body ≡ SetAddTable set_id id name comment
+
+-- tables of one name are one
+pub one_table : (t : Past) (a b : Table t) → a.name ≡ b.name →
+    (a.set_id ≡ b.set_id) × (a.id ≡ b.id) × (a.comment ≡ b.comment)
+one_table t a b same = by (sym a.body ∙ ap (λ (e : Event). e.body) event ∙ b.body)
+  where
+    tells : (c : Table t) → c.name ≡ a.name → tells_of c.event.body (OfName a.name) ≡ true
+    tells c is = ap (λ body. tells_of body (OfName a.name)) c.body ∙ ap (bytes_eq a.name) is ∙ bytes_itself a.name
+
+    event : a.event ≡ b.event
+    event = one_event t a.event b.event a.is b.is (OfName a.name) (tells a refl, tells b (sym same))
+
+    by : SetAddTable a.set_id a.id a.name a.comment ≡ SetAddTable b.set_id b.id b.name b.comment →
+        (a.set_id ≡ b.set_id) × (a.id ≡ b.id) × (a.comment ≡ b.comment)
+    by is = (cc, cc, cc)
+
+pub told_now : (t : Past) (name : List ℕ) (n : Node) → nodes_in t.world.places name ≡ Some n →
+    AreTold (WasBefore t) n
+told_now t = knew AreTold t (lives_in (node_lives tables_told) t)
+
+-- a table that a node knows
+abbrev pub known_table : (t : Past) (name : List ℕ) (n : Node) → nodes_in t.world.places name ≡ Some n →
+    (e : ℕ × TableRow) → IsTold (WasBefore t) n e → Table t
+known_table t name n is e told = record {
+  event = told.event;
+  is = event_now t told.event (heard_was t name n is told.event told.heard);
+  set_id = e.1.set_id;
+  id = e.0;
+  name = e.1.name;
+  comment = e.1.comment;
+  body = told.body;
+}
+
+-- the table of an action that a node logged
+abbrev pub logged_table : (t : Past) (name : List ℕ) (n : Node) → nodes_in t.world.places name ≡ Some n → (l : Logged) →
+    IsLoggedAs (WasBefore t) n l → Table t
+logged_table t name n is l told = record {
+  event = told.event;
+  is = event_now t told.event (heard_was t name n is told.event told.heard);
+  set_id = l.set_id;
+  id = l.table_id;
+  name = l.action.table;
+  comment = told.comment;
+  body = told.body;
+}
+
+-- ---- the set of a table
+
+-- A table that a node of the session knows.
+pub record KnownTable (t : Past) : Type 0 where
+  pub name : List ℕ
+  pub node : Node
+  pub is : nodes_in t.world.places name ≡ Some node
+  pub entry : ℕ × TableRow
+  pub among : IsAmong entry (knowledge node).config.tables
+
+pub entry_told : (t : Past) (k : KnownTable t) → IsTold (WasBefore t) k.node k.entry
+entry_told t k =
+    all_among (IsTold (WasBefore t) k.node) k.entry (knowledge k.node).config.tables
+    (told_now t k.name k.node k.is).tables k.among
+
+abbrev pub table_of : (t : Past) → KnownTable t → Table t
+table_of t k = known_table t k.name k.node k.is k.entry (entry_told t k)
+
+-- its set is live
+set_live : (t : Past) (k : KnownTable t) → is_some (set_row k.entry.1.set_id (knowledge k.node).config) ≡ true
+set_live t k = by (entry_at k.entry.1.set_id c.sets) refl known
+  where
+    c : Config
+    c = (knowledge k.node).config
+
+    whole : IsWhole k.node.id c
+    whole = by (find_named k.name t.world.places) refl k.is
+      where
+        by : (o : Option Place) → find_named k.name t.world.places ≡ o → node_in o ≡ Some k.node →
+            IsWhole k.node.id c
+        by None found none = absurd cc
+        by (Some p) found at =
+            ((all_found Holds k.name p t.world.places (ready_world t.limit t.history t.world t.leads).holds found).1
+            k.node at).whole
+
+    known : is_some (entry_at k.entry.1.set_id c.sets) ≡ true
+    known =
+        all_among (λ e. is_some (entry_at e.1.set_id c.sets) ≡ true) k.entry c.tables whole.tables k.among
+
+    by : (o : Option SetRow) → entry_at k.entry.1.set_id c.sets ≡ o → is_some o ≡ true → is_some (live_set o) ≡ true
+    by None found none = absurd (false≢true none)
+    by (Some row) found some =
+        let live : row.live ≡ true =
+        all_entry (λ e. e.1.live ≡ true) k.entry.1.set_id row c.sets (told_now t k.name k.node k.is).sets found in
+        ap (λ b. is_some (cond b (Some row) None)) live
+
+-- a node finds each table that it knows in its set
+pub found_in_set : (t : Past) (k : KnownTable t) →
+    set_of k.entry.1.name (knowledge k.node).config ≡ Some k.entry.1.set_id
+found_in_set t k = by (member_of k.entry.1.name c) refl
+  where
+    c : Config
+    c = (knowledge k.node).config
+
+    test : ℕ × TableRow → Bool
+    test e = e.1.live && bytes_eq k.entry.1.name e.1.name && is_some (set_row e.1.set_id c)
+
+    passes : test k.entry ≡ true
+    passes =
+        and_from (k.entry.1.live && bytes_eq k.entry.1.name k.entry.1.name) (is_some (set_row k.entry.1.set_id c))
+        (and_from k.entry.1.live (bytes_eq k.entry.1.name k.entry.1.name) (entry_told t k).live
+        (bytes_itself k.entry.1.name)) (set_live t k)
+
+    by : (o : Option (ℕ × TableRow)) → member_of k.entry.1.name c ≡ o →
+        option_map (λ e. e.1.set_id) o ≡ Some k.entry.1.set_id
+    by None none =
+        absurd (true≢false (sym passes
+        ∙ all_among (λ e. test e ≡ false) k.entry c.tables (find_none test c.tables none) k.among))
+    by (Some f) found =
+        let both = found_all (λ e. IsAmong e c.tables) test c.tables f
+        (among_all (λ e. IsAmong e c.tables) c.tables (λ e among. among)) found in
+        let named = (and_parts (f.1.live && bytes_eq k.entry.1.name f.1.name) (is_some (set_row f.1.set_id c)) both.1).0
+        in
+        let other : KnownTable t =
+        record { name = k.name; node = k.node; is = k.is; entry = f; among = both.0 } in
+        ap Some (one_table t (table_of t other) (table_of t k)
+        (sym (bytes_same k.entry.1.name f.1.name
+        (and_parts f.1.live (bytes_eq k.entry.1.name f.1.name) named).1))).0
+
+-- ---- the tables of a set that a node keeps
+
+-- a table came into the set before a node subscribed to it
+came_before : (set : ℕ) (more rest : List Event) (e enabled : Event) →
+    AreUnfed (more ++ rest) × IsAmong e (more ++ rest) →
+    ((es : List Event) → IsUnfed es e.body → AllByRecursion (λ f. feeds set f.body ≡ false) es) →
+    IsAmong enabled rest × (feeds set enabled.body ≡ true) → IsAmong e rest
+came_before set [] rest e enabled (unfed, among) adds is = among
+came_before set (f ∷ more) rest e enabled (unfed, inl same) adds is =
+    absurd (true≢false (sym is.1 ∙ all_among (λ f. feeds set f.body ≡ false) enabled (more ++ rest)
+    (adds (more ++ rest) (subst (λ (g : Event). IsUnfed (more ++ rest) g.body) (sym same) unfed.0))
+    (among_behind enabled more rest is.0)))
+came_before set (f ∷ more) rest e enabled (unfed, inr later) adds is =
+    came_before set more rest e enabled (unfed.1, later) adds is
+
+-- the node that says a table of a set made the set known
+abbrev pub set_made : (t : Past) (table : Table t) → IsMade (nodes_in t.world.places) (OfSet table.set_id)
+set_made t table =
+    let found = among_found table.is.node.id (stream table.is.node) table.event
+    ((regular_now t).nodes.each table.is.name table.is.node table.is.is).emitted table.is.among in
+    let stored = subst (MayFollow table.is.node.id found.earlier) table.body found.are.2 in
+    record {
+      name = table.is.name;
+      node = table.is.node;
+      is = table.is.is;
+      event = stored.0;
+      among =
+          subst (IsAmong stored.0) (sym found.all)
+          (among_behind stored.0 found.later (table.event ∷ found.earlier) (inr stored.1));
+      makes = stored.2;
+    }
+
+-- it is the node that leads the set
+pub made_by_leader : (t : Past) (table : Table t) (leader : Leading (nodes_in t.world.places) table.set_id) →
+    table.is.node.id ≡ leader.node.id
+made_by_leader t table leader =
+    let row = origin_row leader.node.id table.set_id (knowledge leader.node).config leader.leads in
+    let by = ((regular_now t).nodes.each leader.name leader.node leader.is).marked.origins table.set_id row.0 row.1 in
+    let once = (regular_now t).nodes.once (OfSet table.set_id) by.0 (set_made t table) in
+    let node = one_found by.0.node table.is.node
+    (sym by.0.is ∙ ap (nodes_in t.world.places) once.0 ∙ table.is.is) in
+    ap (λ (n : Node). n.id) (sym node) ∙ by.1 ∙ row.2
+
+-- an event that says a table of a set was emitted before the node copied the set
+pub was_before : (t : Past) (table : Table t) (n : Node) (v : View) →
+    (seen : IsSeen (WasUpTo t) n table.set_id v) → IsAmong table.event (stream seen.moment.node)
+was_before t table n v seen =
+    came_before set now.2.more (stream then) table.event seen.enabled (
+      subst AreUnfed now.2.all (unfed_now t seen.moment.name origin is_origin_now).unfed,
+      subst (IsAmong table.event) now.2.all (subst (λ n. IsAmong table.event (stream n)) one table.is.among),
+    )
+    (λ es unfed. subst (IsUnfed es) table.body unfed) (seen.before, seen.feeds)
+  where
+    set : ℕ
+    set = table.set_id
+
+    then : Node
+    then = seen.moment.node
+
+    -- the node that was the origin then, now
+    now : HoldsOf (Stays then) seen.moment.name t.world.places
+    now = now_stays t seen.moment.session seen.moment.was seen.moment.name seen.moment.place then
+        seen.moment.found seen.moment.at
+
+    origin : Node
+    origin = now.2.node
+
+    is_origin_now : nodes_in t.world.places seen.moment.name ≡ Some origin
+    is_origin_now = ap node_in now.1 ∙ now.2.is
+
+    one : table.is.node ≡ origin
+    one = one_node (nodes_in t.world.places) (regular_now t).nodes table.is.name seen.moment.name table.is.node origin
+        table.is.is (
+          is_origin_now,
+          made_by_leader t table (record {
+            name = seen.moment.name;
+            node = origin;
+            is = is_origin_now;
+            leads = (stays_leading then now.0 origin now.2 now.2.is set seen.leads).0;
+          }),
+        )
+
+-- the origin of the set knew it then, and knew it in the set
+pub held_then : (t : Past) (k : KnownTable t) (v : View) (seen : IsSeen (WasUpTo t) k.node k.entry.1.set_id v) →
+    IsHeldBy seen.moment.node.id (knowledge seen.moment.node).config k.entry.1.set_id k.entry.1.name
+held_then t k v seen = (
+  ap (λ name. set_of name (knowledge then).config) (bytes_same k.entry.1.name mark.0.1.name mark.2)
+      ∙ found_in_set s other
+      ∙ ap Some (one_table s (table_of s other) (record {
+        event = table.event;
+        is = record {
+          name = seen.moment.name;
+          node = then;
+          is = there;
+          own = sym (among_found then.id (stream then) table.event facts.emitted among).are.0;
+          among = among;
+        };
+        set_id = table.set_id;
+        id = table.id;
+        name = table.name;
+        comment = table.comment;
+        body = table.body;
+      }) (sym (bytes_same k.entry.1.name mark.0.1.name mark.2))).0,
+  seen.leads,
+)
+  where
+    table : Table t
+    table = table_of t k
+
+    then : Node
+    then = seen.moment.node
+
+    among : IsAmong table.event (stream then)
+    among = was_before t table k.node v seen
+
+    reached : Reached t seen.moment.session
+    reached = reached_up_to t seen.moment.session seen.moment.was
+
+    s : Past
+    s = past_of t seen.moment.session reached
+
+    there : nodes_in seen.moment.session.places seen.moment.name ≡ Some then
+    there = ap node_in seen.moment.found ∙ seen.moment.at
+
+    facts : Facts (nodes_in seen.moment.session.places) then
+    facts = (regular_now s).nodes.each seen.moment.name then there
+
+    mark : (f : ℕ × TableRow) × IsAmong f (knowledge then).config.tables × (bytes_eq k.entry.1.name f.1.name ≡ true)
+    mark =
+        any_among (λ f. bytes_eq k.entry.1.name f.1.name) (knowledge then).config.tables
+        ((marks_are_made_once s.limit s.history s.world s.leads).known seen.moment.name then there
+        (OfName k.entry.1.name)
+        (record {
+          made = record {
+            name = seen.moment.name;
+            node = then;
+            is = there;
+            event = table.event;
+            among = among;
+            makes =
+                ap (λ body. tells_of body (OfName k.entry.1.name)) table.body ∙ bytes_itself k.entry.1.name;
+          };
+          within = let within = number_within then.id (stream then) table.event facts.emitted among in
+              let whole = facts.whole in
+              omega (arith, within.1, whole);
+        }))
+
+    other : KnownTable s
+    other = record { name = seen.moment.name; node = then; is = there; entry = mark.0; among = mark.1 }
+
+-- ---- the origin now
+
+-- The database of a moment, as it is now.
+pub record Today (t : Past) (m : Moment (WasUpTo t)) : Type 0 where
+  pub name : List ℕ
+  pub same : m.name ≡ name
+  pub place : Place
+  pub found : find_named name t.world.places ≡ Some place
+  pub node : Node
+  pub at : place.node ≡ Some node
+
+-- of each moment there is one, under the same name
+abbrev pub moment_today : (t : Past) (m : Moment (WasUpTo t)) → Today t m
+moment_today t m =
+    let now = now_stays t m.session m.was m.name m.place m.node m.found m.at in
+    record { name = m.name; same = refl; place = now.0; found = now.1; node = now.2.node; at = now.2.is }
+
+-- it holds the table now as it did then
+pub held_today : (t : Past) (m : Moment (WasUpTo t)) (d : Today t m) (set : ℕ) (table : List ℕ) →
+    IsHeldBy m.node.id (knowledge m.node).config set table →
+    IsHeldBy d.node.id (knowledge d.node).config set table
+    × (era_of set (knowledge d.node).config ≡ era_of set (knowledge m.node).config)
+held_today t m d set table held =
+    let leads = stays_leading m.node now.0 d.node now.2 node set held.1 in (
+      (
+        ap (λ (n : Node). set_of table (knowledge n).config) (one_found d.node now.2.node (sym node ∙ now.2.is))
+            ∙ now.2.members table set held.0,
+        leads.0,
+      ),
+      leads.1,
+    )
+  where
+    now : HoldsOf (Stays m.node) m.name t.world.places
+    now = now_stays t m.session m.was m.name m.place m.node m.found m.at
+
+    node : now.0.node ≡ Some d.node
+    node =
+        ap (λ (p : Place). p.node) (one_found now.0 d.place (sym now.1
+        ∙ ap (λ k. find_named k t.world.places) d.same ∙ d.found)) ∙ d.at

@@ -1,0 +1,4 @@
+pub mod Contents
+pub mod Known
+pub mod Laws
+pub mod Past
