@@ -22,7 +22,7 @@ use Rattle.slon_model.specs.Sessions.{after_outcome, felled, with_memory}
 use Rattle.slon_model.specs.Turns.{Switches, turned_by, taken_turn, sync_turn, switches_of, are_cut, at_node}
 use Rattle.slon_model.specs.Polls.{Poll, polled, stated_by, left_by}
 use Rattle.slon_model.specs.Working.{Carried, Fetched, fetched, fetched_by, given_up, with_fetch, work_ended, worked}
-use Rattle.slon_model.specs.World.{outcome, may_break, memory_after, is_accepted, is_of, broken_at, wavering}
+use Rattle.slon_model.specs.World.{outcome, may_break, memory_after, is_accepted, is_of, is_of_one, broken_at, wavering}
 use Rattle.slon_model.specs.World.{doubt_reply}
 use Rattle.slon_model.proofs.Names.{one_found}
 use Rattle.app_store.specs.Base.{Base}
@@ -38,7 +38,7 @@ use Rattle.slon_turns.specs.Holding.{HoldAll, Holdings, IsUpIn, KeepsIn, WaitsIn
 use Rattle.slon_turns.specs.Turning.{Kept, Polls}
 use Rattle.slon_turns.specs.declared.working.Aim.{Aim}
 use Rattle.slon_turns.specs.declared.working.Aim.TheVariants.{Fetch, Apply}
-use Rattle.slon_turns.specs.Working.{Due, Goal, ToApply, ToKeep, Works, behind, gives_up, left_after, source_to}
+use Rattle.slon_turns.specs.Working.{Due, Goal, ToApply, ToKeep, Works, behind, gives_up, left_after, sources_to}
 use Rattle.slon_turns.specs.Working.{stated_by as due_stated, turned, turned_to}
 use Rattle.cluster_engine.specs.Agreed.{Clustered, Agrees, FitsScripts, Follows}
 use Rattle.cluster_engine.specs.Calls.{ActsOn, IsActed}
@@ -511,7 +511,7 @@ same_memory Apply node origin m = refl
 
 may_own : (aim : Aim) (node origin : ℕ) (name : List ℕ) (w : World) →
     may_break (act_of (record { aim = aim; origin = origin }) node) name w
-    ≡ (is_of name (at_node node w) || is_of name (source_to aim node origin w))
+    ≡ (is_of name (at_node node w) || is_of_one name (sources_to aim node origin w) w)
 may_own Fetch node origin name w = refl
 may_own Apply node origin name w = refl
 

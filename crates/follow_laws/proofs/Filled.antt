@@ -1,5 +1,5 @@
 -- Each table that a node keeps was filled with what it held at the origin, and nothing has come on it since.
-use Rattle.std.proofs.Common.{◌≡◌, ◌≢◌, inl, inr, ℕ, ◌<◌, Bool, true, false, cond, List, Option, Some}
+use Rattle.std.proofs.Common.{◌≡◌, ◌≢◌, inl, inr, ℕ, ◌<◌, Bool, true, false, cond, List, Option, Some, []}
 use Rattle.std.proofs.Common.{None, refl, sym, ap, subst, ◌∙◌, map, unwrap_or}
 use Rattle.std.specs.Prelude.{◌==◌}
 use Rattle.std.specs.Str.{bytes_eq}
@@ -12,24 +12,24 @@ use Rattle.slon_model.specs.Names.{find_named}
 use Rattle.slon_model.specs.Rows.{Action, Rows}
 use Rattle.slon_model.specs.Snapshots.{covers}
 use Rattle.slon_model.specs.Events.{Event}
-use Rattle.slon_model.specs.Config.{Config, change_by, is_table_of, names_of, tables_of}
+use Rattle.slon_model.specs.Config.{Config, change_by, is_table_of, names_of, tables_of, is_origin}
 use Rattle.slon_model.specs.Deeds.{Node, Brought, Knowledge, knowledge, nothing_brought}
 use Rattle.slon_model.specs.Deeds.{view_of, with_deeds}
-use Rattle.slon_model.specs.Following.{content, kept_from, set_sync, with_syncs}
+use Rattle.slon_model.specs.Following.{content, kept_from, set_sync, with_syncs, tables_taken}
 use Rattle.slon_model.specs.Logs.{logged}
-use Rattle.slon_model.specs.Place.{Filling, Place, filling_of, standing_rows, taken}
+use Rattle.slon_model.specs.Place.{Filling, Place, filling_of, standing_rows}
 use Rattle.slon_model.specs.Maps.{Map}
 use Rattle.slon_model.specs.Sessions.{Seat, committing}
-use Rattle.slon_model.specs.Views.{View, first_view, view_after}
-use Rattle.slon_model.specs.Working.{Carried, Copying, ToCopy, errand_in}
-use Rattle.slon_model.proofs.Names.{all_map, bytes_same}
+use Rattle.slon_model.specs.Views.{View, view_after}
+use Rattle.slon_model.specs.Working.{Carried, ToCopy, errand_in, names_taken, Copying}
+use Rattle.slon_model.proofs.Names.{all_map, bytes_same, all_found}
 use Rattle.slon_laws.specs.Sound.{Sound}
 use Rattle.slon_laws.proofs.Later.{HoldsOf}
-use Rattle.stream_laws.specs.Nodes.{IsAmong, nodes_in, node_in}
+use Rattle.stream_laws.specs.Nodes.{IsAmong, nodes_in, node_in, IsEvent}
 use Rattle.stream_laws.specs.Applied.{applied_events}
 use Rattle.stream_laws.proofs.Copies.{Leading}
 use Rattle.stream_laws.proofs.Lists.{all_mapped, all_passed, among_all}
-use Rattle.stream_laws.proofs.Seats.{seat_node}
+use Rattle.stream_laws.proofs.Seats.{seat_node, IsSeat}
 use Rattle.image_laws.proofs.Logging.{among_filtered}
 use Rattle.image_laws.proofs.Staying.{Stays}
 use Rattle.image_laws.specs.Deltas.{applied}
@@ -38,21 +38,29 @@ use Rattle.view_laws.proofs.Doing.{IsTaken, taking}
 use Rattle.view_laws.specs.Contents.{actions_on}
 use Rattle.follow_laws.specs.Filled.{AreFilled, IsFilled}
 use Rattle.view_laws.specs.Known.{IsEmitted}
-use Rattle.view_laws.specs.Past.{Past, WasBefore, WasUpTo}
+use Rattle.view_laws.specs.Past.{Past, WasBefore, WasUpTo, PastUpTo}
 use Rattle.follow_laws.proofs.Contents.{AreBefore, content_syncs, covered_none, filled_stands, filling_by, synced}
 use Rattle.follow_laws.proofs.Contents.{filling_filled, rows_found, rows_none}
-use Rattle.view_laws.proofs.Brought.{IsCopied, IsSynced, was_then}
+use Rattle.view_laws.proofs.Brought.{IsCopied, IsSynced, was_then, copied_view, earlier}
 use Rattle.view_laws.proofs.Emitted.{emitted_in, moment_of}
 use Rattle.follow_laws.proofs.Kept.{filled_later}
-use Rattle.view_laws.proofs.Moments.{now_stays, passes_covers, sound_now}
+use Rattle.view_laws.proofs.Moments.{now_stays, passes_covers, sound_now, event_now}
 use Rattle.view_laws.proofs.Numbered.{among_map}
-use Rattle.view_laws.proofs.Seen.{copied_seen, copy_leads, is_older, newer_seen, same_seen, seen_more, stays_leading}
+use Rattle.view_laws.proofs.Seen.{is_older, newer_seen, same_seen, seen_more, Copier, seen_from, source_of}
 use Rattle.follow_laws.proofs.Tabled.{table_then, tables_stay_known}
-use Rattle.view_laws.proofs.Unmoved.{copy_from, since, syncs_are, view_then}
+use Rattle.view_laws.proofs.Unmoved.{since, syncs_are, view_then}
 use Rattle.view_laws.proofs.Viewed.{seen_now}
 use Rattle.follow_laws.proofs.Synced.{Reading, Syncing, held_at, same_rows, sync_leads, sync_of, synced_of}
 use Rattle.follow_laws.proofs.Synced.{synced_table}
 use Rattle.view_laws.proofs.Tables.{KnownTable, entry_told, held_then, one_table, table_of}
+use Rattle.view_laws.proofs.Copied.{CopySource, FromForwarder, FromOrigin, copy_asks, enables_feeds, feeder_is}
+use Rattle.view_laws.proofs.Copied.{feeder_leads}
+use Rattle.view_laws.proofs.Copied.{stays_leading}
+use Rattle.view_laws.proofs.Agreeing.{known_there, table_known}
+use Rattle.slon_laws.specs.Worlds.{AllPlaces}
+use Rattle.std.proofs.lemmas.Simd.{map-map}
+use Rattle.net_relation.proofs.Providing.{event_seat, event_seat_is}
+use Rattle.follow_laws.proofs.Given.{Follow, synced_same}
 
 -- ---- what a table is filled with by an event
 
@@ -61,8 +69,9 @@ pub record Taking (t : Past) : Type 0 where
   pub carried : Carried
   pub origin : ℕ
   pub is : IsTaken t origin carried
-  -- what held before
+  -- what held before, and of all databases of the sessions before
   pub filled : AreFilled (WasBefore t) carried.seat.place
+  pub knew : (s : Past) → PastUpTo t s → AllPlaces (AreFilled (WasBefore s)) s.world
 
 -- the node and the database behind it
 abbrev pub node_then : {t : Past} → Taking t → Node
@@ -155,96 +164,208 @@ pub copy_body : (own : ℕ) (receives : Bool) (origin : ℕ) (body : Body) (c : 
     errand_in own receives origin body ≡ Some (ToCopy c) → (d : Config) (number : ℕ) →
     (change_by origin number body d).tables ≡ d.tables
 copy_body own receives origin (EnableSubscription set provider receiver forward era) c asked d number = refl
-copy_body own true origin Sync c asked d number = refl
-copy_body own false origin Sync c asked d number = refl
+copy_body own receives origin Sync c asked d number = refl
 copy_body own receives origin others c asked d number = absurd cc
 
 -- the node that leads a set that is copied
-abbrev copy_leader : (t : Past) (s : Seat) (e : Event) (b : Brought) (c : IsCopied t s e b) →
+copy_leader : (t : Past) (s : Seat) (e : Event) (b : Brought) (c : IsCopied t s e b) →
     (leader : Leading (nodes_in t.world.places) c.copy.copying.set_id) × (leader.node.id ≡ e.origin)
 copy_leader t s e b c =
-    let p = c.copy.provider in
-    let now = now_stays t c.at.to.world (was_then c.at) p.name p.place p.node c.copy.seat.found c.copy.seat.node in (
+    let set = c.copy.copying.set_id in
+    let y : IsEvent (nodes_in t.world.places) e =
+    event_now t e (record { session = c.at.to.world; was = was_then c.at; is = c.at.work.event }) in (
       record {
-        name = p.name;
-        node = now.2.node;
-        is = ap node_in now.1 ∙ now.2.is;
-        leads = (stays_leading p.node now.0 now.2.node now.2 now.2.is c.copy.copying.set_id
-            (copy_leads c.at.to.world c.at.seat e c.found c.copy).0).0;
+        name = y.name;
+        node = y.node;
+        is = y.is;
+        leads =
+            feeder_leads t e y set (enables_feeds set c.at.seat.node.id e.body
+            (copy_asks c.at.to.world c.at.seat e c.found c.copy));
       },
-      now.2.id ∙ copy_from t s e b c,
+      y.own,
     )
 
--- a table of the set that is copied
-pub copy_filled : (t : Past) (k : Taking t) (c : IsCopied t k.carried.seat k.carried.event k.carried.brought)
-    (e : ℕ × TableRow) → IsAmong e (knowledge k.carried.seat.node).config.tables →
-    e.1.set_id ≡ c.copy.copying.set_id →
-    IsFilled (WasUpTo t) (place_then k) (node_then k) c.copy.copying.set_id
-    (first_view c.copy.copying.era c.copy.provider.node.id k.carried.event.number (taken c.copy.provider.place))
-    e.1.name
-copy_filled t k c e among same = record {
-  seen = copied_seen t k.carried.seat k.carried.event k.carried.brought k.is.work.seat c (node_then k)
-      (refl, inl refl);
-  rows = ap (λ (f : Filling). f.rows) filling;
-  before =
-      subst (λ (f : Filling). AreBefore e.1.name f.first p.actions) (sym filling)
-      (all_map (λ a. a.number < p.numbers.next) (λ a. bytes_eq e.1.name a.table ≡ true → a.number < p.numbers.next)
-      (λ a below on. below) p.actions (sound_now t k.carried.seat.name p k.is.work.seat.found).numbered);
-}
+-- A copy of a set that a node makes with the event.
+abbrev Copies : {t : Past} → Taking t → Type 0
+Copies {t} k = IsCopied t k.carried.seat k.carried.event k.carried.brought
+
+-- the node that copies the set does not lead it, so it copies all tables of the set that it knows
+names_are : (t : Past) (k : Taking t) (c : Copies k) → names_taken c.at.seat c.copy.copying.set_id
+    ≡ names_of c.copy.copying.set_id (knowledge c.at.seat.node).config
+names_are t k c =
+    ap (λ (j : Knowledge). map (λ (u : ℕ × List ℕ). u.1) (tables_taken n.id set j.config)) c.at.work.seat.known
+    ∙ ap (λ b. map (λ (u : ℕ × List ℕ). u.1) (cond b [] (map entry (tables_of set (knowledge n).config)))) other
+    ∙ map-map (λ (u : ℕ × List ℕ). u.1) entry (tables_of set (knowledge n).config)
   where
-    p : Place
-    p = k.carried.seat.place
+    n : Node
+    n = c.at.seat.node
 
     set : ℕ
     set = c.copy.copying.set_id
 
-    then : Seat
-    then = c.at.seat
+    entry : ℕ × TableRow → ℕ × List ℕ
+    entry e = (e.0, e.1.name)
+
+    other : is_origin n.id set (knowledge n).config ≡ false
+    other =
+        false_from_ne_true _ (λ leads. c.at.work.other (sym (feeder_is c.at.to k.carried.event c.at.work.event set
+        (enables_feeds set n.id k.carried.event.body (copy_asks c.at.to.world c.at.seat k.carried.event c.found c.copy))
+        c.at.seat c.at.work.seat leads ∙ c.at.work.event.own)))
+
+-- A table of the set, which the node knows.
+record CopiedTable (t : Past) (k : Taking t) (c : Copies k) : Type 0 where
+  entry : ℕ × TableRow
+  among : IsAmong entry (knowledge k.carried.seat.node).config.tables
+  same : entry.1.set_id ≡ c.copy.copying.set_id
+
+-- the node knew it as it copied the set
+table_was : (t : Past) (k : Taking t) (c : Copies k) (e : CopiedTable t k c) →
+    IsAmong e.entry (knowledge c.at.seat.node).config.tables
+table_was t k c e =
+    table_then t (since k.origin k.carried k.is c.at) e.entry e.among
+    (subst (λ i. (leader : Leading (nodes_in t.world.places) i) × (leader.node.id ≡ k.carried.event.origin))
+    (sym e.same) (copy_leader t k.carried.seat k.carried.event k.carried.brought c))
+
+-- what stood in the table at the provider comes
+copy_rows : (t : Past) (k : Taking t) (c : Copies k) (e : CopiedTable t k c) →
+    filling_of e.entry.1.name (place_then k).fillings ≡ record {
+      first = k.carried.seat.place.numbers.next;
+      rows = standing_rows c.copy.provider.place e.entry.1.name;
+    }
+copy_rows t k c e =
+    filling_then t k table
+    ∙ ap (filling_by k.carried.seat.place (filling_of table k.carried.seat.place.fillings))
+    (ap (λ (b : Brought). find_named table b.rows) c.is
+    ∙ rows_found c.copy.provider.place table (names_taken c.at.seat set) named)
+  where
+    table : List ℕ
+    table = e.entry.1.name
+
+    set : ℕ
+    set = c.copy.copying.set_id
 
     known : KnownTable t
     known = record {
       name = k.carried.seat.name;
       node = k.carried.seat.node;
       is = seat_node t.world.places k.carried.seat k.is.work.seat;
-      entry = e;
-      among = among;
+      entry = e.entry;
+      among = e.among;
     }
 
-    -- the node knew it as it copied the set
-    was : IsAmong e (knowledge then.node).config.tables
-    was =
-        table_then t (since k.origin k.carried k.is c.at) e among
-        (subst (λ i. (leader : Leading (nodes_in t.world.places) i) × (leader.node.id ≡ k.carried.event.origin))
-        (sym same) (copy_leader t k.carried.seat k.carried.event k.carried.brought c))
-
-    named : IsAmong e.1.name (names_of set then.known.config)
+    named : IsAmong table (names_taken c.at.seat set)
     named =
-        subst (λ (j : Knowledge). IsAmong e.1.name (names_of set j.config)) (sym c.at.work.seat.known)
-        (among_map (λ (f : ℕ × TableRow). f.1.name) e (tables_of set (knowledge then.node).config)
-        (among_filtered (is_table_of set) e (knowledge then.node).config.tables was
-        (and_from e.1.live (e.1.set_id == set) (entry_told t known).live (eq-eqb e.1.set_id set same))))
+        subst (IsAmong table) (sym (names_are t k c))
+        (among_map (λ (f : ℕ × TableRow). f.1.name) e.entry (tables_of set (knowledge c.at.seat.node).config)
+        (among_filtered (is_table_of set) e.entry (knowledge c.at.seat.node).config.tables (table_was t k c e)
+        (and_from e.entry.1.live (e.entry.1.set_id == set) (entry_told t known).live
+        (eq-eqb e.entry.1.set_id set e.same))))
 
-    rows : find_named e.1.name k.carried.brought.rows ≡ Some (standing_rows c.copy.provider.place e.1.name)
-    rows =
-        ap (λ (b : Brought). find_named e.1.name b.rows) c.is
-        ∙ rows_found c.copy.provider.place e.1.name (names_of set then.known.config) named
+-- a provider that keeps the set has the table, filled with what it held at the origin
+provider_filled : (t : Past) (k : Taking t) (c : Copies k) (e : CopiedTable t k c) → (v : View) →
+    view_of c.copy.copying.set_id (knowledge c.copy.provider.node) ≡ Some v →
+    IsFilled (WasUpTo c.at.to) c.copy.provider.place c.copy.provider.node c.copy.copying.set_id v e.entry.1.name
+provider_filled t k c e v found =
+    subst (IsFilled (WasUpTo u) p.place p.node set v) (sym there.3)
+    (subst (λ i. IsFilled (WasUpTo u) p.place p.node i v there.0.1.name) there.2
+    (filled_later u p.place p.node there.0.1.set_id v there.0.1.name
+    (all_found (AreFilled (WasBefore u)) p.name p.place u.world.places (k.knew u c.at.within) seat.found p.node
+    seat.node there.0 there.1 v (ap (λ i. view_of i (knowledge p.node)) there.2 ∙ found))))
+  where
+    u : Past
+    u = c.at.to
 
-    filling : filling_of e.1.name (place_then k).fillings
-        ≡ record { first = p.numbers.next; rows = standing_rows c.copy.provider.place e.1.name }
-    filling =
-        filling_then t k e.1.name ∙ ap (filling_by p (filling_of e.1.name p.fillings)) rows
+    p : Seat
+    p = c.copy.provider
+
+    set : ℕ
+    set = c.copy.copying.set_id
+
+    seat : IsSeat u.world.places p
+    seat = c.copy.reached.0.0.0
+
+    at : nodes_in u.world.places p.name ≡ Some p.node
+    at = seat_node u.world.places p seat
+
+    known : KnownTable u
+    known = record {
+      name = c.at.seat.name;
+      node = c.at.seat.node;
+      is = seat_node u.world.places c.at.seat c.at.work.seat;
+      entry = e.entry;
+      among = table_was t k c e;
+    }
+
+    named : IsAmong e.entry.1.name (names_of set (knowledge p.node).config)
+    named =
+        subst (λ i. IsAmong e.entry.1.name (names_of i (knowledge p.node).config)) e.same
+        (known_there u known p.name p.node at v
+        (seen_now u p.name p.node at e.entry.1.set_id v (ap (λ i. view_of i (knowledge p.node)) e.same ∙ found)))
+
+    there : (f : ℕ × TableRow) × IsAmong f (knowledge p.node).config.tables × (f.1.set_id ≡ set)
+        × (e.entry.1.name ≡ f.1.name)
+    there = table_known set (knowledge p.node).config e.entry.1.name named
+
+-- the copy, with what is known of its provider by the table
+abbrev copier_of : (t : Past) (k : Taking t) (c : Copies k) → CopiedTable t k c → Copier t
+copier_of t k c e =
+    record {
+      seat = k.carried.seat;
+      event = k.carried.event;
+      brought = k.carried.brought;
+      is = k.is.work.seat;
+      copied = c;
+      seen = λ v found. (provider_filled t k c e v found).seen;
+      node = node_then k;
+      id = refl;
+      applied = inl refl;
+    }
+
+-- a table of the set that is copied
+pub copy_filled : (t : Past) (k : Taking t) (c : Copies k) (e : ℕ × TableRow) →
+    IsAmong e (knowledge k.carried.seat.node).config.tables → e.1.set_id ≡ c.copy.copying.set_id →
+    IsFilled (WasUpTo t) (place_then k) (node_then k) c.copy.copying.set_id (copied_view c.copy) e.1.name
+copy_filled t k c e among same = by (source_of (copier_of t k c table))
+  where
+    table : CopiedTable t k c
+    table = record { entry = e; among = among; same = same }
+
+    p : Place
+    p = k.carried.seat.place
+
+    before : AreBefore e.1.name (filling_of e.1.name (place_then k).fillings).first p.actions
+    before =
+        subst (λ (f : Filling). AreBefore e.1.name f.first p.actions) (sym (copy_rows t k c table))
+        (all_map (λ a. a.number < p.numbers.next) (λ a. bytes_eq e.1.name a.table ≡ true → a.number < p.numbers.next)
+        (λ a below on. below) p.actions (sound_now t k.carried.seat.name p k.is.work.seat.found).numbered)
+
+    rows : (filling_of e.1.name (place_then k).fillings).rows ≡ standing_rows c.copy.provider.place e.1.name
+    rows = ap (λ (f : Filling). f.rows) (copy_rows t k c table)
+
+    by : CopySource c.copy.copying c.copy.provider c.copy.seen →
+        IsFilled (WasUpTo t) (place_then k) (node_then k) c.copy.copying.set_id (copied_view c.copy) e.1.name
+    by (FromOrigin leads era seen) = record {
+      seen = seen_from t (copier_of t k c table) (FromOrigin leads era seen);
+      rows = rows;
+      before = before;
+    }
+    by (FromForwarder v found era forward seen) =
+        let given = provider_filled t k c table v found in
+        record {
+          seen = seen_from t (copier_of t k c table) (FromForwarder v found era forward seen);
+          rows = rows ∙ filled_stands c.copy.provider.place e.1.name given.before ∙ given.rows;
+          before = before;
+        }
 
 -- a table of another set
-pub copy_beside : (t : Past) (k : Taking t) (c : IsCopied t k.carried.seat k.carried.event k.carried.brought)
-    (e : ℕ × TableRow) → IsAmong e (knowledge k.carried.seat.node).config.tables →
-    e.1.set_id ≢ c.copy.copying.set_id →
+pub copy_beside : (t : Past) (k : Taking t) (c : Copies k) (e : ℕ × TableRow) →
+    IsAmong e (knowledge k.carried.seat.node).config.tables → e.1.set_id ≢ c.copy.copying.set_id →
     content k.carried.seat.place k.carried.brought.rows e.1.name ≡ standing_rows k.carried.seat.place e.1.name
 copy_beside t k c e among apart =
     ap (λ o. unwrap_or o (standing_rows k.carried.seat.place e.1.name))
     (ap (λ (b : Brought). find_named e.1.name b.rows) c.is
-    ∙ rows_none c.copy.provider.place e.1.name (names_of set then.known.config)
-    (subst (λ (j : Knowledge). AllByRecursion (λ name. bytes_eq e.1.name name ≡ false) (names_of set j.config))
-    (sym c.at.work.seat.known)
+    ∙ rows_none c.copy.provider.place e.1.name (names_taken then set)
+    (subst (AllByRecursion (λ name. bytes_eq e.1.name name ≡ false)) (sym (names_are t k c))
     (all_mapped (λ (f : ℕ × TableRow). bytes_eq e.1.name f.1.name ≡ false) (λ name. bytes_eq e.1.name name ≡ false)
     (λ f. f.1.name) (λ f is. is) (tables_of set c0)
     (all_passed (λ f. IsAmong f c0.tables) (λ f. bytes_eq e.1.name f.1.name ≡ false) (is_table_of set) other c0.tables
@@ -275,6 +396,19 @@ copy_beside t k c e among apart =
 
 -- ---- a SYNC
 
+-- what the node followed, as it found that
+abbrev follow_of : (t : Past) (k : Taking t) (y : IsSynced t k.carried.seat k.carried.event k.carried.brought) →
+    Follow y.at.to
+follow_of t k y =
+    record {
+      origin = y.at.origin;
+      seat = y.at.seat;
+      event = k.carried.event;
+      work = y.at.work;
+      read = y.found;
+      follows = y.follows;
+    }
+
 -- what is read beside a table that the node knows
 abbrev pub reading : (t : Past) (k : Taking t) → IsSynced t k.carried.seat k.carried.event k.carried.brought →
     (e : ℕ × TableRow) → IsAmong e (knowledge k.carried.seat.node).config.tables → Reading t
@@ -291,7 +425,7 @@ reading t k y e among =
       known = knowledge y.at.seat.node;
       later = λ f there. tables_stay_known t k.carried.seat k.carried.event y.at k.is.work.seat f there;
       event = k.carried.event;
-      log = logged y.follows.provider.node;
+      log = logged y.at.work.event.node;
     }
 
 -- the sets of the origin that the node keeps
@@ -304,13 +438,13 @@ pub sync_content : (t : Past) (k : Taking t) (y : IsSynced t k.carried.seat k.ca
     (table : List ℕ) →
     content k.carried.seat.place k.carried.brought.rows table
     ≡ synced table (map (set_sync y.at.seat.node.id (knowledge y.at.seat.node) k.carried.event
-    (logged y.follows.provider.node)) (kept_then t k y)) (standing_rows k.carried.seat.place table)
+    (logged y.at.work.event.node)) (kept_then t k y)) (standing_rows k.carried.seat.place table)
 sync_content t k y table =
     ap (λ (b : Brought). content here b.rows table) y.is
     ∙ ap (λ ts. content here (with_syncs here ts nothing_brought).rows table)
     (syncs_are t k.origin k.carried k.is y)
-    ∙ content_syncs here table (map (set_sync y.at.seat.node.id (knowledge y.at.seat.node) k.carried.event
-    (logged y.follows.provider.node)) (kept_then t k y)) nothing_brought
+    ∙ content_syncs here table y.follows.syncs nothing_brought
+    ∙ synced_same y.at.to (follow_of t k y) table (standing_rows here table)
   where
     here : Place
     here = k.carried.seat.place
@@ -364,8 +498,9 @@ sync_filled t k y e among v found from = by (covers v.seen event.taken) refl
       seat = y.at.seat;
       event = event;
       is = y.at.work.seat;
-      read = y.found;
-      follows = y.follows;
+      source = event_seat then y.at.work.event;
+      there = event_seat_is then y.at.work.event;
+      led = y.at.work.event.own;
       entry = e;
       among = among_then;
       view = v;
@@ -378,9 +513,10 @@ sync_filled t k y e among v found from = by (covers v.seen event.taken) refl
 
     emitted_now : IsEmitted (WasUpTo t) event
     emitted_now = record {
-      moment = moment_of (WasUpTo then) (WasUpTo t) y.at.earlier emitted.moment;
+      moment = moment_of (WasUpTo then) (WasUpTo t) (earlier y.at) emitted.moment;
       own = emitted.own;
       taken = emitted.taken;
+      leads = emitted.leads;
     }
 
     actions : List Action
@@ -396,7 +532,7 @@ sync_filled t k y e among v found from = by (covers v.seen event.taken) refl
     same : standing_rows was.seen.moment.place e.1.name ≡ standing_rows z.seen.moment.place e.1.name
     same =
         same_rows t e.1.set_id e.1.name v (held_at t known v was.seen) (record {
-          moment = moment_of (WasUpTo then) (WasUpTo t) y.at.earlier z.seen.moment;
+          moment = moment_of (WasUpTo then) (WasUpTo t) (earlier y.at) z.seen.moment;
           own = z.seen.own;
           seen = z.seen.seen;
           era = z.seen.era;
@@ -418,7 +554,7 @@ sync_filled t k y e among v found from = by (covers v.seen event.taken) refl
           (seen_more (WasUpTo t) k.carried.seat.node (node_then k) refl (more_then t k) e.1.set_id v was.seen);
       rows =
           now ∙ ap (λ ls. applied (actions_on e.1.name ls) (standing_rows was.seen.moment.place e.1.name))
-          (covered_none event.origin _ v.seen event.taken (logged y.follows.provider.node)
+          (covered_none event.origin _ v.seen event.taken (logged y.at.work.event.node)
           (passes_covers v.seen event.taken covered));
       before = before_then t k e.1.name was.before;
     }

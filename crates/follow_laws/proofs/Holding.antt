@@ -18,7 +18,7 @@ use Rattle.slon_model.specs.Moves.{Move, done, prepared, with_commit}
 use Rattle.slon_model.specs.Place.{Place, deed, doubted, fallen, filled_by, filling_of, standing_rows, taken}
 use Rattle.slon_model.specs.Tasks.{Task}
 use Rattle.slon_model.specs.Sessions.{World, Commit, Emission, Seat, committing, emissions, next_event}
-use Rattle.slon_model.specs.Views.{View, first_view, view_after}
+use Rattle.slon_model.specs.Views.{View, view_after}
 use Rattle.slon_model.specs.Working.{receives_from}
 use Rattle.slon_model.proofs.Names.{all_found, all_map, one_found}
 use Rattle.slon_laws.proofs.Later.{HoldsOf}
@@ -31,13 +31,13 @@ use Rattle.image_laws.specs.Facts.{IsHeldBy}
 use Rattle.image_laws.proofs.Since.{prepared_fillings, prepared_same}
 use Rattle.follow_laws.specs.Filled.{AreFilled, IsFilled}
 use Rattle.follow_laws.specs.Laws.{HoldsAsSeen, TablesFollow}
-use Rattle.view_laws.specs.Past.{Past, past, WasBefore, WasUpTo}
+use Rattle.view_laws.specs.Past.{Past, past, WasBefore, WasUpTo, PastUpTo}
 use Rattle.view_laws.proofs.Doing.{Becomes, Does, DoesBecome, DoesHear, DoesTake, DoesTell, Hears, Takes, Tells}
 use Rattle.view_laws.proofs.Doing.{taking}
 use Rattle.follow_laws.proofs.Contents.{AreBefore, filled_stands, none_filled}
 use Rattle.follow_laws.proofs.Filled.{Taking, copy_beside, copy_body, copy_filled, node_then, place_then}
 use Rattle.follow_laws.proofs.Filled.{still_filled, kept_then, reading, sync_content, sync_filled}
-use Rattle.view_laws.proofs.Brought.{IsBrought, IsKept, Nothing, Copies, Brings}
+use Rattle.view_laws.proofs.Brought.{IsBrought, IsKept, Nothing, Copies, Brings, copied_view}
 use Rattle.view_laws.proofs.Viewed.{rising_now, seen_now}
 use Rattle.view_laws.proofs.Living.{does_node, event_of}
 use Rattle.image_laws.proofs.Staying.{Stays}
@@ -52,6 +52,7 @@ use Rattle.follow_laws.proofs.Synced.{image_then, synced_nothing}
 use Rattle.view_laws.proofs.Agreeing.{table_known}
 use Rattle.view_laws.proofs.Unmoved.{none_kept}
 use Rattle.view_laws.proofs.Walking.{IsHere, LivesOn, lives_in}
+use Rattle.slon_laws.specs.Worlds.{AllPlaces}
 
 -- ---- an event
 
@@ -90,7 +91,7 @@ takes_filled t k e among v found =
         first : ℕ × View
         first = (
           c.copy.copying.set_id,
-          first_view c.copy.copying.era c.copy.provider.node.id event.number (taken c.copy.provider.place),
+          copied_view c.copy,
         )
 
         there : IsAmong e (knowledge n).config.tables
@@ -247,9 +248,13 @@ tells_filled t c p d was m at e among v found = by (a.tables e there)
         absurd (true≢false (sym leads ∙ other_leads t d.seat.name n own e.1.set_id v
         (seen_now t d.seat.name n own e.1.set_id v view)))
 
-takes_all : (t : Past) (c : Commit) (p : Place) → Takes t c p → AreFilled (WasBefore t) p →
+-- all databases of this session and of those before were filled
+abbrev KnewFilled : Past → Type 0
+KnewFilled t = (s : Past) → PastUpTo t s → AllPlaces (AreFilled (WasBefore s)) s.world
+
+takes_all : (t : Past) → KnewFilled t → (c : Commit) (p : Place) → Takes t c p → AreFilled (WasBefore t) p →
     AreFilled (WasUpTo t) (committing c p)
-takes_all t c p d was =
+takes_all t knew c p d was =
     subst (λ c. AreFilled (WasUpTo t) (committing c p)) (sym d.commit)
     (subst (λ p. AreFilled (WasUpTo t) (committing (taking d.carried) p)) d.at here)
   where
@@ -259,6 +264,7 @@ takes_all t c p d was =
       origin = d.origin;
       is = d.is;
       filled = subst (AreFilled (WasBefore t)) (sym d.at) was;
+      knew = knew;
     }
 
     here : AreFilled (WasUpTo t) (place_then k)
@@ -313,12 +319,12 @@ becomes_filled t c p d m at e among v found = never is
     never : None ≡ Some v → IsFilled (WasUpTo t) (committing c p) m e.1.set_id v e.1.name
     never same = absurd cc
 
-commits_filled : (t : Past) (c : Commit) (p : Place) → Does t c p → AreFilled (WasBefore t) p →
+commits_filled : (t : Past) → KnewFilled t → (c : Commit) (p : Place) → Does t c p → AreFilled (WasBefore t) p →
     AreFilled (WasUpTo t) (committing c p)
-commits_filled t c p (DoesTell d) was = tells_filled t c p d was
-commits_filled t c p (DoesTake d) was = takes_all t c p d was
-commits_filled t c p (DoesHear d) was = hears_filled t c p d was
-commits_filled t c p (DoesBecome d) was = becomes_filled t c p d
+commits_filled t knew c p (DoesTell d) was = tells_filled t c p d was
+commits_filled t knew c p (DoesTake d) was = takes_all t knew c p d was
+commits_filled t knew c p (DoesHear d) was = hears_filled t c p d was
+commits_filled t knew c p (DoesBecome d) was = becomes_filled t c p d
 
 -- ---- every session
 
@@ -352,7 +358,7 @@ tables_filled = record {
     falls = λ count p was. alike_filled (WasUpTo t) p (fallen count p) (refl, (refl, refl)) was;
     wavers = λ stands p was. alike_filled (WasUpTo t) p (doubted stands p) (refl, (refl, refl)) was;
     promises = λ node p was. alike_filled (WasUpTo t) p (record p { promised = node }) (refl, (refl, refl)) was;
-    commits = λ c p step was. commits_filled t c p step.does was.1;
+    commits = λ c p step was. commits_filled t all c p step.does was.1;
   };
 }
 

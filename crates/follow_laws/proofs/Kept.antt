@@ -35,11 +35,12 @@ use Rattle.view_laws.proofs.Viewed.{seen_now}
 use Rattle.view_laws.proofs.Living.{IsOfFeed, Says, deed_of, event_of, tells_lives}
 use Rattle.view_laws.proofs.Moments.{now_stays, regular_now}
 use Rattle.follow_laws.proofs.Opened.{IsOpenMove}
-use Rattle.view_laws.proofs.Seen.{same_views, seen_later, seen_more, stays_leading}
+use Rattle.view_laws.proofs.Seen.{same_views, seen_later, seen_more}
 use Rattle.image_laws.proofs.Staying.{Stays}
 use Rattle.view_laws.proofs.Tables.{KnownTable, found_in_set}
 use Rattle.view_laws.proofs.Unfed.{may_emitted, says_emitted}
 use Rattle.view_laws.proofs.Within.{came_within}
+use Rattle.view_laws.proofs.Copied.{stays_leading}
 
 -- ---- the same fillings
 
@@ -172,7 +173,7 @@ allowed_own : (s : Seat) (n : Node) (m : Emission) → Says s n m → (e : ℕ �
     m.body ≡ SetAddTable e.1.set_id e.0 e.1.name e.1.comment →
     is_origin s.node.id e.1.set_id (knowledge s.node).config ≡ true
 allowed_own s n m (inl may) e is = (subst (IsAllowed s) is may.1).1
-allowed_own s n m (inr feed) e is = absurd (subst (IsOfFeed s.node.id (knowledge n).config) is feed)
+allowed_own s n m (inr feed) e is = absurd (subst (IsOfFeed s n) is feed)
 
 stays_ahead : (s : Seat) (number : ℕ) (m : Emission) (n : Node) → Says s n m → IsAhead s n →
     IsAhead s (with_deeds (deed_of s number m ∷ []) n)

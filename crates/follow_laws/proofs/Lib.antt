@@ -1,6 +1,7 @@
 pub mod Contents
 pub mod Earlier
 pub mod Filled
+pub mod Given
 pub mod Holding
 pub mod Kept
 pub mod Opened

@@ -13,7 +13,7 @@ use Rattle.slon_model.specs.Snapshots.{Snapshot, Covers}
 use Rattle.slon_model.specs.Config.{Config, era_of, is_origin, is_table_of, tables_of}
 use Rattle.slon_model.specs.Deeds.{Knowledge, Logged, knowledge, view_of}
 use Rattle.slon_model.specs.Eras.{image_in}
-use Rattle.slon_model.specs.Following.{Found, SetSync, delta, is_on_one, kept_from, set_sync, tables_taken}
+use Rattle.slon_model.specs.Following.{SetSync, delta, is_on_one, kept_from, set_sync, tables_taken}
 use Rattle.slon_model.specs.Logs.{logged}
 use Rattle.slon_model.specs.Place.{standing_rows, taken}
 use Rattle.slon_model.specs.Sessions.{Seat}
@@ -23,7 +23,6 @@ use Rattle.slon_model.proofs.Names.{bytes_same}
 use Rattle.slon_laws.proofs.Following.{delta_has}
 use Rattle.slon_laws.proofs.Later.{HoldsOf}
 use Rattle.stream_laws.specs.Nodes.{IsAmong}
-use Rattle.stream_laws.proofs.Copies.{IsFollowed}
 use Rattle.stream_laws.proofs.Lists.{all_each, all_mapped, all_passed, any_among}
 use Rattle.stream_laws.proofs.Seats.{IsSeat, seat_node}
 use Rattle.image_laws.specs.Deltas.{IsRead, applied}
@@ -186,8 +185,10 @@ pub record Syncing (t : Past) : Type 0 where
   pub seat : Seat
   pub event : Event
   pub is : IsSeat t.world.places seat
-  pub read : Found
-  pub follows : IsFollowed t.world seat event read
+  -- the origin of the event
+  pub source : Seat
+  pub there : IsSeat t.world.places source
+  pub led : source.node.id ≡ event.origin
   pub entry : ℕ × TableRow
   pub among : IsAmong entry (knowledge seat.node).config.tables
   pub view : View
@@ -212,7 +213,7 @@ reading_of y =
       known = knowledge y.seat.node;
       later = λ f among. among;
       event = y.event;
-      log = logged y.follows.provider.node;
+      log = logged y.source.node;
     }
 
 -- what it keeps of the origin
@@ -220,7 +221,7 @@ abbrev pub kept_of : {t : Past} → Syncing t → Map View
 kept_of y = kept_from y.event.origin (knowledge y.seat.node)
 
 abbrev pub sync_of : {t : Past} (y : Syncing t) → ℕ × View → SetSync
-sync_of y = set_sync y.seat.node.id (knowledge y.seat.node) y.event (logged y.follows.provider.node)
+sync_of y = set_sync y.seat.node.id (knowledge y.seat.node) y.event (logged y.source.node)
 
 filter_rising : {X : Type 0} (test : ℕ × X → Bool) (es : Map X) → AreRising es → AreRising (filter test es)
 filter_rising test [] rising = tt
@@ -250,26 +251,26 @@ synced_of t y from rows =
 
 -- ---- what it leads to
 
--- the provider is the origin of the view
-provider_name : (t : Past) (y : Syncing t) → y.view.origin ≡ y.event.origin → (m : Moment (WasUpTo t)) →
-    m.node.id ≡ y.view.origin → m.name ≡ y.follows.provider.name
-provider_name t y from m own =
-    let p = y.follows.provider in
+-- that origin is the one of the view
+source_name : (t : Past) (y : Syncing t) → y.view.origin ≡ y.event.origin → (m : Moment (WasUpTo t)) →
+    m.node.id ≡ y.view.origin → m.name ≡ y.source.name
+source_name t y from m own =
+    let p = y.source in
     let now = now_stays t m.session m.was m.name m.place m.node m.found m.at in
     one_name t (node_now t m now)
-    (record { name = p.name; place = p.place; found = y.follows.seat.found; node = p.node; at = y.follows.seat.node })
-    (now.2.id ∙ own ∙ from ∙ sym y.follows.own)
+    (record { name = p.name; place = p.place; found = y.there.found; node = p.node; at = y.there.node })
+    (now.2.id ∙ own ∙ from ∙ sym y.led)
 
 abbrev today : (t : Past) (y : Syncing t) → y.view.origin ≡ y.event.origin → (m : Moment (WasUpTo t)) →
     m.node.id ≡ y.view.origin → Today t m
 today t y from m own =
     record {
-      name = y.follows.provider.name;
-      same = provider_name t y from m own;
-      place = y.follows.provider.place;
-      found = y.follows.seat.found;
-      node = y.follows.provider.node;
-      at = y.follows.seat.node;
+      name = y.source.name;
+      same = source_name t y from m own;
+      place = y.source.place;
+      found = y.there.found;
+      node = y.source.node;
+      at = y.there.node;
     }
 
 -- what the table held at an earlier moment becomes what it held at a later one
@@ -281,7 +282,7 @@ sync_leads t y from emitted later =
     ap (applied actions) (sym (image_then t y.seen.moment first set table held)
     ∙ ap (λ era. image_in p.place p.node set era table (taken y.seen.moment.place)) (sym now.1)
     ∙ ap (image_in p.place p.node set era table) (sym y.seen.seen))
-    ∙ reading_leads t.limit p.name t.world p.place y.follows.seat.found p.node y.follows.seat.node y.view.seen
+    ∙ reading_leads t.limit p.name t.world p.place y.there.found p.node y.there.node y.view.seen
     y.event.taken (was_taken t y.seen.moment p.name first.same y.view.seen y.seen.seen)
     (was_taken t emitted.moment p.name second.same y.event.taken emitted.taken)
     (subst (Covers y.event.taken) (sym y.seen.seen) (subst (λ k. Covers k (taken y.seen.moment.place))
@@ -291,7 +292,7 @@ sync_leads t y from emitted later =
     ∙ image_then t emitted.moment second set table held_later
   where
     p : Seat
-    p = y.follows.provider
+    p = y.source
 
     set : ℕ
     set = y.entry.1.set_id
@@ -329,9 +330,9 @@ sync_leads t y from emitted later =
       other = other_leads t y.seat.name y.seat.node (synced_table y).is set y.view y.seen;
       name = p.name;
       place = p.place;
-      found = y.follows.seat.found;
+      found = y.there.found;
       node = p.node;
-      at = y.follows.seat.node;
+      at = y.there.node;
       held = now.0;
     }
 
@@ -342,5 +343,5 @@ sync_leads t y from emitted later =
     read =
         subst (λ id. IsRead p.node table y.view.seen y.event.taken
         (actions_on table (delta id (tables_taken y.seat.node.id set (knowledge y.seat.node).config)
-        y.view.seen y.event.taken (logged p.node)))) y.follows.own
+        y.view.seen y.event.taken (logged p.node)))) y.led
         (delta_read t follows y.view.seen y.event.taken)

@@ -9,11 +9,9 @@ use Rattle.std.specs.List.{list_any, AllByRecursion}
 use Rattle.std.proofs.lemmas.Bool.{true≢false, false≢true, false_from_ne_true, eqb-true, eq-eqb, and_parts}
 use Rattle.std.proofs.lemmas.List.{append_assoc}
 use Rattle.slonik_script.specs.declared.script.Command.{Command as Order}
-use Rattle.slonik_script.specs.declared.script.Command.TheVariants as order
 use Rattle.slon_model.specs.declared.command.Delivery.{Delivery}
 use Rattle.slon_model.specs.declared.command.Delivery.TheVariants.{Lost}
 use Rattle.slon_model.specs.declared.reply.Refusal.{Refusal}
-use Rattle.slon_model.specs.declared.reply.Refusal.TheVariants as refused
 use Rattle.node_rows.specs.declared.rows.NodeRow.{NodeRow}
 use Rattle.node_rows.specs.declared.rows.SetRow.{SetRow}
 use Rattle.node_rows.specs.declared.rows.TableRow.{TableRow}
@@ -23,26 +21,25 @@ use Rattle.node_rows.specs.declared.body.Body.TheVariants.{SetAddTable, MoveSet,
 use Rattle.slon_model.specs.Names.{Named, find_named}
 use Rattle.slon_model.specs.Maps.{entry_at}
 use Rattle.slon_model.specs.Events.{Event}
-use Rattle.slon_model.specs.Config.{Config, change_by, is_origin, is_table_of, era_of, live_set, leads_row, names_of}
-use Rattle.slon_model.specs.Config.{tables_of}
+use Rattle.slon_model.specs.Config.{Config, change_by, is_origin, is_table_of, era_of, live_set, leads_row, tables_of}
 use Rattle.slon_model.specs.Deeds.{Node, Deed, Doing, Emits, Applies, Hears, Brought, Knowledge, Logged, brought_in}
 use Rattle.slon_model.specs.Deeds.{knowledge, learned, nothing_brought, with_deeds}
 use Rattle.slon_model.specs.Place.{Place, deed, standing_rows, taken, node_id}
-use Rattle.slon_model.specs.Sessions.{World, Running, Commit, Stated, Seat, Emission, bind, tells, when}
-use Rattle.slon_model.specs.Sessions.{writer_of, emissions, next_event, committing, stood_at}
+use Rattle.slon_model.specs.Sessions.{World, Running, Commit, Stated, Seat, Emission, bind, tells, when, writer_of}
+use Rattle.slon_model.specs.Sessions.{emissions, next_event, committing, stood_at}
 use Rattle.slon_model.specs.Membership.{comment_of, already, first_node, init_cluster, store_node, store_path}
 use Rattle.slon_model.specs.Membership.{drop_path, becoming, first_of_cluster, joining, stored_by}
-use Rattle.slon_model.specs.Reaching.{database_of_line, reach, down_among, any_down, known_somewhere}
-use Rattle.slon_model.specs.Reaching.{origin_of, owner, commit_of, emitting}
+use Rattle.slon_model.specs.Reaching.{database_of_line, reach, down_among, any_down, known_somewhere, origin_of, owner}
+use Rattle.slon_model.specs.Reaching.{commit_of, emitting}
 use Rattle.slon_model.specs.Sets.{NewTable, adding, create_set, set_add_table}
 use Rattle.slon_model.specs.Subscribing.{NewFeed, subscribing, feed_bodies, all_tell, subscribe_set}
 use Rattle.slon_model.specs.Scripts.{ordered}
 use Rattle.slon_model.specs.Turns.{on_turn, sync_turn}
 use Rattle.slon_model.specs.Polls.{Poll, polled, stated_by, hearing}
 use Rattle.slon_model.specs.Following.{Found, FoundCopy, FoundNothing, FoundSyncs, SetSync, brought_of, is_on_one}
-use Rattle.slon_model.specs.Following.{kept_from, set_sync, set_syncs, tables_taken}
+use Rattle.slon_model.specs.Following.{kept_from, set_sync, tables_taken}
 use Rattle.slon_model.specs.Logs.{logged}
-use Rattle.slon_model.specs.Working.{Carried, applied_by, fetched, stands, still, worked}
+use Rattle.slon_model.specs.Working.{Carried, applied_by, fetched, stands, still, worked, names_taken}
 use Rattle.slon_model.proofs.Names.{put_other, all_found, all_map, bytes_itself, bytes_same, one_found}
 use Rattle.slon_laws.specs.Turning.{IsWithin, HoldsAt, AllHold}
 use Rattle.slon_laws.proofs.Acting.{outcome_all}
@@ -54,14 +51,14 @@ use Rattle.slon_laws.proofs.Lists.{all_filtered}
 use Rattle.stream_laws.proofs.Lists.{all_appended, all_among, all_each, all_mapped, all_passed, among_all, any_among}
 use Rattle.stream_laws.proofs.Lists.{there_here, there_with}
 use Rattle.stream_laws.proofs.Seats.{OnOk, ok_then, IsSeat, IsFound, IsReached, IsLeading, bind_ok, checked_ok, kept_ok}
-use Rattle.stream_laws.proofs.Seats.{all_none, when_none, turn_ok, owner_ok, origin_ok}
+use Rattle.stream_laws.proofs.Seats.{all_none, when_none, turn_ok, owner_ok, origin_ok, already_none, line_ok, reach_ok}
+use Rattle.stream_laws.proofs.Seats.{unknown, no_nodes, no_node_at, seat_node}
 use Rattle.stream_laws.proofs.Statements.{create_checks, table_checks}
-use Rattle.stream_laws.proofs.Seats.{already_none, line_ok, reach_ok, unknown, no_nodes, no_node_at, seat_node}
 use Rattle.stream_laws.proofs.Emits.{known_changed}
 use Rattle.stream_laws.proofs.Commits.{Newcomer, other_name}
 use Rattle.stream_laws.proofs.Waiting.{IsPoll, polled_ok}
 use Rattle.stream_laws.proofs.Applies.{IsSetOf, MayCome}
-use Rattle.stream_laws.proofs.Copies.{Finds, Nothing, Copies, Brings}
+use Rattle.stream_laws.proofs.Copies.{Finds, Nothing, Copies, Brings, AreTakenOf}
 use Rattle.stream_laws.proofs.Works.{IsWork, IsCarried, IsFetched, IsThere, Fresh, Kept, fetched_ok, worked_ok}
 use Rattle.image_laws.specs.Fits.{IsWhole, IsKept, Fit, Keeps, CreatesSet, AddsTable, FollowsTable, IsFirst, IsFit}
 use Rattle.image_laws.specs.Fits.{IsDoneNow, AllDone, IsOfOther, AreOfOthers, BringOthers, LogOthers, MayStand, Does}
@@ -72,9 +69,11 @@ use Rattle.slon_laws.proofs.Fetches.{IsKeptFor, OfFetch, kept_for}
 use Rattle.slon_laws.proofs.Following.{delta_has, syncs_have}
 use Rattle.slon_laws.proofs.Holds.{HoldsOf}
 use Rattle.slon_laws.proofs.Leaves.{Leaves, outcome_has}
-use Rattle.slon_laws.proofs.Results.{any_ok}
+use Rattle.slon_laws.proofs.Results.{any_ok, none_busy}
 use Rattle.image_laws.proofs.Staying.{Stays, deed_stays, stays_itself}
-use Rattle.slon_laws.proofs.Results.{none_busy}
+use Rattle.slon_model.specs.Views.{Views}
+use Rattle.slonik_script.specs.declared.script.Command.TheVariants as order
+use Rattle.slon_model.specs.declared.reply.Refusal.TheVariants as refused
 
 -- ---- a session
 
@@ -547,6 +546,41 @@ taken_other own set c l = by (is_origin own set c) refl
         (all_mapped (λ e. IsOfOther own c e.1.name) (λ t. IsOfOther own c t.1) entry (λ e is. is) (tables_of set c)
         (tables_others own set c other)) found.1)
 
+-- a table to which a node takes rows is one of a set of another node
+names_others : (own set : ℕ) (c : Config) → AllByRecursion (λ t. IsOfOther own c t.1) (tables_taken own set c)
+names_others own set c = by (is_origin own set c) refl
+  where
+    entry : ℕ × TableRow → ℕ × List ℕ
+    entry e = (e.0, e.1.name)
+
+    by : (b : Bool) → is_origin own set c ≡ b →
+        AllByRecursion (λ t. IsOfOther own c t.1) (cond b [] (map entry (tables_of set c)))
+    by true leads = tt
+    by false other =
+        all_mapped (λ e. IsOfOther own c e.1.name) (λ t. IsOfOther own c t.1) entry (λ e is. is) (tables_of set c)
+        (tables_others own set c other)
+
+-- what is taken of sets is on such tables
+taken_others : (w : World) (s : Seat) (e : Event) → s.known ≡ knowledge s.node → (vs : Views) (ts : List SetSync) →
+    AreTakenOf w s e vs ts → AllByRecursion (λ t. LogOthers s.node.id (knowledge s.node).config t.rows) ts
+taken_others w s e known [] [] taken = tt
+taken_others w s e known [] (t ∷ ts) taken = absurd taken
+taken_others w s e known (v ∷ vs) [] taken = absurd taken
+taken_others w s e known (v ∷ vs) (t ∷ ts) (here, more) = (
+  subst (λ (t : SetSync). LogOthers s.node.id c t.rows) (sym here.is)
+      (subst (λ (k : Knowledge). LogOthers s.node.id c (set_sync s.node.id k e log v).rows) (sym known)
+      (delta_has (λ l. Unit {0}) (λ l. IsOfOther s.node.id c l.action.table) (tables_taken s.node.id v.0 c)
+      (λ l any on. taken_other s.node.id v.0 c l on) e.origin v.1.seen e.taken log
+      (all_each (λ l. Unit {0}) (λ l. tt) log))),
+  taken_others w s e known vs ts more,
+)
+  where
+    c : Config
+    c = (knowledge s.node).config
+
+    log : List Logged
+    log = logged here.provider.node
+
 -- what is found for an event is so
 found_others : (w : World) (s : Seat) (e : Event) (f : Found) → IsSeat w.places s → Finds w s e f →
     FoundOthers s.node.id (knowledge s.node).config f
@@ -555,10 +589,11 @@ found_others w s e f is (Nothing none silent) =
 found_others w s e f is (Copies k) =
     subst (FoundOthers s.node.id known) (sym k.is)
     (all_mapped (IsOfOther s.node.id known) (λ r. IsOfOther s.node.id known r.0)
-    (λ name. (name, standing_rows k.provider.place name)) (λ name of. of) (names_of set s.known.config)
-    (subst (λ (m : Knowledge). AllByRecursion (IsOfOther s.node.id known) (names_of set m.config)) (sym is.known)
-    (all_mapped (λ e. IsOfOther s.node.id known e.1.name) (IsOfOther s.node.id known) (λ e. e.1.name) (λ e is. is)
-    (tables_of set known) (tables_others s.node.id set known k.other))))
+    (λ name. (name, standing_rows k.provider.place name)) (λ name of. of) (names_taken s set)
+    (all_mapped (λ t. IsOfOther s.node.id known t.1) (IsOfOther s.node.id known) (λ t. t.1) (λ t is. is)
+    (tables_taken s.node.id set s.known.config)
+    (subst (λ (m : Knowledge). AllByRecursion (λ t. IsOfOther s.node.id known t.1)
+    (tables_taken s.node.id set m.config)) (sym is.known) (names_others s.node.id set known))))
   where
     set : ℕ
     set = k.copying.set_id
@@ -566,20 +601,8 @@ found_others w s e f is (Copies k) =
     known : Config
     known = (knowledge s.node).config
 found_others w s e f is (Brings k) =
-    subst (FoundOthers s.node.id known) (sym k.is)
-    (subst (λ (m : Knowledge). FoundOthers s.node.id known (FoundSyncs (set_syncs s.node.id m e log))) (sym is.known)
-    (all_mapped (λ v. Unit {0}) (λ (t : SetSync). LogOthers s.node.id known t.rows)
-    (set_sync s.node.id (knowledge s.node) e log)
-    (λ v any. delta_has (λ l. Unit {0}) (λ l. IsOfOther s.node.id known l.action.table)
-    (tables_taken s.node.id v.0 known) (λ l any on. taken_other s.node.id v.0 known l on) e.origin v.1.seen e.taken log
-    (all_each (λ l. Unit {0}) (λ l. tt) log)) (kept_from e.origin (knowledge s.node))
-    (all_each (λ v. Unit {0}) (λ v. tt) (kept_from e.origin (knowledge s.node)))))
-  where
-    log : List Logged
-    log = logged k.provider.node
-
-    known : Config
-    known = (knowledge s.node).config
+    subst (FoundOthers s.node.id (knowledge s.node).config) (sym k.is)
+    (taken_others w s e is.known (kept_from e.origin s.known) k.syncs k.taken)
 
 pub fetched_others : (w : World) → Ready w → (node origin : ℕ) →
     OnOk (λ x. KeptOthers w.places x.seat.name x.found) (fetched node origin w)

@@ -1,7 +1,7 @@
 -- A node applies an event of the stream of a net: the node of the net does too.
-use Rattle.std.proofs.Common.{◌≡◌, ◌⊎◌, inl, inr, ℕ, ◌<◌, ◌≤◌, Bool, true, false, cond, List, [], ◌∷◌}
+use Rattle.std.proofs.Common.{◌≡◌, ◌⊎◌, inl, inr, ℕ, ◌<◌, ◌≤◌, Bool, true, false, cond, List, [], ◌∷◌, not, suc}
 use Rattle.std.proofs.Common.{length, Option, Some, None, refl, sym, ap, subst, ◌∙◌, arith, unwrap_or}
-use Rattle.std.specs.Prelude.{◌+◌, ◌==◌, max, option_map}
+use Rattle.std.specs.Prelude.{◌+◌, ◌==◌, max, option_map, ◌&&◌}
 use Rattle.std.specs.Str.{bytes_eq}
 use Rattle.std.proofs.lemmas.Bool.{eqb-true, eq-eqb, true≢false, le-ltb, lt-ltb, cases_lt}
 use Rattle.node_rows.specs.declared.rows.Subscription.{Subscription}
@@ -18,41 +18,44 @@ use Rattle.net_laws.specs.Net.{synced}
 use Rattle.net_laws.proofs.Laws.{view_has_row}
 use Rattle.net_laws.proofs.Prefixes.{length_up_to, up_to_new, up_to_old}
 use Rattle.net_laws.proofs.Updates.{set_here, set_other}
-use Rattle.slon_model.specs.Maps.{number_at, with_entry}
+use Rattle.slon_model.specs.Maps.{number_at, with_entry, pair_at}
 use Rattle.slon_model.specs.Snapshots.{Snapshot, covers, sees}
 use Rattle.slon_model.specs.Events.{Event, is_sync}
-use Rattle.slon_model.specs.Config.{forwards}
-use Rattle.slon_model.specs.Deeds.{Logged, Node, knowledge, stream, view_of}
+use Rattle.slon_model.specs.Deeds.{Logged, Node, knowledge, stream, view_of, Knowledge, progress}
 use Rattle.slon_model.specs.Logs.{logged}
-use Rattle.slon_model.specs.Place.{taken}
 use Rattle.slon_model.specs.Sessions.{Seat}
-use Rattle.slon_model.specs.Views.{View, first_view, later_of, view_after}
-use Rattle.slon_model.specs.Working.{Copying, ToCopy, errand_in, receives_from}
+use Rattle.slon_model.specs.Views.{View, later_of, view_after}
+use Rattle.slon_model.specs.Working.{Copying, ToCopy, errand_in, receives_from, ToFollow}
 use Rattle.slon_model.proofs.Names.{bytes_itself, one_found}
-use Rattle.stream_laws.specs.Nodes.{IsAmong, nodes_in}
+use Rattle.stream_laws.specs.Nodes.{IsAmong, nodes_in, IsEvent}
 use Rattle.stream_laws.proofs.Lists.{all_among, number_here}
 use Rattle.image_laws.specs.Moments.{IsOrder, IsTaken, count_of, is_ended}
 use Rattle.image_laws.proofs.Logging.{among_left, among_right}
 use Rattle.image_laws.proofs.Orders.{order_in, order_is}
 use Rattle.image_laws.proofs.Ticking.{counts_tell}
 use Rattle.view_laws.specs.Past.{Past}
-use Rattle.view_laws.proofs.Brought.{IsCopied, IsSynced, same_id}
+use Rattle.view_laws.proofs.Brought.{IsCopied, IsSynced, same_id, copied_view}
 use Rattle.view_laws.proofs.Emitted.{emitted_in}
 use Rattle.view_laws.proofs.Moments.{covers_passes, passes_covers, regular_now}
 use Rattle.view_laws.proofs.Reaching.{own_covered}
 use Rattle.view_laws.proofs.Unfed.{may_emitted}
 use Rattle.view_laws.proofs.Unmoved.{since, view_then}
-use Rattle.net_relation.specs.Reading.{moment_of, read, said, said_by, unfed}
-use Rattle.net_relation.specs.Matching.{IsEntry, IsKept, IsWhole, MatchesNode}
-use Rattle.net_relation.proofs.Beside.{Before, copy_origin, worker, worker_at, worker_before}
+use Rattle.net_relation.specs.Reading.{moment_of, read, said, said_by, unfed, plain}
+use Rattle.net_relation.specs.Matching.{IsEntry, IsKept, IsWhole, MatchesNode, HasRow}
+use Rattle.net_relation.proofs.Beside.{Before, worker, worker_at, worker_before}
 use Rattle.net_relation.proofs.Coming.{Coming, FindingOf, Source, comes, configured_is, event_among, event_of}
 use Rattle.net_relation.proofs.Coming.{heard_bounded, heard_of, is_at, node_of, reached_is, row_then, source_then}
-use Rattle.net_relation.proofs.Earlier.{WasThen}
 use Rattle.net_relation.proofs.Entries.{Forwarding, entry_logged}
 use Rattle.net_relation.proofs.Leading.{copy_comes}
 use Rattle.net_relation.proofs.Relating.{AreFirst, FitsNode, IsFirstOf, NodeLater, frame, netted_sound, node_behind}
 use Rattle.net_relation.proofs.Rows.{row_changed}
 use Rattle.net_relation.proofs.Views.{Copied, Followed, Keeps, ViewTaken, behind, view_taken}
+use Rattle.net_relation.proofs.Coming.{copy_ordered, origin_then}
+use Rattle.net_relation.proofs.Giving.{gives_the_same}
+use Rattle.net_relation.specs.Laws.{Keeper}
+use Rattle.slon_model.specs.Following.{SetSync, set_sync}
+use Rattle.stream_laws.proofs.Copies.{IsTakenOf}
+use Rattle.stream_laws.proofs.Seats.{seat_node}
 
 -- ---- the later one of two snapshots
 
@@ -174,23 +177,94 @@ sync_taken set t c =
     c.work.netted.events (event_among set t c)
 
 abbrev sync_source : {set : ℕ} {t : Past} (c : Coming set t) (s : Syncing set t c) → Source c s.synced.at
-sync_source c s =
-    record { seat = s.synced.follows.provider; is = s.synced.follows.seat; own = s.synced.follows.own }
+sync_source c s = origin_then c s.synced.at
+
+-- The node has its subscription to the set as it finds what there is for the SYNC.
+record Rowed {set : ℕ} {t : Past} (c : Coming set t) (s : Syncing set t c) (u : Row) : Type 0 where
+  has : HasRow set s.synced.at.seat.node.id u (knowledge s.synced.at.seat.node).config
+  found : view_of set (knowledge s.synced.at.seat.node) ≡ Some s.view
+
+-- its provider gives what the origin would
+sync_same : {set : ℕ} {t : Past} (c : Coming set t) (s : Syncing set t c) (u : Row) → Rowed c s u → (y : SetSync) →
+    IsTakenOf s.synced.at.to.world s.synced.at.seat (event_of c) (set, s.view) y →
+    y.rows ≡ (set_sync s.synced.at.seat.node.id (knowledge s.synced.at.seat.node) (event_of c)
+    (logged (sync_source c s).seat.node) (set, s.view)).rows
+sync_same {set} {t} c s u r y taken =
+    ap (λ (z : SetSync). z.rows) taken.is
+    ∙ ap (λ k. (set_sync then.node.id k e (logged p.node) (set, s.view)).rows) known
+    ∙ gives_the_same set a.to (record {
+      name = x.name;
+      leader = x.node;
+      at = x.is;
+      keeper = keeper;
+      event = e;
+      own = sym x.own;
+      giver_name = p.name;
+      giver = p.node;
+      there = there;
+      serves = (source_then set t c a (sync_source c s)).has keeper e (record {
+        name = p.name;
+        node = p.node;
+        is = there;
+        row = plain u;
+        has = r.has;
+        own = sym (taken.reached.0.0.1
+            ∙ ap (λ (k : Knowledge). provider_by (pair_at set then.node.id k.config.subscriptions)) known
+            ∙ ap provider_by r.has);
+        among = x.among;
+        sync = ap is_sync s.synced.follows.body;
+        next = a.work.next ∙ ap (λ i. suc (progress i (knowledge then.node))) (sym x.own);
+        applied = subst (λ i. e.number ≤ progress i (knowledge p.node)) (sym x.own) taken.reached.1;
+      });
+    })
+  where
+    a : FindingOf c
+    a = s.synced.at
+
+    e : Event
+    e = event_of c
+
+    then : Seat
+    then = a.seat
+
+    known : then.known ≡ knowledge then.node
+    known = a.work.seat.known
+
+    x : IsEvent (nodes_in a.to.world.places) e
+    x = a.work.event
+
+    p : Seat
+    p = taken.provider
+
+    there : nodes_in a.to.world.places p.name ≡ Some p.node
+    there = seat_node a.to.world.places p taken.reached.0.0.0
+
+    provider_by : Option Subscription → ℕ
+    provider_by o = unwrap_or (option_map (λ (u : Subscription). u.provider) o) e.origin
+
+    keeper : Keeper a.to.world set x.node
+    keeper = record {
+      name = then.name;
+      node = then.node;
+      is = seat_node a.to.world.places then a.work.seat;
+      view = s.view;
+      keeps = r.found;
+      own = s.own ∙ sym x.own;
+    }
 
 -- what is new in the log of the origin between the two snapshots is logged
-sync_logs : {set : ℕ} {t : Past} (c : Coming set t) (s : Syncing set t c) →
-    forwards set s.synced.at.seat.node.id (knowledge s.synced.at.seat.node).config ≡ true →
+sync_logs : {set : ℕ} {t : Past} (c : Coming set t) (s : Syncing set t c) (u : Row) → Rowed c s u × (u.forward ≡ true) →
     (l : Logged) (moment : ℕ) →
     IsEntry set (order_in c.work.ended) c.work.leader l moment →
     IsIn moment (stretch (count_of s.view.seen) (count_of (event_of c).taken)) →
     IsAmong l (logged (behind c.work.carried))
-sync_logs {set} {t} c s forward l moment e inside =
+sync_logs {set} {t} c s u r l moment e inside =
     among_left l c.work.carried.brought.logs (logged (worker c.work))
     (entry_logged t c.work.carried set f l (record {
       among = (source_then set t c s.synced.at (sync_source c s)).logs c.work.leader c.work.at l e.among (
         e.own,
-        own_covered a.to s.synced.follows.provider s.synced.follows.seat (event_of c)
-            (emitted_in a.to (event_of c) a.work.event) (sym s.synced.follows.own) l.action.xid seen,
+        own_covered a.to (sync_source c s).seat (sync_source c s).is (event_of c)
+            (emitted_in a.to (event_of c) a.work.event) (sym (sync_source c s).own) l.action.xid seen,
       );
       of = e.of;
       seen = seen;
@@ -207,9 +281,13 @@ sync_logs {set} {t} c s forward l moment e inside =
       is = c.work.is;
       synced = s.synced;
       view = s.view;
-      found = view_then t (since c.work.origin c.work.carried c.work.is a) set s.view s.found s.own;
+      found = r.0.found;
       own = s.own;
-      forwards = forward;
+      forwards = ap (λ o. unwrap_or (option_map (λ (s : Subscription). s.forward) o) false) r.0.has ∙ r.1;
+      source = (sync_source c s).seat;
+      there = (sync_source c s).is;
+      led = (sync_source c s).own;
+      same = sync_same c s u r.0;
     }
 
     kept : IsKept (order_in c.work.ended) (length c.work.ended) s.view (node_of c)
@@ -262,12 +340,12 @@ sync_turned set t c s = record {
     u : (u : Row) × ((configured c.work.netted.net (worker c.work).id (worker c.work).id ≡ Some u) × (u.ready ≡ true))
     u = view_has_row c.work.netted.net (netted_sound c.work.netted) (worker c.work).id v viewed
 
-    forward : u.0.forward ≡ true →
-        forwards set s.synced.at.seat.node.id (knowledge s.synced.at.seat.node).config ≡ true
-    forward is =
-        ap (λ o. unwrap_or (option_map (λ (s : Subscription). s.forward) o) false)
-        (row_then set t c s.synced.at (sync_source c s) u.0
-        (sym (configured_is set t c (worker c.work).id) ∙ u.1.0)) ∙ is
+    rowed : Rowed c s u.0
+    rowed = record {
+      has = row_then set t c s.synced.at (sync_source c s) u.0
+          (sym (configured_is set t c (worker c.work).id) ∙ u.1.0);
+      found = view_then t (since c.work.origin c.work.carried c.work.is s.synced.at) set s.view s.found s.own;
+    }
 
     before : (l : Logged) (moment : ℕ) →
         IsEntry set (order_in c.work.ended) c.work.leader l moment → Logs (node_of c).log moment →
@@ -279,7 +357,7 @@ sync_turned set t c s = record {
         IsEntry set (order_in c.work.ended) c.work.leader l moment →
         Logs (cond b (stretch v m ∷ (node_of c).log) (node_of c).log) moment →
         IsAmong l (logged (behind c.work.carried))
-    by true is l moment e (inl inside) = sync_logs c s (forward is) l moment e inside
+    by true is l moment e (inl inside) = sync_logs c s u.0 (rowed, is) l moment e inside
     by true is l moment e (inr logs) = before l moment e logs
     by false is l moment e logs = before l moment e logs
 
@@ -306,30 +384,33 @@ asked_body own receives origin (EnableSubscription id provider receiver forward 
               ∙ ap (λ r. EnableSubscription k.set_id provider r forward era) (eqb-true receiver own same),
         )
     by false other is = absurd cc
-asked_body own true origin Sync k asked = absurd cc
-asked_body own false origin Sync k asked = absurd cc
+asked_body own receives origin Sync k asked = by (receives && not (origin == own)) asked
+  where
+    by : (b : Bool) → cond b (Some ToFollow) None ≡ Some (ToCopy k) →
+        (p : ℕ) × (f : Bool) × (e : ℕ) × (Sync ≡ EnableSubscription k.set_id p own f e)
+    by true is = absurd cc
+    by false is = absurd cc
 asked_body own receives origin others k asked = absurd cc
 
 -- The set is copied.
 record CopyMade (set : ℕ) (t : Past) (c : Coming set t) : Type 0 where
   made : IsCopied t c.work.carried.seat (event_of c) c.work.carried.brought
   same : made.copy.copying.set_id ≡ set
-  now : view_of set (knowledge (behind c.work.carried)) ≡ Some (first_view made.copy.copying.era
-      made.copy.provider.node.id (event_of c).number (taken made.copy.provider.place))
+  now : view_of set (knowledge (behind c.work.carried)) ≡ Some (copied_view made.copy)
 
 copy_turned : (set : ℕ) (t : Past) (c : Coming set t) → CopyMade set t c → Turned set t c
 copy_turned set t c s = record {
   node = copied v (node_of c);
   turn = CopiesTurn v u.0 enables (configured_same ∙ u.1.0)
-      (let most = heard_bounded set t c s.made.at source in
+      (let most = heard_bounded set t c s.made in
       let same = ap (λ z. last_moment (up_to (node_of c).progress z)) c.work.netted.origin.stream in
       omega (arith, most, same))
-      (let past = then.seen.past in let now = c.work.netted.now in omega (arith, past, now)) refl;
+      (let past = ordered.past in let now = c.work.netted.now in omega (arith, past, now)) refl;
   far = refl;
-  view = sym (ap (moment_of c.work.leader.id) s.now ∙ moment_own c.work.leader.id first owner);
+  view = sym (ap (moment_of c.work.leader.id) s.now ∙ moment_own c.work.leader.id first c.own);
   kept = λ w found own.
       subst (λ (w : View). IsKept (order_in c.work.ended) (length c.work.ended) w (copied v (node_of c)))
-      (one_found first w (sym s.now ∙ found)) (record { base = refl; seen = then.seen; began = then.seen });
+      (one_found first w (sym s.now ∙ found)) (record { base = refl; seen = ordered; began = ordered });
   logs = λ l moment e logs.
       among_right l c.work.carried.brought.logs (logged (worker c.work)) (old.logs l moment e logs);
   whole = record { keeps = old.whole.keeps; bars = old.whole.bars; has = old.whole.has };
@@ -344,24 +425,14 @@ copy_turned set t c s = record {
     o : Node
     o = worker c.work
 
-    provider : Seat
-    provider = s.made.copy.provider
-
     first : View
-    first = first_view s.made.copy.copying.era provider.node.id (event_of c).number (taken provider.place)
+    first = copied_view s.made.copy
 
-    -- the origin, as the set was copied
-    source : Source c s.made.at
-    source = record { seat = provider; is = s.made.copy.seat; own = copy_origin c.work s.made }
-
-    owner : provider.node.id ≡ c.work.leader.id
-    owner = copy_origin c.work s.made ∙ c.own
-
-    then : WasThen set c.work.ended c.work.place.node s.made.at.to.world provider.place provider.node
-    then = source_then set t c s.made.at source
+    ordered : IsTaken (order_in c.work.ended) (length c.work.ended) s.made.copy.seen
+    ordered = copy_ordered set t c s.made
 
     v : ℕ
-    v = count_of (taken provider.place)
+    v = count_of s.made.copy.seen
 
     enables : said set (event_of c) ≡ Enable o.id
     enables =
@@ -457,7 +528,7 @@ pass_quiet set t c s (EnableSubscription id provider receiver forward era) is = 
           era = era;
           body = is ∙ ap (λ i. EnableSubscription i provider receiver forward era) (eqb-true id set same)
               ∙ ap (λ r. EnableSubscription set provider r forward era) at;
-        }) in
+        }) (λ f. (source_then set t c f (origin_then c f)).finds) in
         s.copy comes.0 comes.1
     by false other = tt
 pass_quiet set t c s others is = tt

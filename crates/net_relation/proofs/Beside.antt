@@ -15,8 +15,8 @@ use Rattle.slon_model.specs.Config.{Config}
 use Rattle.slon_model.specs.Names.{find_named}
 use Rattle.slon_model.specs.Deeds.{Node, knowledge, stream, view_of}
 use Rattle.slon_model.specs.Logs.{logged}
-use Rattle.slon_model.specs.Place.{Place, taken}
-use Rattle.slon_model.specs.Views.{View, first_view, view_after}
+use Rattle.slon_model.specs.Place.{Place}
+use Rattle.slon_model.specs.Views.{View, view_after}
 use Rattle.slon_model.specs.Working.{Carried}
 use Rattle.slon_model.proofs.Names.{one_found}
 use Rattle.stream_laws.specs.Nodes.{nodes_in, node_in}
@@ -29,11 +29,9 @@ use Rattle.image_laws.proofs.Orders.{order_in}
 use Rattle.image_laws.proofs.Ticking.{ClockAt}
 use Rattle.view_laws.specs.Laws.{GoesOn}
 use Rattle.view_laws.specs.Past.{Moment, Past, WasUpTo}
-use Rattle.view_laws.proofs.Brought.{IsCopied}
 use Rattle.view_laws.proofs.Doing.{IsTaken}
 use Rattle.view_laws.proofs.Going.{takes_on}
 use Rattle.view_laws.proofs.Unfed.{may_emitted}
-use Rattle.view_laws.proofs.Unmoved.{copy_from}
 use Rattle.net_relation.specs.Reading.{moment_of, read, said, said_by, unfed}
 use Rattle.net_relation.specs.Matching.{IsKept, MatchesNode}
 use Rattle.net_relation.proofs.Earlier.{WasThen}
@@ -43,6 +41,7 @@ use Rattle.net_relation.proofs.Nets.{all_up_to}
 use Rattle.net_relation.proofs.Relating.{Netted}
 use Rattle.net_relation.proofs.Rows.{IsBeside, row_beside}
 use Rattle.net_relation.proofs.Views.{Copied, Followed, Keeps, ViewTaken, behind, view_taken}
+use Rattle.view_laws.proofs.Brought.{copied_view}
 
 -- ---- a node at work
 
@@ -169,12 +168,6 @@ other_row t x is k apart set r stored =
 
 -- ---- the view
 
--- the provider of a copy is the origin of the event
-pub copy_origin : {set : ℕ} {t : Past} (w : Work set t) →
-    (k : IsCopied t w.carried.seat w.carried.event w.carried.brought) →
-    k.copy.provider.node.id ≡ w.carried.event.origin
-copy_origin {t = t} w k = copy_from t w.carried.seat w.carried.event w.carried.brought k
-
 moment_other : (origin : ℕ) (v : View) → v.origin ≢ origin → moment_of origin (Some v) ≡ None
 moment_other origin v apart =
     ap (λ b. cond b (Some (count_of v.seen)) None)
@@ -187,12 +180,11 @@ same_moment : {set : ℕ} {t : Past} (w : Work set t) → w.carried.event.origin
 same_moment w apart (Keeps same sync copy) = ap (moment_of w.leader.id) same
 same_moment {set} {t} w apart (Copied k same now) =
     ap (moment_of w.leader.id) now
-    ∙ moment_other w.leader.id first (λ own. apart (sym (copy_origin w k) ∙ own))
+    ∙ moment_other w.leader.id first apart
     ∙ sym (by (view_of set (knowledge (worker w))) refl)
   where
     first : View
-    first = first_view k.copy.copying.era k.copy.provider.node.id w.carried.event.number
-        (taken k.copy.provider.place)
+    first = copied_view k.copy
 
     by : (o : Option View) → view_of set (knowledge (worker w)) ≡ o → moment_of w.leader.id o ≡ None
     by None none = refl
@@ -202,7 +194,7 @@ same_moment {set} {t} w apart (Copied k same now) =
         takes_on t w.carried w.origin w.is set v
         (record { view = v; found = is; origin = refl; era = refl; covers = λ i sees. sees }) in
         let one = one_found first on.view (sym now ∙ on.found) in
-        apart (sym (copy_origin w k) ∙ ap (λ (v : View). v.origin) one ∙ on.origin ∙ own))
+        apart (ap (λ (v : View). v.origin) one ∙ on.origin ∙ own))
 same_moment w apart (Followed f v is own now) =
     ap (moment_of w.leader.id) now
     ∙ moment_other w.leader.id (view_after w.carried.event v) (λ same. apart (sym own ∙ same))
@@ -215,8 +207,7 @@ same_kept : {set : ℕ} {t : Past} (w : Work set t) → w.carried.event.origin �
     IsKept (order_in w.ended) (length w.ended) v (w.netted.net.nodes (worker w).id)
 same_kept w apart (Keeps same sync copy) v found own = (worker_before w).kept v (sym same ∙ found) own
 same_kept {set} {t} w apart (Copied k same now) v found own =
-    absurd (apart (sym (copy_origin w k)
-    ∙ ap (λ (v : View). v.origin) (one_found _ v (sym now ∙ found)) ∙ own))
+    absurd (apart (ap (λ (v : View). v.origin) (one_found (copied_view k.copy) v (sym now ∙ found)) ∙ own))
 same_kept w apart (Followed f u is of now) v found own =
     absurd (apart (sym of ∙ ap (λ (v : View). v.origin) (one_found (view_after w.carried.event u) v (sym now ∙ found))
     ∙ own))

@@ -11,12 +11,11 @@ use Rattle.net_laws.specs.Subscriptions.{moment_with, row, up_to}
 use Rattle.net_laws.specs.Net.{IsNext, Node as NetNode, configured, heard}
 use Rattle.net_laws.proofs.Prefixes.{up_to_all, up_to_new, up_to_old}
 use Rattle.slon_model.specs.Snapshots.{Snapshot}
-use Rattle.slon_model.specs.Events.{Event}
+use Rattle.slon_model.specs.Events.{Event, is_sync}
 use Rattle.slon_model.specs.Deeds.{Node, knowledge, progress, stream}
-use Rattle.slon_model.specs.Place.{taken}
 use Rattle.slon_model.specs.Sessions.{Seat}
 use Rattle.slon_laws.proofs.Later.{HoldsOf}
-use Rattle.stream_laws.specs.Nodes.{IsAmong, IsEvent, nodes_in, node_in}
+use Rattle.stream_laws.specs.Nodes.{IsAmong, nodes_in, node_in}
 use Rattle.stream_laws.specs.Making.{AreEmitted}
 use Rattle.stream_laws.proofs.Lists.{all_among}
 use Rattle.stream_laws.proofs.Seats.{IsSeat, seat_node}
@@ -25,24 +24,28 @@ use Rattle.image_laws.specs.Moments.{IsTaken, count_of}
 use Rattle.image_laws.proofs.Orders.{order_in, order_is}
 use Rattle.image_laws.proofs.Staying.{Stays}
 use Rattle.image_laws.proofs.Ticking.{counts_tell}
-use Rattle.view_laws.specs.Past.{Past}
-use Rattle.view_laws.proofs.Brought.{Finding, same_id, was_then}
-use Rattle.view_laws.proofs.Emitted.{emitted_in}
+use Rattle.view_laws.specs.Past.{Past, Moment, WasUpTo}
+use Rattle.view_laws.proofs.Brought.{Finding, same_id, was_then, IsCopied, copied_view}
 use Rattle.view_laws.proofs.Moments.{now_stays, regular_now}
-use Rattle.view_laws.proofs.Reaching.{own_covered}
-use Rattle.view_laws.proofs.Unmoved.{event_then, since}
 use Rattle.net_relation.specs.Reading.{read, said, said_by, unfed}
 use Rattle.net_relation.specs.Matching.{HasRow}
 use Rattle.net_relation.proofs.Beside.{Work, leader_at, worker, worker_before}
 use Rattle.net_relation.proofs.Earlier.{WasThen}
 use Rattle.net_relation.proofs.Nets.{said_next, up_to_behind}
+use Rattle.view_laws.specs.Known.{IsSeen}
+use Rattle.view_laws.proofs.Viewed.{seen_now}
+use Rattle.view_laws.proofs.Reaching.{copy_covers}
+use Rattle.view_laws.proofs.Unmoved.{event_before}
+use Rattle.net_relation.proofs.Views.{behind}
+use Rattle.view_laws.proofs.Seen.{Copier, seen_from, source_of}
+use Rattle.net_relation.proofs.Providing.{event_seat, event_seat_is}
 
 -- ---- moments of what was heard
 
 -- the SYNCs among the first so many events have moments no greater than what bounds those of these events
-said_bounded : (set v : ℕ) (k : Snapshot) (body : Body) (m : ℕ) → (count_of k ≤ v) × (m ≤ v) →
+said_bounded : (set v : ℕ) (k : Snapshot) (body : Body) (m : ℕ) → (is_sync body ≡ true → count_of k ≤ v) × (m ≤ v) →
     moment_with (said_by set k body) m ≤ v
-said_bounded set v k Sync m most = omega (arith, most.0, most.1)
+said_bounded set v k Sync m most = let first = most.0 refl in omega (arith, first, most.1)
 said_bounded set v k (SubscribeSet id provider receiver forward) m most = by (id == set)
   where
     by : (b : Bool) → moment_with (cond b (Subscribe receiver provider forward) Unrelated) m ≤ v
@@ -56,7 +59,8 @@ said_bounded set v k (EnableSubscription id provider receiver forward era) m mos
 said_bounded set v k others m most = most.1
 
 prefix_bounded : (set own k v : ℕ) (es : List Event) → AreEmitted own es →
-    ((e : Event) → IsAmong e es → e.number ≤ k → count_of e.taken ≤ v) → last_moment (up_to k (read set es)) ≤ v
+    ((e : Event) → IsAmong e es → e.number ≤ k → is_sync e.body ≡ true → count_of e.taken ≤ v) →
+    last_moment (up_to k (read set es)) ≤ v
 prefix_bounded set own k v [] are most = omega arith
 prefix_bounded set own k v (e ∷ es) are most =
     let before = prefix_bounded set own k v es are.3 (λ f among. most f (inr among)) in
@@ -147,6 +151,15 @@ pub record Source {set : ℕ} {t : Past} (c : Coming set t) (a : FindingOf c) : 
   pub is : IsSeat a.to.world.places seat
   pub own : seat.node.id ≡ (event_of c).origin
 
+-- there was one
+abbrev pub origin_then : {set : ℕ} {t : Past} (c : Coming set t) (a : FindingOf c) → Source c a
+origin_then c a =
+    record {
+      seat = event_seat a.to a.work.event;
+      is = event_seat_is a.to a.work.event;
+      own = a.work.event.own;
+    }
+
 -- it is the node of the net, which has gone on since
 pub record IsLeader {set : ℕ} {t : Past} (c : Coming set t) (a : FindingOf c) (s : Source c a) : Type 0 where
   pub name : s.seat.name ≡ c.work.name
@@ -192,12 +205,54 @@ source_then set t c a s =
       at = s.is.node;
     }) (source_leads set t c a s).name
 
--- all that the node has heard of the stream so far was emitted before the event was found
-pub heard_bounded : (set : ℕ) (t : Past) (c : Coming set t) (a : FindingOf c) (s : Source c a) →
-    last_moment (heard_of c) ≤ count_of (taken s.seat.place)
-heard_bounded set t c a s =
-    prefix_bounded set x.id (node_of c).progress (count_of (taken s.seat.place)) (stream x) emitted
-    (λ f among within. bounded f among within (among_found x.id (stream x) f emitted among).are.0)
+-- a moment of the origin was one of the database of the net
+pub moment_named : {set : ℕ} {t : Past} (w : Work set t) (m : Moment (WasUpTo t)) → m.node.id ≡ w.leader.id →
+    m.name ≡ w.name
+moment_named {t = t} w m own =
+    (regular_now t).nodes.apart m.name w.name now.2.node w.leader (ap node_in now.1 ∙ now.2.is) (leader_at w)
+    (now.2.id ∙ own)
+  where
+    now : HoldsOf (Stays m.node) m.name t.world.places
+    now = now_stays t m.session m.was m.name m.place m.node m.found m.at
+
+-- a copy that the node makes with the event
+abbrev pub CopyOf : {set : ℕ} {t : Past} → Coming set t → Type 0
+CopyOf {t = t} c = IsCopied t c.work.carried.seat (event_of c) c.work.carried.brought
+
+-- its snapshot was taken in the order of the origin
+pub copy_ordered : (set : ℕ) (t : Past) (c : Coming set t) (k : CopyOf c) →
+    IsTaken (order_in c.work.ended) (length c.work.ended) k.copy.seen
+copy_ordered set t c k =
+    subst (IsTaken (order_in c.work.ended) (length c.work.ended)) (sym seen.seen)
+    (c.work.then seen.moment (moment_named c.work seen.moment (seen.own ∙ c.own))).seen
+  where
+    p : Seat
+    p = k.copy.provider
+
+    copier : Copier t
+    copier = record {
+      seat = c.work.carried.seat;
+      event = event_of c;
+      brought = c.work.carried.brought;
+      is = c.work.is.work.seat;
+      copied = k;
+      seen = seen_now k.at.to p.name p.node (seat_node k.at.to.world.places p k.copy.reached.0.0.0)
+          k.copy.copying.set_id;
+      node = behind c.work.carried;
+      id = refl;
+      applied = inl refl;
+    }
+
+    seen : IsSeen (WasUpTo t) (behind c.work.carried) k.copy.copying.set_id (copied_view k.copy)
+    seen = seen_from t copier (source_of copier)
+
+-- it sees all that the node has heard of the stream so far
+pub heard_bounded : (set : ℕ) (t : Past) (c : Coming set t) (k : CopyOf c) →
+    last_moment (heard_of c) ≤ count_of k.copy.seen
+heard_bounded set t c k =
+    prefix_bounded set x.id (node_of c).progress (count_of k.copy.seen) (stream x) emitted
+    (λ f among within sync. bounded f among (among_found x.id (stream x) f emitted among).are.0
+    (let at = reached_is set t c in omega (arith, within, at)) sync)
   where
     x : Node
     x = c.work.leader
@@ -205,22 +260,17 @@ heard_bounded set t c a s =
     emitted : AreEmitted x.id (stream x)
     emitted = ((regular_now t).nodes.each c.work.name x (leader_at c.work)).emitted
 
-    bounded : (f : Event) → IsAmong f (stream x) → f.number ≤ (node_of c).progress → f.origin ≡ x.id →
-        count_of f.taken ≤ count_of (taken s.seat.place)
-    bounded f among within from =
+    bounded : (f : Event) → IsAmong f (stream x) → f.origin ≡ x.id → f.number ≤ (event_of c).number →
+        is_sync f.body ≡ true → count_of f.taken ≤ count_of k.copy.seen
+    bounded f among from less sync =
         (counts_tell (order_in c.work.ended) (length c.work.ended) (order_is c.work.ended c.work.clock.apart)
-        (taken s.seat.place) f.taken (source_then set t c a s).seen
+        k.copy.seen f.taken (copy_ordered set t c k)
         (all_among (λ e. IsTaken (order_in c.work.ended) (length c.work.ended) e.taken) f (stream x)
         c.work.netted.events among)).0
-        (own_covered a.to s.seat s.is f (emitted_in a.to f then) (from ∙ sym c.own ∙ sym s.own))
-      where
-        then : IsEvent (nodes_in a.to.world.places) f
-        then = event_then t (since c.work.origin c.work.carried c.work.is a) f
-            (record { name = c.work.name; node = x; is = leader_at c.work; own = sym from; among = among })
-            (from ∙ sym c.own)
-            (let reached = (worker_before c.work).reached in
-            let same = ap (λ i. progress i (knowledge (worker c.work))) c.own in
-            omega (arith, within, reached, same))
+        (copy_covers t c.work.carried.seat (event_of c) c.work.carried.brought k f
+        (event_before t k.at.to.world (was_then k.at) (event_of c) k.at.work.event f
+        (record { name = c.work.name; node = x; is = leader_at c.work; own = sym from; among = among })
+        (from ∙ sym c.own, less)) (less, sync))
 
 -- it had heard just so much then
 heard_then : (set : ℕ) (t : Past) (c : Coming set t) (a : FindingOf c) (s : Source c a) →

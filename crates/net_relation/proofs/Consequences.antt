@@ -1,28 +1,22 @@
 -- What the laws of nets say of sessions.
-use Rattle.std.proofs.Common.{◌≡◌, ◌≢◌, ◌⊎◌, inl, inr, ℕ, ◌<◌, ◌≤◌, true, false, cond, List, ◌∷◌, ◌++◌, length}
-use Rattle.std.proofs.Common.{Option, Some, None, refl, sym, ap, subst, ◌∙◌, arith}
-use Rattle.std.specs.Prelude.{◌+◌, max, option_map, unwrap_or}
-use Rattle.std.proofs.lemmas.Bool.{eq-eqb, false≢true, true≢false, lt-ltb, ltb-true, cases_lt}
-use Rattle.node_rows.specs.declared.body.Body.{Body}
-use Rattle.node_rows.specs.declared.body.Body.TheVariants.{Sync}
-use Rattle.node_rows.specs.declared.rows.Subscription.{Subscription}
+use Rattle.std.proofs.Common.{◌≡◌, ◌≢◌, ◌⊎◌, inl, inr, ℕ, ◌<◌, ◌≤◌, true, cond, List, ◌∷◌, ◌++◌, length}
+use Rattle.std.proofs.Common.{Some, None, refl, sym, ap, subst, ◌∙◌, arith}
+use Rattle.std.specs.Prelude.{◌+◌, max}
+use Rattle.std.proofs.lemmas.Bool.{eq-eqb}
 use Rattle.net_laws.specs.Subscriptions.{Sync as Syncs, Subscription as Row, last_moment, row, up_to}
 use Rattle.net_laws.specs.Net.{Logs, member, configured, heard}
 use Rattle.net_laws.specs.Sound.{Sound}
 use Rattle.net_laws.proofs.Prefixes.{moment_between}
 use Rattle.net_laws.proofs.Laws.{active_has_view, backup_serves, copy_covers, copy_finds, forwarder_logs, logged_once}
 use Rattle.net_laws.proofs.Laws.{logs_are_committed, logs_hold, view_covers, view_has_row, views_rise}
-use Rattle.slon_model.specs.Names.{find_named}
-use Rattle.slon_model.specs.Snapshots.{Snapshot, sees}
 use Rattle.slon_model.specs.Events.{Event, is_sync}
-use Rattle.slon_model.specs.Config.{forwards}
 use Rattle.slon_model.specs.Deeds.{Node, knowledge, stream}
 use Rattle.slon_model.specs.Logs.{logged}
-use Rattle.slon_model.specs.Place.{Place, taken}
-use Rattle.stream_laws.specs.Nodes.{IsAmong, nodes_in, node_in}
+use Rattle.slon_model.specs.Place.{Place}
+use Rattle.stream_laws.specs.Nodes.{IsAmong, nodes_in}
 use Rattle.stream_laws.proofs.Lists.{all_among}
 use Rattle.stream_laws.proofs.Streams.{Found, among_found}
-use Rattle.image_laws.specs.Moments.{IsOrder, IsTaken, count_of, is_ended}
+use Rattle.image_laws.specs.Moments.{IsOrder, IsTaken, count_of}
 use Rattle.image_laws.proofs.Ticking.{counts_tell}
 use Rattle.view_laws.specs.Past.{Past, past}
 use Rattle.view_laws.proofs.Viewed.{seen_now}
@@ -32,6 +26,8 @@ use Rattle.net_relation.specs.Matching.{HasNet, HasRow, IsKept, MatchesNode}
 use Rattle.net_relation.specs.Laws.{ForwardersLog, ForwardersServe, KeepersSee, Keeper, KeepersSubscribe, LawsApply}
 use Rattle.net_relation.proofs.Nets.{net_sound, said_next}
 use Rattle.net_relation.proofs.Sessions.{sessions_have_nets}
+use Rattle.net_relation.proofs.Providing.{place_of, row_forwards, sync_body}
+use Rattle.net_relation.proofs.Moments.{seen_moment, unseen_moment}
 
 pub laws_apply : LawsApply
 laws_apply w p x set n = record {
@@ -59,15 +55,6 @@ record Kept (set : ℕ) (t : Past) : Type 0 where
   leader : Node
   at : nodes_in t.world.places name ≡ Some leader
   keeper : Keeper t.world set leader
-
-pub place_of : (t : Past) (name : List ℕ) (x : Node) → nodes_in t.world.places name ≡ Some x →
-    (p : Place) × (find_named name t.world.places ≡ Some p) × (p.node ≡ Some x)
-place_of t name x is = by (find_named name t.world.places) refl is
-  where
-    by : (o : Option Place) → find_named name t.world.places ≡ o → node_in o ≡ Some x →
-        (p : Place) × (find_named name t.world.places ≡ Some p) × (p.node ≡ Some x)
-    by None found none = absurd cc
-    by (Some p) found at = (p, found, at)
 
 abbrev place_is : {set : ℕ} {t : Past} → Kept set t → Place
 place_is {t = t} k = (place_of t k.name k.leader k.at).0
@@ -125,37 +112,12 @@ seen_in set t k n = record {
     u : (u : Row) × ((configured n.net o.id o.id ≡ Some u) × (u.ready ≡ true))
     u = view_has_row n.net (net_sound k.leader.id n.net n.leads) o.id (count_of k.keeper.view.seen) viewed
 
-row_forwards : (set : ℕ) (o : Node) (u : Row) → HasRow set o.id u (knowledge o).config →
-    forwards set o.id (knowledge o).config ≡ true → u.forward ≡ true
-row_forwards set o u has is =
-    sym (ap (λ k. unwrap_or (option_map (λ (s : Subscription). s.forward) k) false) has) ∙ is
-
 pub keepers_subscribe : KeepersSubscribe
 keepers_subscribe limit history w leads name x at set keeper =
     let t = past limit history w leads in
     let k : Kept set t = record { name = name; leader = x; at = at; keeper = keeper } in
     let s = seen_in set t k (net_of set t k) in
     (plain s.row, s.known)
-
--- ---- moments of entries
-
--- what a snapshot sees has a moment, before as many as it sees had ended
-seen_moment : (order : ℕ → Option ℕ) (now : ℕ) (k : Snapshot) (xid : ℕ) → IsTaken order now k → sees k xid ≡ true →
-    (m : ℕ) × (order xid ≡ Some m) × (m < count_of k)
-seen_moment order now k xid taken is = by (order xid) refl
-  where
-    by : (o : Option ℕ) → order xid ≡ o → (m : ℕ) × (order xid ≡ Some m) × (m < count_of k)
-    by None none = absurd (false≢true (sym (ap (λ o. is_ended o (count_of k)) none) ∙ sym (taken.sees xid) ∙ is))
-    by (Some m) some =
-        (m, some, ltb-true m (count_of k) (sym (ap (λ o. is_ended o (count_of k)) some) ∙ sym (taken.sees xid) ∙ is))
-
-unseen_moment : (order : ℕ → Option ℕ) (now : ℕ) (k : Snapshot) (xid m : ℕ) → IsTaken order now k →
-    (order xid ≡ Some m) × (sees k xid ≡ false) → count_of k ≤ m
-unseen_moment order now k xid m taken is = elim (cases_lt m (count_of k)) [
-  | inl less ↦ absurd (true≢false (sym (taken.sees xid ∙ ap (λ o. is_ended o (count_of k)) is.0
-      ∙ lt-ltb m (count_of k) less) ∙ is.1))
-  | inr most ↦ most
-]
 
 -- ---- what forwarders have logged
 
@@ -189,10 +151,6 @@ forwarders_log limit history w leads name x at set keeper forward l e =
 
     moment : (m : ℕ) × (n.order l.action.xid ≡ Some m) × (m < count_of keeper.view.seen)
     moment = seen_moment n.order n.net.now keeper.view.seen l.action.xid s.kept.seen e.seen
-
-sync_body : (body : Body) → is_sync body ≡ true → body ≡ Sync
-sync_body Sync is = refl
-sync_body others is = absurd (false≢true is)
 
 -- the last moment of a prefix that ends with a SYNC
 synced_moment : (set : ℕ) (t : Past) (name : List ℕ) (x : Node) → nodes_in t.world.places name ≡ Some x → (e : Event) →

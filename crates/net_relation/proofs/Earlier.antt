@@ -3,7 +3,7 @@ use Rattle.std.proofs.Common.{◌≡◌, ◌≢◌, ◌⊎◌, inl, inr, ℕ, tr
 use Rattle.std.proofs.lemmas.Bool.{false≢true}
 use Rattle.net_laws.specs.Subscriptions.{Subscription as Row, row, up_to}
 use Rattle.slon_model.specs.Snapshots.{sees}
-use Rattle.slon_model.specs.Deeds.{Logged, Node, knowledge, progress, stream}
+use Rattle.slon_model.specs.Deeds.{Logged, Node, knowledge, progress, stream, view_of}
 use Rattle.slon_model.specs.Logs.{logged}
 use Rattle.slon_model.specs.Place.{Place, taken}
 use Rattle.slon_model.specs.Sessions.{World}
@@ -13,6 +13,12 @@ use Rattle.image_laws.proofs.Orders.{AreApart, order_in}
 use Rattle.net_relation.specs.Reading.{read, unfed}
 use Rattle.net_relation.specs.Matching.{HasRow}
 use Rattle.net_relation.proofs.Moments.{taken_more}
+use Rattle.net_relation.specs.Laws.{IsAhead, Keeper, Provider}
+use Rattle.slon_model.specs.Views.{View}
+use Rattle.slon_model.specs.Events.{Event}
+use Rattle.slon_model.specs.Config.{forwards}
+use Rattle.node_rows.specs.declared.body.Body.TheVariants.{EnableSubscription}
+use Rattle.std.proofs.Common.{Bool, suc, ◌≤◌}
 
 -- a node has its own subscription to a set of another one, as the stream of that makes it so far
 abbrev pub KnowsRow : ℕ → Node → Node → Type 0
@@ -20,14 +26,48 @@ KnowsRow set x o =
     (u : Row) → row unfed o.id (up_to (progress x.id (knowledge o)) (read set (stream x))) ≡ Some u →
     HasRow set o.id u (knowledge o).config
 
+-- who provides a set that another node keeps of x has in its log what that one is to take with its next SYNC of x
+abbrev pub ProvidersHave : ℕ → World → Node → Type 0
+ProvidersHave set u x =
+    (k : Keeper u set x) (e : Event) (p : Provider u set x k e) (l : Logged) →
+    IsAhead set x k.view.seen e.taken l → IsAmong l (logged p.node)
+
+-- A node of the session is to apply next an event of x by which it copies a set from another node than x, which has
+-- applied it.
+pub record IsAsking (u : World) (set : ℕ) (x : Node) : Type 0 where
+  pub name : List ℕ
+  pub node : Node
+  pub is : nodes_in u.places name ≡ Some node
+  pub event : Event
+  pub among : IsAmong event (stream x)
+  pub provider : ℕ
+  pub forward : Bool
+  pub era : ℕ
+  pub body : event.body ≡ EnableSubscription set provider node.id forward era
+  pub next : event.number ≡ suc (progress x.id (knowledge node))
+  pub giver_name : List ℕ
+  pub giver : Node
+  pub at : nodes_in u.places giver_name ≡ Some giver
+  pub own : giver.id ≡ provider
+  pub other : giver.id ≢ x.id
+  pub applied : event.number ≤ progress x.id (knowledge giver)
+
+-- that other node keeps the set and forwards it
+abbrev pub CopiesFind : ℕ → World → Node → Type 0
+CopiesFind set u x =
+    (a : IsAsking u set x) → (v : View) × (view_of set (knowledge a.giver) ≡ Some v) × (v.origin ≡ x.id)
+    × (forwards set a.giver.id (knowledge a.giver).config ≡ true)
+
 -- A database stood so in this session, and was this node. Its snapshot of then was taken in the order in which
 -- transactions have ended there by now. What the node has logged of its own by now and that snapshot sees, it had
--- logged then. The other nodes had their subscriptions.
+-- logged then. The other nodes had their subscriptions, and those that provided a set had what they were to give.
 pub record WasThen (set : ℕ) (ended : List ℕ) (own : Option Node) (u : World) (q : Place) (n : Node) : Type 0 where
   pub seen : IsTaken (order_in ended) (length ended) (taken q)
   pub logs : (x : Node) → own ≡ Some x → (l : Logged) → IsAmong l (logged x) →
       (l.origin ≡ x.id) × (sees (taken q) l.action.xid ≡ true) → IsAmong l (logged n)
   pub rows : (name : List ℕ) (o : Node) → nodes_in u.places name ≡ Some o → o.id ≢ n.id → KnowsRow set n o
+  pub has : ProvidersHave set u n
+  pub finds : CopiesFind set u n
 
 -- ---- as the database goes on
 
@@ -47,6 +87,8 @@ then_later {old = old} {q = q} {n} more ended apart on was = record {
   seen = taken_more more ended (taken q) apart was.seen;
   logs = λ y is l among of. by l of.1 (on l (y, is, among, of.0));
   rows = was.rows;
+  has = was.has;
+  finds = was.finds;
 }
   where
     by : (l : Logged) → sees (taken q) l.action.xid ≡ true → IsOwn old l ⊎ (order_in ended l.action.xid ≡ None) →
@@ -63,4 +105,6 @@ then_still ended on was = record {
   seen = was.seen;
   logs = λ y is l among of. let old = on l (y, is, among, of.0) in was.logs old.0 old.1 l old.2 (old.3, of.1);
   rows = was.rows;
+  has = was.has;
+  finds = was.finds;
 }

@@ -1,5 +1,5 @@
 -- A node emits events: the net of each of its own sets goes on by them, and no other net does.
-use Rattle.std.proofs.Common.{◌≡◌, ◌≢◌, inl, ℕ, Bool, true, false, cond, List, [], ◌∷◌, length, Option}
+use Rattle.std.proofs.Common.{◌≡◌, ◌≢◌, inl, ℕ, Bool, true, false, cond, List, [], ◌∷◌, length, Option, ◌⊎◌, inr, ◌≤◌}
 use Rattle.std.proofs.Common.{Some, None, refl, sym, ap, subst, ◌∙◌, arith}
 use Rattle.std.specs.Prelude.{◌+◌, ◌==◌, max}
 use Rattle.std.proofs.lemmas.Bool.{eqb-true, eq-eqb, false≢true}
@@ -9,7 +9,7 @@ use Rattle.node_rows.specs.declared.body.Body.TheVariants.{Sync, SubscribeSet, E
 use Rattle.net_laws.specs.Subscriptions.{Event as Said, Sync as Syncs, Subscribe, Enable, Unrelated}
 use Rattle.net_laws.specs.Subscriptions.{Subscription as Row, is_over, last_moment}
 use Rattle.net_laws.specs.Subscriptions.{row, subscribed}
-use Rattle.net_laws.specs.Net.{Emits as EmitsStep, Here, MayEmit, More, Net, Node as NetNode, emitted, owned}
+use Rattle.net_laws.specs.Net.{Emits as EmitsStep, Here, MayEmit, More, Net, Node as NetNode, emitted, owned, IsReady}
 use Rattle.slon_model.specs.Maps.{entry_at, pair_at}
 use Rattle.slon_model.specs.Events.{Event}
 use Rattle.slon_model.specs.Snapshots.{Snapshot}
@@ -36,6 +36,9 @@ use Rattle.net_relation.proofs.Moments.{taken_now}
 use Rattle.net_relation.proofs.Nets.{stays_on}
 use Rattle.net_relation.proofs.Relating.{FitsNode, Frame, IsFirstOf, Netted, netted_sound, origin_later}
 use Rattle.net_relation.proofs.Rows.{IsBeside, row_beside, row_changed}
+use Rattle.net_relation.proofs.Relaying.{IsAsFar, Relay}
+use Rattle.node_rows.specs.declared.rows.Subscription.{Subscription}
+use Rattle.slon_model.proofs.Names.{one_found}
 
 -- ---- one event
 
@@ -141,13 +144,55 @@ no_row {set} {y = y} n f none same = by (owned n.net f.receiver) refl
 record Feeding {set : ℕ} {ended : List ℕ} {all : Nodes} {p : Place} {y : Node} (e : Emitting set ended all p y)
     (f : NewFeed) : Type 0 where
   new : pair_at f.set_id f.receiver (knowledge y).config.subscriptions ≡ None
-  own : f.provider ≡ y.id
-  apart : f.receiver ≢ y.id
+  provides : (f.provider ≡ y.id) ⊎ Relay all y f
+  distinct : f.provider ≢ f.receiver
   before : List Event
   synced : Event
   is : stream y ≡ synced ∷ before
   body : synced.body ≡ Sync
   snapshot : synced.taken ≡ taken p
+
+-- the provider is the origin, or ready
+feed_provider : {set : ℕ} {ended : List ℕ} {all : Nodes} {p : Place} {y : Node} (e : Emitting set ended all p y)
+    (f : NewFeed) → Feeding e f → f.set_id ≡ set →
+    (f.provider ≡ e.netted.net.origin) ⊎ ((u : Row) × IsReady e.netted.net f.provider u)
+feed_provider {set} {ended} {all} {p} {y} e f k same = by k.provides
+  where
+    n : Net
+    n = e.netted.net
+
+    relayed : (r : Relay all y f) → IsReady n f.provider r.feed
+    relayed r = record {
+      row = has;
+      ready = r.ready;
+      forward = ap (λ (u : Subscription). u.forward) known ∙ r.forward;
+      confirmed = far r.far;
+    }
+      where
+        has : owned n f.provider ≡ Some r.feed
+        has =
+            ap (λ s. row s f.provider n.stream) e.netted.origin.start
+            ∙ ap (row unfed f.provider) e.netted.origin.stream
+            ∙ ap (λ i. row unfed f.provider (read i (stream y))) (sym same) ∙ r.made
+
+        known : plain r.feed ≡ r.known
+        known = one_found (plain r.feed) r.known
+            (sym (e.netted.origin.rows f.provider r.feed has)
+            ∙ ap (λ i. pair_at i f.provider (knowledge y).config.subscriptions) (sym same) ∙ r.has)
+
+        mark : r.feed.mark ≡ r.known.mark
+        mark = ap (λ (u : Subscription). u.mark) known
+
+        far : IsAsFar all y f.provider r.known.mark → r.feed.mark ≤ (n.nodes f.provider).progress
+        far (inl none) = omega (arith, mark, none)
+        far (inr (name, o, is, id, less)) =
+            let reached = (e.netted.nodes name o is (λ own. r.other (sym id ∙ own))).reached in
+            let at = ap (λ i. (n.nodes i).progress) id in
+            omega (arith, mark, reached, less, at)
+
+    by : (f.provider ≡ y.id) ⊎ Relay all y f → (f.provider ≡ n.origin) ⊎ ((u : Row) × IsReady n f.provider u)
+    by (inl own) = inl (own ∙ sym e.netted.origin.origin)
+    by (inr r) = inr (r.feed, relayed r)
 
 feed_may : {set : ℕ} {ended : List ℕ} {all : Nodes} {p : Place} {y : Node} (e : Emitting set ended all p y)
     (f : NewFeed) → Feeding e f →
@@ -174,8 +219,8 @@ feed_may {set} {p = p} {y} e f k = by (f.set_id == set) refl
     by true same = record {
       here = ap is_over e.netted.origin.stream ∙ stays_on set (stream y);
       synced = last;
-      apart = λ is. k.apart (sym is ∙ k.own);
-      provider = inl (k.own ∙ sym e.netted.origin.origin);
+      apart = k.distinct;
+      provider = feed_provider e f k (eqb-true f.set_id set same);
       settled = λ u is. none u is;
       keeps = λ u is. none u is;
     }
@@ -248,11 +293,11 @@ enable_first set k id provider receiver forward era z = by (id == set)
 -- ---- what a node emits at once
 
 emit_feed : {set : ℕ} {ended : List ℕ} {all : Nodes} {p : Place} {y : Node} (e : Emitting set ended all p y)
-    (f : NewFeed) → CanFeed y f →
+    (f : NewFeed) → CanFeed y f → (f.provider ≡ y.id) ⊎ Relay all y f →
     Netted set ended all p (telling p (telling p (telling p y e.number (tells Sync)) (e.number + 1)
     (tells (SubscribeSet f.set_id f.provider f.receiver f.forward))) (e.number + 1 + 1)
     (tells (EnableSubscription f.set_id f.provider f.receiver f.forward (era_of f.set_id (knowledge y).config))))
-emit_feed {set} {ended} {all} {p} {y} e f can =
+emit_feed {set} {ended} {all} {p} {y} e f can provides =
     emit_one three (tells (EnableSubscription f.set_id f.provider f.receiver f.forward era)) refl
     (enable_may two f fed (e.number + 1) three.netted era)
     (enable_first set (taken p) f.set_id f.provider f.receiver f.forward era three.netted.net.stream)
@@ -272,11 +317,25 @@ emit_feed {set} {ended} {all} {p} {y} e f can =
       is = let is = e.is in omega (arith, is);
     }
 
+    -- so it is behind the SYNC
+    later : (f.provider ≡ y.id) ⊎ Relay all y f → (f.provider ≡ one.id) ⊎ Relay all one f
+    later (inl own) = inl own
+    later (inr r) = inr (record {
+      other = r.other;
+      known = r.known;
+      has = r.has;
+      forward = r.forward;
+      feed = r.feed;
+      made = r.made;
+      ready = r.ready;
+      far = r.far;
+    })
+
     fed : Feeding two f
     fed = record {
       new = can.new;
-      own = can.own;
-      apart = can.apart;
+      provides = later provides;
+      distinct = can.distinct;
       before = stream y;
       synced = record { origin = y.id; number = e.number; taken = taken p; body = Sync };
       is = refl;
@@ -297,15 +356,17 @@ emit_feed {set} {ended} {all} {p} {y} e f can =
 
 -- the net of the node at its seat, behind all that it emits
 pub told_net : {set : ℕ} {ended : List ℕ} {all : Nodes} (s : Seat) (ms : List Emission) → MayTell s.node ms →
+    ((f : NewFeed) → CanFeed s.node f → (f.provider ≡ s.node.id) ⊎ Relay all s.node f) →
     next_event s ≡ length (stream s.node) + 1 → Sound s.place → ClockAt s.place ended →
     Netted set ended all s.place s.node →
     Netted set ended all s.place (with_deeds (commit_of s ms).deeds s.node)
-told_net {set} {ended} {all} s ms (Alone m same plain) number sound clock n =
+told_net {set} {ended} {all} s ms (Alone m same plain) provides number sound clock n =
     subst (λ ms. Netted set ended all s.place (with_deeds (commit_of s ms).deeds s.node)) (sym same)
     (emit_plain (record { netted = n; sound = sound; clock = clock; number = next_event s; is = number }) m plain)
-told_net {set} {ended} {all} s ms (Feeds f same can) number sound clock n =
+told_net {set} {ended} {all} s ms (Feeds f same can) provides number sound clock n =
     subst (λ ms. Netted set ended all s.place (with_deeds (commit_of s ms).deeds s.node)) (sym same)
-    (emit_feed (record { netted = n; sound = sound; clock = clock; number = next_event s; is = number }) f can)
+    (emit_feed (record { netted = n; sound = sound; clock = clock; number = next_event s; is = number }) f can
+    (provides f can))
 
 pub next_number : (t : Past) (s : Seat) → IsSeat t.world.places s → next_event s ≡ length (stream s.node) + 1
 next_number t s is =

@@ -1,16 +1,15 @@
 -- What a node that forwards a set logs with a SYNC: all that the origin logged on the set between the two snapshots.
-use Rattle.std.proofs.Common.{◌≡◌, inl, inr, ℕ, Bool, true, false, cond, List, [], ◌∷◌, Some, refl, sym, ap, subst}
+use Rattle.std.proofs.Common.{◌≡◌, inl, inr, ℕ, Bool, true, false, cond, List, [], ◌∷◌, Some, refl, sym, ap, subst, ◌≢◌}
 use Rattle.std.proofs.Common.{◌∙◌, arith}
 use Rattle.std.specs.Prelude.{◌==◌, ◌&&◌, filter, map}
 use Rattle.std.specs.Str.{bytes_eq}
 use Rattle.std.proofs.lemmas.Bool.{eq-eqb, false_from_ne_true}
 use Rattle.node_rows.specs.declared.rows.TableRow.{TableRow}
-use Rattle.slon_model.specs.Maps.{Map}
 use Rattle.slon_model.specs.Snapshots.{sees}
 use Rattle.slon_model.specs.Events.{Event}
 use Rattle.slon_model.specs.Config.{era_of, forwards, is_origin, names_of, set_of}
-use Rattle.slon_model.specs.Deeds.{Brought, Logged, Node, knowledge, nothing_brought, stream, view_of}
-use Rattle.slon_model.specs.Following.{Found, SetSync, delta, is_new, is_on_one, kept_from, numbered, onto, set_sync}
+use Rattle.slon_model.specs.Deeds.{Brought, Logged, Node, knowledge, nothing_brought, stream, view_of, Knowledge}
+use Rattle.slon_model.specs.Following.{SetSync, delta, is_new, is_on_one, kept_from, numbered, onto, set_sync}
 use Rattle.slon_model.specs.Following.{tables_taken, with_sync, with_syncs}
 use Rattle.slon_model.specs.Logs.{logged}
 use Rattle.slon_model.specs.Place.{Place}
@@ -23,7 +22,7 @@ use Rattle.stream_laws.specs.Nodes.{IsAmong, nodes_in, node_in}
 use Rattle.stream_laws.specs.Facts.{Facts}
 use Rattle.stream_laws.specs.Laws.{AreMadeOnce, IsProper}
 use Rattle.stream_laws.specs.Making.{HasStored, OfName, has_mark, tells_of}
-use Rattle.stream_laws.proofs.Copies.{IsFollowed, one_leader}
+use Rattle.stream_laws.proofs.Copies.{one_leader, IsTakenOf}
 use Rattle.stream_laws.proofs.Laws.{marks_are_made_once}
 use Rattle.stream_laws.proofs.Lists.{all_among, any_among}
 use Rattle.stream_laws.proofs.Seats.{IsSeat, seat_node}
@@ -35,19 +34,19 @@ use Rattle.view_laws.specs.Contents.{actions_on}
 use Rattle.view_laws.specs.Known.{IsLoggedAs, IsSeen}
 use Rattle.view_laws.specs.Past.{Past, WasBefore, WasUpTo}
 use Rattle.view_laws.proofs.Agreeing.{table_known, tables_agree}
-use Rattle.view_laws.proofs.Brought.{IsSynced}
+use Rattle.view_laws.proofs.Brought.{IsSynced, taken_at}
 use Rattle.view_laws.proofs.Doing.{IsTaken}
 use Rattle.view_laws.proofs.Viewed.{seen_now}
 use Rattle.view_laws.proofs.Moments.{NodeAt, now_stays, regular_now}
-use Rattle.view_laws.proofs.Numbered.{IsNumbered, among_map, are_numbered, mapped_among}
+use Rattle.view_laws.proofs.Numbered.{IsNumbered, are_numbered, mapped_among}
 use Rattle.view_laws.proofs.Rising.{found_stands}
-use Rattle.view_laws.proofs.Seen.{stays_leading}
 use Rattle.image_laws.proofs.Staying.{Stays}
 use Rattle.view_laws.proofs.Tables.{KnownTable, Table, found_in_set, logged_table, one_table, table_of, told_now}
 use Rattle.view_laws.proofs.Taken.{Follows, delta_read}
 use Rattle.view_laws.proofs.Unmoved.{syncs_are}
 use Rattle.net_relation.proofs.Leading.{one_storer}
 use Rattle.net_relation.proofs.Stretches.{one_entry}
+use Rattle.view_laws.proofs.Copied.{stays_leading}
 
 -- ---- what a brought log has
 
@@ -81,22 +80,24 @@ logs_new here (s ∷ ts) b t (inr later) forwards l row = logs_new here ts (with
 
 -- ---- a SYNC that is followed
 
--- A node that keeps a set finds what there is for a SYNC of its origin.
+-- A node that keeps a set finds what there is for a SYNC of its origin, which is as at this seat.
 pub record Keeping (t : Past) (s : Seat) (ev : Event) (set : ℕ) : Type 0 where
   pub seat : IsSeat t.world.places s
-  pub what : Found
-  pub follows : IsFollowed t.world s ev what
+  pub source : Seat
+  pub is : IsSeat t.world.places source
+  pub led : source.node.id ≡ ev.origin
+  pub apart : ev.origin ≢ s.node.id
   pub view : View
   pub found : view_of set (knowledge s.node) ≡ Some view
   pub own : view.origin ≡ ev.origin
 
--- the origin of the set, from which it reads
+-- the origin of the set
 abbrev leader : {t : Past} {s : Seat} {ev : Event} {set : ℕ} → Keeping t s ev set → Node
-leader f = f.follows.provider.node
+leader f = f.source.node
 
 leader_is : (t : Past) (s : Seat) (ev : Event) (set : ℕ) (f : Keeping t s ev set) →
-    nodes_in t.world.places f.follows.provider.name ≡ Some (leader f)
-leader_is t s ev set f = seat_node t.world.places f.follows.provider f.follows.seat
+    nodes_in t.world.places f.source.name ≡ Some (leader f)
+leader_is t s ev set f = seat_node t.world.places f.source f.is
 
 -- it leads the set
 leader_leads : (t : Past) (s : Seat) (ev : Event) (set : ℕ) (f : Keeping t s ev set) →
@@ -115,13 +116,13 @@ leader_leads t s ev set f = subst (λ (n : Node). is_origin n.id set (knowledge 
     leads = stays_leading seen.moment.node now.0 now.2.node now.2 now.2.is set seen.leads
 
     one : now.2.node ≡ leader f
-    one = one_node (nodes_in t.world.places) (regular_now t).nodes seen.moment.name f.follows.provider.name now.2.node
+    one = one_node (nodes_in t.world.places) (regular_now t).nodes seen.moment.name f.source.name now.2.node
         (leader f) (ap node_in now.1 ∙ now.2.is)
-        (leader_is t s ev set f, now.2.id ∙ seen.own ∙ f.own ∙ sym f.follows.own)
+        (leader_is t s ev set f, now.2.id ∙ seen.own ∙ f.own ∙ sym f.led)
 
 -- An entry of its log on the set, between the two snapshots.
 pub record IsNewEntry {t : Past} {s : Seat} {ev : Event} {set : ℕ} (f : Keeping t s ev set) (l : Logged) : Type 0 where
-  pub among : IsAmong l (logged f.follows.provider.node)
+  pub among : IsAmong l (logged f.source.node)
   pub of : l.set_id ≡ set
   pub seen : sees ev.taken l.action.xid ≡ true
   pub unseen : sees f.view.seen l.action.xid ≡ false
@@ -130,9 +131,9 @@ pub record IsNewEntry {t : Past} {s : Seat} {ev : Event} {set : ℕ} (f : Keepin
 abbrev entry_table : (t : Past) (s : Seat) (ev : Event) (set : ℕ) (f : Keeping t s ev set) (l : Logged) →
     IsAmong l (logged (leader f)) → Table t
 entry_table t s ev set f l among =
-    logged_table t f.follows.provider.name (leader f) (leader_is t s ev set f) l
+    logged_table t f.source.name (leader f) (leader_is t s ev set f) l
     (all_among (IsLoggedAs (WasBefore t) (leader f)) l (logged (leader f))
-    (told_now t f.follows.provider.name (leader f) (leader_is t s ev set f)).logs among)
+    (told_now t f.source.name (leader f) (leader_is t s ev set f)).logs among)
 
 -- the origin knows it as one of the set
 entry_held : (t : Past) (s : Seat) (ev : Event) (set : ℕ) (f : Keeping t s ev set) (l : Logged) → IsNewEntry f l →
@@ -162,27 +163,27 @@ entry_held t s ev set f l i = (
         subst (λ i. HasStored i (stream maker)) i.of (before.0, before.1, before.3)
 
     one : maker ≡ y
-    one = one_node (nodes_in t.world.places) (regular_now t).nodes table.is.name f.follows.provider.name maker y
+    one = one_node (nodes_in t.world.places) (regular_now t).nodes table.is.name f.source.name maker y
         table.is.is (
           leader_is t s ev set f,
           one_storer t (record { name = table.is.name; node = maker; is = table.is.is })
-              (record { name = f.follows.provider.name; node = y; is = leader_is t s ev set f }) set (
+              (record { name = f.source.name; node = y; is = leader_is t s ev set f }) set (
                 stored,
-                has_stored (nodes_in t.world.places) (regular_now t).nodes f.follows.provider.name y
+                has_stored (nodes_in t.world.places) (regular_now t).nodes f.source.name y
                     (leader_is t s ev set f) set (leader_leads t s ev set f),
               ),
         )
 
     facts : Facts (nodes_in t.world.places) y
-    facts = (regular_now t).nodes.each f.follows.provider.name y (leader_is t s ev set f)
+    facts = (regular_now t).nodes.each f.source.name y (leader_is t s ev set f)
 
     there : IsAmong table.event (stream y)
     there = subst (λ (n : Node). IsAmong table.event (stream n)) one table.is.among
 
     knows : has_mark (OfName l.action.table) (knowledge y).config ≡ true
-    knows = laws.known f.follows.provider.name y (leader_is t s ev set f) (OfName l.action.table) (record {
+    knows = laws.known f.source.name y (leader_is t s ev set f) (OfName l.action.table) (record {
       made = record {
-        name = f.follows.provider.name;
+        name = f.source.name;
         node = y;
         is = leader_is t s ev set f;
         event = table.event;
@@ -200,7 +201,7 @@ entry_held t s ev set f l i = (
 
     known : KnownTable t
     known = record {
-      name = f.follows.provider.name;
+      name = f.source.name;
       node = y;
       is = leader_is t s ev set f;
       entry = entry.0;
@@ -223,9 +224,9 @@ entry_follows t s ev set f l i = (
       entry = there.0;
       among = there.1;
     };
-    other = false_from_ne_true _ (λ own. f.follows.apart (sym f.follows.own
+    other = false_from_ne_true _ (λ own. f.apart (sym f.led
         ∙ one_leader (nodes_in t.world.places) (regular_now t).nodes set (record {
-          name = f.follows.provider.name;
+          name = f.source.name;
           node = leader f;
           is = leader_is t s ev set f;
           leads = leader_leads t s ev set f;
@@ -235,11 +236,11 @@ entry_follows t s ev set f l i = (
           is = seat_node t.world.places s f.seat;
           leads = subst (λ i. is_origin s.node.id i (knowledge s.node).config ≡ true) there.2 own;
         })));
-    name = f.follows.provider.name;
-    place = f.follows.provider.place;
-    found = f.follows.seat.found;
+    name = f.source.name;
+    place = f.source.place;
+    found = f.is.found;
     node = leader f;
-    at = f.follows.seat.node;
+    at = f.is.node;
     held =
         subst (λ i. IsHeldBy (leader f).id (knowledge (leader f)).config i there.0.1.name) (sym there.2)
         (subst (IsHeldBy (leader f).id (knowledge (leader f)).config set) there.3 (entry_held t s ev set f l i));
@@ -252,19 +253,19 @@ entry_follows t s ev set f l i = (
   where
     among : IsAmong l.action.table (names_of set (knowledge s.node).config)
     among =
-        (tables_agree t.limit t.history t.world t.leads s.name f.follows.provider.name s.place
-        f.follows.provider.place f.seat.found f.follows.seat.found s.node (leader f) f.seat.node
-        f.follows.seat.node set f.view f.found (f.follows.own ∙ sym f.own) l.action.table).0
+        (tables_agree t.limit t.history t.world t.leads s.name f.source.name s.place
+        f.source.place f.seat.found f.is.found s.node (leader f) f.seat.node
+        f.is.node set f.view f.found (f.led ∙ sym f.own) l.action.table).0
         (entry_held t s ev set f l i)
 
     there : (r : ℕ × TableRow) × IsAmong r (knowledge s.node).config.tables × (r.1.set_id ≡ set)
         × (l.action.table ≡ r.1.name)
     there = table_known set (knowledge s.node).config l.action.table among
 
--- what it takes of the set
+-- what it takes of the set of the log of the origin
 abbrev pub sync_of : {t : Past} {s : Seat} {ev : Event} {set : ℕ} → Keeping t s ev set → SetSync
 sync_of {s = s} {ev} {set} f =
-    set_sync s.node.id (knowledge s.node) ev (logged f.follows.provider.node) (set, f.view)
+    set_sync s.node.id (knowledge s.node) ev (logged f.source.node) (set, f.view)
 
 -- so it takes the entry
 entry_taken : (t : Past) (s : Seat) (ev : Event) (set : ℕ) (f : Keeping t s ev set) (l : Logged) → IsNewEntry f l →
@@ -278,11 +279,11 @@ entry_taken t s ev set f l e =
 
     origin : NodeAt t
     origin = record {
-      name = f.follows.provider.name;
-      place = f.follows.provider.place;
-      found = f.follows.seat.found;
+      name = f.source.name;
+      place = f.source.place;
+      found = f.is.found;
       node = leader f;
-      at = f.follows.seat.node;
+      at = f.is.node;
     }
 
     sync : SetSync
@@ -315,7 +316,7 @@ entry_taken t s ev set f l e =
             ∙ ap (λ i. delta (leader f).id (tables_taken n.id i (knowledge n).config) f.view.seen ev.taken
             (logged (leader f))) w.3
             ∙ ap (λ i. delta i (tables_taken n.id set (knowledge n).config) f.view.seen ev.taken
-            (logged (leader f))) f.follows.own
+            (logged (leader f))) f.led
 
     made : (k : Logged) × IsAmong k (filter (λ l'. bytes_eq l.action.table l'.action.table) sync.rows)
         × (l.action ≡ k.action)
@@ -344,7 +345,8 @@ entry_taken t s ev set f l e =
 
 -- ---- what is brought
 
--- A node that forwards a set applies a SYNC of its origin, and brings what it found for that.
+-- A node that forwards a set applies a SYNC of its origin, and brings what it found for that, which is the same as what
+-- there was in the log of the origin.
 pub record Forwarding (t : Past) (x : Carried) (set : ℕ) : Type 0 where
   pub origin : ℕ
   pub is : IsTaken t origin x
@@ -353,6 +355,12 @@ pub record Forwarding (t : Past) (x : Carried) (set : ℕ) : Type 0 where
   pub found : view_of set (knowledge synced.at.seat.node) ≡ Some view
   pub own : view.origin ≡ x.event.origin
   pub forwards : forwards set synced.at.seat.node.id (knowledge synced.at.seat.node).config ≡ true
+  pub source : Seat
+  pub there : IsSeat synced.at.to.world.places source
+  pub led : source.node.id ≡ x.event.origin
+  pub same : (y : SetSync) → IsTakenOf synced.at.to.world synced.at.seat x.event (set, view) y →
+      y.rows ≡ (set_sync synced.at.seat.node.id (knowledge synced.at.seat.node) x.event (logged source.node)
+      (set, view)).rows
 
 -- as it was found
 abbrev pub keeping : {t : Past} {x : Carried} {set : ℕ} (f : Forwarding t x set) →
@@ -360,8 +368,10 @@ abbrev pub keeping : {t : Past} {x : Carried} {set : ℕ} (f : Forwarding t x se
 keeping f =
     record {
       seat = f.synced.at.work.seat;
-      what = f.synced.found;
-      follows = f.synced.follows;
+      source = f.source;
+      is = f.there;
+      led = f.led;
+      apart = f.synced.at.work.other;
       view = f.view;
       found = f.found;
       own = f.own;
@@ -371,20 +381,26 @@ keeping f =
 pub entry_logged : (t : Past) (x : Carried) (set : ℕ) (f : Forwarding t x set) (l : Logged) →
     IsNewEntry (keeping f) l → IsAmong l x.brought.logs
 entry_logged t x set f l e =
-    subst (λ (b : Brought). IsAmong l b.logs) (sym f.synced.is)
-    (subst (λ ts. IsAmong l (with_syncs x.seat.place ts nothing_brought).logs)
-    (sym (syncs_are t f.origin x f.is f.synced))
-    (logs_new x.seat.place (map of kept) nothing_brought (of (set, f.view))
-    (among_map of (set, f.view) kept
-    (among_filtered (λ u. u.1.origin == x.event.origin) (set, f.view) (knowledge n).views
-    (found_stands set f.view (knowledge n).views f.found) (eq-eqb f.view.origin x.event.origin f.own)))
-    f.forwards l (entry_taken f.synced.at.to f.synced.at.seat x.event set (keeping f) l e)))
+    subst (λ (b : Brought). IsAmong l b.logs) (sym y.is)
+    (subst (λ ts. IsAmong l (with_syncs x.seat.place ts nothing_brought).logs) (sym (syncs_are t f.origin x f.is y))
+    (logs_new x.seat.place y.follows.syncs nothing_brought taken.0 taken.1
+    (ap (λ (z : SetSync). z.forwards) taken.2.is
+    ∙ ap (λ (k : Knowledge). forwards set then.node.id k.config) then_known ∙ f.forwards) l
+    (subst (IsAmong l) (sym (f.same taken.0 taken.2)) (entry_taken y.at.to then x.event set (keeping f) l e))))
   where
-    n : Node
-    n = f.synced.at.seat.node
+    y : IsSynced t x.seat x.event x.brought
+    y = f.synced
 
-    of : ℕ × View → SetSync
-    of = set_sync n.id (knowledge n) x.event (logged f.synced.follows.provider.node)
+    then : Seat
+    then = y.at.seat
 
-    kept : Map View
-    kept = kept_from x.event.origin (knowledge n)
+    then_known : then.known ≡ knowledge then.node
+    then_known = y.at.work.seat.known
+
+    taken : (z : SetSync) × IsAmong z y.follows.syncs × IsTakenOf y.at.to.world then x.event (set, f.view) z
+    taken =
+        taken_at (set, f.view) (kept_from x.event.origin then.known) y.follows.syncs y.follows.taken
+        (subst (λ k. IsAmong (set, f.view) (kept_from x.event.origin k)) (sym then_known)
+        (among_filtered (λ u. u.1.origin == x.event.origin) (set, f.view) (knowledge then.node).views
+        (found_stands set f.view (knowledge then.node).views f.found)
+        (eq-eqb f.view.origin x.event.origin f.own)))

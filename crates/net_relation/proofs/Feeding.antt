@@ -1,10 +1,10 @@
 -- What is known of the events of subscriptions: the node that emits them is that which stored the set, it knows the
 -- receiver, which is another node, and the set is in its first era.
 use Rattle.std.proofs.Common.{◌≡◌, ◌≢◌, inl, inr, ℕ, Bool, true, false, cond, List, [], ◌∷◌, Option, Some, None, refl}
-use Rattle.std.proofs.Common.{sym, ap, subst, ◌∙◌}
-use Rattle.std.specs.Prelude.{◌+◌, option_map, unwrap_or}
+use Rattle.std.proofs.Common.{sym, ap, subst, ◌∙◌, length, suc}
+use Rattle.std.specs.Prelude.{◌+◌, option_map, unwrap_or, ◌==◌}
 use Rattle.std.specs.List.{AllByRecursion}
-use Rattle.std.proofs.lemmas.Bool.{false≢true}
+use Rattle.std.proofs.lemmas.Bool.{false≢true, eq-eqb}
 use Rattle.node_rows.specs.declared.rows.SetRow.{SetRow}
 use Rattle.node_rows.specs.declared.body.Body.{Body}
 use Rattle.node_rows.specs.declared.body.Body.TheVariants.{Sync, StoreSet, SubscribeSet, EnableSubscription, DropSet}
@@ -14,7 +14,7 @@ use Rattle.slon_model.specs.Maps.{entry_at}
 use Rattle.slon_model.specs.Events.{Event}
 use Rattle.slon_model.specs.Config.{Config, change, change_by, era_of, is_origin, leads_row, live_set}
 use Rattle.slon_model.specs.Deeds.{Node, knowledge, stream, with_deeds}
-use Rattle.slon_model.specs.Place.{Place}
+use Rattle.slon_model.specs.Place.{Place, taken}
 use Rattle.slon_model.specs.Moves.{with_commit}
 use Rattle.slon_model.specs.Sessions.{Commit, Emission, Seat, committing, next_event, tells}
 use Rattle.slon_model.specs.Reaching.{commit_of}
@@ -30,12 +30,17 @@ use Rattle.view_laws.proofs.Living.{event_of}
 use Rattle.view_laws.proofs.Moments.{regular_now}
 use Rattle.view_laws.proofs.Unfed.{may_emitted}
 use Rattle.net_relation.proofs.Behind.{begun_node, heard_node, holds_now, taken_node, told_node}
-use Rattle.net_relation.proofs.Links.{Alone, Begins, Feeds, HearsSome, Linked, MayTell, TakesOne, Tells, giver}
+use Rattle.net_relation.proofs.Links.{Alone, Begins, Feeds, HearsSome, Linked, MayTell, TakesOne, Tells, giver, feeding}
 use Rattle.net_relation.proofs.Links.{is_plain, joined, joins, stores}
 use Rattle.net_relation.proofs.Places.{NodeWent}
 use Rattle.net_relation.proofs.Stepping.{Does, Goes, Gone, Here, IsPut, Joins, Looks, Makes, Shuts, Stays, There}
 use Rattle.net_relation.proofs.Stepping.{is_put, look}
 use Rattle.net_relation.proofs.Stepping.{with_look}
+use Rattle.net_laws.specs.Subscriptions.{Event as Said, Subscribe, Enable, Unrelated, Subscription as Row}
+use Rattle.net_laws.specs.Subscriptions.{enabled, last_moment, readied, row, subscribed}
+use Rattle.slon_model.specs.Snapshots.{Snapshot}
+use Rattle.slon_model.specs.Subscribing.{NewFeed}
+use Rattle.net_relation.specs.Reading.{read, said_by, unfed}
 
 -- ---- one event
 
@@ -48,13 +53,38 @@ IsFeed own es c (SubscribeSet set provider receiver forward) = FeedOf own es c s
 IsFeed own es c (EnableSubscription set provider receiver forward era) = FeedOf own es c set receiver × (era ≡ 1)
 IsFeed own es c others = Unit {0}
 
--- all events are such, and each set is in its first era
-pub record AreFeeds (own : ℕ) (es : List Event) (c : Config) : Type 0 where
-  pub feeds : AllByRecursion (λ e. IsFeed own es c e.body) es
-  pub eras : AllByRecursion (λ e. e.1.era ≡ 1) c.sets
+-- the receiver that is told to copy a set has a subscription by the events before, with the provider that it is told
+abbrev pub IsRowed : List Event → Body → Type 0
+IsRowed earlier (EnableSubscription set provider receiver forward era) =
+    (u : Row) × (row unfed receiver (read set earlier) ≡ Some u) × (u.provider ≡ provider)
+IsRowed earlier others = Unit {0}
 
-abbrev pub NodeFeeds : Node → Type 0
-NodeFeeds n = AreFeeds n.id (stream n) (knowledge n).config
+abbrev pub AreRowed : List Event → Type 0
+AreRowed [] = Unit {0}
+AreRowed (e ∷ es) = IsRowed es e.body × AreRowed es
+
+-- all events are such, and each set is in its first era
+record AreFeeds (own : ℕ) (es : List Event) (c : Config) : Type 0 where
+  feeds : AllByRecursion (λ e. IsFeed own es c e.body) es
+  eras : AllByRecursion (λ e. e.1.era ≡ 1) c.sets
+  rows : AreRowed es
+
+-- each receiver that subscribes was told to copy the set
+abbrev pub AreReady : List Event → Type 0
+AreReady es = (set receiver : ℕ) (u : Row) → row unfed receiver (read set es) ≡ Some u → u.ready ≡ true
+
+-- So it is of the events of a node behind each of its commits.
+pub record NodeFeeds (n : Node) : Type 0 where
+  pub feeds : AllByRecursion (λ e. IsFeed n.id (stream n) (knowledge n).config e.body) (stream n)
+  pub eras : AllByRecursion (λ e. e.1.era ≡ 1) (knowledge n).config.sets
+  pub rows : AreRowed (stream n)
+  pub ready : AreReady (stream n)
+
+are_feeds : (n : Node) → NodeFeeds n → AreFeeds n.id (stream n) (knowledge n).config
+are_feeds n f = record { feeds = f.feeds; eras = f.eras; rows = f.rows }
+
+node_feeds : (n : Node) → AreFeeds n.id (stream n) (knowledge n).config → AreReady (stream n) → NodeFeeds n
+node_feeds n f ready = record { feeds = f.feeds; eras = f.eras; rows = f.rows; ready = ready }
 
 -- ---- one more event
 
@@ -89,14 +119,16 @@ eras_changed origin number others c may all = all
 
 -- an event of its own
 feeds_more : (own : ℕ) (e : Event) (es : List Event) (c : Config) → is_emitted e.body ≡ true →
-    IsFeed own (e ∷ es) (change e c) e.body → AreFeeds own es c → AreFeeds own (e ∷ es) (change e c)
-feeds_more own e es c may new old = record {
+    IsFeed own (e ∷ es) (change e c) e.body → IsRowed es e.body → AreFeeds own es c →
+    AreFeeds own (e ∷ es) (change e c)
+feeds_more own e es c may new rowed old = record {
   feeds = (
     new,
     all_map (λ f. IsFeed own es c f.body) (λ f. IsFeed own (e ∷ es) (change e c) f.body)
         (λ f is. still_feed own e es c f.body is) es old.feeds,
   );
   eras = eras_changed e.origin e.number e.body c may old.eras;
+  rows = (rowed, old.rows);
 }
 
 -- one of another node
@@ -106,6 +138,7 @@ feeds_applied own e es c may old = record {
   feeds = all_map (λ f. IsFeed own es c f.body) (λ f. IsFeed own es (change e c) f.body)
       (λ f is. still_known own e es c f.body is) es old.feeds;
   eras = eras_changed e.origin e.number e.body c may old.eras;
+  rows = old.rows;
 }
 
 -- ---- what a node emits
@@ -135,26 +168,94 @@ era_one own set c all leads = by (entry_at set c.sets) refl leads
     by None found is = absurd (false≢true is)
     by (Some row) found is = live row (all_entry (λ e. e.1.era ≡ 1) set row c.sets all found) row.live is
 
+plain_rowed : (es : List Event) (body : Body) → is_plain body ≡ true → IsRowed es body
+plain_rowed es (EnableSubscription set provider receiver forward era) is = absurd (false≢true is)
+plain_rowed es others is = tt
+
+-- ---- subscriptions
+
+provider_is : (k c p : ℕ) (f : Bool) (o : Option Row) → (subscribed k c p f o).provider ≡ p
+provider_is k c p f None = refl
+provider_is k c p f (Some u) = refl
+
+-- the subscription behind the event that makes it
+rowed_feed : (f : NewFeed) (k : Snapshot) (z : List Said) →
+    (u : Row) × (row unfed f.receiver (said_by f.set_id k (SubscribeSet f.set_id f.provider f.receiver f.forward) ∷ z)
+    ≡ Some u) × (u.provider ≡ f.provider)
+rowed_feed f k z = (
+  made,
+  ap (λ b. row unfed f.receiver (cond b (Subscribe f.receiver f.provider f.forward) Unrelated ∷ z))
+      (eq-eqb f.set_id f.set_id refl)
+      ∙ ap (λ b. cond b (Some made) (row unfed f.receiver z)) (eq-eqb f.receiver f.receiver refl),
+  provider_is (length z + 1) (last_moment z) f.provider f.forward (row unfed f.receiver z),
+)
+  where
+    made : Row
+    made = subscribed (length z + 1) (last_moment z) f.provider f.forward (row unfed f.receiver z)
+
+plain_row : (set : ℕ) (k : Snapshot) (body : Body) → is_plain body ≡ true → (r : ℕ) (z : List Said) →
+    row unfed r (said_by set k body ∷ z) ≡ row unfed r z
+plain_row set k (SubscribeSet id provider receiver forward) is r z = absurd (false≢true is)
+plain_row set k (EnableSubscription id provider receiver forward era) is r z = absurd (false≢true is)
+plain_row set k Sync is r z = refl
+plain_row set k others is r z = refl
+
+ready_feed : (b : Bool) (f : NewFeed) (z : List Said) (r : ℕ) →
+    ((u : Row) → row unfed r z ≡ Some u → u.ready ≡ true) → (u : Row) →
+    row unfed r (cond b (Enable f.receiver) Unrelated
+    ∷ cond b (Subscribe f.receiver f.provider f.forward) Unrelated ∷ z) ≡ Some u → u.ready ≡ true
+ready_feed false f z r old u is = old u is
+ready_feed true f z r old u is = by (r == f.receiver) is
+  where
+    made : Row
+    made = subscribed (length z + 1) (last_moment z) f.provider f.forward (row unfed r z)
+
+    k : ℕ
+    k = suc (length z) + 1
+
+    by : (c : Bool) → cond c (enabled k (cond c (Some made) (row unfed r z))) (cond c (Some made) (row unfed r z))
+        ≡ Some u → u.ready ≡ true
+    by true is = ap (λ (v : Row). v.ready) (sym (one_found (readied k made) u is))
+    by false is = old u is
+
+told_ready : (s : Seat) (ms : List Emission) → MayTell s.node ms → AreReady (stream s.node) →
+    AreReady (stream (with_deeds (commit_of s ms).deeds s.node))
+told_ready s ms (Alone m same may) was =
+    subst (λ ms. AreReady (stream (with_deeds (commit_of s ms).deeds s.node))) (sym same)
+    (λ set r u is. was set r u (sym (plain_row set (taken s.place) m.body may r (read set (stream s.node))) ∙ is))
+told_ready s ms (Feeds f same can) was =
+    subst (λ ms. AreReady (stream (with_deeds (commit_of s ms).deeds s.node))) (sym same)
+    (λ set r u is. ready_feed (f.set_id == set) f
+    (read set (event_of s (next_event s) Sync ∷ stream s.node)) r (was set r) u is)
+
 told_feeds : (t : Past) (s : Seat) → IsSeat t.world.places s → (ms : List Emission) → MayTell s.node ms →
     NodeFeeds s.node → NodeFeeds (with_deeds (commit_of s ms).deeds s.node)
 told_feeds t s is ms (Alone m same may) was =
     subst (λ ms. NodeFeeds (with_deeds (commit_of s ms).deeds s.node)) (sym same)
-    (feeds_more s.node.id e (stream s.node) (knowledge s.node).config (plain_emitted m.body may)
+    (node_feeds behind (feeds_more s.node.id e (stream s.node) (knowledge s.node).config (plain_emitted m.body may)
     (plain_feed s.node.id (e ∷ stream s.node) (change_by s.node.id (next_event s) m.body (knowledge s.node).config)
-    m.body may) was)
+    m.body may) (plain_rowed (stream s.node) m.body may) (are_feeds s.node was))
+    (told_ready s (m ∷ []) (Alone m refl may) was.ready))
   where
+    behind : Node
+    behind = with_deeds (commit_of s (m ∷ [])).deeds s.node
+
     e : Event
     e = event_of s (next_event s) m.body
 told_feeds t s is ms (Feeds f same can) was =
     subst (λ ms. NodeFeeds (with_deeds (commit_of s ms).deeds s.node)) (sym same)
-    (feeds_more own three (two ∷ one ∷ stream s.node) behind_two refl (
+    (node_feeds behind (feeds_more own three (two ∷ one ∷ stream s.node) behind_two refl (
       (still_stored f.set_id three (two ∷ one ∷ stream s.node) stored_two, knows_three, can.apart),
       era_one own f.set_id (knowledge s.node).config was.eras can.leads,
-    )
+    ) (rowed_feed f (taken s.place) (read f.set_id (one ∷ stream s.node)))
     (feeds_more own two (one ∷ stream s.node) (knowledge s.node).config refl
-    (stored_two, knows_two, can.apart)
-    (feeds_more own one (stream s.node) (knowledge s.node).config refl tt was)))
+    (stored_two, knows_two, can.apart) tt
+    (feeds_more own one (stream s.node) (knowledge s.node).config refl tt tt (are_feeds s.node was))))
+    (told_ready s (feeding s.node f) (Feeds f refl can) was.ready))
   where
+    behind : Node
+    behind = with_deeds (commit_of s (feeding s.node f)).deeds s.node
+
     own : ℕ
     own = s.node.id
 
@@ -218,7 +319,11 @@ went_feeds p q (inr (xid, log, runs)) was n is = by p.node refl (sym log ∙ is)
     by (Some m) at some =
         let before = was m at in
         subst NodeFeeds (one_found (with_commit xid p m) n some)
-        (record { feeds = before.feeds; eras = before.eras })
+        (record { feeds = before.feeds; eras = before.eras; rows = before.rows; ready = before.ready })
+
+-- who has emitted nothing has no receivers
+none_ready : AreReady []
+none_ready set r u is = absurd cc
 
 linked_feeds : (t : Past) → AllFeed (look t.world) → (c : Commit) (p : Place) → Linked t c p → (n : Node) →
     (committing c p).node ≡ Some n → NodeFeeds n
@@ -230,13 +335,15 @@ linked_feeds t was c p (TakesOne d) =
     let e = d.carried.event in
     let before = was s.name s.place s.node d.is.work.seat.found d.is.work.seat.node in
     let after = feeds_applied s.node.id e (stream s.node) (knowledge s.node).config
-    (may_emitted e.origin e.body (knowledge s.node).config d.is.work.may) before in
-    one_feeds (committing c p) _ (taken_node d) (record { feeds = after.feeds; eras = after.eras })
+    (may_emitted e.origin e.body (knowledge s.node).config d.is.work.may) (are_feeds s.node before) in
+    one_feeds (committing c p) _ (taken_node d)
+    (record { feeds = after.feeds; eras = after.eras; rows = after.rows; ready = before.ready })
 linked_feeds t was c p (HearsSome d) =
     let before = was d.seat.name d.seat.place d.seat.node d.is.found d.is.node in
-    one_feeds (committing c p) _ (heard_node d) (record { feeds = before.feeds; eras = before.eras })
+    one_feeds (committing c p) _ (heard_node d)
+    (record { feeds = before.feeds; eras = before.eras; rows = before.rows; ready = before.ready })
 linked_feeds t was c p (Begins d) =
-    one_feeds (committing c p) _ (begun_node d) (record { feeds = tt; eras = tt })
+    one_feeds (committing c p) _ (begun_node d) (record { feeds = tt; eras = tt; rows = tt; ready = none_ready })
 
 feeds_step : (t : Past) → AllFeed (look t.world) → (f : Looks) → Gone t f → AllFeed f
 feeds_step t was f Stays = was
@@ -250,7 +357,8 @@ feeds_step t was f (Joins j) =
     (put_feeds j.seat.name (committing (stores j) j.seat.place) (look t.world) was
     (one_feeds (committing (stores j) j.seat.place) (giver j) (ap (option_map (with_deeds (stores j).deeds)) j.is.node)
     given))
-    (one_feeds (committing (joins j) j.new.place) (joined j) refl (record { feeds = tt; eras = given.eras }))
+    (one_feeds (committing (joins j) j.new.place) (joined j) refl
+    (record { feeds = tt; eras = given.eras; rows = tt; ready = none_ready }))
   where
     given : NodeFeeds (giver j)
     given = told_feeds t j.seat j.is (tells (StoreNode j.new.id j.comment) ∷ [])

@@ -1,38 +1,41 @@
 -- The node that stored a set is its origin, and alone says who receives it. A receiver that is told to copies the set.
-use Rattle.std.proofs.Common.{◌≡◌, ℕ, Bool, true, cond, List, Option, Some, None, is_some}
+use Rattle.std.proofs.Common.{◌≡◌, ℕ, Bool, true, false, cond, List, Option, Some, None, is_some}
+use Rattle.std.proofs.Common.{◌≢◌, inl, inr, ◌≤◌, suc}
 use Rattle.std.proofs.Common.{refl, sym, ap, subst, ◌∙◌, arith}
 use Rattle.std.specs.Prelude.{◌==◌, ◌&&◌}
-use Rattle.std.proofs.lemmas.Bool.{and_from, eq-eqb, false≢true}
+use Rattle.std.proofs.lemmas.Bool.{and_from, eq-eqb, false≢true, cases_eq}
 use Rattle.node_rows.specs.declared.rows.SetRow.{SetRow}
 use Rattle.node_rows.specs.declared.body.Body.TheVariants.{Sync, EnableSubscription}
 use Rattle.slon_model.specs.Names.{find_named}
 use Rattle.slon_model.specs.Maps.{entry_at}
 use Rattle.slon_model.specs.Events.{Event}
-use Rattle.slon_model.specs.Config.{era_of, is_origin, leads_row, live_set}
-use Rattle.slon_model.specs.Deeds.{Knowledge, Node, knowledge, stream}
-use Rattle.slon_model.specs.Place.{Place}
+use Rattle.slon_model.specs.Config.{era_of, is_origin, leads_row, live_set, forwards}
+use Rattle.slon_model.specs.Deeds.{Knowledge, Node, knowledge, stream, progress, view_of}
+use Rattle.slon_model.specs.Place.{Place, taken}
 use Rattle.slon_model.specs.Sessions.{Seat}
 use Rattle.slon_model.specs.Working.{Carried, Copying, Errand, ToCopy, errand_in, errand_of, receives_from}
-use Rattle.slon_model.specs.Working.{still_leads}
+use Rattle.slon_model.specs.Working.{still_leads, forwarded, given_at}
 use Rattle.slon_model.proofs.Names.{one_found}
 use Rattle.stream_laws.specs.Nodes.{IsEvent, nodes_in, node_in}
 use Rattle.stream_laws.specs.Facts.{Facts}
 use Rattle.stream_laws.specs.Laws.{AreMadeOnce}
 use Rattle.stream_laws.specs.Making.{HasStored, IsMade, OfSet}
-use Rattle.stream_laws.proofs.Copies.{IsOther, IsVain, LedNoMore, NoErrand, one_leader}
+use Rattle.stream_laws.proofs.Copies.{IsVain, NoErrand, one_leader, GivenNoMore, HasReached}
 use Rattle.stream_laws.proofs.Laws.{marks_are_made_once}
 use Rattle.stream_laws.proofs.Lists.{all_among, all_entry}
-use Rattle.stream_laws.proofs.Seats.{seat_node}
+use Rattle.stream_laws.proofs.Seats.{seat_node, IsSeat}
 use Rattle.stream_laws.proofs.Streams.{number_within, one_node}
 use Rattle.stream_laws.proofs.Works.{IsWork}
-use Rattle.view_laws.specs.Known.{IsOfOwn}
-use Rattle.view_laws.specs.Past.{Past}
+use Rattle.view_laws.specs.Past.{Past, Moment, WasUpTo}
 use Rattle.view_laws.proofs.Brought.{Brings, Copies, Finding, IsBrought, IsCopied, Nothing, same_id}
 use Rattle.view_laws.proofs.Doing.{IsTaken}
-use Rattle.view_laws.proofs.Moments.{regular_now}
-use Rattle.view_laws.proofs.Seen.{unfed_now}
+use Rattle.view_laws.proofs.Moments.{regular_now, past_of, reached_up_to}
 use Rattle.view_laws.proofs.Tables.{told_now}
 use Rattle.net_relation.proofs.Feeding.{IsFeed, NodeFeeds, era_one, feeds_now}
+use Rattle.view_laws.specs.Known.{IsSeen}
+use Rattle.view_laws.proofs.Viewed.{seen_now}
+use Rattle.slon_model.specs.Views.{View}
+use Rattle.net_relation.proofs.Earlier.{CopiesFind}
 
 -- ---- who stored a set
 
@@ -116,51 +119,132 @@ asked_errand u s e set a =
     ap (errand_in s.node.id (receives_from e.origin s.known) e.origin) a.body
     ∙ ap (λ b. cond b (Some (ToCopy (asked_copy a))) None) (eq-eqb s.node.id s.node.id refl)
 
--- the node that emitted it leads the set in that era
+-- the node that emitted it
+abbrev asked_by : {u : Past} {s : Seat} {e : Event} {set : ℕ} → Asking u s e set → Node
+asked_by a = a.work.event.node
+
+asked_feed : (u : Past) (s : Seat) (e : Event) (set : ℕ) (a : Asking u s e set) →
+    IsFeed (asked_by a).id (stream (asked_by a)) (knowledge (asked_by a)).config
+    (EnableSubscription set a.provider s.node.id a.forward a.era)
+asked_feed u s e set a =
+    subst (IsFeed y.node.id (stream y.node) (knowledge y.node).config) a.body
+    (all_among (λ e. IsFeed y.node.id (stream y.node) (knowledge y.node).config e.body) e (stream y.node)
+    (feeds_at u y.name y.node y.is).feeds y.among)
+  where
+    y : IsEvent (nodes_in u.world.places) e
+    y = a.work.event
+
+-- a provider leads the set in that era, if it is that node
 asked_leads : (u : Past) (s : Seat) (e : Event) (set : ℕ) (a : Asking u s e set) → (p : Seat) →
-    IsOther u.world a.provider s p → still_leads (asked_copy a) p ≡ true
-asked_leads u s e set a p at =
-    ap (λ (k : Knowledge). is_origin p.node.id set k.config && era_of set k.config == a.era) at.0.0.known
+    IsSeat u.world.places p → p.node ≡ asked_by a → still_leads (asked_copy a) p ≡ true
+asked_leads u s e set a p at one =
+    ap (λ (k : Knowledge). is_origin p.node.id set k.config && era_of set k.config == a.era) at.known
     ∙ ap (λ (n : Node). is_origin n.id set (knowledge n).config && era_of set (knowledge n).config == a.era) one
     ∙ and_from (is_origin y.id set (knowledge y).config) (era_of set (knowledge y).config == a.era) leads
-    (eq-eqb (era_of set (knowledge y).config) a.era (era_one y.id set (knowledge y).config feeds.eras leads
-    ∙ sym feed.1))
+    (eq-eqb (era_of set (knowledge y).config) a.era
+    (era_one y.id set (knowledge y).config (feeds_at u a.work.event.name y a.work.event.is).eras leads ∙ sym feed.1))
   where
-    is : IsEvent (nodes_in u.world.places) e
-    is = a.work.event
-
     y : Node
-    y = is.node
-
-    feeds : NodeFeeds y
-    feeds = feeds_at u is.name y is.is
+    y = asked_by a
 
     feed : IsFeed y.id (stream y) (knowledge y).config (EnableSubscription set a.provider s.node.id a.forward a.era)
-    feed = subst (IsFeed y.id (stream y) (knowledge y).config) a.body
-        (all_among (λ e. IsFeed y.id (stream y) (knowledge y).config e.body) e (stream y) feeds.feeds is.among)
-
-    own : a.provider ≡ y.id
-    own = subst (IsOfOwn e.origin) a.body
-        (all_among (λ f. IsOfOwn f.origin f.body) e (stream y) (unfed_now u is.name y is.is).own is.among) ∙ sym is.own
+    feed = asked_feed u s e set a
 
     leads : is_origin y.id set (knowledge y).config ≡ true
-    leads = stored_leads u is.name y is.is set feed.0.0
+    leads = stored_leads u a.work.event.name y a.work.event.is set feed.0.0
 
-    one : p.node ≡ y
-    one = one_node (nodes_in u.world.places) (regular_now u).nodes p.name is.name p.node y
-        (seat_node u.world.places p at.0.0) (is.is, at.0.1 ∙ own)
+-- a set is in its first era where a snapshot of it was taken
+seen_era : (u : Past) (n : Node) (set : ℕ) (v : View) → IsSeen (WasUpTo u) n set v → v.era ≡ 1
+seen_era u n set v seen =
+    seen.era ∙ era_one m.node.id set (knowledge m.node).config
+    (feeds_at (past_of u m.session (reached_up_to u m.session m.was)) m.name m.node (ap node_in m.found ∙ m.at)).eras
+    seen.leads
+  where
+    m : Moment (WasUpTo u)
+    m = seen.moment
+
+-- another one keeps the set, and forwards it
+asked_forwards : {u : Past} {s : Seat} {e : Event} {set : ℕ} (a : Asking u s e set) (p : Seat) →
+    HasReached u.world e a.provider s p → CopiesFind set u.world (asked_by a) → p.node.id ≢ (asked_by a).id →
+    (v : View) × (forwarded (asked_copy a) p (view_of set p.known) ≡ Some v.seen)
+asked_forwards {u} {s} {e} {set} a p at finds other = (
+  found.0,
+  ap (λ (k : Knowledge). forwarded (asked_copy a) p (view_of set k)) is.known
+      ∙ ap (forwarded (asked_copy a) p) found.1
+      ∙ ap (λ b. cond b (Some found.0.seen) None)
+      (and_from (found.0.era == a.era) (forwards set p.node.id p.known.config)
+      (eq-eqb found.0.era a.era (seen_era u p.node set found.0 seen ∙ sym (asked_feed u s e set a).1))
+      (ap (λ (k : Knowledge). forwards set p.node.id k.config) is.known ∙ found.3)),
+)
+  where
+    y : IsEvent (nodes_in u.world.places) e
+    y = a.work.event
+
+    is : IsSeat u.world.places p
+    is = at.0.0.0
+
+    there : nodes_in u.world.places p.name ≡ Some p.node
+    there = seat_node u.world.places p is
+
+    found : (v : View) × (view_of set (knowledge p.node) ≡ Some v) × (v.origin ≡ y.node.id)
+        × (forwards set p.node.id (knowledge p.node).config ≡ true)
+    found = finds (record {
+      name = s.name;
+      node = s.node;
+      is = seat_node u.world.places s a.work.seat;
+      event = e;
+      among = y.among;
+      provider = a.provider;
+      forward = a.forward;
+      era = a.era;
+      body = a.body;
+      next = a.work.next ∙ ap (λ i. suc (progress i (knowledge s.node))) (sym y.own);
+      giver_name = p.name;
+      giver = p.node;
+      at = there;
+      own = at.0.0.1;
+      other = other;
+      applied = subst (λ i. e.number ≤ progress i (knowledge p.node)) (sym y.own) at.1;
+    })
+
+    seen : IsSeen (WasUpTo u) p.node set found.0
+    seen = seen_now u p.name p.node there set found.0 found.1
 
 one_copying : (a : Option Errand) (c d : Copying) → a ≡ Some (ToCopy c) → a ≡ Some (ToCopy d) → c ≡ d
 one_copying a c d one two = let same : Some (ToCopy c) ≡ Some (ToCopy d) = sym one ∙ two in cc
 
+-- so something is given
+asked_given : {u : Past} {s : Seat} {e : Event} {set : ℕ} (a : Asking u s e set) (p : Seat) →
+    HasReached u.world e a.provider s p → CopiesFind set u.world (asked_by a) → given_at (asked_copy a) p ≡ None → ⊥
+asked_given {u} {s} {e} {set} a p at finds none = elim (cases_eq p.node.id y.node.id) [
+  | inl same ↦ leads (one_node (nodes_in u.world.places) (regular_now u).nodes p.name y.name p.node y.node
+      (seat_node u.world.places p at.0.0.0) (y.is, same))
+  | inr other ↦ by (still_leads (asked_copy a) p) (asked_forwards a p at finds other) none
+]
+  where
+    y : IsEvent (nodes_in u.world.places) e
+    y = a.work.event
+
+    leads : p.node ≡ y.node → ⊥
+    leads one =
+        let never : Some (taken p.place) ≡ None =
+        sym (ap (λ b. cond b (Some (taken p.place)) (forwarded (asked_copy a) p (view_of set p.known)))
+        (asked_leads u s e set a p at.0.0.0 one)) ∙ none in absurd cc
+
+    by : (b : Bool) → (v : View) × (forwarded (asked_copy a) p (view_of set p.known) ≡ Some v.seen) →
+        cond b (Some (taken p.place)) (forwarded (asked_copy a) p (view_of set p.known)) ≡ None → ⊥
+    by true given never = absurd cc
+    by false (v, is) never = let both : Some v.seen ≡ None = sym is ∙ never in absurd cc
+
 -- so there is something to be found
-not_vain : (u : Past) (s : Seat) (e : Event) (set : ℕ) → Asking u s e set → IsVain u.world s e → ⊥
-not_vain u s e set a (NoErrand none) =
+not_vain : (u : Past) (s : Seat) (e : Event) (set : ℕ) (a : Asking u s e set) → CopiesFind set u.world (asked_by a) →
+    IsVain u.world s e → ⊥
+not_vain u s e set a finds (NoErrand none) =
     let never : None ≡ Some (ToCopy (asked_copy a)) = sym none ∙ asked_errand u s e set a in absurd cc
-not_vain u s e set a (LedNoMore k asked p at over) =
+not_vain u s e set a finds (GivenNoMore k asked p at over) =
     let same = one_copying (errand_of s e) k (asked_copy a) asked (asked_errand u s e set a) in
-    false≢true (sym over ∙ ap (λ c. still_leads c p) same
-    ∙ asked_leads u s e set a p (subst (λ (c : Copying). IsOther u.world c.provider s p) same at))
+    asked_given a p (subst (λ (c : Copying). HasReached u.world e c.provider s p) same at) finds
+    (subst (λ c. given_at c p ≡ None) same over)
 
 -- An event by which the node that applies it is to copy a set.
 pub record IsAsked (t : Past) (x : Carried) (set : ℕ) : Type 0 where
@@ -170,8 +254,9 @@ pub record IsAsked (t : Past) (x : Carried) (set : ℕ) : Type 0 where
   pub body : x.event.body ≡ EnableSubscription set provider x.seat.node.id forward era
 
 pub copy_comes : (t : Past) (x : Carried) (origin : ℕ) → IsTaken t origin x → (set : ℕ) → IsAsked t x set →
+    ((f : Finding t x.seat x.event) → CopiesFind set f.to.world f.work.event.node) →
     (k : IsCopied t x.seat x.event x.brought) × (k.copy.copying.set_id ≡ set)
-copy_comes t x origin is set a = by is.brings
+copy_comes t x origin is set a finds = by is.brings
   where
     -- as it was found
     then : (f : Finding t x.seat x.event) → Asking f.to f.seat x.event set
@@ -187,7 +272,7 @@ copy_comes t x origin is set a = by is.brings
 
     by : IsBrought t x.seat x.event x.brought →
         (k : IsCopied t x.seat x.event x.brought) × (k.copy.copying.set_id ≡ set)
-    by (Nothing n) = absurd (not_vain n.at.to n.at.seat x.event set (then n.at) n.vain)
+    by (Nothing n) = absurd (not_vain n.at.to n.at.seat x.event set (then n.at) (finds n.at) n.vain)
     by (Copies k) = (
       k,
       ap (λ (c : Copying). c.set_id) (one_copying (errand_of k.at.seat x.event) k.copy.copying

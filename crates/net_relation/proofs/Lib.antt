@@ -10,6 +10,7 @@ pub mod Emitting
 pub mod Enabled
 pub mod Entries
 pub mod Feeding
+pub mod Giving
 pub mod Going
 pub mod Leading
 pub mod Links
@@ -17,7 +18,10 @@ pub mod Moments
 pub mod Nets
 pub mod Origins
 pub mod Places
+pub mod Providing
+pub mod Readied
 pub mod Relating
+pub mod Relaying
 pub mod Rows
 pub mod Serving
 pub mod Sessions

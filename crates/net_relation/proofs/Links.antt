@@ -1,7 +1,7 @@
 -- What a statement or a turn commits: nothing, one commit of a node, or the two by which a node joins.
-use Rattle.std.proofs.Common.{◌≡◌, ◌≢◌, ℕ, Bool, true, false, cond, List, [], ◌∷◌, Option, Some, None, Result, Ok, Err}
-use Rattle.std.proofs.Common.{is_some, not, refl, sym, subst, ◌∙◌}
-use Rattle.std.specs.Prelude.{codes, ◌==◌, ◌&&◌}
+use Rattle.std.proofs.Common.{◌≡◌, ◌≢◌, ℕ, Bool, true, false, List, [], ◌∷◌, Option, Some, None, Result}
+use Rattle.std.proofs.Common.{is_some, not, refl, sym, subst, ◌∙◌, ◌⊎◌, inl, inr, ◌≤◌, ap}
+use Rattle.std.specs.Prelude.{codes, ◌==◌, ◌&&◌, option_map, unwrap_or}
 use Rattle.std.specs.List.{AllByRecursion}
 use Rattle.std.proofs.lemmas.Bool.{eqb-true, eq-eqb, true≢false, and_parts, not-false, or_parts}
 use Rattle.slon_lemmas.proofs.Tests.{none_of}
@@ -15,28 +15,26 @@ use Rattle.slon_model.specs.declared.command.Delivery.{Delivery}
 use Rattle.slon_model.specs.declared.command.Delivery.TheVariants.{Lost}
 use Rattle.slon_model.specs.declared.reply.Refusal.{Refusal}
 use Rattle.slon_model.specs.declared.reply.Refusal.TheVariants as refused
-use Rattle.slon_model.specs.Names.{Named, find_named}
+use Rattle.slon_model.specs.Names.{find_named}
 use Rattle.slon_model.specs.Maps.{entry_at, pair_at}
-use Rattle.slon_model.specs.Config.{Config, era_of, is_known, is_live_row, is_origin}
+use Rattle.slon_model.specs.Config.{Config, era_of, is_known, is_live_row, is_origin, forwards}
 use Rattle.slon_model.specs.Tasks.{Act}
-use Rattle.slon_model.specs.Deeds.{Node, Knowledge, knowledge, with_deeds}
+use Rattle.slon_model.specs.Deeds.{Node, Knowledge, knowledge, with_deeds, told_of}
 use Rattle.slon_model.specs.Place.{Place}
 use Rattle.slon_model.specs.Sessions.{World, Running, Commit, Stated, Seat, Emission, bind, tells}
 use Rattle.slon_model.specs.Membership.{comment_of, already, first_node, init_cluster, store_node, store_path}
 use Rattle.slon_model.specs.Membership.{drop_path, becoming, first_of_cluster, joining, stored_by}
-use Rattle.slon_model.specs.Reaching.{database_of_line, reach, down_among, seat_on_line, claims, beats, better}
-use Rattle.slon_model.specs.Reaching.{best_of}
-use Rattle.slon_model.specs.Reaching.{found_owner, origin_of, owner, commit_of, emitting}
+use Rattle.slon_model.specs.Reaching.{database_of_line, reach, down_among, claims}
+use Rattle.slon_model.specs.Reaching.{origin_of, owner, commit_of, emitting}
 use Rattle.slon_model.specs.Sets.{NewTable, adding, create_set, set_add_table}
 use Rattle.slon_model.specs.Subscribing.{NewFeed, subscribing, feed_checks, feed_bodies, all_tell}
-use Rattle.slon_model.specs.Subscribing.{subscribe_set}
+use Rattle.slon_model.specs.Subscribing.{subscribe_set, is_active, is_confirmed, is_relayed}
 use Rattle.slon_model.specs.Scripts.{ordered}
 use Rattle.slon_model.specs.Turns.{on_turn, sync_turn}
 use Rattle.slon_model.specs.Polls.{Poll, polled, stated_by, hearing}
 use Rattle.slon_model.specs.Working.{Carried, applied_by, fetched, worked}
 use Rattle.slon_model.specs.World.{outcome}
 use Rattle.slon_laws.proofs.Leaves.{outcome_has}
-use Rattle.slon_laws.proofs.Owners.{OnSome}
 use Rattle.slon_laws.proofs.Results.{any_ok}
 use Rattle.stream_laws.specs.Nodes.{nodes_in}
 use Rattle.stream_laws.specs.Making.{is_emitted}
@@ -44,7 +42,7 @@ use Rattle.stream_laws.specs.Facts.{IsRegular}
 use Rattle.stream_laws.proofs.Commits.{Newcomer}
 use Rattle.stream_laws.proofs.Seats.{OnOk, ok_then, IsSeat, IsFound, IsReached, IsLeading, bind_ok, checked_ok}
 use Rattle.stream_laws.proofs.Seats.{kept_ok}
-use Rattle.stream_laws.proofs.Seats.{all_none, when_none, turn_ok, owner_ok, origin_ok, already_none, line_ok}
+use Rattle.stream_laws.proofs.Seats.{all_none, when_none, turn_ok, origin_ok, already_none, line_ok}
 use Rattle.stream_laws.proofs.Seats.{reach_ok, no_nodes}
 use Rattle.stream_laws.proofs.Waiting.{IsPoll, polled_ok}
 use Rattle.stream_laws.proofs.Works.{IsCarried, worked_ok}
@@ -52,6 +50,9 @@ use Rattle.image_laws.proofs.Fitting.{newcomer, store_checks}
 use Rattle.view_laws.specs.Past.{Past}
 use Rattle.view_laws.proofs.Doing.{Takes, Hears, taking}
 use Rattle.view_laws.proofs.Steps.{carried_taken}
+use Rattle.view_laws.proofs.Claiming.{IsClaiming, owner_claiming}
+use Rattle.std.proofs.lemmas.Bool.{eqb-false, false≢true, leb-true}
+use Rattle.node_rows.specs.declared.rows.Subscription.{Subscription}
 
 -- ---- what a node emits
 
@@ -61,12 +62,22 @@ is_plain (SubscribeSet set provider receiver forward) = false
 is_plain (EnableSubscription set provider receiver forward era) = false
 is_plain others = is_emitted others
 
--- The node may emit the events of a subscription: it is the origin of the set and the provider, it knows the receiver,
--- which is another node, and the receiver does not subscribe to the set.
+-- The provider is another node than this one. It subscribes to the set and forwards it, and this node was told that it
+-- has applied the last event on its subscription.
+pub record CanRelay (n : Node) (f : NewFeed) : Type 0 where
+  pub other : f.provider ≢ n.id
+  pub row : Subscription
+  pub has : pair_at f.set_id f.provider (knowledge n).config.subscriptions ≡ Some row
+  pub forward : row.forward ≡ true
+  pub told : row.mark ≤ told_of n.id n.id f.provider (knowledge n)
+
+-- The node may emit the events of a subscription: it is the origin of the set, and the provider or one that has such a
+-- provider, it knows the receiver, which is another node, and the receiver does not subscribe to the set.
 pub record CanFeed (n : Node) (f : NewFeed) : Type 0 where
   pub leads : is_origin n.id f.set_id (knowledge n).config ≡ true
   pub knows : is_some (entry_at f.receiver (knowledge n).config.nodes) ≡ true
-  pub own : f.provider ≡ n.id
+  pub provides : (f.provider ≡ n.id) ⊎ CanRelay n f
+  pub distinct : f.provider ≢ f.receiver
   pub apart : f.receiver ≢ n.id
   pub new : pair_at f.set_id f.receiver (knowledge n).config.subscriptions ≡ None
 
@@ -210,40 +221,42 @@ no_path_link server client run t =
 
 -- ---- SUBSCRIBE SET
 
--- the owner of a set says that it is the origin
-better_claims : (set : ℕ) (best found : Option Seat) → OnSome (λ s. claims set s ≡ true) best →
-    OnSome (λ s. claims set s ≡ true) (better set best found)
-better_claims set best None is = is
-better_claims set best (Some s) is = by (claims set s && beats set s best) refl
-  where
-    by : (b : Bool) → (claims set s && beats set s best) ≡ b →
-        OnSome (λ s. claims set s ≡ true) (cond b (Some s) best)
-    by true passes = (and_parts (claims set s) (beats set s best) passes).0
-    by false fails = is
-
-best_claims : (set : ℕ) (run : Running) (es : Named Place) (best : Option Seat) →
-    OnSome (λ s. claims set s ≡ true) best → OnSome (λ s. claims set s ≡ true) (best_of set run best es)
-best_claims set run [] best is = is
-best_claims set run (e ∷ es) best is =
-    best_claims set run es (better set best (seat_on_line run e)) (better_claims set best (seat_on_line run e) is)
-
-owner_claims : (run : Running) (set : ℕ) (w : World) → OnOk (λ s. claims set s ≡ true) (owner run set w)
-owner_claims run set w = by (best_of set run None w.places) (best_claims set run w.places None tt)
-  where
-    by : (o : Option Seat) → OnSome (λ s. claims set s ≡ true) o → OnOk (λ s. claims set s ≡ true) (found_owner set o)
-    by None is = tt
-    by (Some s) is = is
-
-both_ok : {A : Type 0} (P Q : A → Type 0) (r : Result A Refusal) → OnOk P r → OnOk Q r → OnOk (λ a. P a × Q a) r
-both_ok P Q (Ok a) one two = (one, two)
-both_ok P Q (Err refusal) one two = tt
-
 known_there : (id : ℕ) (c : Config) → is_known id c ≡ true → is_some (entry_at id c.nodes) ≡ true
 known_there id c known = by (entry_at id c.nodes) (and_parts (is_live_row (entry_at id c.nodes)) _ known).0
   where
     by : (o : Option NodeRow) → is_live_row o ≡ true → is_some o ≡ true
     by None never = absurd (true≢false (sym never))
     by (Some row) live = refl
+
+-- who is active has a subscription, of which it has confirmed the last event
+active_row : (s : Seat) (node : ℕ) (o : Option Subscription) → is_confirmed s node o ≡ true →
+    (u : Subscription) × (o ≡ Some u) × (u.mark ≤ told_of s.node.id s.node.id node s.known)
+active_row s node None is = absurd (false≢true is)
+active_row s node (Some u) is = (u, refl, leb-true u.mark (told_of s.node.id s.node.id node s.known) is)
+
+can_provide : (s : Seat) (f : NewFeed) → (is_relayed s f && not (is_active s f.set_id f.provider)) ≡ false →
+    (is_relayed s f && not (forwards f.set_id f.provider s.known.config)) ≡ false → s.known ≡ knowledge s.node →
+    (f.provider ≡ s.node.id) ⊎ CanRelay s.node f
+can_provide s f active forward known = by (f.provider == s.node.id) refl active forward
+  where
+    by : (b : Bool) → (f.provider == s.node.id) ≡ b → (not b && not (is_active s f.set_id f.provider)) ≡ false →
+        (not b && not (forwards f.set_id f.provider s.known.config)) ≡ false →
+        (f.provider ≡ s.node.id) ⊎ CanRelay s.node f
+    by true same active forward = inl (eqb-true f.provider s.node.id same)
+    by false differ active forward = inr (record {
+      other = eqb-false f.provider s.node.id differ;
+      row = u.0;
+      has = subst (λ (k : Knowledge). pair_at f.set_id f.provider k.config.subscriptions ≡ Some u.0) known u.1;
+      forward =
+          sym (ap (λ o. unwrap_or (option_map (λ (s : Subscription). s.forward) o) false) u.1)
+          ∙ not-false (forwards f.set_id f.provider s.known.config) forward;
+      told = subst (λ (k : Knowledge). u.0.mark ≤ told_of s.node.id s.node.id f.provider k) known u.2;
+    })
+      where
+        u : (u : Subscription) × (pair_at f.set_id f.provider s.known.config.subscriptions ≡ Some u)
+            × (u.mark ≤ told_of s.node.id s.node.id f.provider s.known)
+        u = active_row s f.provider (pair_at f.set_id f.provider s.known.config.subscriptions)
+            (not-false (is_active s f.set_id f.provider) active)
 
 can_feed : (w : World) (s : Seat) (f : NewFeed) → IsSeat w.places s → claims f.set_id s ≡ true →
     AllByRecursion (λ o. o ≡ None) (feed_checks s f) → CanFeed s.node f
@@ -252,25 +265,24 @@ can_feed w s f is claimed none = record {
   knows = subst (λ (k : Knowledge). is_some (entry_at f.receiver k.config.nodes) ≡ true) is.known
       (known_there f.receiver s.known.config
       (not-false (is_known f.receiver s.known.config) (when_none _ (refused.NoNode f.receiver) none.0)));
-  own = eqb-true f.provider s.node.id (not-false (f.provider == s.node.id) built.0);
-  apart = λ same. true≢false (sym (eq-eqb f.receiver s.node.id same)
-      ∙ (or_parts (f.receiver == s.node.id) (f.receiver == f.provider)
-      (when_none _ (refused.SameNode f.receiver) none.1.1.0)).0);
+  provides =
+      can_provide s f (when_none _ (refused.NotActive f.provider) none.1.1.1.0)
+      (when_none _ (refused.NotForwarding f.provider) none.1.1.1.1.0) is.known;
+  distinct = λ same. true≢false (sym (eq-eqb f.receiver f.provider (sym same)) ∙ others.1);
+  apart = λ same. true≢false (sym (eq-eqb f.receiver s.node.id same) ∙ others.0);
   new = subst (λ (k : Knowledge). pair_at f.set_id f.receiver k.config.subscriptions ≡ None) is.known
-      (none_of _ built.1);
+      (none_of _ (when_none _ (refused.NotBuilt (codes "subscribe")) none.1.1.1.1.1.0));
 }
   where
-    built : (not (f.provider == s.node.id) ≡ false)
-        × (is_some (pair_at f.set_id f.receiver s.known.config.subscriptions) ≡ false)
-    built = or_parts (not (f.provider == s.node.id)) _
-        (when_none _ (refused.NotBuilt (codes "subscribe")) none.1.1.1.0)
+    others : ((f.receiver == s.node.id) ≡ false) × ((f.receiver == f.provider) ≡ false)
+    others = or_parts (f.receiver == s.node.id) (f.receiver == f.provider)
+        (when_none _ (refused.SameNode f.receiver) none.1.1.0)
 
 feed_link : (f : NewFeed) (run : Running) (t : Past) → IsRegular t.world →
     OnOk (IsStated t) (subscribe_set f run t.world)
 feed_link f run t r =
-    bind_ok (λ s. IsSeat t.world.places s × (claims f.set_id s ≡ true)) (IsStated t) (owner run f.set_id t.world) _
-    (both_ok (IsSeat t.world.places) (λ s. claims f.set_id s ≡ true) (owner run f.set_id t.world)
-    (owner_ok run f.set_id t.world r.once) (owner_claims run f.set_id t.world))
+    bind_ok (IsClaiming f.set_id t.world) (IsStated t) (owner run f.set_id t.world) _
+    (owner_claiming run f.set_id t.world r.once)
     (λ s is. checked_ok (IsStated t) (feed_checks s f)
     (emitting s (all_tell (feed_bodies (era_of f.set_id s.known.config) f)))
     (λ none. subst (λ (k : Knowledge). IsStated t (emitting s (all_tell (feed_bodies (era_of f.set_id k.config) f))))

@@ -1,11 +1,11 @@
 -- What becomes of moments as more transactions end.
 use Rattle.std.proofs.Common.{◌≡◌, ℕ, ◌<◌, ◌≤◌, Bool, true, false, cond, List, [], ◌∷◌, ◌++◌, length, Some, None}
-use Rattle.std.proofs.Common.{refl, sym, ap, ◌∙◌, arith}
+use Rattle.std.proofs.Common.{refl, sym, ap, ◌∙◌, arith, Option, inl, inr}
 use Rattle.std.specs.Prelude.{◌==◌}
-use Rattle.std.proofs.lemmas.Bool.{le-ltb, eqb-true, or_parts}
+use Rattle.std.proofs.lemmas.Bool.{le-ltb, eqb-true, or_parts, false≢true, true≢false, cases_lt, ltb-true, lt-ltb}
 use Rattle.std.proofs.lemmas.List.{length-append}
 use Rattle.slon_model.specs.Rows.{member}
-use Rattle.slon_model.specs.Snapshots.{Snapshot}
+use Rattle.slon_model.specs.Snapshots.{Snapshot, sees}
 use Rattle.slon_model.specs.Place.{Place, taken}
 use Rattle.slon_laws.specs.Sound.{Sound}
 use Rattle.image_laws.specs.Moments.{count_of, is_ended, IsTaken}
@@ -72,3 +72,23 @@ taken_now p ended s c = record {
       seen_now p s x ∙ sym (c.each x) ∙ sym (order_before [] ended x c.apart)
       ∙ ap (is_ended (order_in ended x)) (sym (count_is p ended c));
 }
+
+-- ---- moments of entries
+
+-- what a snapshot sees has a moment, before as many as it sees had ended
+pub seen_moment : (order : ℕ → Option ℕ) (now : ℕ) (k : Snapshot) (xid : ℕ) → IsTaken order now k → sees k xid ≡ true →
+    (m : ℕ) × (order xid ≡ Some m) × (m < count_of k)
+seen_moment order now k xid taken is = by (order xid) refl
+  where
+    by : (o : Option ℕ) → order xid ≡ o → (m : ℕ) × (order xid ≡ Some m) × (m < count_of k)
+    by None none = absurd (false≢true (sym (ap (λ o. is_ended o (count_of k)) none) ∙ sym (taken.sees xid) ∙ is))
+    by (Some m) some =
+        (m, some, ltb-true m (count_of k) (sym (ap (λ o. is_ended o (count_of k)) some) ∙ sym (taken.sees xid) ∙ is))
+
+pub unseen_moment : (order : ℕ → Option ℕ) (now : ℕ) (k : Snapshot) (xid m : ℕ) → IsTaken order now k →
+    (order xid ≡ Some m) × (sees k xid ≡ false) → count_of k ≤ m
+unseen_moment order now k xid m taken is = elim (cases_lt m (count_of k)) [
+  | inl less ↦ absurd (true≢false (sym (taken.sees xid ∙ ap (λ o. is_ended o (count_of k)) is.0
+      ∙ lt-ltb m (count_of k) less) ∙ is.1))
+  | inr most ↦ most
+]

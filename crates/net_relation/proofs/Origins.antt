@@ -9,14 +9,14 @@ use Rattle.slon_model.specs.Names.{find_named}
 use Rattle.slon_model.specs.Rows.{Action}
 use Rattle.slon_model.specs.Config.{era_of, is_origin, member_of}
 use Rattle.slon_model.specs.Deeds.{Brought, Knowledge, Logged, Node, knowledge, nothing_brought, with_deeds}
-use Rattle.slon_model.specs.Following.{SetSync, kept_from, set_syncs}
+use Rattle.slon_model.specs.Following.{SetSync, kept_from, tables_taken}
 use Rattle.slon_model.specs.Logs.{logged, logged_on, own_logs}
 use Rattle.slon_model.specs.Moves.{with_commit}
 use Rattle.slon_model.specs.Place.{Place, own_actions}
 use Rattle.slon_model.specs.Sessions.{Commit, Seat, committing}
 use Rattle.slon_model.specs.Working.{Carried}
 use Rattle.slon_model.proofs.Names.{all_map, bytes_itself, bytes_same, one_found}
-use Rattle.slon_laws.proofs.Following.{AllTaken, syncs_have, taken_have}
+use Rattle.slon_laws.proofs.Following.{syncs_have, delta_has}
 use Rattle.slon_laws.proofs.Later.{HoldsOf}
 use Rattle.slon_laws.proofs.Lists.{all_given}
 use Rattle.slon_laws.proofs.Owners.{OnSome}
@@ -25,10 +25,9 @@ use Rattle.stream_laws.proofs.Lists.{all_among, all_appended, all_each, among_al
 use Rattle.image_laws.proofs.Logging.{among_left, among_right}
 use Rattle.image_laws.proofs.Staying.{Stays as StaysNode}
 use Rattle.view_laws.specs.Past.{Past, past}
-use Rattle.view_laws.proofs.Brought.{Brings, Copies, IsBrought, Nothing, part_has, was_then}
+use Rattle.view_laws.proofs.Brought.{Brings, Copies, IsBrought, Nothing, part_has, was_then, taken_each}
 use Rattle.view_laws.proofs.Doing.{taking}
 use Rattle.view_laws.proofs.Moments.{now_stays}
-use Rattle.view_laws.proofs.Owned.{brought_own}
 use Rattle.net_relation.specs.Laws.{HasOrigin, LogsHaveOrigins}
 use Rattle.net_relation.proofs.Behind.{begun_node, heard_node, holds_now, taken_node, told_logs, told_node}
 use Rattle.net_relation.proofs.Links.{Begins, HearsSome, Linked, TakesOne, Tells, joined, joins}
@@ -38,6 +37,9 @@ use Rattle.net_relation.proofs.Relating.{nodes_of}
 use Rattle.net_relation.proofs.Stepping.{Does, Goes, Gone, Here, IsPut, Joins, Looks, Makes, Shuts, Stays, There}
 use Rattle.net_relation.proofs.Stepping.{is_put}
 use Rattle.net_relation.proofs.Stepping.{join_found, look, stores_linked, stores_look, with_look}
+use Rattle.slon_model.specs.Views.{View}
+use Rattle.stream_laws.proofs.Copies.{IsTakenOf}
+use Rattle.stream_laws.proofs.Seats.{IsSeat}
 
 -- all that each node logged has its origin
 abbrev pub AreOfOrigins : Looks → Type 0
@@ -188,50 +190,43 @@ commit_put f name p q was found (inr (xid, log, runs)) = by p.node refl
 
 -- ---- a commit of a script or a turn
 
--- what is brought is of the log of the provider
-brought_among : (t : Past) (x : Carried) →
-    IsBrought t x.seat x.event x.brought →
+-- what is brought is of the logs of providers
+brought_among : (t : Past) (x : Carried) → AreOfOrigins (look t.world) → IsBrought t x.seat x.event x.brought →
     AllByRecursion (HasOrigin (nodes_in t.world.places)) x.brought.logs
-brought_among t x (Nothing n) =
+brought_among t x was (Nothing n) =
     subst (λ (b : Brought). AllByRecursion (HasOrigin (nodes_in t.world.places)) b.logs) (sym n.none) tt
-brought_among t x (Copies k) =
+brought_among t x was (Copies k) =
     subst (λ (b : Brought). AllByRecursion (HasOrigin (nodes_in t.world.places)) b.logs) (sym k.is) tt
-brought_among t x (Brings y) =
-    among_all (HasOrigin (nodes_in t.world.places)) x.brought.logs (λ l among. record {
-      name = p.name;
-      node = now.2.node;
-      is = ap node_in now.1 ∙ now.2.is;
-      own = now.2.id ∙ y.follows.own ∙ sym (all_among (λ (l : Logged). l.origin ≡ x.event.origin) l x.brought.logs
-          (brought_own t x.seat x.event x.brought (Brings y)) among);
-      among =
-          subst (IsAmong l) (sym now.2.log)
-          (among_right l now.2.newer (logged p.node) (all_among From l x.brought.logs all among));
-    })
+brought_among t x was (Brings y) =
+    subst (λ (b : Brought). AllByRecursion Has b.logs) (sym y.is)
+    (syncs_have x.seat.place (λ r. Unit {0}) Has (λ rows l old is. tt) y.syncs nothing_brought
+    (part_has (λ z. AllByRecursion Has z.rows) x.seat.known y.syncs y.follows.syncs y.part
+    (taken_each (λ v. Unit {0}) (λ z. AllByRecursion Has z.rows) rows (kept_from x.event.origin then.known)
+    y.follows.syncs y.follows.taken (all_each (λ v. Unit {0}) (λ v. tt) (kept_from x.event.origin then.known))))
+    (tt, tt)).1
   where
-    p : Seat
-    p = y.follows.provider
+    Has : Logged → Type 0
+    Has = HasOrigin (nodes_in t.world.places)
 
-    -- the provider now
-    now : HoldsOf (StaysNode p.node) p.name t.world.places
-    now = now_stays t y.at.to.world (was_then y.at) p.name p.place p.node y.follows.seat.found y.follows.seat.node
+    then : Seat
+    then = y.at.seat
 
-    From : Logged → Type 0
-    From l = IsAmong l (logged p.node)
+    -- what a provider had in its log then, it has there now
+    log : (p : Seat) → IsSeat y.at.to.world.places p → AllByRecursion Has (logged p.node)
+    log p is =
+        among_all Has (logged p.node) (λ l among. all_among Has l (logged now.2.node)
+        (was p.name now.0 now.2.node now.1 now.2.is)
+        (subst (IsAmong l) (sym now.2.log) (among_right l now.2.newer (logged p.node) among)))
+      where
+        now : HoldsOf (StaysNode p.node) p.name t.world.places
+        now = now_stays t y.at.to.world (was_then y.at) p.name p.place p.node is.found is.node
 
-    of : List SetSync
-    of = set_syncs y.at.seat.node.id y.at.seat.known x.event (logged p.node)
-
-    rows : AllTaken From y.syncs
-    rows =
-        part_has (λ z. AllByRecursion From z.rows) x.seat.known y.syncs of y.part
-        (taken_have y.at.seat.node.id y.at.seat.known x.event (logged p.node) From From
-        (among_all From (logged p.node) (λ l is. is)) (kept_from x.event.origin y.at.seat.known)
-        (all_each _ (λ v l is on. is) (kept_from x.event.origin y.at.seat.known)))
-
-    all : AllByRecursion From x.brought.logs
-    all =
-        subst (λ (b : Brought). AllByRecursion From b.logs) (sym y.is)
-        (syncs_have x.seat.place (λ r. Unit {0}) From (λ rows l old is. tt) y.syncs nothing_brought rows (tt, tt)).1
+    rows : (v : ℕ × View) (z : SetSync) → Unit {0} → IsTakenOf y.at.to.world then x.event v z →
+        AllByRecursion Has z.rows
+    rows v z any taken =
+        subst (λ (s : SetSync). AllByRecursion Has s.rows) (sym taken.is)
+        (delta_has Has Has (tables_taken then.node.id v.0 then.known.config) (λ l is on. is) x.event.origin v.1.seen
+        x.event.taken (logged taken.provider.node) (log taken.provider taken.reached.0.0.0))
 
 linked_put : (t : Past) → AreOfOrigins (look t.world) → (c : Commit) (p : Place) → look t.world c.name ≡ Some p →
     Linked t c p → Put (look t.world) c.name (committing c p)
@@ -293,7 +288,7 @@ linked_put t was c p found does = by does
             (all_map (HasOrigin (nodes_of f)) (HasOrigin (nodes_of (with_look c.name q f)))
             (of_later f c.name q grows) (logged next)
             (all_appended (HasOrigin (nodes_of f)) d.carried.brought.logs (logged n)
-            (brought_among t d.carried d.is.brings) (was c.name p n found at)))
+            (brought_among t d.carried was d.is.brings) (was c.name p n found at)))
 
 origins_step : (t : Past) → AreOfOrigins (look t.world) → (f : Looks) → Gone t f → AreOfOrigins f
 origins_step t was f Stays = was

@@ -1,42 +1,24 @@
 -- Subscriptions of a net, and those of a configuration, behind each event.
-use Rattle.std.proofs.Common.{◌≡◌, ℕ, Bool, true, false, cond, List, [], ◌∷◌, length, Option, Some, None, refl}
-use Rattle.std.proofs.Common.{sym, ap, subst, ◌∙◌, unwrap_or, eq-eqb}
+use Rattle.std.proofs.Common.{◌≡◌, ℕ, Bool, true, false, cond, List, ◌∷◌, length, Option, Some, None, refl}
+use Rattle.std.proofs.Common.{sym, ap, subst, ◌∙◌, eq-eqb}
 use Rattle.std.specs.Prelude.{◌+◌, ◌==◌, ◌&&◌, option_map}
-use Rattle.std.proofs.lemmas.Bool.{and_parts, eqb-true, false≢true, false_from_ne_true}
+use Rattle.std.proofs.lemmas.Bool.{eqb-true, false≢true, false_from_ne_true}
 use Rattle.node_rows.specs.declared.body.Body.{Body}
 use Rattle.node_rows.specs.declared.body.Body.TheVariants.{SubscribeSet, EnableSubscription, DropSet, UnsubscribeSet}
 use Rattle.node_rows.specs.declared.body.Body.TheVariants.{MoveSet, FailoverSet}
 use Rattle.node_rows.specs.declared.rows.Subscription.{Subscription}
 use Rattle.net_laws.specs.Subscriptions.{Event as Said, Subscribe, Enable, Unrelated, Subscription as Row, last_moment}
 use Rattle.net_laws.specs.Subscriptions.{changed, enabled as enabled_row, readied, row, subscribed}
-use Rattle.slon_model.specs.Maps.{Map2, entry_at, pair_at, row_at, with_entry, with_pair}
+use Rattle.slon_model.specs.Maps.{Map2, pair_at}
 use Rattle.slon_model.specs.Events.{Event}
 use Rattle.slon_model.specs.Config.{Config, change, change_by, enabled}
 use Rattle.slon_model.proofs.Names.{one_found}
 use Rattle.stream_laws.specs.Making.{is_emitted}
-use Rattle.stream_laws.proofs.Lists.{entry-with}
 use Rattle.net_relation.specs.Reading.{said, said_by, unfed, plain}
 use Rattle.net_relation.specs.Matching.{HasRow}
+use Rattle.view_laws.proofs.Once.{both_same, pair-with}
 
 -- ---- pairs
-
-pair-with : {X : Type 0} (q r a b : ℕ) (x : X) (m : Map2 X) →
-    pair_at q r (with_pair a b x m) ≡ cond (q == a && r == b) (Some x) (pair_at q r m)
-pair-with {X} q r a b x m =
-    ap (λ o. entry_at r (unwrap_or o [])) (entry-with q a (with_entry b x (row_at a m)) m) ∙ by (q == a) refl
-  where
-    here : (c : Bool) → q ≡ a → cond c (Some x) (entry_at r (row_at a m)) ≡ cond c (Some x) (pair_at q r m)
-    here true is = refl
-    here false is = ap (λ i. pair_at i r m) (sym is)
-
-    by : (c : Bool) → (q == a) ≡ c →
-        entry_at r (unwrap_or (cond c (Some (with_entry b x (row_at a m))) (entry_at q m)) [])
-        ≡ cond (c && r == b) (Some x) (pair_at q r m)
-    by true same = entry-with r b x (row_at a m) ∙ here (r == b) (eqb-true q a same)
-    by false other = refl
-
-both_same : (q a r b : ℕ) → (q == a && r == b) ≡ true → (q ≡ a) × (r ≡ b)
-both_same q a r b is = let parts = and_parts (q == a) (r == b) is in (eqb-true q a parts.0, eqb-true r b parts.1)
 
 -- a subscription that is enabled
 enabled-pair : (q r a b k : ℕ) (m : Map2 Subscription) (o : Option Subscription) → pair_at a b m ≡ o →

@@ -27,7 +27,7 @@ use Rattle.net_relation.specs.Laws.{SessionsHaveNets}
 use Rattle.net_relation.proofs.Beginning.{Joining, giver_none, giver_other, join_free, joined_later, joined_none}
 use Rattle.net_relation.proofs.Beginning.{joined_spared, new_net}
 use Rattle.net_relation.proofs.Behind.{holds_along}
-use Rattle.net_relation.proofs.Earlier.{WasThen, then_still}
+use Rattle.net_relation.proofs.Earlier.{WasThen, then_still, CopiesFind, ProvidersHave}
 use Rattle.net_relation.proofs.Emitting.{next_number}
 use Rattle.net_relation.proofs.Going.{NetAt, went_net}
 use Rattle.net_relation.proofs.Links.{Join, giver, joined, joins, stores}
@@ -40,6 +40,7 @@ use Rattle.net_relation.proofs.Stepping.{Does, Goes, Gone, Here, IsPut, Joins, L
 use Rattle.net_relation.proofs.Stepping.{is_put}
 use Rattle.net_relation.proofs.Stepping.{join_found, look, stores_linked, stores_look, with_look}
 use Rattle.net_relation.proofs.Whole.{does_net}
+use Rattle.net_relation.proofs.Providing.{Stood, copies_find, providers_have}
 
 -- ---- a node joins
 
@@ -241,6 +242,8 @@ nets_up_to set a t was p found =
           let there = ap (λ (w : World). nodes_in w.places k) (sym here) ∙ is in
           let matches = (o.is m.node at).nodes k i there other in
           matches.row u (ap (λ far. row unfed i.id (up_to far (read set (stream m.node)))) matches.reached ∙ has);
+      has = subst (λ u. ProvidersHave set u m.node) (sym here) (providers_have set t stood);
+      finds = subst (λ u. CopiesFind set u m.node) (sym here) (copies_find set t stood);
     }
       where
         place : m.place ≡ p
@@ -249,6 +252,16 @@ nets_up_to set a t was p found =
 
         at : p.node ≡ Some m.node
         at = ap (λ (q : Place). q.node) (sym place) ∙ m.at
+
+        stood : Stood set t
+        stood = record {
+          name = a;
+          place = p;
+          leader = m.node;
+          at = ap node_in found ∙ at;
+          ended = o.ended;
+          netted = o.is m.node at;
+        }
 
     by : (m : Moment (WasUpTo t)) → WasUpTo t m.session → m.name ≡ a →
         WasThen set o.ended p.node m.session m.place m.node

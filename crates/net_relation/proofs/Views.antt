@@ -1,25 +1,24 @@
 -- What a node that applies an event of another one makes of its view of a set.
-use Rattle.std.proofs.Common.{◌≡◌, ◌≢◌, ◌⊎◌, inl, inr, ℕ, Bool, true, false, cond, [], ◌∷◌, Option, Some, None}
+use Rattle.std.proofs.Common.{◌≡◌, ◌≢◌, ◌⊎◌, inl, inr, ℕ, Bool, true, false, cond, [], ◌∷◌, Option, Some, None, not}
 use Rattle.std.proofs.Common.{refl}
 use Rattle.std.proofs.Common.{sym, ap, subst, ◌∙◌}
-use Rattle.std.specs.Prelude.{◌==◌}
+use Rattle.std.specs.Prelude.{◌==◌, ◌&&◌}
 use Rattle.std.specs.List.{AllByRecursion}
 use Rattle.std.proofs.lemmas.Bool.{eqb-true, eqb-false, eq-eqb, false≢true}
 use Rattle.node_rows.specs.declared.body.Body.{Body}
 use Rattle.node_rows.specs.declared.body.Body.TheVariants.{Sync}
 use Rattle.slon_model.specs.Maps.{Map, entry_at}
 use Rattle.slon_model.specs.Events.{is_sync}
-use Rattle.slon_model.specs.Views.{View, first_view, view_after, with_views}
+use Rattle.slon_model.specs.Views.{View, view_after, with_views}
 use Rattle.slon_model.specs.Deeds.{Brought, Knowledge, Node, knowledge, nothing_brought, view_of, with_deeds}
 use Rattle.slon_model.specs.Following.{SetSync}
-use Rattle.slon_model.specs.Place.{taken}
 use Rattle.slon_model.specs.Working.{Carried, Copying, ToCopy, ToFollow, errand_in, receives_from}
 use Rattle.slon_model.proofs.Names.{all_map, one_found}
 use Rattle.stream_laws.specs.Nodes.{IsAmong}
 use Rattle.stream_laws.proofs.Lists.{all_among, entry-with}
 use Rattle.stream_laws.proofs.Seats.{seat_node}
 use Rattle.view_laws.specs.Past.{Past}
-use Rattle.view_laws.proofs.Brought.{Brings, Copies, IsBrought, IsCopied, IsKept, IsSynced, Nothing}
+use Rattle.view_laws.proofs.Brought.{Brings, Copies, IsBrought, IsCopied, IsKept, IsSynced, Nothing, copied_view}
 use Rattle.view_laws.proofs.Doing.{IsTaken, taking}
 use Rattle.view_laws.proofs.Viewed.{rising_now}
 use Rattle.view_laws.proofs.Reaching.{not_brought}
@@ -45,7 +44,7 @@ pub data ViewTaken (t : Past) (x : Carried) (set : ℕ) : Type 0 where
       ViewTaken t x set
   Copied : (k : IsCopied t x.seat x.event x.brought) → k.copy.copying.set_id ≡ set →
       view_of set (knowledge (behind x))
-      ≡ Some (first_view k.copy.copying.era k.copy.provider.node.id x.event.number (taken k.copy.provider.place)) →
+      ≡ Some (copied_view k.copy) →
       ViewTaken t x set
   Followed : (y : IsSynced t x.seat x.event x.brought) (v : View) →
       view_of set (knowledge x.seat.node) ≡ Some v → v.origin ≡ x.event.origin →
@@ -77,7 +76,7 @@ copy_taken t x origin is set k = by (set == id) refl
     id = k.copy.copying.set_id
 
     first : View
-    first = first_view k.copy.copying.era k.copy.provider.node.id x.event.number (taken k.copy.provider.place)
+    first = copied_view k.copy
 
     there : view_of set (knowledge (behind x)) ≡ cond (set == id) (Some first) (view_of set (knowledge x.seat.node))
     there =
@@ -104,9 +103,9 @@ copy_taken t x origin is set k = by (set == id) refl
 sync_no_copy : (own : ℕ) (receives : Bool) (origin : ℕ) (body : Body) (c : Copying) → body ≡ Sync →
     errand_in own receives origin body ≡ Some (ToCopy c) → ⊥
 sync_no_copy own receives origin body c sync asked =
-    by receives (ap (errand_in own receives origin) (sym sync) ∙ asked)
+    by (receives && not (origin == own)) (ap (errand_in own receives origin) (sym sync) ∙ asked)
   where
-    by : (b : Bool) → cond b (Some (ToFollow origin)) None ≡ Some (ToCopy c) → ⊥
+    by : (b : Bool) → cond b (Some ToFollow) None ≡ Some (ToCopy c) → ⊥
     by true is = absurd cc
     by false is = absurd cc
 

@@ -45,6 +45,7 @@ use Rattle.net_relation.proofs.Rows.{row_beside}
 use Rattle.net_relation.proofs.Stepping.{Here, IsPut, Looks, There, is_put}
 use Rattle.net_relation.proofs.Stepping.{look, with_look}
 use Rattle.net_relation.proofs.Views.{behind}
+use Rattle.net_relation.proofs.Relaying.{relay_of}
 
 -- ---- the origin commits
 
@@ -114,7 +115,7 @@ told_leader : (set : ℕ) (ended : List ℕ) (t : Past) (c : Commit) (p : Place)
     Netted set ended (nodes_in t.world.places) (committing c p)
     (with_deeds (commit_of d.seat d.emits).deeds d.seat.node)
 told_leader set ended t c p l d =
-    retaken (told_net d.seat d.emits d.may (next_number t d.seat d.is)
+    retaken (told_net d.seat d.emits d.may (relay_of t d.seat d.is) (next_number t d.seat d.is)
     (sound_now t d.seat.name d.seat.place d.is.found) (subst (λ q. ClockAt q ended) (sym d.at) l.clock)
     (subst (λ q. Netted set ended (nodes_in t.world.places) q d.seat.node) (sym d.at)
     (l.netted d.seat.node (ap (λ (q : Place). q.node) (sym d.at) ∙ d.is.node))))

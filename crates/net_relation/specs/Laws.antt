@@ -1,5 +1,5 @@
 -- The laws of nets, in every session that a legal history leads to.
-use Rattle.std.specs.Prelude.{◌≡◌, ℕ, Bool, ◌≤◌, true, false, List, Some}
+use Rattle.std.specs.Prelude.{◌≡◌, ℕ, suc, Bool, ◌≤◌, true, false, List, Some}
 use Rattle.node_rows.specs.declared.rows.Subscription.{Subscription}
 use Rattle.node_rows.specs.declared.body.Body.TheVariants.{EnableSubscription}
 use Rattle.net_laws.specs.Laws.{ViewCovers, CopyCovers, ViewHasRow, ViewsRise, LogsHold, BackupServes, ForwarderLogs}
@@ -153,6 +153,37 @@ LogsHaveOrigins =
     (limit : ℕ) (history : List Happening) (w : World) → Leads (start limit) history w →
     (name : List ℕ) (n : Node) → node_of w name ≡ Some n → (l : Logged) → IsAmong l (logged n) →
     HasOrigin (node_of w) l
+
+-- The node of the session from which a node takes the set by its own subscription; and a SYNC of x that this one has
+-- applied, and that is the next event of x for the other one.
+pub record Provider (w : World) (set : ℕ) (x : Node) (k : Keeper w set x) (e : Event) : Type 0 where
+  pub name : List ℕ
+  pub node : Node
+  pub is : node_of w name ≡ Some node
+  pub row : Subscription
+  pub has : pair_at set k.node.id (knowledge k.node).config.subscriptions ≡ Some row
+  pub own : row.provider ≡ node.id
+  pub among : IsAmong e (stream x)
+  pub sync : is_sync e.body ≡ true
+  pub next : e.number ≡ suc (progress x.id (knowledge k.node))
+  pub applied : e.number ≤ progress x.id (knowledge node)
+
+-- It has all in its log that the other one takes with the SYNC from the origin.
+abbrev pub ProvidersServe : Type 0
+ProvidersServe =
+    (limit : ℕ) (history : List Happening) (w : World) → Leads (start limit) history w →
+    (name : List ℕ) (x : Node) → node_of w name ≡ Some x → (set : ℕ) (k : Keeper w set x) →
+    (e : Event) (p : Provider w set x k e) → (l : Logged) → IsAhead set x k.view.seen e.taken l →
+    IsAmong l (logged p.node)
+
+-- So the other one takes the same rows from it as from the origin, in the same order.
+abbrev pub ProvidersGiveTheSame : Type 0
+ProvidersGiveTheSame =
+    (limit : ℕ) (history : List Happening) (w : World) → Leads (start limit) history w →
+    (name : List ℕ) (x : Node) → node_of w name ≡ Some x → (set : ℕ) (k : Keeper w set x) →
+    (e : Event) (p : Provider w set x k e) →
+    (set_sync k.node.id (knowledge k.node) e (logged p.node) (set, k.view)).rows
+    ≡ (set_sync k.node.id (knowledge k.node) e (logged x) (set, k.view)).rows
 
 -- So who forwards a set could serve another node that keeps it, unless that one is behind where it began: of each SYNC
 -- that it has applied it has all in its log that the other one takes with it from the origin.

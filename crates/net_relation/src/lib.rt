@@ -4,7 +4,8 @@
 
 ghost use Rattle.net_relation.specs.Laws.{SessionsHaveNets, LawsApply, KeepersSubscribe, SubscribersKeep};
 ghost use Rattle.net_relation.specs.Laws.{ForwardersLog, ForwardersHaveTheActions, ForwardersServe};
-ghost use Rattle.net_relation.specs.Laws.{ForwardersGiveTheSame, LogsHaveOrigins, KeepersSee};
+ghost use Rattle.net_relation.specs.Laws.{ForwardersGiveTheSame, LogsHaveOrigins, KeepersSee, ProvidersServe};
+ghost use Rattle.net_relation.specs.Laws.{ProvidersGiveTheSame};
 
 /// Take a node of a session and a set. There is a net that has gone by steps, from a beginning without events, to
 /// where the session is: it has the stream of the node and counts the transactions that have ended there, and each
@@ -40,4 +41,12 @@ pub fn forwarders_log()
 pub fn forwarders_serve()
     ensures entries { ForwardersServe }
     ensures same { ForwardersGiveTheSame }
+{}
+
+/// A node takes a set from the node that its own subscription names as the provider. Where that has applied the next
+/// SYNC of the origin which the other one is to apply, it has in its log all that the other one takes with that SYNC
+/// from the origin. So the other one takes the same rows from it, in the same order.
+pub fn providers_serve()
+    ensures entries { ProvidersServe }
+    ensures same { ProvidersGiveTheSame }
 {}

@@ -2,6 +2,7 @@ pub mod Acting
 pub mod Becoming
 pub mod Chaining
 pub mod Committing
+pub mod Confirmed
 pub mod Delta
 pub mod Emitted
 pub mod Emitting

@@ -7,3 +7,4 @@ pub mod Looking
 pub mod Midways
 pub mod Syncing
 pub mod Polling
+pub mod Reached

@@ -13,6 +13,7 @@ mod layout;
 mod logged;
 mod looking;
 mod polling;
+mod reached;
 mod syncing;
 mod writing;
 
@@ -31,4 +32,5 @@ pub use looking::{
 };
 pub use node_change::Side;
 pub use polling::news_among;
+pub use reached::{is_active, kept_view, progress_of};
 pub use syncing::{is_same, is_synced};

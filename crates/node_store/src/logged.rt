@@ -128,7 +128,7 @@ fn rows_on(
 fn first_of<K: Keeper>(database: &Database<K>, origin: u32, xmin: u64) -> u64
     requires up { database.now.state.up ≡ true }
     ensures small { result < 2 ^ 63 }
-    ensures ended { (p : Place) → Ready p (base_of K.kept database.now) → HaveEnded origin result xmin (logs_in p.node) }
+    ensures over { (p : Place) → Ready p (base_of K.kept database.now) → HaveEnded origin result xmin (logs_in p.node) }
 {
     match database.node_id() {
         Some(own) if own == origin => database.first_number(xmin),

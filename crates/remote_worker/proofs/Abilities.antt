@@ -2,7 +2,7 @@
 use Rattle.std.proofs.Common.{◌≡◌, ◌∙◌, ◌<◌, ◌^◌, ℕ, Bool, true, false, cond, List, [], ◌∷◌, Option, Some, None}
 use Rattle.std.proofs.Common.{Result, Err, refl, sym, ap, subst}
 use Rattle.std.proofs.lemmas.Bool.{false≢true}
-use Rattle.std.specs.Prelude.{◌==◌, ◌&&◌, if◌then◌else◌, option_map}
+use Rattle.std.specs.Prelude.{◌==◌, ◌&&◌, if◌then◌else◌, not, option_map}
 use Rattle.std.specs.List.{find, list_all}
 use Rattle.store_rows.specs.Rows.{IsId}
 use Rattle.node_rows.specs.declared.body.Body.{Body}
@@ -22,12 +22,12 @@ use Rattle.event_store.proofs.Queues.{waiting_of}
 use Rattle.app_store.specs.Base.{Base}
 use Rattle.node_store.specs.declared.bringing.Brought.{Brought}
 use Rattle.node_store.specs.Bringing.{AppliesWith}
-use Rattle.remote_worker.specs.declared.carrying.Errand.{Errand}
-use Rattle.remote_worker.specs.declared.carrying.Errand.TheVariants.{Copy, Follow}
+use Rattle.remote_worker.specs.declared.carrying.Copying.{Copying}
+use Rattle.remote_worker.specs.declared.carrying.Errand.TheVariants.{Copy}
 use Rattle.remote_worker.specs.declared.worker.Ready.{Ready}
 use Rattle.remote_worker.specs.declared.worker.Taken.{Taken}
 use Rattle.remote_worker.specs.declared.worker.Worker.{Worker}
-use Rattle.remote_worker.specs.Fetching.{CanBringBy}
+use Rattle.remote_worker.specs.Fetching.{CanCopy}
 use Rattle.remote_worker.specs.Working.{Applies, IsAble, IsDue, seen_errand, waits_as}
 
 pub keeps : (body : Body) → can_carry_out body ≡ true → KeepsViews body
@@ -71,41 +71,33 @@ found_is origin number queue e found =
 
 -- ---- what is to be brought
 
-abbrev CanBringRuled : rules.Errand → Type 0
-CanBringRuled (rules.ToCopy c) = IsId c.set_id × IsId c.provider × (c.era < 2 ^ 63)
-CanBringRuled (rules.ToFollow provider) = IsId provider
-
 abbrev CanBringIf : Option rules.Errand → Type 0
 CanBringIf None = Unit {0}
-CanBringIf (Some r) = CanBringRuled r
+CanBringIf (Some (rules.ToCopy c)) = IsId c.set_id × IsId c.provider × (c.era < 2 ^ 63)
+CanBringIf (Some others) = Unit {0}
 
 -- what an event asks for that can be spelled can be spelled
-ruled_can : (own : ℕ) (receives : Bool) (origin : ℕ) (body : Body) (r : rules.Errand) → IsId origin → CanBody body →
-    errand_in own receives origin body ≡ Some r → CanBringRuled r
-ruled_can own receives origin (EnableSubscription set provider receiver forward era) r id can is =
-    by (receiver == own) is
+ruled_can : (own : ℕ) (receives : Bool) (origin : ℕ) (body : Body) → CanBody body →
+    CanBringIf (errand_in own receives origin body)
+ruled_can own receives origin (EnableSubscription set provider receiver forward era) can = by (receiver == own)
   where
-    by : (b : Bool) →
+    by : (b : Bool) → CanBringIf
         (if b then Some (rules.ToCopy (record { set_id = set; provider = provider; era = era })) else None)
-        ≡ Some r → CanBringRuled r
-    by true is = subst CanBringIf is (can.0, can.1, can.3)
-    by false is = absurd cc
-ruled_can own receives origin Sync r id can is = by receives is
+    by true = (can.0, can.1, can.3)
+    by false = tt
+ruled_can own receives origin Sync can = by (receives && not (origin == own))
   where
-    by : (b : Bool) → (if b then Some (rules.ToFollow origin) else None) ≡ Some r → CanBringRuled r
-    by true is = subst CanBringIf is id
-    by false is = absurd cc
-ruled_can own receives origin others r id can is = absurd cc
+    by : (b : Bool) → CanBringIf (if b then Some rules.ToFollow else None)
+    by true = tt
+    by false = tt
+ruled_can own receives origin others can = tt
 
-bringer_can : (x : Errand) → CanBringRuled (seen_errand x) → CanBringBy x
-bringer_can (Copy c) can = record { set_id = can.0; provider = can.1; era = can.2 }
-bringer_can (Follow provider) can = can
-
-pub due_brings : {ready : Worker Ready} {found : Option Event} {taken : Taken} {x : Errand} → IsId ready.origin →
-    IsDue ready found taken → taken.errand ≡ Some x → CanBringBy x
-due_brings {ready} {x = x} id due is =
-    bringer_can x (ruled_can ready.node ready.state.receives ready.origin due.event.body (seen_errand x) id
-    due.event.can.body (sym due.errand ∙ ap (option_map seen_errand) is))
+pub due_copies : {ready : Worker Ready} {found : Option Event} {taken : Taken} {c : Copying} →
+    IsDue ready found taken → taken.errand ≡ Some (Copy c) → CanCopy c
+due_copies {ready} {c = c} due is =
+    let can = subst CanBringIf (sym due.errand ∙ ap (option_map seen_errand) is)
+    (ruled_can ready.node ready.state.receives ready.origin due.event.body due.event.can.body) in
+    record { set_id = can.0; provider = can.1; era = can.2 }
 
 -- ---- where it is applied
 

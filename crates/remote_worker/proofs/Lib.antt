@@ -2,7 +2,7 @@ pub mod Abilities
 pub mod Counted
 pub mod Left
 pub mod Looking
-mod Taking
+pub mod Taking
 mod Naming
 mod Finding
 mod Keys

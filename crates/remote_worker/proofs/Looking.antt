@@ -58,6 +58,20 @@ seen_so words seen = record {
   same = seen.same;
 }
 
+pub seen_each : {T : Type 0} {one two : Place → T → Type 0} {old new : Base} (result : Result T DbFault) →
+    ((p : Place) (x : T) → one p x → two p x) → Seen one old result new → Seen two old result new
+seen_each (Ok x) words seen = seen_so (λ p. words p x) seen
+seen_each (Err fault) words seen = record { acts = seen.acts; looks = seen.looks; same = tt }
+
+-- what is so of each place that agrees with a database, with no look at it
+pub seen_as_is : {T U : Type 0} {one : Place → T → Type 0} {two : Place → U → Type 0} {old new : Base} {x : T}
+    (y : U) → ((p : Place) → Ready p new → one p x → two p y) → Seen one old (Ok x) new → Seen two old (Ok y) new
+seen_as_is y words seen = record {
+  acts = seen.acts;
+  looks = λ p here full. let a = seen.looks p here refl in (words p (ready_still here a.1) a.0, a.1);
+  same = seen.same;
+}
+
 -- what is so of every place, with no look at it
 pub seen_none : {T : Type 0} (says : Place → T → Type 0) (b : Base) (x : T) → ((p : Place) → says p x) →
     Seen says b (Ok x) b

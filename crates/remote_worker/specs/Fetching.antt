@@ -1,29 +1,30 @@
 -- What a node finds of what it is to bring: at its own database, and at that of the provider.
-use Rattle.std.specs.Prelude.{◌≡◌, ◌==◌, ◌&&◌, ◌<◌, ◌^◌, ℕ, Bool, true, false, not, List, [], ◌∷◌}
-use Rattle.std.specs.Prelude.{Option, Some, None, Result, Ok, Err, is_none}
+use Rattle.std.specs.Prelude.{◌≡◌, ◌==◌, ◌&&◌, ◌<◌, ◌^◌, ℕ, nat_lt, Bool, true, false, if◌then◌else◌, not, List}
+use Rattle.std.specs.Prelude.{[], ◌∷◌, Option, Some, None, Result, Ok, Err, is_none, option_map}
 use Rattle.store_rows.specs.Rows.{IsId}
 use Rattle.slon_model.specs.declared.reply.Refusal.{Refusal}
 use Rattle.slon_model.specs.declared.reply.Refusal.TheVariants as refused
 use Rattle.slon_model.specs.Names.{find_named}
-use Rattle.slon_model.specs.Config.{Config, is_known, is_origin, era_of, names_of}
+use Rattle.slon_model.specs.Config.{Config, is_known, is_origin, era_of}
 use Rattle.slon_model.specs.Events.{Event}
-use Rattle.slon_model.specs.Deeds.{Node}
+use Rattle.slon_model.specs.Deeds.{Node, knowledge, progress, view_of}
 use Rattle.slon_model.specs.Following as following
 use Rattle.slon_model.specs.Place.{Place}
 use Rattle.slon_model.specs.Sessions.{Seat, bind, seat, when, checked, first_refusal}
+use Rattle.slon_model.specs.Snapshots.{Snapshot}
+use Rattle.slon_model.specs.Views.{View}
 use Rattle.slon_model.specs.Working as rules
-use Rattle.slon_model.specs.Logs.{logged}
-use Rattle.slon_model.specs.Working.{copy_checks, copy_of, followed, found_at, provider_in, width_of}
+use Rattle.slon_model.specs.Working.{copied, copy_checks, forwarded, given_at, width_of}
+use Rattle.txn_core.specs.declared.snapshot.Snapshot as declared
+use Rattle.txn_core.specs.Snapshots.{seen_as}
 use Rattle.node_store.specs.declared.looking.Reign.{Reign}
 use Rattle.remote_worker.specs.declared.carrying.Copying.{Copying}
-use Rattle.remote_worker.specs.declared.carrying.Errand.{Errand}
-use Rattle.remote_worker.specs.declared.carrying.Errand.TheVariants.{Copy, Follow}
 use Rattle.remote_worker.specs.declared.fetching.Found.{Found}
 use Rattle.remote_worker.specs.declared.fetching.Found.TheVariants as found
 use Rattle.remote_worker.specs.declared.worker.Taken.{Taken}
 use Rattle.remote_worker.specs.declared.worker.Worker.{Worker}
 use Rattle.remote_worker.specs.Loading.{CanLoad, HasFound}
-use Rattle.remote_worker.specs.Working.{IsWith, seen_copying, seen_errand}
+use Rattle.remote_worker.specs.Working.{IsWith, seen_copying}
 
 -- ---- what is to be brought
 
@@ -31,10 +32,6 @@ pub record CanCopy (c : Copying) : Type 0 where
   pub set_id : IsId c.set
   pub provider : IsId c.provider
   pub era : c.era < 2 ^ 63
-
-abbrev pub CanBringBy : Errand → Type 0
-CanBringBy (Copy c) = CanCopy c
-CanBringBy (Follow provider) = IsId provider
 
 -- ---- at the provider
 
@@ -50,6 +47,33 @@ leads_by c (Some r) = r.origin == c.provider && r.era == c.era
 -- what is found of that
 abbrev pub IsLed : rules.Copying → Config → Bool → Type 0
 IsLed c k led = led ≡ leads_in c c.provider k
+
+-- the snapshot of a view of this era
+abbrev pub seen_of : ℕ → Option View → Option Snapshot
+seen_of era None = None
+seen_of era (Some v) = if v.era == era then Some v.seen else None
+
+-- the seat of a provider; its name says nothing of what it gives
+abbrev pub seat_on : Place → Node → Seat
+seat_on q k = seat [] q k
+
+-- what is found of a provider that forwards the set
+abbrev pub IsForwarded : rules.Copying → Place → Option declared.Snapshot → Type 0
+IsForwarded c q found =
+    (k : Node) → q.node ≡ Some k → k.id ≡ c.provider →
+    option_map seen_as found ≡ forwarded c (seat_on q k) (view_of c.set_id (knowledge k))
+
+-- and of each provider
+abbrev pub IsGiven : rules.Copying → Place → Option declared.Snapshot → Type 0
+IsGiven c q found =
+    (k : Node) → q.node ≡ Some k → k.id ≡ c.provider → option_map seen_as found ≡ given_at c (seat_on q k)
+
+-- 62: the provider does not know the node of this id; 63: it has not met the event
+abbrev pub provider_checks : ℕ → ℕ → Event → Node → List (Option Refusal)
+provider_checks own provider e k =
+    when (not (is_known own (knowledge k).config)) (refused.NotKnown own)
+    ∷ when (nat_lt (progress e.origin (knowledge k)) e.number)
+    (refused.Behind provider (progress e.origin (knowledge k)) e.number) ∷ []
 
 -- ---- at both
 
@@ -82,20 +106,19 @@ abbrev pub IsCalmFound : Found → Type 0
 IsCalmFound (found.Refused refusal) = is_loud refusal ≡ false
 IsCalmFound (found.Brings w) = Unit {0}
 
--- 62, and what a node at this seat finds at a provider at that one
-abbrev pub fetched : rules.Errand → Event → Seat → Seat → Result following.Found Refusal
-fetched a e s p =
-    bind (checked (when (not (is_known s.node.id p.known.config)) (refused.NotKnown s.node.id) ∷ []) p)
-    (found_at a s e)
+-- 62, 63, and what a node at this seat copies of a provider at that one
+abbrev pub fetched : rules.Copying → Event → Seat → Seat → Result following.Found Refusal
+fetched c e s p =
+    bind (checked (provider_checks s.node.id c.provider e p.node) p) (λ p. copied c s e p (given_at c p))
 
 -- this was found with an event of this origin, by the rules
 abbrev pub IsFound : ℕ → Result following.Found Refusal → Found → Type 0
 IsFound origin due (found.Refused refusal) = due ≡ Err refusal
 IsFound origin due (found.Brings w) = (f : following.Found) × (due ≡ Ok f) × HasFound origin f w.state.load
 
--- What the node is asked for: what it is to bring, its own id, and the event.
+-- What the node is asked for: what it is to copy, its own id, and the event.
 pub record Asked : Type 0 where
-  pub errand : Errand
+  pub copying : Copying
   pub own : ℕ
   pub event : Event
 
@@ -103,26 +126,19 @@ pub record Asked : Type 0 where
 abbrev pub IsAt : Asked → (Seat → Seat → Result following.Found Refusal) → Place → Place → Found → Type 0
 IsAt a due p q given =
     (n k : Node) (name other : List ℕ) → p.node ≡ Some n → q.node ≡ Some k → n.id ≡ a.own →
-    k.id ≡ provider_in (seen_errand a.errand) →
-    IsFound a.event.origin (due (seat name p n) (seat other q k)) given
+    k.id ≡ a.copying.provider → IsFound a.event.origin (due (seat name p n) (seat other q k)) given
 
 abbrev pub Fetches : Asked → Place → Place → Found → Type 0
-Fetches a = IsAt a (fetched (seen_errand a.errand) a.event)
+Fetches a = IsAt a (fetched (seen_copying a.copying) a.event)
 
--- the same where the provider knows the node
+-- the same where the provider knows the node and has met the event
 abbrev pub Brings : Asked → Place → Place → Found → Type 0
-Brings a = IsAt a (λ s p. found_at (seen_errand a.errand) s a.event p)
+Brings a =
+    IsAt a (λ s p. copied (seen_copying a.copying) s a.event p (given_at (seen_copying a.copying) p))
 
--- and of a set that is copied, where it leads the set
-abbrev pub Copies : Copying → Asked → Place → Place → Found → Type 0
-Copies c a = IsAt a (λ s p. checked (copy_checks s.place p.place (names_of c.set s.known.config))
-    (copy_of (seen_copying c) a.event.number p (names_of c.set s.known.config)))
-
--- and of what the provider logged
-abbrev pub Follows : ℕ → Event → Place → Place → Found → Type 0
-Follows own e p q given =
-    (n k : Node) (name : List ℕ) → p.node ≡ Some n → q.node ≡ Some k → n.id ≡ own →
-    IsFound e.origin (followed (seat name p n) e (logged k)) given
+-- and where it gives the set as this snapshot
+abbrev pub Copies : Snapshot → Asked → Place → Place → Found → Type 0
+Copies seen a = IsAt a (λ s p. copied (seen_copying a.copying) s a.event p (Some seen))
 
 -- it is the same event
 abbrev pub IsOf : Worker Taken → Found → Type 0

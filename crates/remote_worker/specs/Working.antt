@@ -43,7 +43,7 @@ seen_copying c = record { set_id = c.set; provider = c.provider; era = c.era }
 -- what is to be brought, by the rules
 abbrev pub seen_errand : Errand → rules.Errand
 seen_errand (Copy c) = rules.ToCopy (seen_copying c)
-seen_errand (Follow provider) = rules.ToFollow provider
+seen_errand Follow = rules.ToFollow
 
 -- It waits, the node can carry it out, and this is known of it.
 pub record IsDue (ready : Worker Ready) (found : Option Event) (taken : Taken) : Type 0 where

@@ -53,30 +53,18 @@ pub struct Copying {
     pub era: u64,
 }
 
-/// What a node is to bring with an event from another node.
+/// What a node is to bring with an event from other nodes.
 #[derive(Clone, Copy, Debug, Drop, PartialEq, Eq)]
 pub enum Errand {
     /// A copy of a set.
     Copy(Copying),
-    /// What the node of this id logged for the sets that the node keeps.
-    Follow {
-        /// The id of the node whose log is read.
-        provider: u32,
-    },
-}
-
-/// The id of the node from which it is to be brought.
-pub fn provider_of(errand: Errand) -> u32
-    ensures { result ≡ rules.provider_in (seen_errand errand) }
-{
-    match errand {
-        Errand::Copy(copying) => copying.provider,
-        Errand::Follow { provider } => provider,
-    }
+    /// What was logged for the sets that the node keeps of the origin, each at its provider.
+    Follow,
 }
 
 /// What the node of this id is to bring with an event of this origin: a copy of a set of which the event makes it a
-/// receiver, and with a SYNC what was logged of the sets that it receives from the origin, if it receives one.
+/// receiver, and with a SYNC what was logged of the sets that it keeps of the origin, if it keeps one. Nothing comes to
+/// it of itself.
 pub fn errand_in(own: u32, receives: bool, origin: u32, body: &Body) -> Option<Errand>
     ensures { option_map seen_errand result ≡ rules.errand_in own receives origin body.now }
 {
@@ -95,7 +83,7 @@ pub fn errand_in(own: u32, receives: bool, origin: u32, body: &Body) -> Option<E
             };
             (*receiver == own).then_some(Errand::Copy(copying))
         }
-        Body::Sync => receives.then_some(Errand::Follow { provider: origin }),
+        Body::Sync => (receives && origin != own).then_some(Errand::Follow),
         _ => None,
     }
 }

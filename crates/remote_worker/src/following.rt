@@ -1,6 +1,5 @@
-// What a node brings with a SYNC: for each set that it keeps, what its provider logged between two snapshots.
+// What a node brings with a SYNC: for each set that it keeps, what the provider logged between two snapshots.
 ghost use Rattle.std.specs.Prelude.{◌≡◌, true, is_some, IfOk, map};
-ghost use Rattle.std.specs.List.{AllByRecursion};
 ghost use Rattle.slon_base.specs.Codec.{AllAre};
 ghost use Rattle.store_rows.specs.Rows.{IsId};
 ghost use Rattle.slon_model.specs.Deeds.{knowledge};
@@ -12,7 +11,7 @@ ghost use Rattle.app_store.specs.Serves.{halts};
 ghost use Rattle.node_store.specs.Acting.{Acts};
 ghost use Rattle.node_store.specs.Polling.{OfNode};
 ghost use Rattle.remote_worker.specs.Keeping.{CanFollow, kept_among, seen_kept, taken_of};
-ghost use Rattle.remote_worker.specs.Loading.{CanFetch, HasFetch, HaveFetches};
+ghost use Rattle.remote_worker.specs.Loading.{CanFetch, HasFetch};
 ghost use Rattle.remote_worker.specs.Looking.{Seen};
 
 use crate::keeping::{KeptSet, kept_sets};
@@ -24,7 +23,11 @@ use node_store::{LoggedRows, SetSync, read_log};
 use slon_base::Many;
 
 /// The sets of the event's origin that the node `own`, whose database this is, keeps, as it is to take the SYNC.
-pub(crate) fn sets_of<K: Keeper>(
+///
+/// # Errors
+///
+/// What stopped the store; the database is down then.
+pub fn sets_of<K: Keeper>(
     database: &mut Database<K>,
     own: u32,
     event: &Event,
@@ -46,7 +49,11 @@ pub(crate) fn sets_of<K: Keeper>(
 }
 
 /// What the node takes of one set, from a provider whose database this is.
-fn fetch_of<K: Keeper>(
+///
+/// # Errors
+///
+/// What stopped the store; the database is down then.
+pub fn fetch_of<K: Keeper>(
     provider: &mut Database<K>,
     event: &Event,
     kept: KeptSet,
@@ -64,6 +71,7 @@ fn fetch_of<K: Keeper>(
         view,
         tables,
         forwards,
+        ..
     } = kept;
     match read_log(
         provider,
@@ -89,24 +97,4 @@ fn fetch_of<K: Keeper>(
         }
         Err(fault) => Err(fault),
     }
-}
-
-/// What the node takes of each of these sets, from a provider whose database this is.
-pub(crate) fn fetches_of<K: Keeper>(
-    provider: &mut Database<K>,
-    event: &Event,
-    sets: Many<KeptSet>,
-) -> Result<Many<SetFetch>, DbFault>
-    requires up { provider.old.state.up ≡ true }
-    requires can { AllAre CanFollow sets }
-    ensures can { IfOk result (AllByRecursion CanFetch) }
-    ensures looks { Seen (OfNode (λ n fetches.
-        HaveFetches event.now.origin (map (taken_of (seen_event event.now) (logged n)) (map seen_kept sets)) fetches))
-        (base_of K.kept provider.old) result (base_of K.kept provider.new) }
-{
-    let mut fetches = Many::new(provider.alloc);
-    for kept in sets.into_vec() {
-        fetches.push(fetch_of(provider, event, kept)?)?;
-    }
-    Ok(fetches)
 }

@@ -3,8 +3,9 @@ ghost use Rattle.std.specs.Prelude.{◌≡◌, Some, OnOk, IfOk, IfErr, map};
 ghost use Rattle.slon_base.specs.Codec.{AllAre, IsText};
 ghost use Rattle.slon_base.specs.Keeper.{Store, sight};
 ghost use Rattle.store_rows.specs.Rows.{IsId};
+ghost use Rattle.store_rows.specs.Space.{AllOf};
 ghost use Rattle.store_rows.specs.Steps.{Safe, IsWithinLimit, Gives};
-ghost use Rattle.node_rows.specs.Spellings.{CanTable};
+ghost use Rattle.node_rows.specs.Spellings.{CanSubscription, CanTable};
 ghost use Rattle.slon_model.specs.Config as config;
 ghost use Rattle.slon_model.specs.Config.{Config};
 ghost use Rattle.slon_model.specs.Deeds.{Node, knowledge};
@@ -15,12 +16,12 @@ ghost use Rattle.txn_core.specs.Snapshots.{seen_as};
 ghost use Rattle.event_store.specs.Kept.{seen_view};
 ghost use Rattle.event_store.specs.Seen.{seen_event};
 ghost use Rattle.event_store.specs.Spellings.{CanView};
-ghost use Rattle.node_state.specs.Held.{NodeHeld};
-ghost use Rattle.node_state.specs.Held.{seen_views};
+ghost use Rattle.node_state.specs.Held.{IsOrderly, NodeHeld, seen_views};
 ghost use Rattle.remote_worker.specs.Keeping.{CanFollow, forwards_in, kept_among, kept_for, leads_in};
+ghost use Rattle.remote_worker.specs.Keeping.{names_to, provider_at, provider_in};
 ghost use Rattle.remote_worker.specs.Keeping.{seen_kept, tables_among};
 
-use crate::reading::TABLES;
+use crate::reading::{TABLES, names_among};
 use event_store::{Event, View};
 use node_change::{find_set_row, find_subscription};
 use node_rows::{SetRow, Subscription, TableRow};
@@ -32,17 +33,19 @@ use txn_core::Snapshot;
 
 /// A set that a node keeps, as it is to take a SYNC.
 #[derive(Drop)]
-pub(crate) struct KeptSet {
+pub struct KeptSet {
     /// The id of the set.
-    pub(crate) set: u32,
+    pub set: u32,
+    /// The id of the node whose log is read for it.
+    pub provider: u32,
     /// How far the node is in the set.
-    pub(crate) before: View,
+    pub before: View,
     /// How far the node is in the set behind the SYNC.
-    pub(crate) view: View,
+    pub view: View,
     /// The ids and the names of the tables to which the node takes rows.
-    pub(crate) tables: Many<(u32, Text)>,
+    pub tables: Many<(u32, Text)>,
     /// Whether the node logs what it takes.
-    pub(crate) forwards: bool,
+    pub forwards: bool,
 }
 
 /// The later one of two snapshots: the first one, where it sees all that the second one sees.
@@ -150,17 +153,60 @@ fn tables_taken<K: Keeper>(
     Ok(tables_among(alloc, set, rows)?)
 }
 
-/// Whether the node `own` forwards a set.
-fn is_forwarder<K: Keeper>(alloc: Global, keeper: &mut K, own: u32, set: u32) -> Result<bool, Stop>
-    requires ids { IsId own × IsId set }
+/// The names of the tables of a set to which the node `own` takes rows, ascending by the ids of the tables: none, where
+/// it is itself the origin.
+pub(crate) fn names_taken<K: Keeper>(
+    alloc: Global,
+    keeper: &mut K,
+    own: u32,
+    set: u32,
+) -> Result<Many<Text>, Stop>
+    requires set { IsId set }
     ensures safe { Safe (K.kept keeper.old) (K.kept keeper.new) result }
     ensures same { OnOk result ((K.kept keeper.new).pending ≡ (K.kept keeper.old).pending) }
     ensures within { IfErr result IsWithinLimit }
+    ensures texts { IfOk result (AllAre IsText) }
+    ensures says { (m : Store) (c : Config) → sight (K.kept keeper.old) ≡ Some m → HoldsConfig c m → IsOrderly c →
+        Gives (λ names. names ≡ names_to own set c) result }
+{
+    let row = find_set_row(alloc, keeper, set)?;
+    if leads(own, &row) {
+        return Ok(Many::new(alloc));
+    }
+    let rows = all_rows(alloc, keeper, TABLES)?;
+    Ok(names_among(alloc, set, rows.as_slice())?)
+}
+
+/// The node from which a subscription takes a set, or the origin where there is none.
+fn provider_in(row: &Option<Subscription>, origin: u32) -> u32
+    requires can { IsId origin × AllOf CanSubscription row.now }
+    ensures id { IsId result }
+    ensures is { result ≡ provider_in row.now origin }
+{
+    match row {
+        None => origin,
+        Some(row) => row.provider,
+    }
+}
+
+/// From which node the node `own` takes a set of this origin, and whether it forwards that.
+fn subscribed<K: Keeper>(
+    alloc: Global,
+    keeper: &mut K,
+    own: u32,
+    origin: u32,
+    set: u32,
+) -> Result<(u32, bool), Stop>
+    requires ids { IsId own × IsId origin × IsId set }
+    ensures safe { Safe (K.kept keeper.old) (K.kept keeper.new) result }
+    ensures same { OnOk result ((K.kept keeper.new).pending ≡ (K.kept keeper.old).pending) }
+    ensures within { IfErr result IsWithinLimit }
+    ensures id { IfOk result (λ found. IsId found.0) }
     ensures says { (m : Store) (c : Config) → sight (K.kept keeper.old) ≡ Some m → HoldsConfig c m →
-        Gives (λ found. found ≡ config.forwards set own c) result }
+        Gives (λ found. (found.0 ≡ provider_at own origin set c) × (found.1 ≡ config.forwards set own c)) result }
 {
     let row = find_subscription(alloc, keeper, set, own)?;
-    Ok(forwards(&row))
+    Ok((provider_in(&row, origin), forwards(&row)))
 }
 
 /// One set of which the node `own` keeps this view, as it is to take a SYNC. These are the rows of all tables.
@@ -186,9 +232,10 @@ fn kept_set<K: Keeper>(
 {
     let (set, view) = kept;
     let tables = tables_taken(alloc, keeper, own, *set, rows)?;
-    let forwards = is_forwarder(alloc, keeper, own, *set)?;
+    let (provider, forwards) = subscribed(alloc, keeper, own, event.origin, *set)?;
     Ok(KeptSet {
         set: *set,
+        provider,
         before: copy_view(alloc, view)?,
         view: view_after(alloc, view, event)?,
         tables,

@@ -13,8 +13,10 @@ mod reading;
 mod standing;
 mod worker;
 
-pub use carrying::{Copying, Errand, can_carry_out, errand_in, kind_of, provider_of};
+pub use carrying::{Copying, Errand, can_carry_out, errand_in, kind_of};
 pub use fetches::{Fetches, Kept};
-pub use fetching::Found;
+pub use fetching::{Found, check_provider};
+pub use following::{fetch_of, sets_of};
+pub use keeping::KeptSet;
 pub use loading::{Load, SetFetch};
 pub use worker::{Fetched, Next, Ready, Settled, Taken, Worker};

@@ -1,17 +1,17 @@
-// What a node reads to know which event comes next, and what it copies.
+// What a node reads to know which event comes next, and the names of tables.
 ghost use Rattle.std.specs.Prelude.{◌≡◌, ◌==◌, ◌+◌, Some, OnOk, IfOk, IfErr, filter, map};
 ghost use Rattle.std.specs.List.{list_any};
 ghost use Rattle.slon_base.specs.Codec.{AllAre, IsText};
 ghost use Rattle.slon_base.specs.Keeper.{Store, sight};
 ghost use Rattle.store_rows.specs.Rows.{IsId};
 ghost use Rattle.store_rows.specs.Steps.{Safe, IsWithinLimit, Gives};
-ghost use Rattle.slon_model.specs.Config.{Config, is_table_of, names_of};
+ghost use Rattle.slon_model.specs.Config.{Config, is_table_of};
 ghost use Rattle.slon_model.specs.Deeds as deeds;
 ghost use Rattle.slon_model.specs.Deeds.{Node, knowledge};
 ghost use Rattle.slon_model.specs.Working.{receives_from};
 ghost use Rattle.set_config.specs.Holds.{HoldsConfig};
 ghost use Rattle.node_rows.specs.Spellings.{CanTable};
-ghost use Rattle.node_state.specs.Held.{IsOrderly, NodeHeld};
+ghost use Rattle.node_state.specs.Held.{NodeHeld};
 
 use event_store::{View, progress};
 use node_rows::TableRow;
@@ -75,7 +75,11 @@ pub(crate) fn next_of<K: Keeper>(
 }
 
 /// The names of those tables with these rows that are live and in this set.
-fn names_among(alloc: Global, set: u32, rows: &[(u32, TableRow)]) -> Result<Many<Text>, AllocError>
+pub(crate) fn names_among(
+    alloc: Global,
+    set: u32,
+    rows: &[(u32, TableRow)],
+) -> Result<Many<Text>, AllocError>
     requires { AllAre (λ e. IsId e.0 × CanTable e.1) rows.now }
     ensures texts { IfOk result (AllAre IsText) }
     ensures names { IfOk result (λ names. names ≡ map (λ e. e.1.name) (filter (is_table_of set) rows.now)) }
@@ -88,21 +92,4 @@ fn names_among(alloc: Global, set: u32, rows: &[(u32, TableRow)]) -> Result<Many
         names.push(row.name.copy(alloc)?)?;
     }
     Ok(names)
-}
-
-/// The names of the tables of a set, ascending by the ids of the tables.
-pub(crate) fn names_of_set<K: Keeper>(
-    alloc: Global,
-    keeper: &mut K,
-    set: u32,
-) -> Result<Many<Text>, Stop>
-    ensures safe { Safe (K.kept keeper.old) (K.kept keeper.new) result }
-    ensures same { OnOk result ((K.kept keeper.new).pending ≡ (K.kept keeper.old).pending) }
-    ensures within { IfErr result IsWithinLimit }
-    ensures texts { IfOk result (AllAre IsText) }
-    ensures says { (m : Store) (c : Config) → sight (K.kept keeper.old) ≡ Some m → HoldsConfig c m → IsOrderly c →
-        Gives (λ names. names ≡ names_of set c) result }
-{
-    let rows = all_rows(alloc, keeper, TABLES)?;
-    Ok(names_among(alloc, set, rows.as_slice())?)
 }

@@ -1,11 +1,9 @@
 -- What a command about a script comes to is told in words that have their forms, and the scripts that run say lines.
-use Rattle.std.proofs.Common.{◌≡◌, ℕ, true, false, cond, not, List, [], ◌∷◌, Option, Some, None, refl, sym}
-use Rattle.std.proofs.Common.{subst}
-use Rattle.std.specs.Prelude.{◌==◌, Bool, find, is_some, codes, option_map, Result, Ok, Err}
+use Rattle.std.proofs.Common.{◌≡◌, ℕ, true, false, cond, not, List, [], ◌∷◌, Option, Some, None, refl, sym, subst, Bool}
+use Rattle.std.specs.Prelude.{◌==◌, Bool, find, is_some, codes, option_map, Result, Ok, Err, nat_lt, map}
 use Rattle.std.specs.List.{AllByRecursion}
 use Rattle.std.specs.Str.{bytes_eq}
 use Rattle.slonik_script.specs.declared.script.Command.{Command as Order}
-use Rattle.slonik_script.specs.declared.script.Command.TheVariants as order
 use Rattle.slonik_script.specs.declared.script.Statement.{Statement}
 use Rattle.slonik_script.specs.declared.script.Statement.TheVariants.{Single, Try as Tries}
 use Rattle.slon_model.specs.declared.command.Delivery.{Delivery}
@@ -14,7 +12,6 @@ use Rattle.slon_model.specs.declared.reading.Reading.{Reading}
 use Rattle.slon_model.specs.declared.reading.Reading.TheVariants.{Read, Wrong}
 use Rattle.slon_model.specs.declared.reply.Answer.TheVariants.{Echoed}
 use Rattle.slon_model.specs.declared.reply.Refusal.{Refusal}
-use Rattle.slon_model.specs.declared.reply.Refusal.TheVariants as refused
 use Rattle.slon_model.specs.declared.reply.Reply.{Reply}
 use Rattle.slon_model.specs.declared.reply.Reply.TheVariants.{Refused}
 use Rattle.slon_model.specs.Names.{Named, find_named, without}
@@ -22,37 +19,41 @@ use Rattle.slon_model.specs.Spoken.{IsLine, IsName, IsOrder, IsStatement, AreSta
 use Rattle.slon_model.specs.Tasks.{Act, ToRead, ToStep, ToForget, ToStart, ToStop, ToCut, ToJoin, ToSync, ToListen}
 use Rattle.slon_model.specs.Tasks.{ToFetch, ToWork}
 use Rattle.slon_model.specs.Events.{Event}
-use Rattle.slon_model.specs.Config.{has_path, is_known, names_of}
+use Rattle.slon_model.specs.Config.{has_path, is_known, names_of, tables_of, is_origin, Config}
 use Rattle.node_rows.specs.declared.body.Body.TheVariants.{Sync}
 use Rattle.slon_model.specs.Deeds.{Node}
 use Rattle.slon_model.specs.Place.{Place, is_running, node_id}
 use Rattle.slon_model.specs.Sessions.{World, Memory, Running, Stated, Outcome, Excess, Seat, seat_of, excess_of}
-use Rattle.slon_model.specs.Sessions.{no_change, bind, checked, tells, when, writer_of}
+use Rattle.slon_model.specs.Sessions.{no_change, bind, tells, when, writer_of}
 use Rattle.slon_model.specs.Scripts.{Stepping, ending, done_by, single, order_step, statement_step, step_todo, step_of}
 use Rattle.slon_model.specs.Scripts.{ordered, quiet, read_as, kill_of}
-use Rattle.slon_model.specs.Turns.{is_id, at_node, switched, switched_at, is_cut, with_cuts, seat_at, on_turn}
-use Rattle.slon_model.specs.Turns.{turned, turned_by, taken_turn, is_synced, sync_turn}
+use Rattle.slon_model.specs.Turns.{is_id, at_node, switched, switched_at, is_cut, with_cuts, seat_at, on_turn, turned}
+use Rattle.slon_model.specs.Turns.{turned_by, taken_turn, is_synced, sync_turn}
 use Rattle.slon_model.specs.Polls.{Poll, poll_of, hears_none, linked, server_for, brings_nothing, polled, hearing}
 use Rattle.slon_model.specs.Polls.{stated_by, left_by}
-use Rattle.slon_model.specs.Following.{Found, FoundNothing, brought_of, tables_in}
+use Rattle.slon_model.specs.Following.{Found, brought_of, tables_in, FoundCopy, tables_taken, kept_from}
 use Rattle.slon_model.specs.Working.{Carried, Copying, Errand, ToCopy, ToFollow, next_at, can_carry_out, taken_up}
-use Rattle.slon_model.specs.Working.{Fetched, applied_by, carried, carried_at, copied, copy_checks, copy_of, errand_of}
-use Rattle.slon_model.specs.Working.{fetched, fetched_at, fetched_by, found_at, found_by, found_for, found_or, given_up}
-use Rattle.slon_model.specs.Working.{kept_fetch, linked_to, provided, provider_in, settled, still_leads, taken_from}
-use Rattle.slon_model.specs.Working.{with_fetch, work_ended, worked}
+use Rattle.slon_model.specs.Working.{Fetched, applied_by, carried, carried_at, copied, copy_checks, errand_of, fetched}
+use Rattle.slon_model.specs.Working.{fetched_at, fetched_by, found_by, found_for, found_or, given_up, kept_fetch}
+use Rattle.slon_model.specs.Working.{linked_to, provided, settled, taken_from, with_fetch, work_ended, worked, given_at}
+use Rattle.slon_model.specs.Working.{names_taken, rows_at, progress_in, provider_of, followed_all, followed}
 use Rattle.slon_model.specs.Membership.{synced}
 use Rattle.slon_model.specs.Rows.{member}
 use Rattle.slon_model.specs.World.{outcome}
 use Rattle.slon_model.proofs.Names.{all_found}
 use Rattle.slon_laws.specs.Worlds.{AllPlaces}
 use Rattle.stream_laws.specs.Facts.{IsRegular}
-use Rattle.stream_laws.proofs.Seats as Seats
 use Rattle.stream_laws.proofs.Seats.{OnOk, turn_ok}
 use Rattle.reply_forms.proofs.Said.{PlaceReads, names_read}
-use Rattle.reply_forms.proofs.Words.{Reads}
-use Rattle.reply_forms.proofs.Words.{RefusalReads}
+use Rattle.reply_forms.proofs.Words.{Reads, RefusalReads}
 use Rattle.reply_forms.proofs.Statements.{Gives, IsOne, AreNamed, AreCommits, StatedReads, all_filter, ordered_gives}
 use Rattle.reply_forms.proofs.Statements.{bind_gives, checked_gives, emitting_reads, when_tells, Tells}
+use Rattle.slon_model.specs.Views.{first_view, Views}
+use Rattle.slon_model.specs.Snapshots.{Snapshot}
+use Rattle.node_rows.specs.declared.rows.TableRow.{TableRow}
+use Rattle.slonik_script.specs.declared.script.Command.TheVariants as order
+use Rattle.slon_model.specs.declared.reply.Refusal.TheVariants as refused
+use Rattle.stream_laws.proofs.Seats as Seats
 
 -- what a script says: its NODE lines are lines, and so are the texts of what is left of it
 abbrev pub RunReads : Running → Type 0
@@ -302,9 +303,8 @@ busy_tells None = tt
 busy_tells (Some xid) = tt
 
 -- the provider
-provided_gives : (provider : ℕ) (w : World) (s : Seat) → Known w →
-    Gives IsSeat (provided provider w.memory s (at_node provider w))
-provided_gives provider w s known =
+provided_gives : (w : World) → Known w → (s : Seat) (e : Event) (provider : ℕ) → Gives IsSeat (provided provider w s e)
+provided_gives w known s e provider =
     bind_gives IsSeat IsSeat
     (bind (linked_to provider w.memory s (at_node provider w)) (λ found. seat_at provider found)) _
     (bind_gives Each IsSeat (linked_to provider w.memory s (at_node provider w)) _
@@ -315,35 +315,63 @@ provided_gives provider w s known =
       (when_tells _ (refused.Severed s.node.id provider) tt, (when_tells _ (refused.NoNode provider) tt, tt)),
     )
     (at_named provider w known)) (seated provider))
-    (λ p named. checked_gives IsSeat (when (not (is_known s.node.id p.known.config)) (refused.NotKnown s.node.id) ∷ [])
-    p (when_tells _ (refused.NotKnown s.node.id) tt, tt) named)
+    (λ p named. checked_gives IsSeat (when (not (is_known s.node.id p.known.config)) (refused.NotKnown s.node.id)
+    ∷ when (nat_lt (progress_in e p) e.number) (refused.Behind provider (progress_in e p) e.number) ∷ [])
+    p (
+      when_tells _ (refused.NotKnown s.node.id) tt,
+      (when_tells _ (refused.Behind provider (progress_in e p) e.number) tt, tt),
+    ) named)
   where
     Each : Option (List ℕ × Place) → Type 0
     Each found = (e : List ℕ × Place) → found ≡ Some e → IsOne e
 
-copied_gives : (c : Copying) (s : Seat) (e : Event) (p : Seat) →
-    AllByRecursion IsLine (names_of c.set_id s.known.config) → Gives (λ f. Unit {0}) (copied c s e p)
-copied_gives c s e p lines =
-    let names = names_of c.set_id s.known.config in
-    elim (still_leads c p) as (λ b. Gives (λ f. Unit {0})
-    (cond b (checked (copy_checks s.place p.place names) (copy_of c e.number p names)) (Ok FoundNothing))) [
-      | true ↦ checked_gives (λ f. Unit {0}) (copy_checks s.place p.place names) (copy_of c e.number p names)
-          (widths_tell s.place p.place names lines) tt
-      | false ↦ tt
-    ]
+copied_gives : (c : Copying) (s : Seat) (e : Event) (p : Seat) (seen : Option Snapshot) →
+    AllByRecursion IsLine (names_taken s c.set_id) → Gives (λ f. Unit {0}) (copied c s e p seen)
+copied_gives c s e p None lines = tt
+copied_gives c s e p (Some seen) lines =
+    let names = names_taken s c.set_id in
+    checked_gives (λ f. Unit {0}) (copy_checks s.place p.place names)
+    (FoundCopy c.set_id (first_view c.era e.origin e.number seen) (rows_at p.place names))
+    (widths_tell s.place p.place names lines) tt
 
-at_gives : (w : World) (s : Seat) (e : Event) (a : Errand) → Known w → Seats.IsSeat w.places s → (p : Seat) →
-    Gives (λ f. Unit {0}) (found_at a s e p)
-at_gives w s e (ToCopy c) known is p =
-    copied_gives c s e p (names_read w known.regular known.reads s is c.set_id)
-at_gives w s e (ToFollow provider) known is p = tt
+-- the tables to which a node takes rows are among those of the set
+taken_reads : (own set : ℕ) (c : Config) → AllByRecursion IsLine (names_of set c) →
+    AllByRecursion IsLine (map (λ t. t.1) (tables_taken own set c))
+taken_reads own set c lines = by (is_origin own set c)
+  where
+    entry : ℕ × TableRow → ℕ × List ℕ
+    entry e = (e.0, e.1.name)
+
+    each : (ts : List (ℕ × TableRow)) → AllByRecursion IsLine (map (λ e. e.1.name) ts) →
+        AllByRecursion IsLine (map (λ (t : ℕ × List ℕ). t.1) (map entry ts))
+    each [] all = tt
+    each (t ∷ ts) all = (all.0, each ts all.1)
+
+    by : (b : Bool) →
+        AllByRecursion IsLine (map (λ (t : ℕ × List ℕ). t.1) (cond b [] (map entry (tables_of set c))))
+    by true = tt
+    by false = each (tables_of set c) lines
+
+followed_gives : (w : World) → Known w → (s : Seat) (e : Event) (vs : Views) →
+    Gives (λ ts. Unit {0}) (followed_all w s e vs)
+followed_gives w known s e [] = tt
+followed_gives w known s e (v ∷ more) =
+    bind_gives (λ t. Unit {0}) (λ ts. Unit {0}) (followed w s e v) _
+    (bind_gives IsSeat (λ t. Unit {0}) (provided (provider_of e.origin s v.0) w s e) _
+    (provided_gives w known s e (provider_of e.origin s v.0)) (λ p named. tt))
+    (λ t any. bind_gives (λ ts. Unit {0}) (λ ts. Unit {0}) (followed_all w s e more) _
+    (followed_gives w known s e more) (λ ts any. tt))
 
 found_gives : (w : World) (s : Seat) (e : Event) (o : Option Errand) → Known w → Seats.IsSeat w.places s →
     Gives (λ f. Unit {0}) (found_by w s e o)
 found_gives w s e None known is = tt
-found_gives w s e (Some a) known is =
-    bind_gives IsSeat (λ f. Unit {0}) (provided (provider_in a) w.memory s (at_node (provider_in a) w)) _
-    (provided_gives (provider_in a) w s known) (λ p named. at_gives w s e a known is p)
+found_gives w s e (Some (ToCopy c)) known is =
+    bind_gives IsSeat (λ f. Unit {0}) (provided c.provider w s e) _ (provided_gives w known s e c.provider)
+    (λ p named. copied_gives c s e p (given_at c p)
+    (taken_reads s.node.id c.set_id s.known.config (names_read w known.regular known.reads s is c.set_id)))
+found_gives w s e (Some ToFollow) known is =
+    bind_gives (λ ts. Unit {0}) (λ f. Unit {0}) (followed_all w s e (kept_from e.origin s.known)) _
+    (followed_gives w known s e (kept_from e.origin s.known)) (λ ts any. tt)
 
 for_gives : (w : World) (s : Seat) (e : Event) → Known w → Seats.IsSeat w.places s →
     Gives (λ f. Unit {0}) (found_for w s e)

@@ -266,8 +266,22 @@ table_gives origin t run w line runs =
 feed_gives : (f : NewFeed) (run : Running) (w : World) → Runs run w → Gives StatedReads (subscribe_set f run w)
 feed_gives f run w runs =
     bind_gives IsSeat StatedReads (owner run f.set_id w) _ (owner_gives run f.set_id w runs) (λ s named.
-    checked_gives StatedReads (feed_checks s f) _
-    (when_tells _ _ tt, (when_tells _ _ tt, (when_tells _ _ tt, (when_tells _ _ refl, tt))))
+    checked_gives StatedReads (feed_checks s f) _ (
+      when_tells _ _ tt,
+      (
+        when_tells _ _ tt,
+        (
+          when_tells _ _ tt,
+          (
+            when_tells _ _ tt,
+            (
+              when_tells _ _ tt,
+              (when_tells _ _ refl, tt),
+            ),
+          ),
+        ),
+      ),
+    )
     (emitting_reads s (all_tell (feed_bodies (era_of f.set_id s.known.config) f)) named (tt, (tt, (tt, tt)))))
 
 sync_gives : (id : ℕ) (run : Running) (w : World) → Runs run w → Gives StatedReads (sync_node id run w)

@@ -16,7 +16,7 @@ use Rattle.slon_model.specs.declared.reply.Refusal.TheVariants.{TableExists, Nam
 use Rattle.slon_model.specs.declared.reply.Refusal.TheVariants.{Duplicate, NotOrigin, SetLocked, BadWidth, TableUsed}
 use Rattle.slon_model.specs.declared.reply.Refusal.TheVariants.{Busy, NoPath, SameNode, Script, ScriptUsed, NoScript}
 use Rattle.slon_model.specs.declared.reply.Refusal.TheVariants.{Nothing, NotListed, NotKnown, Off, Severed}
-use Rattle.slon_model.specs.declared.reply.Refusal.TheVariants.{NotBuilt}
+use Rattle.slon_model.specs.declared.reply.Refusal.TheVariants.{Behind, NotActive, NotForwarding, NotBuilt}
 use Rattle.slon_model.specs.Printed.{refusal_text}
 use Rattle.session_text.specs.Replies.{ScriptHasForm, RefusalHasForm}
 use Rattle.slon_lemmas.proofs.Splitting.{lacks, lacks-append, lacks-decimal}
@@ -37,6 +37,12 @@ abbrev severed_of : List (List ℕ) → Refusal
 severed_of [] = Duplicate
 severed_of (node ∷ other) = Severed (digits_value 10 node) (number_of other)
 
+-- the provider and the two numbers of the words behind `behind`
+abbrev behind_of : List (List ℕ) → Refusal
+behind_of (provider ∷ progress ∷ number) =
+    Behind (digits_value 10 provider) (digits_value 10 progress) (number_of number)
+behind_of others = Duplicate
+
 abbrev by_number : (ℕ → Refusal) → List (List ℕ) → Refusal
 by_number made rest = made (number_of rest)
 
@@ -55,8 +61,9 @@ readings =
     ∷ (codes "51", by_text NameUsed) ∷ (codes "52", by_text NoTable) ∷ (codes "53", by_text NoTransaction)
     ∷ (codes "54", λ _. Duplicate) ∷ (codes "55", by_number NotOrigin) ∷ (codes "56", by_number SetLocked)
     ∷ (codes "57", by_number BadWidth) ∷ (codes "58", by_text TableUsed) ∷ (codes "60", λ _. Nothing)
-    ∷ (codes "61", by_number NotListed) ∷ (codes "62", by_number NotKnown) ∷ (codes "66", by_number Busy)
-    ∷ (codes "67", by_number Off) ∷ (codes "68", severed_of)
+    ∷ (codes "61", by_number NotListed) ∷ (codes "62", by_number NotKnown) ∷ (codes "63", behind_of)
+    ∷ (codes "66", by_number Busy) ∷ (codes "67", by_number Off) ∷ (codes "68", severed_of)
+    ∷ (codes "72", by_number NotActive) ∷ (codes "73", by_number NotForwarding)
     ∷ (codes "75", by_number NoPath) ∷ (codes "78", by_number SameNode)
     ∷ (codes "80", by_number (λ n. Script (BadToken n))) ∷ (codes "81", by_number (λ n. Script (BadSyntax n)))
     ∷ (codes "82", by_text (λ t. Script (UnknownOption t))) ∷ (codes "83", by_text (λ t. Script (MissingOption t)))
@@ -146,6 +153,34 @@ severed_back node other h =
           (lacks-decimal 10 other refl second);
     }
 
+behind_back : (provider progress number : ℕ) →
+    (provider < 2 ^ 32) × (progress < 2 ^ 64) × (number < 2 ^ 64) → IsRefused (Behind provider progress number)
+behind_back provider progress number h =
+    let blank : List ℕ = codes " " in
+    let one = decimal provider in
+    let two = decimal progress in
+    let three = decimal number in
+    let digits = slice_split (λ b. eqb b 32) three in
+    let first = below_half provider h.0 in
+    let parts =
+    ap (slice_split (λ b. eqb b 32)) (append_assoc (one ++ blank ++ two) blank three
+    ∙ append_assoc (one ++ blank) two (blank ++ three) ∙ append_assoc one blank (two ++ (blank ++ three)))
+    ∙ split_word one (two ++ (blank ++ three)) (two ∷ digits) (lacks-decimal 32 provider refl first)
+    (split_word two three digits (lacks-decimal 32 progress refl h.1) refl) in
+    record {
+      rest = codes "63" ∷ codes "behind" ∷ one ∷ two ∷ digits;
+      words = ap (λ l. codes "no" ∷ codes "63" ∷ codes "behind" ∷ l) parts;
+      back =
+          ap (λ n. Behind n (digits_value 10 two) (number_of digits)) (number_back provider first)
+          ∙ ap (λ n. Behind provider n (number_of digits)) (number_back progress h.1)
+          ∙ ap (Behind provider progress) (number_text_back number h.2);
+      line =
+          lacks-append 10 (one ++ blank ++ two ++ blank) three
+          (lacks-append 10 (one ++ blank ++ two) blank (lacks-append 10 (one ++ blank) two
+          (lacks-append 10 one blank (lacks-decimal 10 provider refl first) refl)
+          (lacks-decimal 10 progress refl h.1)) refl) (lacks-decimal 10 number refl h.2);
+    }
+
 script_back : (refusal : ScriptRefusal) → ScriptHasForm refusal → IsRefused (Script refusal)
 script_back (BadToken line) h = numbered (λ n. Script (BadToken n)) _ line h refl refl refl
 script_back (BadSyntax place) h = numbered (λ n. Script (BadSyntax n)) _ place h refl refl refl
@@ -192,6 +227,9 @@ refusal_back (NotKnown node) h = numbered NotKnown _ node (below_half node h) re
 refusal_back (Busy xid) h = numbered Busy _ xid h refl refl refl
 refusal_back (Off node) h = numbered Off _ node (below_half node h) refl refl refl
 refusal_back (Severed node other) h = severed_back node other h
+refusal_back (Behind provider progress number) h = behind_back provider progress number h
+refusal_back (NotActive node) h = numbered NotActive _ node (below_half node h) refl refl refl
+refusal_back (NotForwarding node) h = numbered NotForwarding _ node (below_half node h) refl refl refl
 refusal_back (NoPath node) h = numbered NoPath _ node (below_half node h) refl refl refl
 refusal_back (SameNode node) h = numbered SameNode _ node (below_half node h) refl refl refl
 refusal_back (Script refusal) h = script_back refusal h

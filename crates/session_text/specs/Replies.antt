@@ -15,6 +15,7 @@ use Rattle.slon_model.specs.declared.reply.Refusal.TheVariants.{IdUsed, IsUp, To
 use Rattle.slon_model.specs.declared.reply.Refusal.TheVariants.{AlreadyNode, NoNode, NoConninfo, HasReceivers, NoSet}
 use Rattle.slon_model.specs.declared.reply.Refusal.TheVariants.{TableExists, NameUsed, NoTable, NoTransaction}
 use Rattle.slon_model.specs.declared.reply.Refusal.TheVariants.{NotOrigin, SetLocked, BadWidth, TableUsed, Busy, NoPath}
+use Rattle.slon_model.specs.declared.reply.Refusal.TheVariants.{Behind, NotActive, NotForwarding}
 use Rattle.slon_model.specs.declared.reply.Refusal.TheVariants.{NotListed, NotKnown, Off, Severed}
 use Rattle.slon_model.specs.declared.reply.Refusal.TheVariants.{SameNode, Script, ScriptUsed, NoScript, NotBuilt}
 use Rattle.slon_model.specs.declared.reply.Reply.{Reply}
@@ -76,6 +77,9 @@ RefusalFits (NotKnown node) = node < 2 ^ 32
 RefusalFits (Busy xid) = xid < 2 ^ 64
 RefusalFits (Off node) = node < 2 ^ 32
 RefusalFits (Severed node other) = (node < 2 ^ 32) × (other < 2 ^ 32)
+RefusalFits (Behind provider progress number) = (provider < 2 ^ 32) × (progress < 2 ^ 64) × (number < 2 ^ 64)
+RefusalFits (NotActive node) = node < 2 ^ 32
+RefusalFits (NotForwarding node) = node < 2 ^ 32
 RefusalFits (NoPath node) = node < 2 ^ 32
 RefusalFits (SameNode node) = node < 2 ^ 32
 RefusalFits (Script refusal) = ScriptFits refusal

@@ -111,11 +111,20 @@ fn refusal_fits(refusal: &Refusal)
         | Refusal::HasReceivers { node }
         | Refusal::NotKnown { node }
         | Refusal::Off { node }
+        | Refusal::NotActive { node }
+        | Refusal::NotForwarding { node }
         | Refusal::NoPath { node }
         | Refusal::SameNode { node } => id_fits(node),
         Refusal::NotListed { server } => id_fits(server),
         Refusal::Severed { node, other } => {
             let _numbers = (*node, *other);
+        }
+        Refusal::Behind {
+            provider,
+            progress,
+            number,
+        } => {
+            let _numbers = (*provider, *progress, *number);
         }
         Refusal::NoSet { set } | Refusal::NotOrigin { set } | Refusal::SetLocked { set } => {
             id_fits(set)

@@ -1,31 +1,27 @@
 -- The commits of every command fill tables with rows that have their forms, and log such actions, where all databases
 -- hold such rows and have logged such actions.
-use Rattle.std.proofs.Common.{◌≡◌, refl, ℕ, ◌+◌, Bool, true, false, cond, List, [], ◌∷◌, Option, Some, None, Ok}
-use Rattle.std.proofs.Common.{Err, ap, is_some, subst, sym, ◌∙◌}
-use Rattle.std.specs.Prelude.{◌==◌, find, filter_map, not, option_map, unwrap_or}
+use Rattle.std.proofs.Common.{◌≡◌, refl, ℕ, ◌+◌, Bool, true, false, cond, List, [], ◌∷◌, Option, Some, None, Err, ap}
+use Rattle.std.proofs.Common.{is_some, subst, sym, ◌∙◌}
+use Rattle.std.specs.Prelude.{◌==◌, find, filter_map, not, option_map, unwrap_or, nat_lt}
 use Rattle.std.specs.List.{AllByRecursion, cons_option}
 use Rattle.std.specs.Str.{bytes_eq}
 use Rattle.std.specs.Option.{option_or}
 use Rattle.slonik_script.specs.declared.script.Command.{Command as Order}
-use Rattle.slonik_script.specs.declared.script.Command.TheVariants as order
 use Rattle.slon_model.specs.declared.command.Delivery.{Delivery}
 use Rattle.slon_model.specs.declared.command.Delivery.TheVariants.{Once, Lost, Again}
 use Rattle.slon_model.specs.declared.reply.Answer.TheVariants.{Done}
-use Rattle.slon_model.specs.declared.reply.Refusal.TheVariants as refused
 use Rattle.slon_model.specs.Names.{Named, find_named, put_named}
 use Rattle.slon_model.specs.Rows.{Rows, member}
 use Rattle.slon_model.specs.Events.{Event}
-use Rattle.slon_model.specs.Config.{era_of, has_path, is_known, names_of}
+use Rattle.slon_model.specs.Config.{era_of, has_path, is_known}
 use Rattle.slon_model.specs.Deeds.{Node, Deed, Applies, Brought, Knowledge, Logged, brought_in, nothing_brought}
 use Rattle.slon_model.specs.Deeds.{with_deeds}
 use Rattle.slon_model.specs.Place.{Place, deed, is_running, node_id, standing_rows}
 use Rattle.slon_model.specs.Maps.{entry_at}
-use Rattle.slon_model.specs.Sessions.{World, Memory, Running, Commit, Stated, Seat, Emission, emissions, seat_of}
-use Rattle.slon_model.specs.Sessions.{committing, stood_at, checked, next_event, tells, when, writer_of}
+use Rattle.slon_model.specs.Sessions.{World, Running, Commit, Stated, Seat, Emission, emissions, seat_of, committing}
+use Rattle.slon_model.specs.Sessions.{stood_at, next_event, tells, when, writer_of}
 use Rattle.slon_model.specs.Reaching.{any_down, commit_of, database_of_line, down_among, emitting, known_somewhere}
-use Rattle.slon_model.specs.Reaching.{origin_of}
-use Rattle.slon_model.specs.Reaching.{owner}
-use Rattle.slon_model.specs.Reaching.{reach}
+use Rattle.slon_model.specs.Reaching.{origin_of, owner, reach}
 use Rattle.slon_model.specs.Membership.{already, becoming, comment_of, first_id, first_node, first_of_cluster}
 use Rattle.slon_model.specs.Membership.{init_cluster, joining, store_node, stored_by, synced}
 use Rattle.slon_model.specs.Sets.{NewTable, adding}
@@ -34,32 +30,35 @@ use Rattle.slon_model.specs.Scripts.{ordered}
 use Rattle.node_rows.specs.declared.body.Body.TheVariants.{Sync, StoreNode, StorePath, DropPath, StoreSet}
 use Rattle.slon_model.specs.Turns.{at_node, is_cut, is_synced, on_turn, seat_at}
 use Rattle.slon_model.specs.Polls.{Poll, brings_nothing, hearing, poll_of, served, stated_by}
-use Rattle.slon_model.specs.Following.{Found, FoundCopy, FoundNothing, FoundSyncs, brought_of, content, is_on_one}
-use Rattle.slon_model.specs.Following.{kept_from, set_sync, set_syncs, tables_in, tables_taken}
+use Rattle.slon_model.specs.Following.{Found, FoundCopy, FoundNothing, FoundSyncs, brought_of, content, kept_from}
+use Rattle.slon_model.specs.Following.{set_sync, tables_in, tables_taken}
 use Rattle.slon_model.specs.Logs.{logged}
-use Rattle.slon_model.specs.Working.{Carried, Copying, Errand, ToCopy, ToFollow, applied_by, carried}
-use Rattle.slon_model.specs.Working.{copied, copy_checks, copy_of, errand_of, fetched, found_at, found_by, found_for}
-use Rattle.slon_model.specs.Working.{found_or, kept_fetch, linked_to, next_at}
-use Rattle.slon_model.specs.Working.{provided, provider_in, rows_at, settled, stands, still, still_leads, taken_up}
-use Rattle.slon_model.specs.Working.{worked}
+use Rattle.slon_model.specs.Working.{Carried, Errand, ToCopy, ToFollow, applied_by, carried, errand_of, fetched}
+use Rattle.slon_model.specs.Working.{found_by, found_for, found_or, kept_fetch, linked_to, next_at, provided, rows_at}
+use Rattle.slon_model.specs.Working.{settled, stands, still, taken_up, worked, followed_all, progress_in, given_at}
+use Rattle.slon_model.specs.Working.{names_taken}
 use Rattle.slon_model.proofs.Names.{all_found, all_map, bytes_same, one_found, put_found, put_other}
 use Rattle.slon_model.specs.Tasks.{Act}
 use Rattle.slon_model.specs.World.{outcome}
 use Rattle.slon_laws.specs.Fetches.{IsFormedFound, IsFormedSync, KeepFormed}
 use Rattle.slon_laws.specs.Sound.{AreNamedOnce}
-use Rattle.slon_laws.specs.Spelled.{IsSpelled, IsWritten, AreFilled, AreFormed, AreWritten, IsFormedCommit}
-use Rattle.slon_laws.specs.Spelled.{AreForeign, IsAlone, IsFormedDeed, logs_in}
+use Rattle.slon_laws.specs.Spelled.{IsSpelled, IsWritten, AreFilled, AreFormed, AreWritten, IsFormedCommit, AreForeign}
+use Rattle.slon_laws.specs.Spelled.{IsAlone, IsFormedDeed, logs_in}
 use Rattle.slon_laws.specs.Turning.{AllHold, HoldsAt, IsFormed, IsWithin}
 use Rattle.slon_laws.specs.Worlds.{AllPlaces}
 use Rattle.slon_laws.proofs.Fetches.{kept_for}
-use Rattle.slon_laws.proofs.Following.{Makes, delta_has, syncs_have}
+use Rattle.slon_laws.proofs.Following.{Makes, delta_has, syncs_have, sync_on}
 use Rattle.slon_laws.proofs.Foreign.{CarriesForeign, KeepForeign, work_foreign}
 use Rattle.slon_laws.proofs.Formed.{applied_formed, standing_formed}
-use Rattle.slon_laws.proofs.Lists.{all_appended, all_each, all_filtered, all_mapped}
+use Rattle.slon_laws.proofs.Lists.{all_appended, all_filtered}
 use Rattle.slon_laws.proofs.Owners.{OnSome}
 use Rattle.slon_laws.proofs.Results.{OnOk, all_none, any_bind, any_ok, bind_ok, both_ok, checked_ok, kept_ok, ok_then}
 use Rattle.slon_laws.proofs.Seats.{IsFound, already_none, line_ok, no_node}
 use Rattle.slon_laws.proofs.Leaves.{outcome_has}
+use Rattle.slon_laws.proofs.Providers.{copied_ok, followed_ok}
+use Rattle.slon_model.specs.Views.{View}
+use Rattle.slonik_script.specs.declared.script.Command.TheVariants as order
+use Rattle.slon_model.specs.declared.reply.Refusal.TheVariants as refused
 
 -- P of what is found among all that have it
 all_find : {X : Type 0} (P : X → Type 0) (test : X → Bool) (xs : List X) → AllByRecursion P xs → OnSome P (find test xs)
@@ -279,17 +278,19 @@ turn_spelled w all node =
     (seat_spelled node (at_node node w) (place_spelled w all node))
     (λ s is. kept_ok IsSpelledSeat (when (not (member node w.memory.started)) (refused.Off node) ∷ []) s is)
 
-provided_spelled : (provider : ℕ) (m : Memory) (s : Seat) (found : Option (List ℕ × Place)) →
-    OnSome (λ e. IsSpelled e.1) found → OnOk IsSpelledSeat (provided provider m s found)
-provided_spelled provider m s found spelled =
+provided_spelled : (w : World) → AllPlaces IsSpelled w → (s : Seat) (e : Event) (provider : ℕ) →
+    OnOk IsSpelledSeat (provided provider w s e)
+provided_spelled w all s e provider =
     bind_ok IsSpelledSeat IsSpelledSeat _ _
-    (bind_ok (OnSome (λ e. IsSpelled e.1)) IsSpelledSeat (linked_to provider m s found) _
+    (bind_ok (OnSome (λ e. IsSpelled e.1)) IsSpelledSeat (linked_to provider w.memory s (at_node provider w)) _
     (kept_ok (OnSome (λ e. IsSpelled e.1))
     (when (not (has_path s.node.id provider s.known.config)) (refused.NoPath provider)
-    ∷ when (is_cut s.node.id provider m) (refused.Severed s.node.id provider)
-    ∷ when (provider == s.node.id) (refused.NoNode provider) ∷ []) found spelled) (seat_spelled provider))
+    ∷ when (is_cut s.node.id provider w.memory) (refused.Severed s.node.id provider)
+    ∷ when (provider == s.node.id) (refused.NoNode provider) ∷ []) (at_node provider w)
+    (place_spelled w all provider)) (seat_spelled provider))
     (λ p is. kept_ok IsSpelledSeat
-    (when (not (is_known s.node.id p.known.config)) (refused.NotKnown s.node.id) ∷ []) p is)
+    (when (not (is_known s.node.id p.known.config)) (refused.NotKnown s.node.id)
+    ∷ when (nat_lt (progress_in e p) e.number) (refused.Behind provider (progress_in e p) e.number) ∷ []) p is)
 
 -- it fills tables with rows that have their forms, and such actions are logged with it
 abbrev pub IsFormedBrought : Brought → Type 0
@@ -299,43 +300,28 @@ tables_formed : (p : Place) → IsSpelled p → (names : List (List ℕ)) → Ar
 tables_formed p spelled [] = tt
 tables_formed p spelled (name ∷ more) = (standing_formed p name spelled, tables_formed p spelled more)
 
-copied_formed : (c : Copying) (s : Seat) (e : Event) (p : Seat) → IsSpelled p.place →
-    OnOk IsFormedFound (copied c s e p)
-copied_formed c s e p spelled =
-    let names = names_of c.set_id s.known.config in
-    elim (still_leads c p) as (λ b. OnOk IsFormedFound
-    (cond b (checked (copy_checks s.place p.place names) (copy_of c e.number p names)) (Ok FoundNothing))) [
-      | true ↦ kept_ok IsFormedFound (copy_checks s.place p.place names) (copy_of c e.number p names)
-          (tables_formed p.place spelled names)
-      | false ↦ tt
-    ]
-
 -- what is read of a log of such actions
-syncs_formed : (own : ℕ) (k : Knowledge) (e : Event) (logs : List Logged) → AreWritten logs →
-    AllByRecursion IsFormedSync (set_syncs own k e logs)
-syncs_formed own k e logs written =
-    all_mapped (λ v. Unit {0}) IsFormedSync (set_sync own k e logs) (λ v any. record {
-      written =
-          delta_has (λ l. IsWritten l.action) (λ l. IsWritten l.action) (tables_taken own v.0 k.config)
-          (λ l is on. is) e.origin v.1.seen e.taken logs written;
-      on =
-          delta_has (λ l. Unit {0}) (λ l. is_on_one (tables_taken own v.0 k.config) l ≡ true)
-          (tables_taken own v.0 k.config) (λ l any on. on) e.origin v.1.seen e.taken logs
-          (all_each (λ l. Unit {0}) (λ l. tt) logs);
-    }) (kept_from e.origin k) (all_each (λ v. Unit {0}) (λ v. tt) (kept_from e.origin k))
-
--- at a provider at this seat
-at_formed : (a : Errand) (s : Seat) (e : Event) (p : Seat) → IsSpelledSeat p → OnOk IsFormedFound (found_at a s e p)
-at_formed (ToCopy c) s e p there = copied_formed c s e p there.place
-at_formed (ToFollow provider) s e p there = syncs_formed s.node.id s.known e (logged p.node) there.logged
+sync_formed : (own : ℕ) (k : Knowledge) (e : Event) (logs : List Logged) → AreWritten logs → (v : ℕ × View) →
+    IsFormedSync (set_sync own k e logs v)
+sync_formed own k e logs written v = record {
+  written =
+      delta_has (λ l. IsWritten l.action) (λ l. IsWritten l.action) (tables_taken own v.0 k.config)
+      (λ l is on. is) e.origin v.1.seen e.taken logs written;
+  on = sync_on own k e logs v;
+}
 
 found_formed : (w : World) → AllPlaces IsSpelled w → (s : Seat) (e : Event) (a : Option Errand) →
     OnOk IsFormedFound (found_by w s e a)
 found_formed w all s e None = tt
-found_formed w all s e (Some a) =
-    bind_ok IsSpelledSeat IsFormedFound (provided (provider_in a) w.memory s (at_node (provider_in a) w)) _
-    (provided_spelled (provider_in a) w.memory s (at_node (provider_in a) w) (place_spelled w all (provider_in a)))
-    (λ p there. at_formed a s e p there)
+found_formed w all s e (Some (ToCopy c)) =
+    bind_ok IsSpelledSeat IsFormedFound (provided c.provider w s e) _ (provided_spelled w all s e c.provider)
+    (λ p there. copied_ok IsFormedFound c s e p (given_at c p) tt
+    (λ v. tables_formed p.place there.place (names_taken s c.set_id)))
+found_formed w all s e (Some ToFollow) =
+    bind_ok (AllByRecursion IsFormedSync) IsFormedFound (followed_all w s e (kept_from e.origin s.known)) _
+    (followed_ok IsSpelledSeat IsFormedSync w s e (provided_spelled w all s e)
+    (λ p there v. sync_formed s.node.id s.known e (logged p.node) there.logged v) (kept_from e.origin s.known))
+    (λ ts formed. formed)
 
 -- what a turn fetches
 pub fetch_formed : (w : World) → AllPlaces IsSpelled w → (node origin : ℕ) →

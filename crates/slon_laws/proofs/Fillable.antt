@@ -8,29 +8,29 @@ use Rattle.std.specs.Str.{bytes_eq}
 use Rattle.std.proofs.lemmas.Bool.{eqb-true, false≢true, true≢false, or_parts, or_right}
 use Rattle.slon_model.specs.Names.{Named}
 use Rattle.slon_model.specs.Rows.{Action, Rows, member}
-use Rattle.slon_model.specs.Logs.{named}
+use Rattle.slon_model.specs.Logs.{named, logged}
 use Rattle.slon_model.specs.Events.{Event}
-use Rattle.slon_model.specs.Config.{names_of}
 use Rattle.slon_model.specs.Deeds.{Knowledge, nothing_brought}
-use Rattle.slon_model.specs.Logs.{logged}
-use Rattle.slon_model.specs.declared.reply.Refusal.TheVariants as refused
 use Rattle.slon_model.specs.Place.{Place, has_writer, open_xids}
-use Rattle.slon_model.specs.Sessions.{World, Seat, checked, writer_of}
-use Rattle.slon_model.specs.Turns.{at_node, on_turn}
+use Rattle.slon_model.specs.Sessions.{World, Seat, writer_of}
+use Rattle.slon_model.specs.Turns.{on_turn}
 use Rattle.slon_model.specs.Following.{Found, FoundCopy, FoundNothing, FoundSyncs, brought_of, is_on_one, tables_in}
-use Rattle.slon_model.specs.Working.{Carried, Errand, ToCopy, ToFollow, carried, copy_checks, copy_of, errand_of}
-use Rattle.slon_model.specs.Working.{fetched, found_by, found_for, found_or, kept_fetch, next_at, provided, settled}
-use Rattle.slon_model.specs.Working.{stands, still, still_leads, taken_up, worked}
+use Rattle.slon_model.specs.Following.{kept_from}
+use Rattle.slon_model.specs.Working.{Carried, Errand, ToCopy, ToFollow, carried, errand_of, fetched, found_by}
+use Rattle.slon_model.specs.Working.{found_for, found_or, kept_fetch, next_at, provided, settled, stands, still}
+use Rattle.slon_model.specs.Working.{taken_up, worked, followed_all, given_at}
 use Rattle.slon_model.specs.World.{Happening, Leads, start}
 use Rattle.slon_model.proofs.Names.{all_map, bytes_itself, bytes_same}
-use Rattle.slon_laws.specs.Fetches.{FoundOn, IsFormedFound, IsFormedSync, KeepFormed, KeepOn}
+use Rattle.slon_laws.specs.Fetches.{FoundOn, IsFormedFound, IsFormedSync, KeepFormed, KeepOn, AreOn}
 use Rattle.slon_laws.specs.Spelled.{IsSpelled, AreFilled, AreFormed, AreWritten}
 use Rattle.slon_laws.specs.Worlds.{AllPlaces}
 use Rattle.slon_laws.proofs.Bringing.{work_brings}
 use Rattle.slon_laws.proofs.Fetches.{all_kept, kept_for, kept_step}
-use Rattle.slon_laws.proofs.Following.{all_taken_named, syncs_have, syncs_on}
+use Rattle.slon_laws.proofs.Following.{all_taken_named, syncs_have, sync_on}
 use Rattle.slon_laws.proofs.Lists.{all_filtered}
-use Rattle.slon_laws.proofs.Results.{OnOk, any_bind, bind_ok, checked_ok, kept_ok, last_none, none_busy}
+use Rattle.slon_laws.proofs.Results.{OnOk, any_bind, bind_ok, checked_ok, last_none, none_busy, any_ok}
+use Rattle.slon_laws.proofs.Providers.{copied_ok, followed_ok}
+use Rattle.slon_model.specs.declared.reply.Refusal.TheVariants as refused
 
 -- ---- tables that no open transaction wrote
 
@@ -113,16 +113,13 @@ brought_unwritten here f is free =
 found_on : (w : World) (s : Seat) (e : Event) (a : Option Errand) → OnOk FoundOn (found_by w s e a)
 found_on w s e None = tt
 found_on w s e (Some (ToCopy c)) =
-    any_bind FoundOn (provided c.provider w.memory s (at_node c.provider w)) _ (λ p.
-    let names = names_of c.set_id s.known.config in
-    elim (still_leads c p) as (λ b. OnOk FoundOn
-    (cond b (checked (copy_checks s.place p.place names) (copy_of c e.number p names)) (Ok FoundNothing))) [
-      | true ↦ kept_ok FoundOn (copy_checks s.place p.place names) (copy_of c e.number p names) tt
-      | false ↦ tt
-    ])
-found_on w s e (Some (ToFollow provider)) =
-    any_bind FoundOn (provided provider w.memory s (at_node provider w)) _
-    (λ p. syncs_on s.node.id s.known e (logged p.node))
+    any_bind FoundOn (provided c.provider w s e) _
+    (λ p. copied_ok FoundOn c s e p (given_at c p) tt (λ v. tt))
+found_on w s e (Some ToFollow) =
+    bind_ok AreOn FoundOn (followed_all w s e (kept_from e.origin s.known)) _
+    (followed_ok (λ p. Unit {0}) (λ t. AllByRecursion (λ l. is_on_one t.tables l ≡ true) t.rows) w s e
+    (λ provider. any_ok (λ p. Unit {0}) (provided provider w s e) (λ p. tt))
+    (λ p any v. sync_on s.node.id s.known e (logged p.node) v) (kept_from e.origin s.known)) (λ ts on. on)
 
 pub still_on : (k : Knowledge) (f : Found) → FoundOn f → FoundOn (still k f)
 still_on k (FoundSyncs ts) is =

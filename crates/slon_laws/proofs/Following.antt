@@ -14,9 +14,8 @@ use Rattle.slon_model.specs.Views.{View}
 use Rattle.slon_model.specs.Deeds.{Brought, Knowledge, Logged, nothing_brought}
 use Rattle.slon_model.specs.Logs.{named}
 use Rattle.slon_model.specs.Place.{Place}
-use Rattle.slon_model.specs.Following.{SetSync, content, delta, is_new, is_on_one, kept_from, numbered, onto, set_sync}
-use Rattle.slon_model.specs.Following.{FoundSyncs, set_syncs, tables_in, tables_taken, with_actions, with_sync}
-use Rattle.slon_model.specs.Following.{with_syncs}
+use Rattle.slon_model.specs.Following.{SetSync, content, delta, is_new, is_on_one, numbered, onto, set_sync, FoundSyncs}
+use Rattle.slon_model.specs.Following.{tables_in, tables_taken, with_actions, with_sync, with_syncs}
 use Rattle.slon_model.proofs.Names.{all_map}
 use Rattle.slon_laws.specs.Fetches.{AreOn}
 use Rattle.slon_laws.proofs.Lists.{all_each, all_filtered, all_mapped, all_passed, all_with}
@@ -119,14 +118,12 @@ taken_have own k e logs P Q all vs each =
 -- ---- the tables of what is taken
 
 -- what is read of a log is on the tables of the set
-pub syncs_on : (own : ℕ) (k : Knowledge) (e : Event) (logs : List Logged) → AreOn (set_syncs own k e logs)
-syncs_on own k e logs =
-    all_mapped (λ v. Unit {0}) (λ (t : SetSync). AllByRecursion (λ l. is_on_one t.tables l ≡ true) t.rows)
-    (set_sync own k e logs)
-    (λ v any. delta_has (λ l. Unit {0}) (λ l. is_on_one (tables_taken own v.0 k.config) l ≡ true)
+pub sync_on : (own : ℕ) (k : Knowledge) (e : Event) (logs : List Logged) (v : ℕ × View) →
+    AllByRecursion (λ l. is_on_one (set_sync own k e logs v).tables l ≡ true) (set_sync own k e logs v).rows
+sync_on own k e logs v =
+    delta_has (λ l. Unit {0}) (λ l. is_on_one (tables_taken own v.0 k.config) l ≡ true)
     (tables_taken own v.0 k.config) (λ l has on. on) e.origin v.1.seen e.taken logs
-    (all_each (λ l. Unit {0}) (λ l. tt) logs)) (kept_from e.origin k)
-    (all_each (λ v. Unit {0}) (λ v. tt) (kept_from e.origin k))
+    (all_each (λ l. Unit {0}) (λ l. tt) logs)
 
 -- so it is on tables of these names
 pub all_taken_named : (ts : List SetSync) → AreOn ts →
@@ -169,7 +166,7 @@ numbered_own origin (l ∷ logs) =
     ] refl
 
 -- so is what is taken of a set
-rows_own : (own : ℕ) (k : Knowledge) (e : Event) (logs : List Logged) (v : ℕ × View) →
+pub rows_own : (own : ℕ) (k : Knowledge) (e : Event) (logs : List Logged) (v : ℕ × View) →
     AllByRecursion (λ l. l.origin ≡ e.origin) (set_sync own k e logs v).rows
 rows_own own k e logs v =
     all_filtered (λ l. l.origin ≡ e.origin)
@@ -177,14 +174,6 @@ rows_own own k e logs v =
     (map (λ e. e.1) (numbered e.origin logs))
     (all_mapped (λ (f : ℕ × Logged). f.1.origin ≡ e.origin) (λ l. l.origin ≡ e.origin) (λ f. f.1) (λ f is. is)
     (numbered e.origin logs) (numbered_own e.origin logs))
-
--- so is what is taken of all sets
-pub syncs_taken_own : (own : ℕ) (k : Knowledge) (e : Event) (logs : List Logged) →
-    AllTaken (λ l. l.origin ≡ e.origin) (set_syncs own k e logs)
-syncs_taken_own own k e logs =
-    all_mapped (λ v. Unit {0}) (λ (t : SetSync). AllByRecursion (λ l. l.origin ≡ e.origin) t.rows)
-    (set_sync own k e logs) (λ v any. rows_own own k e logs v) (kept_from e.origin k)
-    (all_each (λ v. Unit {0}) (λ v. tt) (kept_from e.origin k))
 
 -- and what a node logs of it
 pub logs_own : (here : Place) (origin : ℕ) (ts : List SetSync) → AllTaken (λ l. l.origin ≡ origin) ts →

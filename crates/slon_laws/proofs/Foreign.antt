@@ -1,40 +1,39 @@
 -- A node that applies an event logs nothing of its own: the rows come from the origin of the event, another node.
-use Rattle.std.proofs.Common.{◌≡◌, ◌∙◌, ℕ, Bool, true, false, cond, List, [], ◌∷◌, Option, Some, None, Ok, refl, sym}
-use Rattle.std.proofs.Common.{ap, not, subst}
-use Rattle.std.specs.Prelude.{◌==◌, option_map}
+use Rattle.std.proofs.Common.{◌≡◌, ◌∙◌, ℕ, Bool, true, false, cond, List, [], ◌∷◌, Option, Some, None, refl, sym, ap}
+use Rattle.std.proofs.Common.{not, subst}
+use Rattle.std.specs.Prelude.{◌==◌, option_map, ◌&&◌}
 use Rattle.std.specs.List.{AllByRecursion}
 use Rattle.std.proofs.lemmas.Bool.{eq-eqb, false≢true}
 use Rattle.node_rows.specs.declared.body.Body.{Body}
 use Rattle.node_rows.specs.declared.body.Body.TheVariants.{Sync, EnableSubscription}
 use Rattle.slon_model.specs.declared.reply.Refusal.{Refusal}
-use Rattle.slon_model.specs.declared.reply.Refusal.TheVariants as refused
 use Rattle.slon_model.specs.Names.{Named}
-use Rattle.slon_model.specs.Config.{has_path, is_known, names_of}
 use Rattle.slon_model.specs.Events.{Event}
 use Rattle.slon_model.specs.Deeds.{Brought, Knowledge}
 use Rattle.slon_model.specs.Logs.{logged}
-use Rattle.slon_model.specs.Following.{Found, FoundNothing, FoundSyncs, brought_of, tables_in}
+use Rattle.slon_model.specs.Following.{Found, FoundSyncs, brought_of, tables_in, kept_from}
 use Rattle.slon_model.specs.Place.{Place}
-use Rattle.slon_model.specs.Sessions.{World, Memory, Seat, checked, when, writer_of}
+use Rattle.slon_model.specs.Sessions.{World, Seat, writer_of}
 use Rattle.slon_model.specs.Tasks.{Act}
-use Rattle.slon_model.specs.Turns.{at_node, is_cut, on_turn, seat_at}
-use Rattle.slon_model.specs.Working.{Carried, Copying, Errand, Fetched, ToCopy, ToFollow, carried, copied, copy_checks}
-use Rattle.slon_model.specs.Working.{copy_of, errand_in, errand_of, fetch_of, fetched, found_by, found_for, found_or}
-use Rattle.slon_model.specs.Working.{kept_fetch, linked_to, next_at, provided, receives_from, settled, stands, still}
-use Rattle.slon_model.specs.Working.{still_leads, taken_up, worked}
+use Rattle.slon_model.specs.Turns.{on_turn}
+use Rattle.slon_model.specs.Working.{Carried, Errand, Fetched, ToCopy, ToFollow, carried, errand_in, errand_of}
+use Rattle.slon_model.specs.Working.{fetch_of, fetched, found_by, found_for, found_or, kept_fetch, next_at, provided}
+use Rattle.slon_model.specs.Working.{receives_from, settled, stands, still, taken_up, worked, followed_all, given_at}
 use Rattle.slon_model.specs.World.{Happening, Step, outcome}
 use Rattle.slon_model.proofs.Names.{all_map, one_found}
 use Rattle.slon_laws.specs.Fetches.{AllKept}
 use Rattle.slon_laws.specs.Sound.{AreNamedOnce}
 use Rattle.slon_laws.specs.Turning.{AllHold, IsFormed}
 use Rattle.slon_laws.proofs.Fetches.{OfFetch, all_kept, kept_for, kept_step}
-use Rattle.slon_laws.proofs.Following.{AllTaken, logs_own, syncs_taken_own}
+use Rattle.slon_laws.proofs.Following.{AllTaken, logs_own, rows_own}
 use Rattle.slon_laws.proofs.Holds.{HoldsOf, on_step}
 use Rattle.slon_laws.proofs.Identity.{IsNodeOf, id_of, keeps_id}
 use Rattle.slon_laws.proofs.Lists.{all_filtered}
 use Rattle.slon_laws.proofs.Owners.{OnSome}
-use Rattle.slon_laws.proofs.Results.{OnOk, all_none, any_bind, any_ok, bind_ok, checked_ok, kept_ok, when_none}
+use Rattle.slon_laws.proofs.Results.{OnOk, any_bind, any_ok, bind_ok, kept_ok}
 use Rattle.slon_laws.proofs.Seats.{IsSeat, turn_ok}
+use Rattle.slon_laws.proofs.Providers.{copied_ok, followed_ok}
+use Rattle.slon_model.specs.declared.reply.Refusal.TheVariants as refused
 
 -- what comes to the node of a seat is of other origins
 abbrev pub IsForeign : Seat → Brought → Type 0
@@ -68,74 +67,46 @@ brought_foreign s origin others is = tt
 
 -- ---- what is found
 
-copied_origin : (P : Type 0) (origin : ℕ) (c : Copying) (s : Seat) (e : Event) (p : Seat) →
-    OnOk (IsOfOrigin P origin) (copied c s e p)
-copied_origin P origin c s e p =
-    let names = names_of c.set_id s.known.config in
-    elim (still_leads c p) as (λ b. OnOk (IsOfOrigin P origin)
-    (cond b (checked (copy_checks s.place p.place names) (copy_of c e.number p names)) (Ok FoundNothing))) [
-      | true ↦ kept_ok (IsOfOrigin P origin) (copy_checks s.place p.place names) (copy_of c e.number p names) tt
-      | false ↦ tt
-    ]
+-- a node follows an origin only where it is another node
+abbrev FollowsOther : ℕ → ℕ → Errand → Type 0
+FollowsOther own origin (ToCopy c) = Unit {0}
+FollowsOther own origin ToFollow = (origin == own) ≡ false
 
--- what a node follows is the log of the origin of the event
-abbrev ComesFrom : ℕ → Errand → Type 0
-ComesFrom origin (ToCopy c) = Unit {0}
-ComesFrom origin (ToFollow provider) = provider ≡ origin
-
-errand_comes : (own : ℕ) (receives : Bool) (origin : ℕ) (body : Body) →
-    OnSome (ComesFrom origin) (errand_in own receives origin body)
-errand_comes own receives origin (EnableSubscription set provider receiver forward era) =
-    elim (receiver == own) as (λ b. OnSome (ComesFrom origin)
+errand_other : (own : ℕ) (receives : Bool) (origin : ℕ) (body : Body) →
+    OnSome (FollowsOther own origin) (errand_in own receives origin body)
+errand_other own receives origin (EnableSubscription set provider receiver forward era) =
+    elim (receiver == own) as (λ b. OnSome (FollowsOther own origin)
     (cond b (Some (ToCopy (record { set_id = set; provider = provider; era = era }))) None)) [
       | true ↦ tt
       | false ↦ tt
     ]
-errand_comes own receives origin Sync =
-    elim receives as (λ b. OnSome (ComesFrom origin) (cond b (Some (ToFollow origin)) None)) [
-      | true ↦ refl
-      | false ↦ tt
-    ]
-errand_comes own receives origin others = tt
-
--- the provider is not the node itself
-provided_other : (provider : ℕ) (m : Memory) (s : Seat) (found : Option (List ℕ × Place)) →
-    OnOk (λ p. (provider == s.node.id) ≡ false) (provided provider m s found)
-provided_other provider m s found =
-    bind_ok (λ p. (provider == s.node.id) ≡ false) (λ p. (provider == s.node.id) ≡ false) _ _
-    (bind_ok (λ e. (provider == s.node.id) ≡ false) (λ p. (provider == s.node.id) ≡ false)
-    (linked_to provider m s found) (seat_at provider)
-    (checked_ok (λ e. (provider == s.node.id) ≡ false) checks found
-    (λ none. when_none (provider == s.node.id) (refused.NoNode provider) (all_none checks none).1.1.0))
-    (λ e other. any_ok (λ p. (provider == s.node.id) ≡ false) (seat_at provider e) (λ p. other)))
-    (λ p other. kept_ok (λ p. (provider == s.node.id) ≡ false)
-    (when (not (is_known s.node.id p.known.config)) (refused.NotKnown s.node.id) ∷ []) p other)
+errand_other own receives origin Sync = by receives (origin == own) refl
   where
-    checks : List (Option Refusal)
-    checks =
-        when (not (has_path s.node.id provider s.known.config)) (refused.NoPath provider)
-        ∷ when (is_cut s.node.id provider m) (refused.Severed s.node.id provider)
-        ∷ when (provider == s.node.id) (refused.NoNode provider) ∷ []
+    by : (r same : Bool) → (origin == own) ≡ same →
+        OnSome (FollowsOther own origin) (cond (r && not same) (Some ToFollow) None)
+    by true false other = other
+    by true true same = tt
+    by false same is = tt
+errand_other own receives origin others = tt
 
-found_origin : (w : World) (s : Seat) (e : Event) (a : Option Errand) → OnSome (ComesFrom e.origin) a →
-    OnOk (IsOfOrigin (IsApart e.origin s) e.origin) (found_by w s e a)
-found_origin w s e None comes = tt
-found_origin w s e (Some (ToCopy c)) comes =
-    any_bind (IsOfOrigin (IsApart e.origin s) e.origin) (provided c.provider w.memory s (at_node c.provider w)) _
-    (copied_origin (IsApart e.origin s) e.origin c s e)
-found_origin w s e (Some (ToFollow provider)) comes =
-    bind_ok (λ p. (provider == s.node.id) ≡ false) (IsOfOrigin (IsApart e.origin s) e.origin)
-    (provided provider w.memory s (at_node provider w)) _
-    (provided_other provider w.memory s (at_node provider w))
-    (λ p other. (
-      subst (λ id. (id == s.node.id) ≡ false) comes other,
-      syncs_taken_own s.node.id s.known e (logged p.node),
-    ))
+found_origin : (w : World) (s : Seat) (e : Event) (a : Option Errand) →
+    OnSome (FollowsOther s.node.id e.origin) a → OnOk (IsOfOrigin (IsApart e.origin s) e.origin) (found_by w s e a)
+found_origin w s e None other = tt
+found_origin w s e (Some (ToCopy c)) other =
+    any_bind (IsOfOrigin (IsApart e.origin s) e.origin) (provided c.provider w s e) _
+    (λ p. copied_ok (IsOfOrigin (IsApart e.origin s) e.origin) c s e p (given_at c p) tt (λ v. tt))
+found_origin w s e (Some ToFollow) other =
+    bind_ok (AllTaken (λ l. l.origin ≡ e.origin)) (IsOfOrigin (IsApart e.origin s) e.origin)
+    (followed_all w s e (kept_from e.origin s.known)) _
+    (followed_ok (λ p. Unit {0}) (λ t. AllByRecursion (λ l. l.origin ≡ e.origin) t.rows) w s e
+    (λ provider. any_ok (λ p. Unit {0}) (provided provider w s e) (λ p. tt))
+    (λ p any v. rows_own s.node.id s.known e (logged p.node) v) (kept_from e.origin s.known))
+    (λ ts own. (other, own))
 
 errand_found : (w : World) (s : Seat) (e : Event) →
     OnOk (IsOfOrigin (IsApart e.origin s) e.origin) (found_by w s e (errand_of s e))
 errand_found w s e =
-    found_origin w s e (errand_of s e) (errand_comes s.node.id (receives_from e.origin s.known) e.origin e.body)
+    found_origin w s e (errand_of s e) (errand_other s.node.id (receives_from e.origin s.known) e.origin e.body)
 
 -- ---- what is kept
 

@@ -23,6 +23,7 @@ pub mod Named
 pub mod Opens
 pub mod Owners
 pub mod Played
+pub mod Providers
 pub mod Results
 pub mod Seats
 pub mod Sounds

@@ -66,10 +66,6 @@ set_sync own k e logs v =
 abbrev pub kept_from : ℕ → Knowledge → Map View
 kept_from origin k = filter (λ v. v.1.origin == origin) k.views
 
--- what a node takes of each of them, from a provider that has logged this
-abbrev pub set_syncs : ℕ → Knowledge → Event → List Logged → List SetSync
-set_syncs own k e logs = map (set_sync own k e logs) (kept_from e.origin k)
-
 -- ---- what comes of that
 
 -- these in front of others, the last of them first

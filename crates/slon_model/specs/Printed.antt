@@ -18,7 +18,8 @@ use Rattle.slon_model.specs.declared.reply.Refusal.TheVariants.{AlreadyNode, NoN
 use Rattle.slon_model.specs.declared.reply.Refusal.TheVariants.{TableExists, NameUsed, NoTable, NoTransaction}
 use Rattle.slon_model.specs.declared.reply.Refusal.TheVariants.{Duplicate, NotOrigin, SetLocked, BadWidth, TableUsed}
 use Rattle.slon_model.specs.declared.reply.Refusal.TheVariants.{Nothing, NotListed, NotKnown, Busy, Off, Severed}
-use Rattle.slon_model.specs.declared.reply.Refusal.TheVariants.{NoPath, SameNode, Script, ScriptUsed, NoScript}
+use Rattle.slon_model.specs.declared.reply.Refusal.TheVariants.{Behind, NotActive, NotForwarding, NoPath}
+use Rattle.slon_model.specs.declared.reply.Refusal.TheVariants.{SameNode, Script, ScriptUsed, NoScript}
 use Rattle.slon_model.specs.declared.reply.Refusal.TheVariants.{NotBuilt}
 use Rattle.slon_model.specs.declared.reply.Reply.{Reply}
 use Rattle.slon_model.specs.declared.reply.Reply.TheVariants.{Accepted, Refused, InDoubt}
@@ -131,9 +132,13 @@ refusal_text (TableUsed table) = codes "no 58 tableused " ++ table
 refusal_text Nothing = codes "no 60 nothing"
 refusal_text (NotListed server) = codes "no 61 notlisted " ++ decimal server
 refusal_text (NotKnown node) = codes "no 62 notknown " ++ decimal node
+refusal_text (Behind provider progress number) =
+    codes "no 63 behind " ++ decimal provider ++ codes " " ++ decimal progress ++ codes " " ++ decimal number
 refusal_text (Busy xid) = codes "no 66 busy " ++ decimal xid
 refusal_text (Off node) = codes "no 67 off " ++ decimal node
 refusal_text (Severed node other) = codes "no 68 cut " ++ decimal node ++ codes " " ++ decimal other
+refusal_text (NotActive node) = codes "no 72 notactive " ++ decimal node
+refusal_text (NotForwarding node) = codes "no 73 notforwarding " ++ decimal node
 refusal_text (NoPath node) = codes "no 75 nopath " ++ decimal node
 refusal_text (SameNode node) = codes "no 78 samenode " ++ decimal node
 refusal_text (Script refusal) = script_text refusal

@@ -1,32 +1,31 @@
 -- The turns by which a node fetches and applies an event of another one: the next event of an origin that waits at the
 -- node.
 use Rattle.std.specs.Prelude.{ℕ, ◌+◌, ◌==◌, ◌&&◌, if◌then◌else◌, not, is_none, nat_lt, Bool, true, false, List, [], ◌∷◌}
-use Rattle.std.specs.Prelude.{codes, filter, find, map, Option, Some, None, option_map}
-use Rattle.std.specs.Prelude.{unwrap_or}
-use Rattle.std.specs.Prelude.{Result, Ok, Err}
+use Rattle.std.specs.Prelude.{codes, filter, find, map, Option, Some, None, option_map, unwrap_or, Result, Ok, Err}
 use Rattle.std.specs.List.{list_any}
 use Rattle.node_rows.specs.declared.body.Body.{Body}
 use Rattle.node_rows.specs.declared.body.Body.TheVariants.{Sync, DropSet, EnableSubscription, MoveSet, AcceptSet}
 use Rattle.node_rows.specs.declared.body.Body.TheVariants.{FailoverSet}
 use Rattle.slon_model.specs.declared.reply.Answer.TheVariants.{Applied, Fetched as FetchedRows}
 use Rattle.slon_model.specs.declared.reply.Refusal.{Refusal}
-use Rattle.slon_model.specs.declared.reply.Refusal.TheVariants as refused
 use Rattle.slon_model.specs.declared.reply.Reply.TheVariants.{Refused}
 use Rattle.slon_model.specs.Names.{Named, find_named, without}
-use Rattle.slon_model.specs.Maps.{Map, entry_at, with_entry, without_entry}
+use Rattle.slon_model.specs.Maps.{Map, entry_at, pair_at, with_entry, without_entry}
 use Rattle.slon_model.specs.Rows.{Rows}
 use Rattle.slon_model.specs.Events.{Event, kind_of}
-use Rattle.slon_model.specs.Config.{has_path, is_known, is_origin, era_of, names_of}
-use Rattle.slon_model.specs.Views.{View, first_view}
-use Rattle.slon_model.specs.Deeds.{Brought, Applies, Knowledge, Logged, progress, view_of}
+use Rattle.slon_model.specs.Config.{has_path, forwards, is_known, is_origin, era_of}
+use Rattle.slon_model.specs.Views.{View, Views, first_view}
+use Rattle.slon_model.specs.Deeds.{Brought, Applies, Knowledge, progress, view_of}
 use Rattle.slon_model.specs.Logs.{logged}
 use Rattle.slon_model.specs.Following.{Found, FoundCopy, FoundNothing, FoundSyncs, SetSync, brought_of, count_of}
-use Rattle.slon_model.specs.Following.{set_syncs, tables_in}
+use Rattle.slon_model.specs.Following.{kept_from, set_sync, tables_in, tables_taken}
 use Rattle.slon_model.specs.Place.{Place, deed, standing_rows, taken}
 use Rattle.slon_model.specs.Sessions.{World, Memory, Fetch, Stated, Outcome, Seat, bind, when, checked, no_change}
 use Rattle.slon_model.specs.Sessions.{writer_of}
 use Rattle.slon_model.specs.Turns.{at_node, seat_at, is_cut, on_turn, same_snapshot, taken_turn}
 use Rattle.slon_model.specs.Polls.{queue_at, line_of, with_queue}
+use Rattle.slon_model.specs.Snapshots.{Snapshot}
+use Rattle.slon_model.specs.declared.reply.Refusal.TheVariants as refused
 
 -- the event behind the last one that the node has applied, if it waits
 abbrev pub next_at : Memory → Seat → ℕ → Option Event
@@ -55,30 +54,36 @@ pub record Copying : Type 0 where
   pub provider : ℕ
   pub era : ℕ
 
--- What a node is to bring with an event from another node: a copy of a set, or what that one logged for the sets that
--- the node keeps.
+-- What a node is to bring with an event from other nodes: a copy of a set, or what was logged for the sets that the
+-- node keeps of the origin.
 pub data Errand : Type 0 where
   ToCopy : (copying : Copying) → Errand
-  ToFollow : (provider : ℕ) → Errand
-
-abbrev pub provider_in : Errand → ℕ
-provider_in (ToCopy c) = c.provider
-provider_in (ToFollow provider) = provider
+  ToFollow : Errand
 
 -- the node keeps a set that had this origin
 abbrev pub receives_from : ℕ → Knowledge → Bool
 receives_from origin k = list_any (λ v. v.1.origin == origin) k.views
 
 -- The receiver of a new subscription copies the set. A node that keeps sets of an origin brings rows with each SYNC of
--- it, from the origin itself, since no other node provides a set yet.
+-- it, for each set from the provider that it has of the set. Nothing comes to it of itself.
 abbrev pub errand_in : ℕ → Bool → ℕ → Body → Option Errand
 errand_in own receives origin (EnableSubscription set provider receiver forward era) =
     if receiver == own then Some (ToCopy (record { set_id = set; provider = provider; era = era })) else None
-errand_in own receives origin Sync = if receives then Some (ToFollow origin) else None
+errand_in own receives origin Sync = if receives && not (origin == own) then Some ToFollow else None
 errand_in own receives origin others = None
 
 abbrev pub errand_of : Seat → Event → Option Errand
 errand_of s e = errand_in s.node.id (receives_from e.origin s.known) e.origin e.body
+
+-- the node from which a node takes a set that it keeps of this origin
+abbrev pub provider_of : ℕ → Seat → ℕ → ℕ
+provider_of origin s set =
+    unwrap_or (option_map (λ u. u.provider) (pair_at set s.node.id s.known.config.subscriptions)) origin
+
+-- the nodes that are read
+abbrev pub providers_in : ℕ → Seat → Errand → List ℕ
+providers_in origin s (ToCopy c) = c.provider ∷ []
+providers_in origin s ToFollow = map (λ v. provider_of origin s v.0) (kept_from origin s.known)
 
 -- the provider, where it is found so: 75, 68, 44 it is the node itself
 abbrev pub linked_to : ℕ → Memory → Seat → Option (List ℕ × Place) → Result (Option (List ℕ × Place)) Refusal
@@ -87,11 +92,16 @@ linked_to provider m s found =
     ∷ when (is_cut s.node.id provider m) (refused.Severed s.node.id provider)
     ∷ when (provider == s.node.id) (refused.NoNode provider) ∷ []) found
 
--- 75, 68, 44, 16, 62: the provider at its seat
-abbrev pub provided : ℕ → Memory → Seat → Option (List ℕ × Place) → Result Seat Refusal
-provided provider m s found =
-    bind (bind (linked_to provider m s found) (λ found. seat_at provider found))
-    (λ p. checked (when (not (is_known s.node.id p.known.config)) (refused.NotKnown s.node.id) ∷ []) p)
+-- how far a provider is in the stream of the event
+abbrev pub progress_in : Event → Seat → ℕ
+progress_in e p = progress e.origin p.known
+
+-- 75, 68, 44, 16, 62; 63 the provider has not applied the event: the provider at its seat
+abbrev pub provided : ℕ → World → Seat → Event → Result Seat Refusal
+provided provider w s e =
+    bind (bind (linked_to provider w.memory s (at_node provider w)) (λ found. seat_at provider found))
+    (λ p. checked (when (not (is_known s.node.id p.known.config)) (refused.NotKnown s.node.id)
+    ∷ when (nat_lt (progress_in e p) e.number) (refused.Behind provider (progress_in e p) e.number) ∷ []) p)
 
 -- the columns of a table, or 0
 abbrev pub width_of : List ℕ → Place → ℕ
@@ -109,46 +119,55 @@ copy_checks here there (name ∷ more) =
 abbrev pub rows_at : Place → List (List ℕ) → Named Rows
 rows_at there names = map (λ name. (name, standing_rows there name)) names
 
--- with its snapshot
-abbrev pub copy_of : Copying → ℕ → Seat → List (List ℕ) → Found
-copy_of c number p names =
-    FoundCopy c.set_id (first_view c.era p.node.id number (taken p.place)) (rows_at p.place names)
-
 -- the provider is the origin of the set in that era
 abbrev pub still_leads : Copying → Seat → Bool
 still_leads c p = is_origin p.node.id c.set_id p.known.config && era_of c.set_id p.known.config == c.era
 
--- what a node copies of a provider at this seat; nothing, where that is not the origin of the set any more
-abbrev pub copied : Copying → Seat → Event → Seat → Result Found Refusal
-copied c s e p =
-    let names = names_of c.set_id s.known.config in
-    if still_leads c p then checked (copy_checks s.place p.place names) (copy_of c e.number p names)
-    else Ok FoundNothing
+-- a provider that forwards the set in that era gives it as the snapshot sees it that it keeps
+abbrev pub forwarded : Copying → Seat → Option View → Option Snapshot
+forwarded c p None = None
+forwarded c p (Some v) = if v.era == c.era && forwards c.set_id p.node.id p.known.config then Some v.seen else None
 
--- what a node takes with a SYNC from what its provider has logged
-abbrev pub followed : Seat → Event → List Logged → Result Found Refusal
-followed s e logs = Ok (FoundSyncs (set_syncs s.node.id s.known e logs))
+-- and the origin as its present one does
+abbrev pub given_at : Copying → Seat → Option Snapshot
+given_at c p =
+    if still_leads c p then Some (taken p.place) else forwarded c p (view_of c.set_id p.known)
+
+-- the names of the tables of a set to which a node takes rows
+abbrev pub names_taken : Seat → ℕ → List (List ℕ)
+names_taken s set = map (λ t. t.1) (tables_taken s.node.id set s.known.config)
+
+-- what a node copies of a provider at this seat; nothing, where that leads or forwards the set no more
+abbrev pub copied : Copying → Seat → Event → Seat → Option Snapshot → Result Found Refusal
+copied c s e p None = Ok FoundNothing
+copied c s e p (Some seen) =
+    let names = names_taken s c.set_id in
+    checked (copy_checks s.place p.place names)
+    (FoundCopy c.set_id (first_view c.era e.origin e.number seen) (rows_at p.place names))
+
+-- what a node takes of one set with a SYNC from what its provider has logged
+abbrev pub followed : World → Seat → Event → ℕ × View → Result SetSync Refusal
+followed w s e v =
+    bind (provided (provider_of e.origin s v.0) w s e) (λ p. Ok (set_sync s.node.id s.known e (logged p.node) v))
+
+-- and of each of these, the first one first
+abbrev pub followed_all : World → Seat → Event → Views → Result (List SetSync) Refusal
+followed_all w s e [] = Ok []
+followed_all w s e (v ∷ more) = bind (followed w s e v) (λ t. bind (followed_all w s e more) (λ ts. Ok (t ∷ ts)))
 
 -- ---- what is found
-
--- at a provider at this seat
-abbrev pub found_at : Errand → Seat → Event → Seat → Result Found Refusal
-found_at (ToCopy c) s e p = copied c s e p
-found_at (ToFollow provider) s e p = followed s e (logged p.node)
-
--- at a provider that is found so
-abbrev pub found_from : Errand → Memory → Seat → Event → Option (List ℕ × Place) → Result Found Refusal
-found_from a m s e found = bind (provided (provider_in a) m s found) (found_at a s e)
 
 -- what a node finds for an event
 abbrev pub found_by : World → Seat → Event → Option Errand → Result Found Refusal
 found_by w s e None = Ok FoundNothing
-found_by w s e (Some a) = found_from a w.memory s e (at_node (provider_in a) w)
+found_by w s e (Some (ToCopy c)) =
+    bind (provided c.provider w s e) (λ p. copied c s e p (given_at c p))
+found_by w s e (Some ToFollow) = bind (followed_all w s e (kept_from e.origin s.known)) (λ ts. Ok (FoundSyncs ts))
 
--- the database that is read for that, besides the node's own
-abbrev pub source_by : World → Option Errand → Option (List ℕ × Place)
-source_by w None = None
-source_by w (Some a) = at_node (provider_in a) w
+-- the nodes of which the databases are read for that, besides the node's own
+abbrev pub sources_by : ℕ → Seat → Option Errand → List ℕ
+sources_by origin s None = []
+sources_by origin s (Some a) = providers_in origin s a
 
 -- ---- what was fetched
 
@@ -199,35 +218,35 @@ found_or w s e (Some f) = Ok (still s.known f)
 abbrev pub found_for : World → Seat → Event → Result Found Refusal
 found_for w s e = found_or w s e (kept_fetch s.name e.origin e w.memory)
 
--- ---- the database that is read
+-- ---- the databases that are read
 
 -- as a node fetches what comes with its next event
-abbrev pub fetch_source : World → Seat → Option Event → Option (List ℕ × Place)
-fetch_source w s None = None
-fetch_source w s (Some e) = source_by w (errand_of s e)
+abbrev pub fetch_sources : Seat → Option Event → List ℕ
+fetch_sources s None = []
+fetch_sources s (Some e) = sources_by e.origin s (errand_of s e)
 
-abbrev pub fetch_source_at : World → ℕ → Result Seat Refusal → Option (List ℕ × Place)
-fetch_source_at w origin (Err refusal) = None
-fetch_source_at w origin (Ok s) = fetch_source w s (next_at w.memory s origin)
+abbrev pub fetch_sources_at : World → ℕ → Result Seat Refusal → List ℕ
+fetch_sources_at w origin (Err refusal) = []
+fetch_sources_at w origin (Ok s) = fetch_sources s (next_at w.memory s origin)
 
-abbrev pub fetch_source_of : ℕ → ℕ → World → Option (List ℕ × Place)
-fetch_source_of node origin w = fetch_source_at w origin (on_turn node w)
+abbrev pub fetch_sources_of : ℕ → ℕ → World → List ℕ
+fetch_sources_of node origin w = fetch_sources_at w origin (on_turn node w)
 
 -- as a node applies it: none, where that was fetched before
-abbrev pub source_or : World → Seat → Event → Option Found → Option (List ℕ × Place)
-source_or w s e None = source_by w (errand_of s e)
-source_or w s e (Some f) = None
+abbrev pub sources_or : Seat → Event → Option Found → List ℕ
+sources_or s e None = sources_by e.origin s (errand_of s e)
+sources_or s e (Some f) = []
 
-abbrev pub source_for : World → Seat → Option Event → Option (List ℕ × Place)
-source_for w s None = None
-source_for w s (Some e) = source_or w s e (kept_fetch s.name e.origin e w.memory)
+abbrev pub sources_for : World → Seat → Option Event → List ℕ
+sources_for w s None = []
+sources_for w s (Some e) = sources_or s e (kept_fetch s.name e.origin e w.memory)
 
-abbrev pub source_at : World → ℕ → Result Seat Refusal → Option (List ℕ × Place)
-source_at w origin (Err refusal) = None
-source_at w origin (Ok s) = source_for w s (next_at w.memory s origin)
+abbrev pub sources_at : World → ℕ → Result Seat Refusal → List ℕ
+sources_at w origin (Err refusal) = []
+sources_at w origin (Ok s) = sources_for w s (next_at w.memory s origin)
 
-abbrev pub source_of : ℕ → ℕ → World → Option (List ℕ × Place)
-source_of node origin w = source_at w origin (on_turn node w)
+abbrev pub sources_of : ℕ → ℕ → World → List ℕ
+sources_of node origin w = sources_at w origin (on_turn node w)
 
 -- ---- the turn that fetches
 

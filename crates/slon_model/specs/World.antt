@@ -3,6 +3,7 @@ use Rattle.std.specs.Prelude.{◌≡◌, ◌<◌, ◌||◌, ℕ, if◌then◌els
 use Rattle.std.specs.Prelude.{◌++◌}
 use Rattle.std.specs.Prelude.{length, take, drop, Option, Some, None, Result, Ok, Err, unwrap_or}
 use Rattle.slon_base.specs.Counts.{Rose}
+use Rattle.std.specs.List.{list_any}
 use Rattle.slon_base.specs.declared.fault.Halt.{Halt as HaltOf}
 use Rattle.slon_base.specs.declared.fault.Halt.TheVariants.{Doubt, NoMemory, Fault as HaltFault, BadRow as HaltBadRow}
 use Rattle.slon_base.specs.declared.fault.Halt.TheVariants.{TooBig as HaltTooBig}
@@ -30,7 +31,7 @@ use Rattle.slon_model.specs.Sessions.{Memory, Running, Commit, in_doubt, stand, 
 use Rattle.slon_model.specs.Scripts.{slonik_outcome, step_outcome, kill_outcome, without_script}
 use Rattle.slon_model.specs.Turns.{at_node, start_outcome, stop_outcome, cut_outcome, join_outcome, sync_outcome}
 use Rattle.slon_model.specs.Polls.{listen_outcome}
-use Rattle.slon_model.specs.Working.{fetch_outcome, work_outcome, fetch_source_of, source_of}
+use Rattle.slon_model.specs.Working.{fetch_outcome, work_outcome, fetch_sources_of, sources_of}
 use Rattle.slon_model.specs.Printed.{reply_line}
 
 -- ---- replies
@@ -140,14 +141,19 @@ abbrev pub is_of : List ℕ → Option (List ℕ × Place) → Bool
 is_of name None = false
 is_of name (Some e) = bytes_eq name e.0
 
+-- it is one of these nodes
+abbrev pub is_of_one : List ℕ → List ℕ → World → Bool
+is_of_one name nodes w = list_any (λ node. is_of name (at_node node w)) nodes
+
 -- a step may call on the store of each database, where something is left to do; a turn on that of its node, a poll on
--- that of the server too, and a turn that reads what comes with an event on that of the provider
+-- that of the server too, and a turn that reads what comes with an event on those of the providers
 abbrev pub may_break : Act → List ℕ → World → Bool
 may_break (ToStep script) name w = has_todo (find_named script w.memory.scripts)
 may_break (ToSync node) name w = is_of name (at_node node w)
 may_break (ToListen node server delivery) name w = is_of name (at_node node w) || is_of name (at_node server w)
-may_break (ToFetch node origin) name w = is_of name (at_node node w) || is_of name (fetch_source_of node origin w)
-may_break (ToWork node origin) name w = is_of name (at_node node w) || is_of name (source_of node origin w)
+may_break (ToFetch node origin) name w =
+    is_of name (at_node node w) || is_of_one name (fetch_sources_of node origin w) w
+may_break (ToWork node origin) name w = is_of name (at_node node w) || is_of_one name (sources_of node origin w) w
 may_break others name w = false
 
 -- the script ends

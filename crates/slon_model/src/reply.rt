@@ -169,81 +169,167 @@ pub enum Answered {
 #[derive(Drop)]
 pub enum Refusal {
     /// 10: the store of this database failed; its count of faults.
-    Fault { database: Text, count: u64 },
+    Fault {
+        database: Text,
+        count: u64,
+    },
     /// 12: the open transaction of this id wrote the row.
-    Locked { xid: u64 },
+    Locked {
+        xid: u64,
+    },
     /// 13: the session has as many databases as it may have.
-    Full { limit: u32 },
+    Full {
+        limit: u32,
+    },
     /// 14: a row of this space is not in its form.
-    BadRow { space: u8 },
+    BadRow {
+        space: u8,
+    },
     /// 15: the store of a new database holds a row.
-    NotEmpty { database: Text },
+    NotEmpty {
+        database: Text,
+    },
     /// 16: the database is down.
-    Down { database: Text },
+    Down {
+        database: Text,
+    },
     /// 17: the session has no database of the name.
-    NoDatabase { database: Text },
+    NoDatabase {
+        database: Text,
+    },
     /// 18: some node knows a node, a set or a table of this id.
-    IdUsed { id: u32 },
+    IdUsed {
+        id: u32,
+    },
     /// 19: the database is up.
-    IsUp { database: Text },
+    IsUp {
+        database: Text,
+    },
     /// 21: a number above the limit would be stored in this space.
-    TooBig { space: u8 },
+    TooBig {
+        space: u8,
+    },
     /// 41: the database that was reached for this id is no node.
-    NotInitialised { node: u32 },
+    NotInitialised {
+        node: u32,
+    },
     /// 42: the database that was reached for this id is another node, or one of another cluster.
-    OtherNode { node: u32 },
+    OtherNode {
+        node: u32,
+    },
     /// 43: the database is this node.
-    AlreadyNode { node: u32 },
+    AlreadyNode {
+        node: u32,
+    },
     /// 44: there is no node of this id.
-    NoNode { node: u32 },
+    NoNode {
+        node: u32,
+    },
     /// 45: no NODE line has this id.
-    NoConninfo { node: u32 },
+    NoConninfo {
+        node: u32,
+    },
     /// 46: this node receives the set, or receives from one that would not provide any more.
-    HasReceivers { node: u32 },
+    HasReceivers {
+        node: u32,
+    },
     /// 47: there is no set of this id.
-    NoSet { set: u32 },
+    NoSet {
+        set: u32,
+    },
     /// 50: there is a table of the name.
-    TableExists { table: Text },
+    TableExists {
+        table: Text,
+    },
     /// 51: the name is taken, of a database or of an open transaction.
-    NameUsed { name: Text },
+    NameUsed {
+        name: Text,
+    },
     /// 52: there is no table of the name.
-    NoTable { table: Text },
+    NoTable {
+        table: Text,
+    },
     /// 53: no transaction of the name is open.
-    NoTransaction { transaction: Text },
+    NoTransaction {
+        transaction: Text,
+    },
     /// 54: the table has a row with the key.
     Duplicate,
     /// 55: the node is not the origin of this set.
-    NotOrigin { set: u32 },
+    NotOrigin {
+        set: u32,
+    },
     /// 56: this set is locked.
-    SetLocked { set: u32 },
+    SetLocked {
+        set: u32,
+    },
     /// 57: the values or columns do not fit a table with this number of columns.
-    BadWidth { columns: u64 },
+    BadWidth {
+        columns: u64,
+    },
     /// 58: some node knows a table of this name in a set.
-    TableUsed { table: Text },
+    TableUsed {
+        table: Text,
+    },
     /// 60: there is nothing to do.
     Nothing,
     /// 61: the node hears of no origin at this server.
-    NotListed { server: u32 },
+    NotListed {
+        server: u32,
+    },
     /// 62: the server does not know this node.
-    NotKnown { node: u32 },
+    NotKnown {
+        node: u32,
+    },
+    /// 63: this provider is as far as this in the stream of the origin, and the event has this number.
+    Behind {
+        provider: u32,
+        progress: u64,
+        number: u64,
+    },
     /// 66: the open transaction of this id wrote a table of the set.
-    Busy { xid: u64 },
+    Busy {
+        xid: u64,
+    },
     /// 67: the slon of this node is off.
-    Off { node: u32 },
+    Off {
+        node: u32,
+    },
     /// 68: these nodes are cut off from one another.
-    Severed { node: u32, other: u32 },
+    Severed {
+        node: u32,
+        other: u32,
+    },
+    /// 72: this node does not receive the set, or has not confirmed the last event on its subscription.
+    NotActive {
+        node: u32,
+    },
+    /// 73: this node does not forward the set.
+    NotForwarding {
+        node: u32,
+    },
     /// 75: the node has no path to this server.
-    NoPath { node: u32 },
+    NoPath {
+        node: u32,
+    },
     /// 78: this node is named twice.
-    SameNode { node: u32 },
+    SameNode {
+        node: u32,
+    },
     /// 80 to 89, and 96: what is wrong with a script.
     Script(ScriptRefusal),
     /// 93: a script of this name runs.
-    ScriptUsed { name: Text },
+    ScriptUsed {
+        name: Text,
+    },
     /// 94: no script of this name runs.
-    NoScript { name: Text },
+    NoScript {
+        name: Text,
+    },
     /// 98: a statement that begins with this word, in lower case, cannot be run yet.
-    NotBuilt { word: Text },
+    NotBuilt {
+        word: Text,
+    },
 }
 
 /// The reply to a command.

@@ -137,6 +137,7 @@ fn tables_are_compared(rt: HostRuntime) -> Result<(), Fail> {
 
 /// The set that is copied, over a store of the node that fails.
 const SWEPT: Sweep = Sweep {
+    cluster: PAIR,
     front: &[SUBSCRIBED],
     database: "b",
     lines: "work 2 1\ncrash b\nup b\nrows b public.t\n",

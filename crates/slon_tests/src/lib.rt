@@ -2,6 +2,8 @@
 #![tactic(auto)]
 
 #[cfg(test)]
+mod cascades;
+#[cfg(test)]
 mod copies;
 #[cfg(test)]
 mod crashes;

@@ -57,7 +57,7 @@ const REFUSED: &[Step] = &[
     ),
     (
         "subscribe set (id = 1, provider = 3, receiver = 2);",
-        "no 98 notbuilt subscribe",
+        "no 72 notactive 3",
     ),
 ];
 

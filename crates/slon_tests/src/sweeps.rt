@@ -1,5 +1,5 @@
-// A command of two nodes over a store that fails at each of its calls in turn.
-use crate::polls::{DATABASES, NODES, PAIR};
+// A command over a store that fails at each of its calls in turn.
+use crate::polls::{DATABASES, NODES};
 use crate::running::{NOTHING, run};
 use crate::wanted::{Step, is_among, nothing_wanted};
 use node_keeper::MemSink;
@@ -11,7 +11,9 @@ use test_words::{keeping, require};
 /// A command that is run while the store of a database fails at one of its calls, and how the session may end.
 #[derive(Clone, Copy)]
 pub struct Sweep {
-    /// The lines before it, behind the script over two nodes.
+    /// The statements that make the cluster.
+    pub cluster: &'static [Step],
+    /// The lines before it, behind these.
     pub front: &'static [&'static [Step]],
     /// The database of the store.
     pub database: &'static str,
@@ -32,7 +34,7 @@ impl Sweep {
     fn written(&self, alloc: Global, calls: u32, keep: bool) -> Result<MemSink, Fail> {
         let mut wanted = nothing_wanted(alloc);
         wanted.push_all(DATABASES)?;
-        wanted.push_script(NODES, PAIR)?;
+        wanted.push_script(NODES, self.cluster)?;
         for steps in self.front {
             wanted.push_all(steps)?;
         }

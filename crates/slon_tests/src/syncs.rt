@@ -212,6 +212,7 @@ const WAITING: &[Step] = &[
 
 /// The SYNC, over a store of the node that fails.
 const SWEPT: Sweep = Sweep {
+    cluster: PAIR,
     front: &[SUBSCRIBED, WAITING],
     database: "b",
     lines: "work 2 1\ncrash b\nup b\nrows b public.t\n",

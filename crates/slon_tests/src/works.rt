@@ -91,6 +91,7 @@ fn events_are_applied(rt: HostRuntime) -> Result<(), Fail> {
 
 /// The first event that waits at node 2, over a store that fails.
 const SWEPT: Sweep = Sweep {
+    cluster: PAIR,
     front: &[STARTED, &[("listen 2 1", "ok events 3 confirms 0")]],
     database: "b",
     lines: "work 2 1\ncrash b\nup b\nstatus b\n",

@@ -27,7 +27,7 @@ use Rattle.node_state.specs.declared.memory.Identity.{Identity}
 use Rattle.node_store.specs.Acting.{own_id}
 use Rattle.node_store.specs.Joining.{Pair}
 use Rattle.remote_worker.specs.Fetching.{is_loud}
-use Rattle.remote_worker.specs.Working.{seen_errand}
+use Rattle.remote_worker.specs.Working.{seen_copying}
 use Rattle.slonik_exec.specs.declared.databases.Named.{Named as NamedDatabase}
 use Rattle.slonik_exec.specs.declared.membership.Spots.{Spots}
 use Rattle.slonik_exec.specs.declared.reaching.Reached.TheVariants.{At}
@@ -45,7 +45,6 @@ use Rattle.slon_turns.specs.declared.fetching.Trip.{Trip}
 use Rattle.slon_turns.specs.declared.held.Held.{Held}
 use Rattle.slon_turns.specs.Applying.{Post, left_in}
 use Rattle.slon_turns.specs.Holding.{IsUpIn, Keeps, Stays}
-use Rattle.slon_turns.specs.Planning.{provider_by}
 use Rattle.slon_turns.specs.Fetching.{AreVisiting, BroughtAt, BringsFrom, Delivers, IsOwnAt, Sent, Visit, goal_of}
 use Rattle.slon_turns.specs.Fetching.{due_from}
 use Rattle.slon_turns.specs.Fetching.{due_sent, sent_post, WorksBetween, ByOwn, ByProvider}
@@ -75,25 +74,25 @@ refuses_sent {a} {w} {name} {held} s refusal bases (quiet, calm) is fits =
 
 -- no database is the provider
 pub provider_missed : {K : Type 0} {g : Ghosts K} (kept : K → Kept) (a : Trip) (index : ℕ)
-    (ds : List (NamedDatabase K g)) (held : Held) → position (is_this (provider_by a.errand)) ds ≡ None →
-    BringsFrom kept a index (ds, held) (replied.Refused (refused.NoNode (provider_by a.errand))) (ds, held)
+    (ds : List (NamedDatabase K g)) (held : Held) → position (is_this a.copying.provider) ds ≡ None →
+    BringsFrom kept a index (ds, held) (replied.Refused (refused.NoNode a.copying.provider)) (ds, held)
 provider_missed kept a index ds held none w d ready is s can =
-    refuses_sent s (refused.NoNode (provider_by a.errand)) (bases_of kept ds) (refl, refl)
-    (fetch_missed (sent_post s) s.event (seen_errand a.errand) (at_node (provider_by a.errand) w)
+    refuses_sent s (refused.NoNode a.copying.provider) (bases_of kept ds) (refl, refl)
+    (fetch_missed (sent_post s) s.event (seen_copying a.copying) (at_node a.copying.provider w)
     s.reaches
-    (none_at kept (provider_by a.errand) w.places ds ready.fits none)) ready.fits
+    (none_at kept a.copying.provider w.places ds ready.fits none)) ready.fits
 
 -- it is down
 pub provider_down : {K : Type 0} {g : Ghosts K} (kept : K → Kept) (a : Trip) (index to : ℕ)
     (ds : List (NamedDatabase K g)) (held : Held) (e : NamedDatabase K g) →
-    AreDistinct (bases_of kept ds) × (position (is_this (provider_by a.errand)) ds ≡ Some to) →
+    AreDistinct (bases_of kept ds) × (position (is_this a.copying.provider) ds ≡ Some to) →
     (e ≡ get_or ds to e) × (e.database.state.up ≡ false) →
     BringsFrom kept a index (ds, held) (replied.Refused (refused.Down e.name)) (ds, held)
 provider_down kept a index to ds held e (distinct, at) (is, down) w d ready own s can =
-    let there : IsFoundAt kept (provider_by a.errand) w.places e =
+    let there : IsFoundAt kept a.copying.provider w.places e =
     turning_at w.places (record { at = at; held = is; distinct = distinct }) ready.fits in
     refuses_sent s (refused.Down e.name) (bases_of kept ds) (refl, refl)
-    (fetch_down (sent_post s) s.event (seen_errand a.errand) (at_node (provider_by a.errand) w)
+    (fetch_down (sent_post s) s.event (seen_copying a.copying) (at_node a.copying.provider w)
     (e.name, there.place) s.reaches there.first
     (sym (same_up there.place (base_of kept e.database) there.fits) ∙ down)) ready.fits
 
@@ -110,29 +109,30 @@ pub record Pointed {K : Type 0} {g : Ghosts K} (kept : K → Kept) (a : Trip) (d
   pub distinct : AreDistinct (bases_of kept ds)
   pub seat : IsSeatHere ds (At at.from)
   pub own : IsOwnAt ds at.from a.taken.node
-  pub to : position (is_this (provider_by a.errand)) ds ≡ Some at.to
-  pub other : (provider_by a.errand) ≡ a.taken.node → ⊥
+  pub to : position (is_this a.copying.provider) ds ≡ Some at.to
+  pub other : a.copying.provider ≡ a.taken.node → ⊥
 
 places_apart : {K : Type 0} {g : Ghosts K} {kept : K → Kept} {a : Trip} {ds : List (NamedDatabase K g)} {at : Spots}
     (d : NamedDatabase K g) → Pointed kept a ds at → at.from ≡ at.to → ⊥
 places_apart {a = a} {ds} {at} d p same =
     let x = get_or ds at.from d in
     let held = get_or_default ds at.from d x p.seat.0 in
-    let this = (position-Some (is_this (provider_by a.errand)) ds at.to d p.to).1 in
-    p.other (sym (this_own (provider_by a.errand) x.database.state.node.identity
-    (subst (λ i. is_this (provider_by a.errand) (get_or ds i d) ≡ true) (sym same) this)) ∙ p.own x held)
+    let this = (position-Some (is_this a.copying.provider) ds at.to d p.to).1 in
+    p.other (sym (this_own a.copying.provider x.database.state.node.identity
+    (subst (λ i. is_this a.copying.provider (get_or ds i d) ≡ true) (sym same) this)) ∙ p.own x held)
 
 pub visiting_at : {K : Type 0} {g : Ghosts K} {kept : K → Kept} {a : Trip} {ds : List (NamedDatabase K g)}
     {at : Spots}
     (d : NamedDatabase K g) → Pointed kept a ds at →
     ((e : NamedDatabase K g) → e ≡ get_or ds at.to e → e.database.state.up ≡ true) → AreVisiting ds at
-visiting_at {a = a} {ds} {at} d p up = record {
+visiting_at {kept = kept} {a} {ds} {at} d p up = record {
   inside = p.seat.0;
-  other = found_inside (is_this (provider_by a.errand)) ds at.to d p.to;
+  other = found_inside (is_this a.copying.provider) ds at.to d p.to;
   apart = places_apart d p;
   up = λ x held. (p.seat.1 x held).here.up x held;
   node = λ x held. (p.seat.1 x held).node x held;
   provider = up;
+  other_node = λ x held. is_some_this {kept = kept} (record { at = p.to; held = held; distinct = p.distinct });
 }
 
 both : {K : Type 0} {g : Ghosts K} {kept : K → Kept} {a : Trip} {at : Spots}
@@ -155,7 +155,7 @@ both {kept = kept} {a} {at} {old} {new} p f =
       names = record { from = p.own_old.name; to = p.server_old.name };
       from = (worked_here kept old.0 at.from p.own_old p.own_old f.distinct (f.seat.0, p.own_held) refl).is.at;
       to = (worked_here kept old.0 at.to p.server_old p.server_old f.distinct
-          (found_inside (is_this (provider_by a.errand)) old.0 at.to p.server_old f.to, p.server_held) refl).is.at;
+          (found_inside (is_this a.copying.provider) old.0 at.to p.server_old f.to, p.server_held) refl).is.at;
       apart = places_apart p.own_old f;
     })
 
@@ -172,7 +172,7 @@ runs_brought {kept = kept} {old = old} {reply = reply} p f =
 record Visited {K : Type 0} {g : Ghosts K} {at : Spots} (kept : K → Kept) (a : Trip) (w : World)
     {old new : List (NamedDatabase K g) × Held} {reply : Reply} (p : BroughtAt kept (a, at) old reply new)
     (s : Sent a w p.own_old.name old.1) : Type 0 where
-  there : IsFoundAt kept (provider_by a.errand) w.places p.server_old
+  there : IsFoundAt kept a.copying.provider w.places p.server_old
   visit : Visit a (couple_of kept p.own_old p.server_old) old.1
   due : due_sent s ≡ due_from visit
   post : visit.post ≡ sent_post s
@@ -213,9 +213,9 @@ visit_of : {K : Type 0} {g : Ghosts K} {kept : K → Kept} {a : Trip} {at : Spot
     Visited kept a w p s
 visit_of {kept = kept} {a} {at} {old} p f up w ready s =
     let all = both p f in
-    let turning : Turning kept (provider_by a.errand) old.0 at.to p.server_old =
+    let turning : Turning kept a.copying.provider old.0 at.to p.server_old =
     record { at = f.to; held = p.server_held; distinct = f.distinct } in
-    let there : IsFoundAt kept (provider_by a.errand) w.places p.server_old = turning_at w.places turning ready.fits in
+    let there : IsFoundAt kept a.copying.provider w.places p.server_old = turning_at w.places turning ready.fits in
     let node = node_up w.places there up (is_some_this {kept = kept} turning) in
     record {
       there = there;
@@ -236,11 +236,11 @@ visit_of {kept = kept} {a} {at} {old} p f up w ready s =
         ready = ready_here p.server_old.name (base_of kept p.server_old.database) w (bases_of kept old.0)
             there.place ready all.two.to there.found;
         is = node.1;
-        id = node_of_id (provider_by a.errand) there.place node.0
-            (place_id (provider_by a.errand) w p.server_old.name there.place there.first) node.1;
+        id = node_of_id a.copying.provider there.place node.0
+            (place_id a.copying.provider w p.server_old.name there.place there.first) node.1;
       };
-      due = fetch_reached (sent_post s) s.event (seen_errand a.errand)
-          (at_node (provider_by a.errand) w)
+      due = fetch_reached (sent_post s) s.event (seen_copying a.copying)
+          (at_node a.copying.provider w)
           (p.server_old.name, there.place) node.0 (s.reaches, there.first)
           (sym (same_up there.place (base_of kept p.server_old.database) there.fits) ∙ up, node.1);
       post = refl;

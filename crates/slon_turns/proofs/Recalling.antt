@@ -22,12 +22,14 @@ use Rattle.app_store.specs.Fits.{Fits, Ready}
 use Rattle.app_store.specs.Parts.{FellTo, Fell}
 use Rattle.node_store.specs.Acting.{Acts}
 use Rattle.node_store.proofs.Chaining.{acts_then}
+use Rattle.remote_worker.specs.declared.carrying.Copying.{Copying}
 use Rattle.remote_worker.specs.declared.carrying.Errand.{Errand}
+use Rattle.remote_worker.specs.declared.carrying.Errand.TheVariants.{Copy}
 use Rattle.remote_worker.specs.declared.fetches.Fetches.{Fetches}
 use Rattle.remote_worker.specs.declared.fetches.Kept.{Kept}
 use Rattle.remote_worker.specs.declared.worker.Taken.{Taken}
 use Rattle.remote_worker.specs.declared.worker.Worker.{Worker}
-use Rattle.remote_worker.specs.Fetching.{CanBringBy}
+use Rattle.remote_worker.specs.Fetching.{CanCopy}
 use Rattle.remote_worker.specs.Kept.{FitsFetch, for_number, kept_at}
 use Rattle.remote_worker.specs.Loading.{CanLoad, HasFound}
 use Rattle.remote_worker.specs.Working.{waits_as, IsAble}
@@ -38,7 +40,7 @@ use Rattle.slonik_exec.proofs.Telling.{words_at}
 use Rattle.slonik_exec.proofs.Works.{answers_then}
 use Rattle.slon_turns.specs.declared.held.Held.{Held}
 use Rattle.slon_turns.specs.declared.planning.Plan.{Plan}
-use Rattle.slon_turns.specs.declared.planning.Plan.TheVariants.{Told, Has, Bring}
+use Rattle.slon_turns.specs.declared.planning.Plan.TheVariants.{Told, Has, Bring, Follow}
 use Rattle.slon_turns.specs.declared.working.Aim.{Aim}
 use Rattle.slon_turns.specs.declared.working.Aim.TheVariants.{Fetch, Apply}
 use Rattle.slon_turns.specs.Applying.{Post, PostFits, due_at, end_at, found_kept, seat_in}
@@ -159,7 +161,7 @@ recall_plans {s} {taken} {kept} {old} {held} new (Has w) r ready same recalls =
       },
       left.1,
     )
-recall_plans new (Bring w c) r ready same recalls = absurd same
+recall_plans new others r ready same recalls = absurd same
 
 -- ---- it keeps nothing
 
@@ -192,8 +194,8 @@ anew_planned {s} {taken} {old} a = record {
 }
 
 pub anew_plans : {s : Post} {taken : Worker Taken} {old : Base × Held} {held : Held} {name : List ℕ}
-    {cuts : List (ℕ × ℕ)} {mid : Base} (new : Base) (plan : Plan) → Anew s taken old held name cuts → Ready s.place mid →
-    IsAnew taken plan → PlansAnew taken cuts name mid plan new → Plans s old.1.queue plan (new, held)
+    {cuts : List (ℕ × ℕ)} {mid : Base} (new : Base) (plan : Plan) → Anew s taken old held name cuts →
+    Ready s.place mid → IsAnew taken plan → PlansAnew taken cuts name mid plan new → Plans s old.1.queue plan (new, held)
 anew_plans {s} new (Told reply) a ready same (c, some, told) = λ find.
     link_told {plan = anew_planned a} (record { some = some; named = a.named; cut = a.cut })
     (told s.place s.node ready a.fits.is) (anew_holds a) find
@@ -214,6 +216,12 @@ anew_plans {s} {taken} {old} {held} {mid = mid} new (Has w) a ready (with, none)
       record { waits = (anew_holds a).waits; keeps = λ other apart. (anew_holds a).keeps other },
       subst (Fits s.place) (sym is) ready.fits,
     )
+anew_plans {s} {taken} {old} {held} new (Follow w) a ready (same, some) is = (
+  subst (λ x. IsPlannedAnew s x old.1.queue) (sym same) (anew_planned a),
+  ap (λ (x : Worker Taken). x.state.errand) same ∙ some,
+  anew_holds a,
+  subst (Fits s.place) (sym is) ready.fits,
+)
 anew_plans {s} {taken} {old} {held} {name} {cuts} new (Bring w c) a ready sent told =
     let p = anew_planned a in
     let t : linking.Told p c name cuts = record { some = sent.some; named = a.named; cut = a.cut } in
@@ -228,11 +236,10 @@ anew_plans {s} {taken} {old} {held} {name} {cuts} new (Bring w c) a ready sent t
 -- ---- over every store
 
 -- nothing failed before, and the memory was as it had been
-pub runs_on : {old mid : Base} (name : List ℕ) (new : Base) (plan : Plan) → Acts None old mid → mid.memory ≡ old.memory →
-    PlanRuns name mid plan new → PlanRuns name old plan new
+pub runs_on : {old mid : Base} (name : List ℕ) (new : Base) (plan : Plan) → Acts None old mid →
+    mid.memory ≡ old.memory → PlanRuns name mid plan new → PlanRuns name old plan new
 runs_on name new (Told reply) acts same runs = answers_then acts runs
-runs_on name new (Has w) acts same runs = (acts_then None _ _ _ acts runs.0, runs.1 ∙ same)
-runs_on name new (Bring w c) acts same runs = (acts_then None _ _ _ acts runs.0, runs.1 ∙ same)
+runs_on name new others acts same runs = (acts_then None _ _ _ acts runs.0, runs.1 ∙ same)
 
 -- an event that can be applied
 pub recall_can : (queue : Queue) (taken : Worker Taken) (plan : Plan) →
@@ -243,7 +250,7 @@ recall_can queue taken (Has w) able same = (
       (subst (λ n. IsAble (waits_as taken.origin n queue)) (sym same.number) able),
   same.can,
 )
-recall_can queue taken (Bring w c) able same = absurd same
+recall_can queue taken others able same = absurd same
 
 pub anew_can : (queue : Queue) (taken : Worker Taken) (plan : Plan) →
     IsAble (waits_as taken.origin taken.state.number queue) × IsId taken.node × IsBringer taken.state.errand →
@@ -257,35 +264,40 @@ anew_can queue taken (Has w) (able, id, brings) (with, none) = (
 anew_can queue taken (Bring w c) (able, id, brings) sent =
     subst (λ (x : Worker Taken). CanPlan queue (Bring x c)) (sym sent.same)
     (able, id, subst IsBringer sent.some brings, sent.apart)
+anew_can queue taken (Follow w) (able, id, brings) same =
+    subst (λ (x : Worker Taken). CanPlan queue (Follow x)) (sym same.0) (able, id)
 
-pub bringer_of : (o : Option Errand) → ((x : Errand) → o ≡ Some x → CanBringBy x) → IsBringer o
+pub bringer_of : (o : Option Errand) → ((c : Copying) → o ≡ Some (Copy c) → CanCopy c) → IsBringer o
 bringer_of None can = tt
-bringer_of (Some x) can = can x refl
+bringer_of (Some (Copy c)) can = can c refl
+bringer_of (Some others) can = tt
 
 -- it is about the same event
 pub recall_own : (own : ℕ) (taken : Worker Taken) (plan : Plan) → taken.node ≡ own → IsRecalled taken plan →
     PlansOwn own plan
 recall_own own taken (Told reply) is same = tt
 recall_own own taken (Has w) is same = same.node ∙ is
-recall_own own taken (Bring w c) is same = absurd same
+recall_own own taken others is same = absurd same
 
 pub anew_own : (own : ℕ) (taken : Worker Taken) (plan : Plan) → taken.node ≡ own → IsAnew taken plan →
     PlansOwn own plan
 anew_own own taken (Told reply) is same = tt
 anew_own own taken (Has w) is same = same.0.node ∙ is
 anew_own own taken (Bring w c) is sent = ap (λ (x : Worker Taken). x.node) sent.same ∙ is
+anew_own own taken (Follow w) is same = ap (λ (x : Worker Taken). x.node) same.0 ∙ is
 
 pub recall_from : (origin : ℕ) (taken : Worker Taken) (plan : Plan) → taken.origin ≡ origin → IsRecalled taken plan →
     PlansFrom origin plan
 recall_from origin taken (Told reply) is same = tt
 recall_from origin taken (Has w) is same = same.origin ∙ is
-recall_from origin taken (Bring w c) is same = absurd same
+recall_from origin taken others is same = absurd same
 
 pub anew_from : (origin : ℕ) (taken : Worker Taken) (plan : Plan) → taken.origin ≡ origin → IsAnew taken plan →
     PlansFrom origin plan
 anew_from origin taken (Told reply) is same = tt
 anew_from origin taken (Has w) is same = same.0.origin ∙ is
 anew_from origin taken (Bring w c) is sent = ap (λ (x : Worker Taken). x.origin) sent.same ∙ is
+anew_from origin taken (Follow w) is same = ap (λ (x : Worker Taken). x.origin) same.0 ∙ is
 
 -- the store of the node failed, with no check
 pub fell_ends : {name : List ℕ} {p : Place} {reply : Reply} {fault : DbFault} {new : Base} →

@@ -16,19 +16,20 @@ use Rattle.slon_model.specs.declared.reply.Reply.TheVariants as replied
 use Rattle.slon_model.specs.Names.{Named, find_named, put_named}
 use Rattle.slon_model.specs.Maps.{with_entry}
 use Rattle.slon_model.specs.Events.{Event}
-use Rattle.slon_model.specs.Following.{Found, brought_of, tables_in}
+use Rattle.slon_model.specs.Following.{Found, FoundSyncs, brought_of, kept_from, tables_in}
 use Rattle.slon_model.specs.Deeds.{Node}
 use Rattle.slon_model.specs.Place.{Place, is_running}
 use Rattle.slon_model.specs.Rows.{member}
 use Rattle.slon_model.specs.Sessions.{World, Memory, Seat, Stated, bind, checked, seat, seat_of, when, writer_of}
 use Rattle.slon_model.specs.Turns.{Switches, at_node, on_turn, seat_at}
 use Rattle.slon_model.specs.Polls.{line_of, queue_at, with_queue}
-use Rattle.slon_model.specs.Working.{Carried, Errand, Fetched as FetchedBy}
-use Rattle.slon_model.specs.Working.{carried, carried_at, errand_of, fetch_source}
-use Rattle.slon_model.specs.Working.{fetch_source_at, fetched, fetched_at, fetches_at, found_by, found_for, found_or}
-use Rattle.slon_model.specs.Working.{having_fetched, kept_fetch, next_at, settled, source_at, source_by, source_for}
-use Rattle.slon_model.specs.Working.{source_or, taken_up, worked}
-use Rattle.slon_model.specs.World.{is_of}
+use Rattle.slon_model.specs.Working.{Carried, Errand, Fetched as FetchedBy, ToCopy, ToFollow, carried, carried_at}
+use Rattle.slon_model.specs.Working.{errand_of, fetch_sources, fetch_sources_at, fetched, fetched_at, fetches_at}
+use Rattle.slon_model.specs.Working.{followed, followed_all, found_by, found_for, found_or, having_fetched, kept_fetch}
+use Rattle.slon_model.specs.Working.{next_at, providers_in, settled, sources_at, sources_by, sources_for, sources_or}
+use Rattle.slon_model.specs.Working.{taken_up, worked}
+use Rattle.slon_model.specs.Views.{Views}
+use Rattle.slon_model.specs.World.{is_of, is_of_one}
 use Rattle.slon_model.proofs.Names.{bytes_itself, put_found}
 use Rattle.slon_laws.specs.Fetches.{KeepFormed}
 use Rattle.slon_laws.specs.Spelled.{IsSpelled}
@@ -37,7 +38,9 @@ use Rattle.slon_laws.proofs.Fillable.{formed_keep_on, work_formed, work_unwritte
 use Rattle.event_store.specs.declared.queue.Queue.{Queue}
 use Rattle.event_store.specs.Seen.{seen_event}
 use Rattle.app_store.specs.Base.{Base, base_of}
+use Rattle.remote_worker.specs.declared.carrying.Copying.{Copying}
 use Rattle.remote_worker.specs.declared.carrying.Errand as declared
+use Rattle.remote_worker.specs.declared.carrying.Errand.TheVariants.{Copy as CopyFrom}
 use Rattle.remote_worker.specs.declared.worker.Fetched.{Fetched}
 use Rattle.remote_worker.specs.declared.worker.Taken.{Taken}
 use Rattle.remote_worker.specs.declared.worker.Worker.{Worker}
@@ -59,38 +62,42 @@ use Rattle.slon_turns.specs.declared.planning.Plan.TheVariants.{Told, Has, Bring
 use Rattle.slon_turns.specs.declared.working.Aim.{Aim}
 use Rattle.slon_turns.specs.declared.working.Aim.TheVariants.{Fetch, Apply}
 use Rattle.slon_turns.specs.declared.working.Work.{Work}
-use Rattle.slon_turns.specs.Applying.{due_at, due_of, EndsWith, Finder}
+use Rattle.slon_turns.specs.Applying.{due_at, due_of, EndsWith, Finder, followed_with, nodes_at}
 use Rattle.slon_turns.specs.Applying.{IsFor, PostFits, WorksHere, found_kept, found_with}
 use Rattle.slon_turns.specs.Applying.{goal_in, left_in, seat_in}
 use Rattle.slon_turns.specs.Fetching.{BringsFrom, Delivers, Sent, due_sent, goal_of, post_of}
 use Rattle.slon_turns.specs.Holding.{Holdings, Holds, IsTaken, IsUpIn, Keeps, KeepsIn, WaitsIn}
-use Rattle.slon_turns.specs.Planning.{IsPlannedAnew, PlansAt, Reaches, provider_by}
+use Rattle.slon_turns.specs.Planning.{IsPlannedAnew, PlansAt, Reaches}
 use Rattle.slon_turns.specs.Polling.{GoesAt, Once, Never, Waits}
 use Rattle.slon_turns.specs.Turning.{Kept}
 use Rattle.slon_turns.specs.Working.{CanCarry, CanTurn, Carries, CarriesOut, Due, Goal, TakesUp, ToApply, ToKeep, Turn}
-use Rattle.slon_turns.specs.Working.{Works, end_by, gives_up, left_after, recalled, source_in, source_to, stated_turn}
+use Rattle.slon_turns.specs.Working.{Works, end_by, gives_up, left_after, recalled, sources_in, sources_to, stated_turn}
 use Rattle.slon_turns.specs.Working.{turned, turned_to}
 use Rattle.slon_turns.proofs.Applying.{left_refused}
-use Rattle.slon_turns.proofs.Linking.{planned_errand}
+use Rattle.slon_turns.proofs.Linking.{planned_copy}
 use Rattle.slon_turns.proofs.Mids.{LookedAt, found_here, mids_distinct, mids_inside, mids_ready, worked_here}
 use Rattle.slon_turns.proofs.Waiting.{fetches_beside, keeps_beside, queue_beside}
 use Rattle.slon_turns.proofs.Waiting.{taken_keeps, taken_waits, waits_beside}
 
 -- ---- what the turn comes to
 
--- where each node is
-abbrev pub nodes_at : World → Finder
-nodes_at w id = at_node id w
-
 bind_bind : {A B C : Type 0} (r : Result A Refusal) (f : A → Result B Refusal) (h : B → Result C Refusal) →
     bind (bind r f) h ≡ bind r (λ a. bind (f a) h)
 bind_bind (Ok a) f h = refl
 bind_bind (Err refusal) f h = refl
 
+followed_so : (w : World) (s : Seat) (e : Event) (vs : Views) →
+    followed_all w s e vs ≡ followed_with w.memory s e (nodes_at w) vs
+followed_so w s e [] = refl
+followed_so w s e (v ∷ vs) =
+    ap (λ r. bind (followed w s e v) (λ t. bind r (λ ts. Ok (t ∷ ts)))) (followed_so w s e vs)
+
 found_so : (w : World) (s : Seat) (e : Event) (c : Option Errand) →
     found_by w s e c ≡ found_with w.memory s e (nodes_at w) c
 found_so w s e None = refl
-found_so w s e (Some c) = refl
+found_so w s e (Some (ToCopy c)) = refl
+found_so w s e (Some ToFollow) =
+    ap (λ r. bind r (λ ts. Ok (FoundSyncs ts))) (followed_so w s e (kept_from e.origin s.known))
 
 kept_so : (w : World) (s : Seat) (e : Event) (o : Option Found) →
     found_or w s e o ≡ found_kept w.memory s e (nodes_at w) o
@@ -174,7 +181,7 @@ pub record Turned {K : Type 0} {g : Ghosts K} (kept : K → KeptStore) (ds : Lis
   pub name : y.name ≡ x.name
 
 -- what a database comes to that may commit is what the session comes to
-goes_at : {w : World} {name : List ℕ} {p : Place} {bases : Named Base} {due : Result Stated Refusal}
+pub goes_at : {w : World} {name : List ℕ} {p : Place} {bases : Named Base} {due : Result Stated Refusal}
     {reply : Reply} {new : Base} → Sits w name p bases → GoesAt name p due reply new →
     Comes w due reply (put_named name new bases)
 goes_at s (Once comes) = comes_at s comes
@@ -182,7 +189,7 @@ goes_at {w} s (Never answer is told fits) =
     Stands (record { answer = answer; commits = [] }) is refl told (still_all {w = w} s fits)
 
 -- the database that stands at an index is up
-up_here : {K : Type 0} {g : Ghosts K} {kept : K → KeptStore} {ds : List (NamedDatabase K g)} {i : ℕ}
+pub up_here : {K : Type 0} {g : Ghosts K} {kept : K → KeptStore} {ds : List (NamedDatabase K g)} {i : ℕ}
     {x y : NamedDatabase K g} → Turned kept ds i x y → IsUpIn x.name (bases_of kept (set ds i y)) →
     (base_of kept y.database).memory.up ≡ true
 up_here {kept = kept} {ds} {i} {x} {y} t up =
@@ -209,8 +216,8 @@ carries_here {kept = kept} {ds} {i} {x} {y} {node} {w} {reply} {held} goal t rea
           (put_worked at)
           (goes_at (record { found = s.found; running = s.running; fits = ready.fits }) works.goes));
       own = λ other halt told.
-          ap (λ o. is_of other o || is_of other (source_in goal node w)) s.at
-          ∙ ap (λ b. b || is_of other (source_in goal node w))
+          ap (λ o. is_of other o || is_of_one other (sources_in goal node w) w) s.at
+          ∙ ap (λ b. b || is_of_one other (sources_in goal node w) w)
           (ap (bytes_eq other) (sym (answers.own other halt told)) ∙ bytes_itself other);
       waits = subst (λ m. Waits x.name m held.queue) left works.stays.waits;
       keeps = λ up. subst (λ m. Keeps x.name m held.fetches) left (works.stays.keeps (up_here t up));
@@ -244,7 +251,7 @@ post_fits {w = w} kept ds i x (distinct, inside, at) ready goal s holds = record
 }
 
 -- what stands at an index is one
-one_here : {X : Type 0} (xs : List X) (i : ℕ) (x d : X) → (i < length xs) × (x ≡ get_or xs i x) →
+pub one_here : {X : Type 0} (xs : List X) (i : ℕ) (x d : X) → (i < length xs) × (x ≡ get_or xs i x) →
     d ≡ get_or xs i d → d ≡ x
 one_here xs i x d (inside, held) is = is ∙ get_or_default xs i d x inside ∙ sym held
 
@@ -311,62 +318,69 @@ carries_had {kept = kept} {ds} {x} {y} {reply} {held} {mid} {left} {t} {f} z (p,
     })
     (subst CanTurn (worked_due t.goal s ∙ due) (can_turn t.goal t.node v takes ready.spelled keep)))))
 
--- the database that is read besides that of the node
-source_as : (aim : Aim) (node origin : ℕ) (v : World) (s : Seat) (e : Event) → on_turn node v ≡ Ok s →
+-- the nodes of which the databases are read besides that of the node
+sources_as : (aim : Aim) (node origin : ℕ) (v : World) (s : Seat) (e : Event) → on_turn node v ≡ Ok s →
     next_at v.memory s origin ≡ Some e →
-    source_to aim node origin v ≡ source_or v s e (recalled aim s.name e v.memory)
-source_as Fetch node origin v s e due next = ap (fetch_source_at v origin) due ∙ ap (fetch_source v s) next
-source_as Apply node origin v s e due next = ap (source_at v origin) due ∙ ap (source_for v s) next
+    sources_to aim node origin v ≡ sources_or s e (recalled aim s.name e v.memory)
+sources_as Fetch node origin v s e due next = ap (fetch_sources_at v origin) due ∙ ap (fetch_sources s) next
+sources_as Apply node origin v s e due next = ap (sources_at v origin) due ∙ ap (sources_for v s) next
 
-source_is : {node : ℕ} {v : World} {name : List ℕ} {goal : Goal} {w : Worker Taken} {queue : Queue}
+pub sources_are : {node : ℕ} {v : World} {name : List ℕ} {goal : Goal} {w : Worker Taken} {queue : Queue}
     (s : SitsOn node v name) (plan : IsPlannedAnew (post_of goal s) w queue) (c : declared.Errand) →
-    w.state.errand ≡ Some c → source_in goal node v ≡ at_node (provider_by c) v
-source_is {node} {v} {goal = goal} s plan c some =
+    w.state.errand ≡ Some c →
+    sources_in goal node v ≡ providers_in plan.plan.event.origin (seat_in (post_of goal s)) (seen_errand c)
+sources_are {node} {v} {goal = goal} s plan c some =
     let p = seat_in (post_of goal s) in
     let e = seen_event plan.plan.event in
-    source_as goal.aim node goal.origin v p e s.due plan.plan.next
-    ∙ ap (source_or v p e) plan.none
-    ∙ ap (source_by v) (sym plan.plan.took.errand ∙ ap (option_map seen_errand) some)
+    sources_as goal.aim node goal.origin v p e s.due plan.plan.next
+    ∙ ap (sources_or p e) plan.none
+    ∙ ap (sources_by e.origin p) (sym plan.plan.took.errand ∙ ap (option_map seen_errand) some)
+
+-- a name that is that of the node, or of the one provider
+or_one : (a b : Bool) → (a || b) ≡ true → (a || (b || false)) ≡ true
+or_one true b is = refl
+or_one false true is = refl
+or_one false false is = is
 
 -- What a node does that brings something, in a session.
 record Going {K : Type 0} {g : Ghosts K} (kept : K → KeptStore) (t : Turn) (v : World) (name : List ℕ)
-    (mids news : List (NamedDatabase K g)) (w : Worker Taken) (c : declared.Errand) : Type 0 where
+    (mids news : List (NamedDatabase K g)) (w : Worker Taken) (c : Copying) : Type 0 where
   held : Held
   left : Held
   reply : Reply
   sits : SitsOn t.node v name
   holds : Holds name v.memory held
   plan : IsPlannedAnew (post_of t.goal sits) w held.queue
-  some : w.state.errand ≡ Some c
-  reaches : Reaches (post_of t.goal sits) (provider_by c)
+  some : w.state.errand ≡ Some (CopyFrom c)
+  reaches : Reaches (post_of t.goal sits) c.provider
   from : w.origin ≡ t.goal.origin
   takes : TakesUp t.node t.goal.origin v
   spelled : AllPlaces IsSpelled v
   formed : KeepFormed v
 
-abbrev trip_by : Turn → Worker Taken → declared.Errand → Trip
-trip_by t w c = record { taken = w; errand = c; aim = t.goal.aim }
+abbrev trip_by : Turn → Worker Taken → Copying → Trip
+trip_by t w c = record { taken = w; copying = c; aim = t.goal.aim }
 
 -- it aims at what the turn aims at
-aims_so : (t : Turn) (w : Worker Taken) (c : declared.Errand) → w.origin ≡ t.goal.origin →
+aims_so : (t : Turn) (w : Worker Taken) (c : Copying) → w.origin ≡ t.goal.origin →
     goal_of (trip_by t w c) ≡ t.goal
 aims_so t w c from = ap (λ o. record { aim = t.goal.aim; origin = o }) from
 
 -- under the goal that its errand has
-record Sending (goal : Goal) (t : Turn) (v : World) (name : List ℕ) (w : Worker Taken) (c : declared.Errand)
+record Sending (goal : Goal) (t : Turn) (v : World) (name : List ℕ) (w : Worker Taken) (c : Copying)
     (held : Held) (sits : SitsOn t.node v name) : Type 0 where
   plan : IsPlannedAnew (post_of goal sits) w held.queue
-  reaches : Reaches (post_of goal sits) (provider_by c)
+  reaches : Reaches (post_of goal sits) c.provider
 
 sending : {K : Type 0} {g : Ghosts K} {kept : K → KeptStore} {t : Turn} {v : World} {name : List ℕ}
-    {mids news : List (NamedDatabase K g)} {w : Worker Taken} {c : declared.Errand} →
+    {mids news : List (NamedDatabase K g)} {w : Worker Taken} {c : Copying} →
     (o : Going kept t v name mids news w c) → Sending (goal_of (trip_by t w c)) t v name w c o.held o.sits
 sending {t = t} {v} {name} {w = w} {c} o =
     subst (λ goal. Sending goal t v name w c o.held o.sits) (sym (aims_so t w c o.from))
     (record { plan = o.plan; reaches = o.reaches })
 
 abbrev sent_by : {K : Type 0} {g : Ghosts K} {kept : K → KeptStore} {t : Turn} {v : World} {name : List ℕ}
-    {mids news : List (NamedDatabase K g)} {w : Worker Taken} {c : declared.Errand} →
+    {mids news : List (NamedDatabase K g)} {w : Worker Taken} {c : Copying} →
     (o : Going kept t v name mids news w c) → Sent (trip_by t w c) v name o.held
 sent_by {t = t} o = record {
   id = t.node;
@@ -378,7 +392,7 @@ sent_by {t = t} o = record {
 }
 
 carries_going : {K : Type 0} {g : Ghosts K} {kept : K → KeptStore} {t : Turn} {v : World} {name : List ℕ}
-    {mids news : List (NamedDatabase K g)} {w : Worker Taken} {c : declared.Errand} →
+    {mids news : List (NamedDatabase K g)} {w : Worker Taken} {c : Copying} →
     (o : Going kept t v name mids news w c) →
     ((z : Sent (trip_by t w c) v name o.held) →
     CanTurn (due_sent z) → Delivers z o.reply (bases_of kept news) o.left) →
@@ -389,7 +403,7 @@ carries_going {kept = kept} {t} {v} {name} {news = news} {w} {c} o brings =
     let goal = goal_of (trip_by t w c) in
     let plan = (sending o).plan in
     let due : turned goal t.node v ≡ due_sent (sent_by o)
-    = worked_due goal s ∙ planned_errand plan c o.some (nodes_at v) in
+    = worked_due goal s ∙ planned_copy plan c o.some (nodes_at v) in
     let can = can_turn goal t.node v (subst (λ x. TakesUp t.node x v) (sym o.from) o.takes) o.spelled o.formed in
     let d = brings (sent_by o) (subst CanTurn due can) in
     let left = ap (λ r. left_after goal (Some (name, s.place)) r o.reply v.memory) (sym due)
@@ -397,8 +411,9 @@ carries_going {kept = kept} {t} {v} {name} {news = news} {w} {c} o brings =
     record {
       comes = subst (λ r. Comes v (stated_turn r) o.reply (bases_of kept news)) (sym due) d.comes;
       own = λ other halt told.
-          ap (λ e. is_of other e || is_of other (source_in goal t.node v)) s.at
-          ∙ ap (λ e. bytes_eq other name || is_of other e) (source_is s plan c o.some) ∙ d.own other halt told;
+          ap (λ e. is_of other e || is_of_one other (sources_in goal t.node v) v) s.at
+          ∙ ap (λ ns. bytes_eq other name || is_of_one other ns v) (sources_are s plan (CopyFrom c) o.some)
+          ∙ or_one (bytes_eq other name) (is_of other (at_node c.provider v)) (d.own other halt told);
       waits = subst (λ m. Waits name m o.left.queue) left d.waits;
       keeps = λ up. subst (λ m. Keeps name m o.left.fetches) left (d.keeps up);
     })
@@ -406,7 +421,7 @@ carries_going {kept = kept} {t} {v} {name} {news = news} {w} {c} o brings =
 -- it brought something
 pub carries_brought : {K : Type 0} {g : Ghosts K} {kept : K → KeptStore} {ds : List (NamedDatabase K g)}
     {x y : NamedDatabase K g} {reply : Reply} {held mid left : Held} {t : Turn} {w : Worker Taken}
-    {c : declared.Errand} (news : List (NamedDatabase K g)) →
+    {c : Copying} (news : List (NamedDatabase K g)) →
     Planned kept t ds held mid (Bring w c) x y × (w.origin ≡ t.goal.origin) →
     BringsFrom kept (trip_by t w c) t.index (set ds t.index y, mid) reply (news, left) →
     CarriesOut kept t (ds, held) reply (news, left)

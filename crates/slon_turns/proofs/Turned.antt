@@ -123,7 +123,7 @@ pub place_id : (node : ℕ) (w : World) (name : List ℕ) (p : Place) → at_nod
 place_id node w name p at =
     some_id node (node_id p) (found_test (λ e. is_id node (node_id e.1)) w.places (name, p) at)
 
-own_id : (node : ℕ) (w : World) (name : List ℕ) (s : SitsOn node w name) → s.own.id ≡ node
+pub own_id : (node : ℕ) (w : World) (name : List ℕ) (s : SitsOn node w name) → s.own.id ≡ node
 own_id node w name s =
     let some : Some s.own.id ≡ Some node
     = sym (ap (λ (o : Option Node). option_or (option_map (λ m. m.id) o) s.place.promised) s.is)

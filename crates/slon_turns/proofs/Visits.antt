@@ -21,7 +21,7 @@ use Rattle.remote_worker.specs.declared.worker.Fetched.{Fetched}
 use Rattle.remote_worker.specs.declared.worker.Worker.{Worker}
 use Rattle.remote_worker.specs.Fetching.{Asked, Fetches, IsFound, fetched, is_loud}
 use Rattle.remote_worker.specs.Looking.{FallsOne}
-use Rattle.remote_worker.specs.Working.{waits_as, IsWith, seen_errand}
+use Rattle.remote_worker.specs.Working.{waits_as, IsWith, seen_copying}
 use Rattle.slonik_exec.specs.Databases.{told_by}
 use Rattle.slonik_exec.specs.Stored.{Couple, name_at}
 use Rattle.slonik_exec.proofs.Asking.{one_place}
@@ -42,13 +42,13 @@ calm_quiet others calm = refl
 
 -- what is asked for
 abbrev pub asked_of : Trip → Event → Asked
-asked_of a e = record { errand = a.errand; own = a.taken.node; event = seen_event e }
+asked_of a e = record { copying = a.copying; own = a.taken.node; event = seen_event e }
 
 -- what was fetched is so at these two
 pub found_by : {a : Trip} {old : Couple} {held : Held} (v : Visit a old held) (e : Event) (given : Found) →
     waits_as a.taken.origin a.taken.state.number held.queue ≡ Some e →
     Fetches (asked_of a e) v.post.place v.provider given →
-    IsFound v.event.origin (fetched (seen_errand a.errand) (seen_event v.event) (seat_in v.post)
+    IsFound v.event.origin (fetched (seen_copying a.copying) (seen_event v.event) (seat_in v.post)
     (seat old.names.to v.provider v.node)) given
 found_by {a} {old} v e given is fetches =
     let some : Some e ≡ Some v.event = sym is ∙ v.took.found in
@@ -59,7 +59,7 @@ found_by {a} {old} v e given is fetches =
 -- it is refused
 pub refused_between : {a : Trip} {old : Couple} {held : Held} (v : Visit a old held) (refusal : Refusal)
     (new : Pair) →
-    (fetched (seen_errand a.errand) (seen_event v.event) (seat_in v.post) (seat old.names.to v.provider v.node)
+    (fetched (seen_copying a.copying) (seen_event v.event) (seat_in v.post) (seat old.names.to v.provider v.node)
     ≡ Err refusal) × (is_loud refusal ≡ false) →
     Fits v.post.place new.from × Fits v.provider new.to →
     WorksBetween v.post (old.names.to, v.provider) (due_from v) (replied.Refused refusal) new held
@@ -72,7 +72,7 @@ refused_between {held = held} v refusal new (is, calm) (own, other) =
 -- what was fetched is kept, or the event is applied with it
 pub ended_between : {a : Trip} {old : Couple} {held : Held} {reply : Reply} (v : Visit a old held)
     (w : Worker Fetched) (mid new : Pair) (left : Held) →
-    IsFound v.event.origin (fetched (seen_errand a.errand) (seen_event v.event) (seat_in v.post)
+    IsFound v.event.origin (fetched (seen_copying a.copying) (seen_event v.event) (seat_in v.post)
     (seat old.names.to v.provider v.node)) (Brings w) × IsWith a.taken w.state.load w →
     (Fits v.post.place mid.from × Fits v.provider new.to) × CanTurn (due_from v) →
     EndsWith a.aim old.names.from w (mid.from, held) reply (new.from, left) →

@@ -1,17 +1,24 @@
 -- What the work of a node comes to at its database and at what it holds.
-use Rattle.std.specs.Prelude.{◌≡◌, ◌==◌, ℕ, Bool, true, false, List, Option, Some, None, Result, Ok}
+use Rattle.std.specs.Prelude.{◌≡◌, ◌==◌, ℕ, nat_lt, Bool, true, false, not, List, [], ◌∷◌, Option, Some, None}
+use Rattle.std.specs.Prelude.{Result, Ok}
 use Rattle.slon_model.specs.declared.reply.Answer.TheVariants.{Applied}
 use Rattle.slon_model.specs.declared.reply.Answered.{Answered}
 use Rattle.slon_model.specs.declared.reply.Answered.TheVariants.{Sure, InDoubt}
 use Rattle.slon_model.specs.declared.reply.EventKind.{EventKind}
 use Rattle.slon_model.specs.declared.reply.Refusal.{Refusal}
+use Rattle.slon_model.specs.declared.reply.Refusal.TheVariants as refused
 use Rattle.slon_model.specs.declared.reply.Reply.{Reply}
 use Rattle.slon_model.specs.Events.{Event, kind_of}
-use Rattle.slon_model.specs.Following.{Found, FoundNothing, brought_of}
+use Rattle.slon_model.specs.Following.{Found, FoundNothing, FoundSyncs, SetSync, brought_of, kept_from, set_sync}
+use Rattle.slon_model.specs.Config.{is_known}
 use Rattle.slon_model.specs.Deeds.{Node}
+use Rattle.slon_model.specs.Logs.{logged}
 use Rattle.slon_model.specs.Place.{Place}
-use Rattle.slon_model.specs.Sessions.{Memory, Seat, bind, seat}
-use Rattle.slon_model.specs.Working.{Errand, carried, errand_of, found_from, next_at, provider_in, still, taken_up}
+use Rattle.slon_model.specs.Sessions.{World, Memory, Seat, bind, checked, seat, when}
+use Rattle.slon_model.specs.Turns.{at_node, seat_at}
+use Rattle.slon_model.specs.Views.{View, Views}
+use Rattle.slon_model.specs.Working.{Copying, Errand, ToCopy, ToFollow, carried, copied, errand_of, given_at}
+use Rattle.slon_model.specs.Working.{linked_to, next_at, progress_in, provider_of, still, taken_up}
 use Rattle.event_store.specs.declared.event.Event as declared
 use Rattle.event_store.specs.declared.queue.Queue.{Queue}
 use Rattle.event_store.specs.Seen.{seen_event}
@@ -45,10 +52,41 @@ goal_in work = record { aim = work.aim; origin = work.origin }
 abbrev pub Finder : Type 0
 Finder = ℕ → Option (List ℕ × Place)
 
+abbrev pub nodes_at : World → Finder
+nodes_at w id = at_node id w
+
+-- the provider at its seat, where it is found so: 75, 68, 44, 16, 62, 63
+abbrev pub provided_in : ℕ → Memory → Seat → Event → Option (List ℕ × Place) → Result Seat Refusal
+provided_in provider m s e found =
+    bind (bind (linked_to provider m s found) (λ found. seat_at provider found))
+    (λ p. checked (when (not (is_known s.node.id p.known.config)) (refused.NotKnown s.node.id)
+    ∷ when (nat_lt (progress_in e p) e.number) (refused.Behind provider (progress_in e p) e.number) ∷ []) p)
+
+-- what is copied from it
+abbrev pub found_from : Copying → Memory → Seat → Event → Option (List ℕ × Place) → Result Found Refusal
+found_from c m s e found =
+    bind (provided_in c.provider m s e found) (λ p. copied c s e p (given_at c p))
+
+-- what is taken of each of these sets, each from its provider
+abbrev pub followed_in : Memory → Seat → Event → Finder → ℕ × View → Result SetSync Refusal
+followed_in m s e find v =
+    let provider = provider_of e.origin s v.0 in
+    bind (provided_in provider m s e (find provider)) (λ p. Ok (set_sync s.node.id s.known e (logged p.node) v))
+
+abbrev pub followed_with : Memory → Seat → Event → Finder → Views → Result (List SetSync) Refusal
+followed_with m s e find [] = Ok []
+followed_with m s e find (v ∷ more) =
+    bind (followed_in m s e find v) (λ t. bind (followed_with m s e find more) (λ ts. Ok (t ∷ ts)))
+
+abbrev pub syncs_with : Memory → Seat → Event → Finder → Result Found Refusal
+syncs_with m s e find =
+    bind (followed_with m s e find (kept_from e.origin s.known)) (λ ts. Ok (FoundSyncs ts))
+
 -- what is found for an event, where nodes are found so
 abbrev pub found_with : Memory → Seat → Event → Finder → Option Errand → Result Found Refusal
 found_with m s e find None = Ok FoundNothing
-found_with m s e find (Some c) = found_from c m s e (find (provider_in c))
+found_with m s e find (Some (ToCopy c)) = found_from c m s e (find c.provider)
+found_with m s e find (Some ToFollow) = syncs_with m s e find
 
 -- where this was fetched before and is kept
 abbrev pub found_kept : Memory → Seat → Event → Finder → Option Found → Result Found Refusal

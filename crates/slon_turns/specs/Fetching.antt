@@ -13,7 +13,6 @@ use Rattle.slon_model.specs.Deeds.{Node}
 use Rattle.slon_model.specs.Place.{Place, fallen}
 use Rattle.slon_model.specs.Sessions.{World, bind, seat}
 use Rattle.slon_model.specs.Turns.{at_node}
-use Rattle.slon_model.specs.Working.{found_from}
 use Rattle.slon_model.specs.World.{is_of}
 use Rattle.event_store.specs.declared.event.Event.{Event}
 use Rattle.event_store.specs.Seen.{seen_event}
@@ -22,7 +21,7 @@ use Rattle.app_store.specs.Fits.{Fits, Ready}
 use Rattle.node_store.specs.Acting.{own_id}
 use Rattle.node_store.specs.Joining.{Pair}
 use Rattle.remote_worker.specs.Fetching.{fetched}
-use Rattle.remote_worker.specs.Working.{seen_errand}
+use Rattle.remote_worker.specs.Working.{seen_copying}
 use Rattle.slonik_exec.specs.declared.databases.Named.{Named as NamedDatabase}
 use Rattle.slonik_exec.specs.declared.membership.Spots.{Spots}
 use Rattle.slonik_exec.specs.Databases.{AreReady, bases_of, told_by}
@@ -31,9 +30,9 @@ use Rattle.slonik_exec.specs.Stored.{Couple, couple_of, pair_of}
 use Rattle.slonik_exec.specs.Turning.{SitsOn}
 use Rattle.slon_turns.specs.declared.fetching.Trip.{Trip}
 use Rattle.slon_turns.specs.declared.held.Held.{Held}
-use Rattle.slon_turns.specs.Applying.{Post, PostFits, WorksHere, end_at, left_in, seat_in}
+use Rattle.slon_turns.specs.Applying.{Post, PostFits, WorksHere, end_at, found_from, left_in, seat_in}
 use Rattle.slon_turns.specs.Holding.{Holds, IsUpIn, Keeps}
-use Rattle.slon_turns.specs.Planning.{Reaches, TookUp, provider_by}
+use Rattle.slon_turns.specs.Planning.{Reaches, TookUp}
 use Rattle.slon_turns.specs.Polling.{CanFall, RunsBetween, Waits}
 use Rattle.slon_turns.specs.Working.{CanTurn, Due, Goal, stated_turn}
 
@@ -53,12 +52,12 @@ pub record Visit (a : Trip) (old : Couple) (held : Held) : Type 0 where
   pub took : TookUp post a.taken held.queue event
   pub ready : Ready provider old.bases.to
   pub is : provider.node ≡ Some node
-  pub id : node.id ≡ provider_by a.errand
+  pub id : node.id ≡ a.copying.provider
 
 -- what the turn comes to then
 abbrev pub due_from : {a : Trip} {old : Couple} {held : Held} → Visit a old held → Result Due Refusal
 due_from {a} {old} v =
-    bind (fetched (seen_errand a.errand) (seen_event v.event) (seat_in v.post) (seat old.names.to v.provider v.node))
+    bind (fetched (seen_copying a.copying) (seen_event v.event) (seat_in v.post) (seat old.names.to v.provider v.node))
     (end_at v.post v.event)
 
 -- All is done at the database of the node, and that of the provider is as it was; or the store of the provider failed,
@@ -78,7 +77,7 @@ BringsTo a old held reply new left =
 
 -- ---- at two places of a list
 
--- The databases at two places are up, and the one is a node.
+-- The databases at two places are up and nodes.
 pub record AreVisiting {K : Type 0} {g : Ghosts K} (databases : List (NamedDatabase K g)) (at : Spots) : Type 0 where
   pub inside : at.from < length databases
   pub other : at.to < length databases
@@ -86,6 +85,8 @@ pub record AreVisiting {K : Type 0} {g : Ghosts K} (databases : List (NamedDatab
   pub up : (d : NamedDatabase K g) → d ≡ get_or databases at.from d → d.database.state.up ≡ true
   pub node : (d : NamedDatabase K g) → d ≡ get_or databases at.from d → is_some d.database.state.node.identity ≡ true
   pub provider : (d : NamedDatabase K g) → d ≡ get_or databases at.to d → d.database.state.up ≡ true
+  pub other_node : (d : NamedDatabase K g) → d ≡ get_or databases at.to d →
+      is_some d.database.state.node.identity ≡ true
 
 -- these two were changed so
 pub record BroughtAt {K : Type 0} {g : Ghosts K} (kept : K → Kept) (by : Trip × Spots)
@@ -121,7 +122,7 @@ pub record Sent (a : Trip) (w : World) (name : List ℕ) (held : Held) : Type 0 
   pub holds : Holds name w.memory held
   pub event : Event
   pub took : TookUp (post_of (goal_of a) sits) a.taken held.queue event
-  pub reaches : Reaches (post_of (goal_of a) sits) (provider_by a.errand)
+  pub reaches : Reaches (post_of (goal_of a) sits) (a.copying.provider)
 
 abbrev pub sent_post : {a : Trip} {w : World} {name : List ℕ} {held : Held} → Sent a w name held → Post
 sent_post {a} s = post_of (goal_of a) s.sits
@@ -130,15 +131,15 @@ sent_post {a} s = post_of (goal_of a) s.sits
 abbrev pub due_sent : {a : Trip} {w : World} {name : List ℕ} {held : Held} → Sent a w name held → Result Due Refusal
 due_sent {a} {w} s =
     let p = sent_post s in
-    bind (found_from (seen_errand a.errand) w.memory (seat_in p) (seen_event s.event)
-    (at_node (provider_by a.errand) w)) (end_at p s.event)
+    bind (found_from (seen_copying a.copying) w.memory (seat_in p) (seen_event s.event)
+    (at_node (a.copying.provider) w)) (end_at p s.event)
 
 -- what comes of it at all databases, and at what the node holds
 pub record Delivers {a : Trip} {w : World} {name : List ℕ} {held : Held} (s : Sent a w name held)
     (reply : Reply) (new : Named Base) (left : Held) : Type 0 where
   pub comes : Comes w (stated_turn (due_sent s)) reply new
   pub own : (other : List ℕ) (halt : HaltOf) → told_by reply ≡ Some (other, halt) →
-      (bytes_eq other name || is_of other (at_node (provider_by a.errand) w)) ≡ true
+      (bytes_eq other name || is_of other (at_node (a.copying.provider) w)) ≡ true
   pub waits : Waits name (left_in (sent_post s) (due_sent s) reply) left.queue
   pub keeps : IsUpIn name new → Keeps name (left_in (sent_post s) (due_sent s) reply) left.fetches
 

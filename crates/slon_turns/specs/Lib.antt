@@ -1,5 +1,6 @@
 pub mod Applying
 pub mod Fetching
+pub mod Following
 pub mod Holding
 pub mod Pairing
 pub mod Planning

@@ -11,7 +11,7 @@ use Rattle.slon_model.specs.Events.{kind_of}
 use Rattle.slon_model.specs.Following.{Found}
 use Rattle.slon_model.specs.Sessions.{Seat, first_refusal, when}
 use Rattle.slon_model.specs.Turns.{are_cut}
-use Rattle.slon_model.specs.Working.{errand_of, next_at, provider_in}
+use Rattle.slon_model.specs.Working.{errand_of, next_at}
 use Rattle.event_store.specs.declared.event.Event.{Event}
 use Rattle.event_store.specs.declared.queue.Queue.{Queue}
 use Rattle.event_store.specs.Seen.{seen_event}
@@ -22,15 +22,15 @@ use Rattle.remote_worker.specs.declared.fetches.Kept.{Kept}
 use Rattle.remote_worker.specs.declared.worker.Fetched.{Fetched}
 use Rattle.remote_worker.specs.declared.worker.Taken.{Taken}
 use Rattle.remote_worker.specs.declared.worker.Worker.{Worker}
-use Rattle.remote_worker.specs.declared.carrying.Errand.{Errand}
-use Rattle.remote_worker.specs.Fetching.{CanBringBy}
+use Rattle.remote_worker.specs.declared.carrying.Errand.TheVariants.{Copy, Follow as ToFollow}
+use Rattle.remote_worker.specs.Fetching.{CanCopy}
 use Rattle.remote_worker.specs.Kept.{for_number}
 use Rattle.remote_worker.specs.Loading.{CanLoad}
 use Rattle.remote_worker.specs.Working.{waits_as, IsAble, seen_errand}
 use Rattle.slonik_exec.specs.Answering.{Answers}
 use Rattle.slon_turns.specs.declared.held.Held.{Held}
 use Rattle.slon_turns.specs.declared.planning.Plan.{Plan}
-use Rattle.slon_turns.specs.declared.planning.Plan.TheVariants.{Told, Has, Bring}
+use Rattle.slon_turns.specs.declared.planning.Plan.TheVariants.{Told, Has, Bring, Follow}
 use Rattle.slon_turns.specs.declared.working.Aim.{Aim}
 use Rattle.slon_turns.specs.declared.working.Aim.TheVariants.{Fetch, Apply}
 use Rattle.slon_turns.specs.Applying.{Finder, IsFor, Post, PostFits, WorksHere, due_at, due_of, end_at, seat_in}
@@ -45,28 +45,27 @@ abbrev pub PlanRuns : List ℕ → Base → Plan → Base → Type 0
 PlanRuns name old (Told reply) new = Answers name old reply new
 PlanRuns name old others new = Acts None old new × (new.memory ≡ old.memory)
 
--- the node from which it is to be brought
-abbrev pub provider_by : Errand → ℕ
-provider_by x = provider_in (seen_errand x)
-
 -- what was planned can be carried out
 abbrev pub CanPlan : Queue → Plan → Type 0
 CanPlan queue (Told reply) = Unit {0}
 CanPlan queue (Has w) = IsAble (waits_as w.origin w.state.number queue) × CanLoad w.state.load
 CanPlan queue (Bring w c) =
-    IsAble (waits_as w.origin w.state.number queue) × IsId w.node × CanBringBy c × (provider_by c ≡ w.node → ⊥)
+    IsAble (waits_as w.origin w.state.number queue) × IsId w.node × CanCopy c × (c.provider ≡ w.node → ⊥)
+CanPlan queue (Follow w) = IsAble (waits_as w.origin w.state.number queue) × IsId w.node
 
 -- it is about the events of this origin
 abbrev pub PlansFrom : ℕ → Plan → Type 0
 PlansFrom origin (Told reply) = Unit {0}
 PlansFrom origin (Has w) = w.origin ≡ origin
 PlansFrom origin (Bring w c) = w.origin ≡ origin
+PlansFrom origin (Follow w) = w.origin ≡ origin
 
 -- it is the node of this id
 abbrev pub PlansOwn : ℕ → Plan → Type 0
 PlansOwn own (Told reply) = Unit {0}
 PlansOwn own (Has w) = w.node ≡ own
 PlansOwn own (Bring w c) = w.node ≡ own
+PlansOwn own (Follow w) = w.node ≡ own
 
 -- what is kept of the event that was taken, where it is to be applied
 abbrev pub kept_to : Aim → ℕ → Option Kept → Option Kept
@@ -134,8 +133,10 @@ Plans s queue (Told reply) new =
     (find : Finder) → WorksHere s (due_at s.goal s.memory (seat_in s) find) reply new
 Plans s queue (Has w) new = IsHad s w queue × HeldBehind s w.origin new.1 × Fits s.place new.0
 Plans s queue (Bring w c) new =
-    IsPlannedAnew s w queue × (w.state.errand ≡ Some c) × Reaches s (provider_by c)
+    IsPlannedAnew s w queue × (w.state.errand ≡ Some (Copy c)) × Reaches s c.provider
     × Holds s.name s.memory new.1 × Fits s.place new.0
+Plans s queue (Follow w) new =
+    IsPlannedAnew s w queue × (w.state.errand ≡ Some ToFollow) × Holds s.name s.memory new.1 × Fits s.place new.0
 
 -- from every place that fits, where these nodes are cut off from one another
 abbrev pub PlansAt : Goal → List (ℕ × ℕ) → List ℕ → (Base × Held) → Plan → (Base × Held) → Type 0

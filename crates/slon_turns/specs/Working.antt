@@ -12,9 +12,10 @@ use Rattle.slon_model.specs.Following.{Found}
 use Rattle.slon_model.specs.Place.{Place}
 use Rattle.slon_model.specs.Sessions.{World, Memory, Seat, Stated, bind}
 use Rattle.slon_model.specs.Turns.{Switches, at_node}
-use Rattle.slon_model.specs.Working.{Carried, Fetched, applied_by, fetch_source_of, fetched, fetched_by, having_fetched}
-use Rattle.slon_model.specs.Working.{given_up, kept_fetch, settled, source_of, taken_from, with_fetch, worked}
-use Rattle.slon_model.specs.World.{is_of}
+use Rattle.slon_model.specs.Working.{Carried, Fetched, applied_by, fetch_sources_of, fetched, fetched_by}
+use Rattle.slon_model.specs.Working.{given_up, having_fetched, kept_fetch, settled, sources_of, taken_from}
+use Rattle.slon_model.specs.Working.{with_fetch, worked}
+use Rattle.slon_model.specs.World.{is_of, is_of_one}
 use Rattle.slon_laws.specs.Fetches.{KeepFormed}
 use Rattle.node_change.specs.Done.{CanApply}
 use Rattle.node_state.specs.Known.{LearnsOfOther}
@@ -87,13 +88,13 @@ turned_to Apply node origin w = bind (worked node origin w) (λ c. Ok (ToApply c
 abbrev pub turned : Goal → ℕ → World → Result Due Refusal
 turned goal node w = turned_to goal.aim node goal.origin w
 
--- the database that is read besides that of the node
-abbrev pub source_to : Aim → ℕ → ℕ → World → Option (List ℕ × Place)
-source_to Fetch node origin w = fetch_source_of node origin w
-source_to Apply node origin w = source_of node origin w
+-- the nodes of which the databases are read besides that of the node
+abbrev pub sources_to : Aim → ℕ → ℕ → World → List ℕ
+sources_to Fetch node origin w = fetch_sources_of node origin w
+sources_to Apply node origin w = sources_of node origin w
 
-abbrev pub source_in : Goal → ℕ → World → Option (List ℕ × Place)
-source_in goal node w = source_to goal.aim node goal.origin w
+abbrev pub sources_in : Goal → ℕ → World → List ℕ
+sources_in goal node w = sources_to goal.aim node goal.origin w
 
 -- ---- what can be applied
 
@@ -116,13 +117,13 @@ CanTurn due = (c : Carried) → due ≡ Ok (ToApply c) → CanCarry c
 
 -- ---- the turn
 
--- What the turn comes to: the reply and the databases, of which only those of the node and of the provider are told of;
--- and what is held at each database behind it.
+-- What the turn comes to: the reply and the databases, of which only those of the node and of the providers are told
+-- of; and what is held at each database behind it.
 pub record TakesWork (goal : Goal) (node : ℕ) (w : World) (held : Holdings) (reply : Reply) (new : Named Base)
     (left : Holdings) : Type 0 where
   pub comes : Comes w (stated_turn (turned goal node w)) reply new
   pub own : (name : List ℕ) (halt : HaltOf) → told_by reply ≡ Some (name, halt) →
-      (is_of name (at_node node w) || is_of name (source_in goal node w)) ≡ true
+      (is_of name (at_node node w) || is_of_one name (sources_in goal node w) w) ≡ true
   pub waits : (name : List ℕ) → WaitsIn name w.memory (get held name) →
       WaitsIn name (left_after goal (at_node node w) (turned goal node w) reply w.memory) (get left name)
   pub keeps : (name : List ℕ) → KeepsIn name w.memory (get held name) → IsUpIn name new →
@@ -142,7 +143,7 @@ pub record Carries (goal : Goal) (node : ℕ) (w : World) (name : List ℕ) (rep
     (left : Held) : Type 0 where
   pub comes : Comes w (stated_turn (turned goal node w)) reply new
   pub own : (other : List ℕ) (halt : HaltOf) → told_by reply ≡ Some (other, halt) →
-      (is_of other (at_node node w) || is_of other (source_in goal node w)) ≡ true
+      (is_of other (at_node node w) || is_of_one other (sources_in goal node w) w) ≡ true
   pub waits : Waits name (left_after goal (at_node node w) (turned goal node w) reply w.memory) left.queue
   pub keeps : IsUpIn name new →
       Keeps name (left_after goal (at_node node w) (turned goal node w) reply w.memory) left.fetches

@@ -1,4 +1,4 @@
-// A node brings what comes with an event from another one, at the two databases that this concerns.
+// A node copies a set from another one, at the two databases that this concerns.
 ghost use Rattle.std.specs.Prelude.{◌≡◌, true, is_some, IfOk};
 ghost use Rattle.slonik_exec.specs.Databases.{bases_of, Runs};
 ghost use Rattle.slonik_exec.specs.Heard.{AreDistinct};
@@ -14,25 +14,25 @@ use crate::held::Held;
 use crate::working::{Aim, end_at};
 use node_keeper::Keeper;
 use node_store::Side;
-use remote_worker::{Errand, Found, Taken, Worker, provider_of};
+use remote_worker::{Copying, Found, Taken, Worker};
 use slon_model::{Refusal, Reply};
 use slonik_exec::{Named, NoMemory, Spots, index_of_node, told};
 use std::alloc::Global;
 
-/// What is done: the event that was taken, what is brought with it, and what becomes of that.
+/// What is done: the event that was taken, what is copied with it, and what becomes of that.
 #[derive(Drop)]
 pub(crate) struct Trip {
     /// The event.
     pub(crate) taken: Worker<Taken>,
-    /// What is brought.
-    pub(crate) errand: Errand,
+    /// What is copied.
+    pub(crate) copying: Copying,
     /// What becomes of it.
     pub(crate) aim: Aim,
 }
 
-/// The node of the one database brings what comes with the event from the provider, which is the node of the other one,
-/// and keeps it or applies the event. It is refused where 62 the provider does not know the node, a copy also where 52
-/// the node lacks a table of the set and 57 it has another number of columns at the provider, and where the event is
+/// The node of the one database copies the set from the provider, which is the node of the other one, and keeps the
+/// copy or applies the event. It is refused where 62 the provider does not know the node, 63 it has not met the event,
+/// 52 the node lacks a table of the set, 57 that has another number of columns at the provider, and where the event is
 /// applied 66 an open transaction of the node wrote a table that is to be changed.
 fn fetch_between<K: Keeper>(
     alloc: Global,
@@ -42,19 +42,24 @@ fn fetch_between<K: Keeper>(
     trip: Trip,
 ) -> Result<Reply, NoMemory>
     requires up { (own.old.database.state.up ≡ true) × (provider.old.database.state.up ≡ true) }
-    requires node { is_some own.old.database.state.node.identity ≡ true }
-    requires can { CanPlan held.old.queue (Bring trip.taken trip.errand) }
+    requires nodes { (is_some own.old.database.state.node.identity ≡ true)
+        × (is_some provider.old.database.state.node.identity ≡ true) }
+    requires can { CanPlan held.old.queue (Bring trip.taken trip.copying) }
     ensures runs { IfOk result (λ reply. RunsBetween (couple_of K.kept own.old provider.old) reply
         (pair_of K.kept own.new provider.new)) }
     ensures brings { IfOk result (λ reply. BringsTo trip
         (couple_of K.kept own.old provider.old) held.old reply (pair_of K.kept own.new provider.new) held.new) }
     ensures names { (own.new.name ≡ own.old.name) × (provider.new.name ≡ provider.old.name) }
 {
-    let Trip { taken, errand, aim } = trip;
+    let Trip {
+        taken,
+        copying,
+        aim,
+    } = trip;
     let Some(event) = held.queue.get(taken.origin, taken.state.number) else {
         unreachable!()
     };
-    match taken.fetch(&mut own.database, &mut provider.database, errand, event) {
+    match taken.fetch(&mut own.database, &mut provider.database, copying, event) {
         Ok(Found::Refused(refusal)) => Ok(Reply::Refused(refusal)),
         Ok(Found::Brings(fetched)) => end_at(alloc, own, held, fetched, aim),
         Err(fell) => match fell.side {
@@ -73,7 +78,7 @@ fn fetch_both<K: Keeper>(
     trip: Trip,
 ) -> Result<Reply, NoMemory>
     requires visiting { AreVisiting databases.old spots }
-    requires can { CanPlan held.old.queue (Bring trip.taken trip.errand) }
+    requires can { CanPlan held.old.queue (Bring trip.taken trip.copying) }
     ensures brought { IfOk result (λ reply. BroughtAt K.kept (trip, spots)
         (databases.old, held.old) reply (databases.new, held.new)) }
 {
@@ -86,8 +91,8 @@ fn fetch_both<K: Keeper>(
     }
 }
 
-/// The node of the database at this index brings what comes with the event from its provider, which is another node,
-/// unless 44 there is none, or 16 it is down.
+/// The node of the database at this index copies the set from its provider, which is another node, unless 44 there is
+/// none, or 16 it is down.
 pub(crate) fn fetch_from<K: Keeper>(
     alloc: Global,
     databases: &mut [Named<K>],
@@ -98,13 +103,13 @@ pub(crate) fn fetch_from<K: Keeper>(
     requires distinct { AreDistinct (bases_of K.kept databases.old) }
     requires seat { IsSeatHere databases.old (At index) }
     requires own { IsOwnAt databases.old index trip.taken.node }
-    requires can { CanPlan held.old.queue (Bring trip.taken trip.errand) }
+    requires can { CanPlan held.old.queue (Bring trip.taken trip.copying) }
     ensures runs { IfOk result (λ reply. Runs (bases_of K.kept databases.old) reply
         (bases_of K.kept databases.new)) }
     ensures brings { IfOk result (λ reply. BringsFrom K.kept trip index
         (databases.old, held.old) reply (databases.new, held.new)) }
 {
-    let node = provider_of(trip.errand);
+    let node = trip.copying.provider;
     let Some(to) = index_of_node(databases, node) else {
         return Ok(Reply::Refused(Refusal::NoNode { node }));
     };

@@ -3,6 +3,7 @@
 #![tactic(auto)]
 
 mod fetching;
+mod following;
 mod held;
 mod planning;
 mod polling;

@@ -15,7 +15,7 @@ use crate::held::Held;
 use crate::working::{Aim, Work};
 use node_keeper::Keeper;
 use node_store::knows_path;
-use remote_worker::{Errand, Fetched, Fetches, Kept, Next, Taken, Worker, provider_of};
+use remote_worker::{Copying, Errand, Fetched, Fetches, Kept, Next, Taken, Worker};
 use slon_base::Text;
 use slon_model::{Refusal, Reply};
 use slonik_exec::{Named, NoMemory, told};
@@ -28,8 +28,10 @@ pub(crate) enum Plan {
     Told(Reply),
     /// All is there that comes with the event.
     Has(Worker<Fetched>),
-    /// It brings this first, from another node that it has a path to.
-    Bring(Worker<Taken>, Errand),
+    /// It copies this first, from another node that it has a path to.
+    Bring(Worker<Taken>, Copying),
+    /// It reads first what was logged for the sets that it keeps of the origin.
+    Follow(Worker<Taken>),
 }
 
 /// Whether a cut is between these two nodes, whichever of them it names first.
@@ -63,7 +65,7 @@ fn apart(cuts: &[(u32, u32)], node: u32, provider: u32) -> Option<Reply>
 }
 
 /// 75: the node has no path to the provider, 68: it is cut off from it, 44: it is the provider itself.
-fn check_link<K: Keeper>(
+pub(crate) fn check_link<K: Keeper>(
     alloc: Global,
     own: &mut Named<K>,
     cuts: &[(u32, u32)],
@@ -122,7 +124,7 @@ fn recall<K: Keeper>(
 }
 
 /// The node took an event of which it keeps nothing: it has all that comes with that, unless it is to bring something,
-/// and then it reaches the node from which, or not.
+/// and a set that it is to copy at a node that it reaches, or not.
 fn plan_anew<K: Keeper>(
     alloc: Global,
     own: &mut Named<K>,
@@ -141,14 +143,19 @@ fn plan_anew<K: Keeper>(
     let Some(errand) = taken.state.errand else {
         return Ok(Plan::Has(taken.with(None)));
     };
-    match check_link(alloc, own, cuts, taken.node, provider_of(errand))? {
-        Some(reply) => Ok(Plan::Told(reply)),
-        None => Ok(Plan::Bring(taken, errand)),
+    match errand {
+        Errand::Follow => Ok(Plan::Follow(taken)),
+        Errand::Copy(copying) => {
+            match check_link(alloc, own, cuts, taken.node, copying.provider)? {
+                Some(reply) => Ok(Plan::Told(reply)),
+                None => Ok(Plan::Bring(taken, copying)),
+            }
+        }
     }
 }
 
 /// The node of the database is to fetch what comes with the next event of the origin, or to apply it, unless 60 that
-/// does not wait, 98 the node cannot carry it out, or it cannot reach the node from which it is to bring something.
+/// does not wait, 98 the node cannot carry it out, or it cannot reach the node from which it is to copy a set.
 /// Where it is to apply what it fetched before, that is taken out of what it holds, and it brings nothing.
 pub(crate) fn plan_at<K: Keeper>(
     alloc: Global,

@@ -16,6 +16,7 @@ ghost use Rattle.slon_turns.specs.Applying.{applied_as, goal_in, AppliesAt, Ends
 ghost use Rattle.slon_turns.specs.Working.{CarriesOut, Works};
 
 use crate::fetching::{Trip, fetch_from};
+use crate::following::{Round, Way, follow_from};
 use crate::held::Held;
 use crate::planning::{Plan, plan_at};
 use crate::turn::key_of;
@@ -185,21 +186,33 @@ fn work_at<K: Keeper>(
     match plan_at(alloc, &mut databases[index], held, cuts, work)? {
         Plan::Told(reply) => Ok(reply),
         Plan::Has(fetched) => end_at(alloc, &mut databases[index], held, fetched, work.aim),
-        Plan::Bring(taken, errand) => {
+        Plan::Bring(taken, copying) => {
             let trip = Trip {
                 taken,
-                errand,
+                copying,
                 aim: work.aim,
             };
             fetch_from(alloc, databases, index, held, trip)
+        }
+        Plan::Follow(taken) => {
+            let way = Way {
+                index,
+                node: taken.node,
+                cuts,
+            };
+            let round = Round {
+                taken,
+                aim: work.aim,
+            };
+            follow_from(alloc, databases, way, held, round)
         }
     }
 }
 
 /// The slon of a node has its turn to fetch what comes with the next event of an origin that waits there, or to apply
-/// that event, and replies: 44, 16, 67 of the node, 60, 98, where it brings something 75, 68, 44, 16, 62 of the
-/// provider, 52, 57, where it applies the event 66, or what was done. What it applies it brings, unless it fetched that
-/// before.
+/// that event, and replies: 44, 16, 67 of the node, 60, 98, where it brings something 75, 68, 44, 16, 62, 63 of each
+/// provider, of a copy 52, 57, where it applies the event 66, or what was done. What it applies it brings, unless it
+/// fetched that before.
 ///
 /// # Errors
 ///

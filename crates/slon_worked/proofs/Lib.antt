@@ -1,5 +1,6 @@
 pub mod Bytes
 pub mod Capture
+pub mod Cascades
 pub mod Copies
 pub mod Doubts
 pub mod Fetches

@@ -17,10 +17,10 @@ use Rattle.slon_worked.proofs.Polls.{crash, rise, listen, heard, emitted, done, 
 use Rattle.slon_worked.proofs.Refusals.{each_refused}
 
 -- a script of one statement that is run to its end, and its replies
-abbrev ran : Head → Order → List Worked → List Worked
+abbrev pub ran : Head → Order → List Worked → List Worked
 ran head order more = tried (codes "g") head order (step (codes "g") ∷ more)
 
-abbrev ran_replies : Reply → List Reply → List Reply
+abbrev pub ran_replies : Reply → List Reply → List Reply
 ran_replies reply more = Accepted (answer.Statements 1) ∷ reply ∷ Accepted (answer.Ended 0) ∷ more
 
 -- ---- the receiver hears it
@@ -85,9 +85,9 @@ refusals : replies (start 16)
     ∷ refused.SameNode 2 ∷ [])
     (done
     ∷ ran_replies (emitted 1 5)
-    (each_refused (refused.NotBuilt (codes "subscribe") ∷ refused.NotBuilt (codes "subscribe") ∷ [])
+    (each_refused (refused.NotActive 3 ∷ refused.NotActive 2 ∷ [])
     (ran_replies (emitted 1 8)
-    (each_refused (refused.NotBuilt (codes "subscribe") ∷ refused.NotBuilt (codes "subscribe") ∷ [])
+    (each_refused (refused.NotBuilt (codes "subscribe") ∷ refused.NotActive 3 ∷ [])
     (ran_replies (emitted 1 11) []))))))
 refusals = refl
 

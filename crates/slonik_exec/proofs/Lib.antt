@@ -15,6 +15,7 @@ pub mod Lists
 pub mod Making
 pub mod Orders
 pub mod Questions
+pub mod Relaying
 pub mod Seating
 pub mod Seats
 pub mod Seeking

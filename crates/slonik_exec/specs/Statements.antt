@@ -1,6 +1,6 @@
 -- What is due of statements at the node that they reached.
 use Rattle.std.specs.Prelude.{◌≡◌, ◌==◌, ℕ, not, is_some, is_none, true, false, List, [], ◌∷◌, Option, Some, None}
-use Rattle.std.specs.Prelude.{option_map, Result, Ok}
+use Rattle.std.specs.Prelude.{◌&&◌, codes, option_map, Result, Ok}
 use Rattle.std.specs.List.{list_any}
 use Rattle.std.specs.Str.{bytes_eq}
 use Rattle.slon_model.specs.declared.reply.Answer.TheVariants.{Done}
@@ -10,7 +10,7 @@ use Rattle.slon_model.specs.declared.reply.Refusal.TheVariants as refused
 use Rattle.node_rows.specs.declared.body.Body.TheVariants.{StorePath, DropPath}
 use Rattle.slon_model.specs.Maps.{entry_at}
 use Rattle.slon_model.specs.Names.{find_named}
-use Rattle.slon_model.specs.Config.{era_of, has_path, is_origin, set_row}
+use Rattle.slon_model.specs.Config.{era_of, forwards, has_path, is_origin, set_row}
 use Rattle.slon_model.specs.Deeds.{Node, knowledge}
 use Rattle.slon_model.specs.Place.{Place}
 use Rattle.slon_model.specs.Membership.{is_dropped, becoming, first_of_cluster}
@@ -18,7 +18,7 @@ use Rattle.slon_model.specs.Reaching.{emitting, known_somewhere, receiver_with}
 use Rattle.slon_model.specs.Sessions.{World, Running, Seat, Stated, seat, when, checked, tells, writer_of}
 use Rattle.slon_model.specs.Sets.{NewTable, adding}
 use Rattle.slon_model.specs.Subscribing as subscribing
-use Rattle.slon_model.specs.Subscribing.{all_tell, feed_bodies}
+use Rattle.slon_model.specs.Subscribing.{all_tell, feed_bodies, is_active, is_relayed, is_unbuilt}
 use Rattle.app_store.specs.Base.{Base}
 use Rattle.app_store.specs.Fits.{Ready}
 use Rattle.node_store.specs.Acting.{NewNode}
@@ -74,6 +74,13 @@ AddsTable name t old reply new =
 -- a subscription of a call, as the rules name it
 abbrev pub feed_as : NewFeed → subscribing.NewFeed
 feed_as f = record { set_id = f.set_id; provider = f.provider; receiver = f.receiver; forward = f.forward }
+
+-- what is checked of the provider, and that the receiver does not subscribe yet
+abbrev pub source_checks : Seat → subscribing.NewFeed → List (Option Refusal)
+source_checks s f =
+    when (is_relayed s f && not (is_active s f.set_id f.provider)) (refused.NotActive f.provider)
+    ∷ when (is_relayed s f && not (forwards f.set_id f.provider s.known.config)) (refused.NotForwarding f.provider)
+    ∷ when (is_unbuilt s f) (refused.NotBuilt (codes "subscribe")) ∷ []
 
 -- what the owner of the set emits, in the era in which it knows the set
 abbrev pub feed_said : subscribing.NewFeed → Seat → Stated

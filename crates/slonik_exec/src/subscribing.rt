@@ -1,7 +1,9 @@
 // SUBSCRIBE SET.
-ghost use Rattle.std.specs.Prelude.{◌≡◌, true, is_some, ◌||◌, ◌==◌, [], ◌∷◌, Some, Ok, IfOk, unwrap_or, codes};
+ghost use Rattle.std.specs.Prelude.{◌≡◌, true, is_some, ◌||◌, ◌&&◌, not, ◌==◌, [], ◌∷◌, Some, Ok, IfOk, unwrap_or};
+ghost use Rattle.std.specs.Prelude.{codes};
 ghost use Rattle.std.specs.Option.{option_map};
 ghost use Rattle.store_rows.specs.Rows.{IsId};
+ghost use Rattle.slon_model.specs.Config.{forwards};
 ghost use Rattle.slon_model.specs.Sessions.{when};
 ghost use Rattle.slon_model.specs.Subscribing as rules;
 ghost use Rattle.slon_model.specs.declared.reply.Refusal.TheVariants as refused;
@@ -11,7 +13,7 @@ ghost use Rattle.slonik_exec.specs.Answering.{Answers, AtNode, AtSeat, Checks, i
 ghost use Rattle.slonik_exec.specs.Databases.{bases_of, Runs};
 ghost use Rattle.slonik_exec.specs.Executing.{Executes};
 ghost use Rattle.slonik_exec.specs.Heard.{AreDistinct};
-ghost use Rattle.slonik_exec.specs.Statements.{feed_as, feed_said};
+ghost use Rattle.slonik_exec.specs.Statements.{feed_as, feed_said, source_checks};
 
 use crate::caller::Caller;
 use crate::checks::{check_live, is_own};
@@ -22,7 +24,7 @@ use crate::replies::told;
 use crate::short::NoMemory;
 use node_keeper::Keeper;
 use node_rows::Body;
-use node_store::{Database, Reign, knows_receiver, set_reign};
+use node_store::{Database, Reign, is_active, knows_forwarder, knows_receiver, set_reign};
 use slon_base::Text;
 use slon_model::{Refusal, Reply};
 use std::alloc::Global;
@@ -68,7 +70,62 @@ fn unbuilt(alloc: Global) -> Result<Option<Reply>, NoMemory>
     Ok(Some(Reply::Refused(Refusal::NotBuilt { word })))
 }
 
-/// 98: the provider is not the node itself, or the receiver subscribes to the set already.
+/// 72: the provider is another node, and does not receive the set or has not confirmed the last event on that.
+fn check_active<K: Keeper>(
+    alloc: Global,
+    seat: &mut Named<K>,
+    feed: NewFeed,
+) -> Result<Option<Reply>, NoMemory>
+    requires up { seat.old.database.state.up ≡ true }
+    requires node { is_some seat.old.database.state.node.identity ≡ true }
+    requires can { IsId feed.set_id × IsId feed.provider }
+    ensures checks { IfOk result (λ found. Checks seat.old.name (base_of K.kept seat.old.database) found
+        (base_of K.kept seat.new.database)) }
+    ensures refuses { IfOk result (λ found. AtSeat seat.old.name (λ s.
+        when (rules.is_relayed s (feed_as feed) && not (rules.is_active s feed.set_id feed.provider))
+        (refused.NotActive feed.provider) ∷ [])
+        (base_of K.kept seat.old.database) found (base_of K.kept seat.new.database)) }
+    ensures name { seat.new.name ≡ seat.old.name }
+{
+    let node = feed.provider;
+    if is_own(&seat.database, node) {
+        return Ok(None);
+    }
+    match is_active(&mut seat.database, feed.set_id, node) {
+        Ok(true) => Ok(None),
+        Ok(false) => Ok(Some(Reply::Refused(Refusal::NotActive { node }))),
+        Err(fault) => Ok(Some(told(alloc, &seat.name, fault)?)),
+    }
+}
+
+/// 73: the provider is another node, and does not forward the set.
+fn check_forwarding<K: Keeper>(
+    alloc: Global,
+    seat: &mut Named<K>,
+    feed: NewFeed,
+) -> Result<Option<Reply>, NoMemory>
+    requires up { seat.old.database.state.up ≡ true }
+    requires can { IsId feed.set_id × IsId feed.provider }
+    ensures checks { IfOk result (λ found. Checks seat.old.name (base_of K.kept seat.old.database) found
+        (base_of K.kept seat.new.database)) }
+    ensures refuses { IfOk result (λ found. AtSeat seat.old.name (λ s.
+        when (rules.is_relayed s (feed_as feed) && not (forwards feed.set_id feed.provider s.known.config))
+        (refused.NotForwarding feed.provider) ∷ [])
+        (base_of K.kept seat.old.database) found (base_of K.kept seat.new.database)) }
+    ensures name { seat.new.name ≡ seat.old.name }
+{
+    let node = feed.provider;
+    if is_own(&seat.database, node) {
+        return Ok(None);
+    }
+    match knows_forwarder(&mut seat.database, feed.set_id, node) {
+        Ok(true) => Ok(None),
+        Ok(false) => Ok(Some(Reply::Refused(Refusal::NotForwarding { node }))),
+        Err(fault) => Ok(Some(told(alloc, &seat.name, fault)?)),
+    }
+}
+
+/// 98: the receiver subscribes to the set already.
 fn check_built<K: Keeper>(
     alloc: Global,
     seat: &mut Named<K>,
@@ -83,9 +140,6 @@ fn check_built<K: Keeper>(
         (base_of K.kept seat.old.database) found (base_of K.kept seat.new.database)) }
     ensures name { seat.new.name ≡ seat.old.name }
 {
-    if !is_own(&seat.database, feed.provider) {
-        return unbuilt(alloc);
-    }
     match knows_receiver(&mut seat.database, feed.set_id, feed.receiver) {
         Ok(false) => Ok(None),
         Ok(true) => unbuilt(alloc),
@@ -93,13 +147,38 @@ fn check_built<K: Keeper>(
     }
 }
 
-/// What is checked of a subscription at the owner of its set: 44 of the receiver, 44 of the provider, 78 and 98.
+/// What is checked of the provider and of the receiver's own subscription: 72, 73 and 98.
+fn check_source<K: Keeper>(
+    alloc: Global,
+    seat: &mut Named<K>,
+    feed: NewFeed,
+) -> Result<Option<Reply>, NoMemory>
+    requires up { seat.old.database.state.up ≡ true }
+    requires node { is_some seat.old.database.state.node.identity ≡ true }
+    requires can { IsId feed.set_id × IsId feed.provider × IsId feed.receiver }
+    ensures checks { IfOk result (λ found. Checks seat.old.name (base_of K.kept seat.old.database) found
+        (base_of K.kept seat.new.database)) }
+    ensures refuses { IfOk result (λ found. AtSeat seat.old.name (λ s. source_checks s (feed_as feed))
+        (base_of K.kept seat.old.database) found (base_of K.kept seat.new.database)) }
+    ensures name { seat.new.name ≡ seat.old.name }
+{
+    if let Some(reply) = check_active(alloc, seat, feed)? {
+        return Ok(Some(reply));
+    }
+    if let Some(reply) = check_forwarding(alloc, seat, feed)? {
+        return Ok(Some(reply));
+    }
+    check_built(alloc, seat, feed)
+}
+
+/// What is checked of a subscription at the owner of its set: 44 of the receiver, 44 of the provider, 78, 72, 73, 98.
 fn check_feed<K: Keeper>(
     alloc: Global,
     seat: &mut Named<K>,
     feed: NewFeed,
 ) -> Result<Option<Reply>, NoMemory>
     requires up { seat.old.database.state.up ≡ true }
+    requires node { is_some seat.old.database.state.node.identity ≡ true }
     requires can { IsId feed.set_id × IsId feed.provider × IsId feed.receiver }
     ensures checks { IfOk result (λ found. Checks seat.old.name (base_of K.kept seat.old.database) found
         (base_of K.kept seat.new.database)) }
@@ -116,7 +195,7 @@ fn check_feed<K: Keeper>(
     if let Some(reply) = check_apart(seat, feed) {
         return Ok(Some(reply));
     }
-    check_built(alloc, seat, feed)
+    check_source(alloc, seat, feed)
 }
 
 /// The era in which a set is led, or 0 where the node knows no such live set.
@@ -179,7 +258,8 @@ fn emit_feed<K: Keeper>(
 }
 
 /// The owner of the set emits the events of a subscription, unless 44 it does not know the receiver or the provider, 78
-/// the receiver is the owner or the provider, or 98 the provider is another node or the receiver subscribes already.
+/// the receiver is the owner or the provider, of a provider that is another node 72 that is not active or 73 does not
+/// forward the set, or 98 the receiver subscribes already.
 fn feed_at<K: Keeper>(alloc: Global, seat: &mut Named<K>, feed: NewFeed) -> Result<Reply, NoMemory>
     requires up { seat.old.database.state.up ≡ true }
     requires node { is_some seat.old.database.state.node.identity ≡ true }

@@ -1,38 +1,39 @@
 -- What a node finds for an event at another node: a copy of a set, or what the origin logged for the sets that the
 -- node keeps.
-use Rattle.std.proofs.Common.{◌≡◌, ◌≢◌, ℕ, Bool, true, false, cond, List, [], ◌∷◌, Option, Some, None, Ok, Err, refl}
-use Rattle.std.proofs.Common.{sym, ap, subst, ◌∙◌, not}
+use Rattle.std.proofs.Common.{◌≡◌, ◌≢◌, ℕ, Bool, true, false, cond, List, [], ◌∷◌, Option, Some, None, Err, refl, sym}
+use Rattle.std.proofs.Common.{ap, subst, ◌∙◌, not}
 use Rattle.std.specs.List.{AllByRecursion}
-use Rattle.std.specs.Prelude.{map, filter, ◌==◌, option_map}
+use Rattle.std.specs.Prelude.{map, filter, ◌==◌, option_map, nat_lt, ◌&&◌, ◌≤◌}
 use Rattle.std.specs.Option.{option_or}
-use Rattle.std.proofs.lemmas.Bool.{false≢true, true≢false, false_from_ne_true, eqb-true, eq-eqb, and_parts}
+use Rattle.std.proofs.lemmas.Bool.{false≢true, true≢false, eqb-true, eq-eqb, ltb-false}
 use Rattle.node_rows.specs.declared.body.Body.{Body}
 use Rattle.node_rows.specs.declared.body.Body.TheVariants.{EnableSubscription, Sync}
 use Rattle.node_rows.specs.declared.rows.SetRow.{SetRow}
 use Rattle.slon_model.specs.declared.reply.Refusal.{Refusal}
-use Rattle.slon_model.specs.declared.reply.Refusal.TheVariants as refused
 use Rattle.node_rows.specs.declared.rows.TableRow.{TableRow}
 use Rattle.slon_model.specs.Maps.{Map, entry_at}
 use Rattle.slon_model.specs.Events.{Event, is_sync}
-use Rattle.slon_model.specs.Config.{Config, has_path, is_known, is_origin, era_of, is_table_of, leads_row, live_set}
-use Rattle.slon_model.specs.Config.{names_of}
-use Rattle.slon_model.specs.Deeds.{Node, Knowledge, knowledge}
+use Rattle.slon_model.specs.Config.{Config, has_path, is_known, is_origin, is_table_of, leads_row, live_set}
+use Rattle.slon_model.specs.Deeds.{Node, Knowledge, knowledge, progress}
 use Rattle.slon_model.specs.Place.{Place, is_running}
-use Rattle.slon_model.specs.Sessions.{World, Seat, when, checked, seat_of}
+use Rattle.slon_model.specs.Sessions.{World, Seat, when, seat_of}
 use Rattle.slon_model.specs.Turns.{at_node, is_cut, is_id, seat_at}
 use Rattle.slon_model.specs.Logs.{logged}
-use Rattle.slon_model.specs.Following.{Found, FoundNothing, FoundSyncs, set_syncs}
-use Rattle.slon_model.specs.Working.{Copying, Errand, ToCopy, ToFollow, copied, copy_checks, copy_of, errand_in}
-use Rattle.slon_model.specs.Working.{errand_of, followed, found_by, linked_to, provided, receives_from, still_leads}
+use Rattle.slon_model.specs.Following.{Found, FoundNothing, FoundSyncs, SetSync, set_sync, kept_from, FoundCopy}
+use Rattle.slon_model.specs.Working.{Copying, Errand, ToCopy, ToFollow, copied, copy_checks, errand_in, errand_of}
+use Rattle.slon_model.specs.Working.{followed, found_by, linked_to, provided, receives_from, given_at, rows_at}
+use Rattle.slon_model.specs.Working.{names_taken, provider_of, progress_in, followed_all}
 use Rattle.slon_model.proofs.Names.{one_found}
-use Rattle.stream_laws.specs.Nodes.{IsAmong, Nodes, nodes_in}
+use Rattle.stream_laws.specs.Nodes.{IsAmong, Nodes}
 use Rattle.stream_laws.specs.Making.{OfSet}
 use Rattle.slon_laws.specs.Sound.{AreNamedOnce}
 use Rattle.stream_laws.specs.Facts.{AreRegular, IsRegular}
 use Rattle.stream_laws.proofs.Lists.{all_each, all_mapped, all_passed, among_all, found_all}
-use Rattle.stream_laws.proofs.Seats.{OnOk, IsSeat, IsReached, at_node_found, bind_ok, checked_ok, kept_ok}
-use Rattle.stream_laws.proofs.Seats.{ok_then, all_none, seat_node, when_none}
+use Rattle.stream_laws.proofs.Seats.{OnOk, IsReached, at_node_found, bind_ok, checked_ok, ok_then, all_none, when_none}
 use Rattle.stream_laws.proofs.Applies.{IsSetOf}
+use Rattle.slon_model.specs.Snapshots.{Snapshot}
+use Rattle.slon_model.specs.Views.{View, Views, first_view}
+use Rattle.slon_model.specs.declared.reply.Refusal.TheVariants as refused
 
 -- ---- the origin of a set
 
@@ -110,10 +111,14 @@ node_at_ok node w once = by (at_node node w) refl
 abbrev pub IsOther : World → ℕ → Seat → Seat → Type 0
 IsOther w provider s p = IsReached w.places provider p × (provider ≢ s.node.id)
 
-pub provided_ok : (provider : ℕ) (w : World) (s : Seat) → IsRegular w →
-    OnOk (IsOther w provider s) (provided provider w.memory s (at_node provider w))
-provided_ok provider w s regular =
-    bind_ok (IsOther w provider s) (IsOther w provider s) _ _
+-- it has applied the event
+abbrev pub HasReached : World → Event → ℕ → Seat → Seat → Type 0
+HasReached w e provider s p = IsOther w provider s p × (e.number ≤ progress e.origin (knowledge p.node))
+
+pub provided_ok : (provider : ℕ) (w : World) (s : Seat) (e : Event) → IsRegular w →
+    OnOk (HasReached w e provider s) (provided provider w s e)
+provided_ok provider w s e regular =
+    bind_ok (IsOther w provider s) (HasReached w e provider s) _ _
     (bind_ok (λ found. (found ≡ at_node provider w) × (provider ≢ s.node.id)) (IsOther w provider s)
     (linked_to provider w.memory s (at_node provider w)) _
     (checked_ok (λ found. (found ≡ at_node provider w) × (provider ≢ s.node.id)) checks (at_node provider w)
@@ -123,14 +128,23 @@ provided_ok provider w s regular =
           ∙ when_none _ (refused.NoNode provider) (all_none checks none).1.1.0),
     )))
     (λ found is. reached found is.0 is.1))
-    (λ p is. kept_ok (IsOther w provider s)
-    (when (not (is_known s.node.id p.known.config)) (refused.NotKnown s.node.id) ∷ []) p is)
+    (λ p is. checked_ok (HasReached w e provider s) (later p) p (λ none. (
+      is,
+      subst (λ (k : Knowledge). e.number ≤ progress e.origin k) is.0.0.known
+          (ltb-false (progress_in e p) e.number (when_none _ (refused.Behind provider (progress_in e p) e.number)
+          (all_none (later p) none).1.0)),
+    )))
   where
     checks : List (Option Refusal)
     checks =
         when (not (has_path s.node.id provider s.known.config)) (refused.NoPath provider)
         ∷ when (is_cut s.node.id provider w.memory) (refused.Severed s.node.id provider)
         ∷ when (provider == s.node.id) (refused.NoNode provider) ∷ []
+
+    later : Seat → List (Option Refusal)
+    later p =
+        when (not (is_known s.node.id p.known.config)) (refused.NotKnown s.node.id)
+        ∷ when (nat_lt (progress_in e p) e.number) (refused.Behind provider (progress_in e p) e.number) ∷ []
 
     reached : (found : Option (List ℕ × Place)) → found ≡ at_node provider w → provider ≢ s.node.id →
         OnOk (IsOther w provider s) (seat_at provider found)
@@ -141,33 +155,45 @@ provided_ok provider w s regular =
 
 -- ---- the copy
 
--- A copy of a set that the node at its seat is to make by an event, from the origin of the set, which is another node.
+-- A copy of a set that the node at its seat is to make by an event, of another node that leads or forwards the set and
+-- has applied the event.
 pub record IsCopy (w : World) (s : Seat) (e : Event) (f : Found) : Type 0 where
   pub copying : Copying
   pub asked : errand_of s e ≡ Some (ToCopy copying)
   pub provider : Seat
-  pub seat : IsSeat w.places provider
-  pub own : provider.node.id ≡ copying.provider
-  pub apart : copying.provider ≢ s.node.id
-  pub leads : still_leads copying provider ≡ true
-  pub other : is_origin s.node.id copying.set_id (knowledge s.node).config ≡ false
-  pub is : f ≡ copy_of copying e.number provider (names_of copying.set_id s.known.config)
+  pub reached : HasReached w e copying.provider s provider
+  pub seen : Snapshot
+  pub gives : given_at copying provider ≡ Some seen
+  pub is : f ≡ FoundCopy copying.set_id (first_view copying.era e.origin e.number seen)
+      (rows_at provider.place (names_taken s copying.set_id))
 
--- What the origin of a SYNC, which is another node, logged for the sets that the node at its seat keeps of it.
+-- What is taken of a set that the node at its seat keeps is what its provider for the set has logged, which is another
+-- node and has applied the SYNC.
+pub record IsTakenOf (w : World) (s : Seat) (e : Event) (v : ℕ × View) (t : SetSync) : Type 0 where
+  pub provider : Seat
+  pub reached : HasReached w e (provider_of e.origin s v.0) s provider
+  pub is : t ≡ set_sync s.node.id s.known e (logged provider.node) v
+
+-- so it is of each of these sets
+abbrev pub AreTakenOf : World → Seat → Event → Views → List SetSync → Type 0
+AreTakenOf w s e [] [] = Unit {0}
+AreTakenOf w s e (v ∷ vs) (t ∷ ts) = IsTakenOf w s e v t × AreTakenOf w s e vs ts
+AreTakenOf w s e vs ts = ⊥
+
+-- What the node at its seat takes with a SYNC of another node of the sets that it keeps of that.
 pub record IsFollowed (w : World) (s : Seat) (e : Event) (f : Found) : Type 0 where
   pub body : e.body ≡ Sync
   pub receives : receives_from e.origin s.known ≡ true
-  pub provider : Seat
-  pub seat : IsSeat w.places provider
-  pub own : provider.node.id ≡ e.origin
   pub apart : e.origin ≢ s.node.id
-  pub is : f ≡ FoundSyncs (set_syncs s.node.id s.known e (logged provider.node))
+  pub syncs : List SetSync
+  pub taken : AreTakenOf w s e (kept_from e.origin s.known) syncs
+  pub is : f ≡ FoundSyncs syncs
 
--- Nothing is to come with an event, or a set that its provider leads no more.
+-- Nothing is to come with an event, or a set that its provider leads and forwards no more.
 pub data IsVain (w : World) (s : Seat) (e : Event) : Type 0 where
   NoErrand : errand_of s e ≡ None → IsVain w s e
-  LedNoMore : (k : Copying) → errand_of s e ≡ Some (ToCopy k) → (p : Seat) → IsOther w k.provider s p →
-      still_leads k p ≡ false → IsVain w s e
+  GivenNoMore : (k : Copying) → errand_of s e ≡ Some (ToCopy k) → (p : Seat) → HasReached w e k.provider s p →
+      given_at k p ≡ None → IsVain w s e
 
 -- what a node finds for an event
 pub data Finds (w : World) (s : Seat) (e : Event) (f : Found) : Type 0 where
@@ -177,108 +203,106 @@ pub data Finds (w : World) (s : Seat) (e : Event) (f : Found) : Type 0 where
 
 -- a set is copied with an event that is no SYNC
 pub copies_silent : (own : ℕ) (receives : Bool) (origin : ℕ) (body : Body) (k : Copying) →
-    errand_in own receives origin body ≡ Some (ToCopy k) → is_sync body ≡ true → receives ≡ false
-copies_silent own true origin Sync k asked sync = absurd cc
-copies_silent own false origin Sync k asked sync = refl
+    errand_in own receives origin body ≡ Some (ToCopy k) → is_sync body ≡ true →
+    (receives && not (origin == own)) ≡ false
+copies_silent own receives origin Sync k asked sync = by (receives && not (origin == own)) asked
+  where
+    by : (b : Bool) → cond b (Some ToFollow) None ≡ Some (ToCopy k) → b ≡ false
+    by true is = absurd cc
+    by false is = refl
 copies_silent own receives origin others k asked sync = absurd (false≢true sync)
 
 -- where nothing is to come with a SYNC, the node keeps no set of its origin
 none_follows : (own : ℕ) (receives : Bool) (origin : ℕ) (body : Body) → errand_in own receives origin body ≡ None →
-    is_sync body ≡ true → receives ≡ false
-none_follows own true origin Sync none sync = absurd cc
-none_follows own false origin Sync none sync = refl
+    is_sync body ≡ true → (receives && not (origin == own)) ≡ false
+none_follows own receives origin Sync none sync = by (receives && not (origin == own)) none
+  where
+    by : (b : Bool) → cond b (Some ToFollow) None ≡ None → b ≡ false
+    by true is = absurd cc
+    by false is = refl
 none_follows own receives origin others none sync = absurd (false≢true sync)
 
 pub vain_silent : (w : World) (s : Seat) (e : Event) → IsVain w s e → is_sync e.body ≡ true →
-    receives_from e.origin s.known ≡ false
+    (receives_from e.origin s.known && not (e.origin == s.node.id)) ≡ false
 vain_silent w s e (NoErrand none) =
     none_follows s.node.id (receives_from e.origin s.known) e.origin e.body none
-vain_silent w s e (LedNoMore k asked p at over) =
+vain_silent w s e (GivenNoMore k asked p at over) =
     copies_silent s.node.id (receives_from e.origin s.known) e.origin e.body k asked
 
-copied_ok : (w : World) (s : Seat) (e : Event) → IsRegular w → IsSeat w.places s → (k : Copying) →
+copied_ok : (w : World) (s : Seat) (e : Event) → IsRegular w → (k : Copying) →
     errand_of s e ≡ Some (ToCopy k) → OnOk (Finds w s e) (found_by w s e (Some (ToCopy k)))
-copied_ok w s e regular is k asked =
-    bind_ok (IsOther w k.provider s) (Finds w s e) (provided k.provider w.memory s (at_node k.provider w)) _
-    (provided_ok k.provider w s regular) copies
+copied_ok w s e regular k asked =
+    bind_ok (HasReached w e k.provider s) (Finds w s e) (provided k.provider w s e) _
+    (provided_ok k.provider w s e regular) (λ p at. copies p at (given_at k p) refl)
   where
     names : List (List ℕ)
-    names = names_of k.set_id s.known.config
+    names = names_taken s k.set_id
 
-    not_own : (p : Seat) → IsOther w k.provider s p → still_leads k p ≡ true →
-        is_origin s.node.id k.set_id (knowledge s.node).config ≡ false
-    not_own p at leads =
-        false_from_ne_true _ (λ own. at.1 (sym at.0.1 ∙ one_leader (nodes_in w.places) regular.nodes k.set_id (record {
-          name = p.name;
-          node = p.node;
-          is = seat_node w.places p at.0.0;
-          leads =
-              ap (λ (known : Knowledge). is_origin p.node.id k.set_id known.config) (sym at.0.0.known)
-              ∙ (and_parts (is_origin p.node.id k.set_id p.known.config) (era_of k.set_id p.known.config == k.era)
-              leads).0;
-        }) (record { name = s.name; node = s.node; is = seat_node w.places s is; leads = own })))
+    copies : (p : Seat) → HasReached w e k.provider s p → (o : Option Snapshot) → given_at k p ≡ o →
+        OnOk (Finds w s e) (copied k s e p o)
+    copies p at None over = Nothing refl (GivenNoMore k asked p at over)
+    copies p at (Some seen) gives =
+        checked_ok (Finds w s e) (copy_checks s.place p.place names)
+        (FoundCopy k.set_id (first_view k.era e.origin e.number seen) (rows_at p.place names)) (λ none. Copies (record {
+          copying = k;
+          asked = asked;
+          provider = p;
+          reached = at;
+          seen = seen;
+          gives = gives;
+          is = refl;
+        }))
 
-    copies : (p : Seat) → IsOther w k.provider s p → OnOk (Finds w s e) (copied k s e p)
-    copies p at =
-        elim (still_leads k p)
-        as (λ b. still_leads k p ≡ b → OnOk (Finds w s e)
-        (cond b (checked (copy_checks s.place p.place names) (copy_of k e.number p names)) (Ok FoundNothing))) [
-          | true ↦ λ leads. checked_ok (Finds w s e) (copy_checks s.place p.place names)
-              (copy_of k e.number p names) (λ none. Copies (record {
-                copying = k;
-                asked = asked;
-                provider = p;
-                seat = at.0.0;
-                own = at.0.1;
-                apart = at.1;
-                leads = leads;
-                other = not_own p at leads;
-                is = refl;
-              }))
-          | false ↦ λ over. Nothing refl (LedNoMore k asked p at over)
-        ] refl
-
--- what a node that keeps sets of the origin of a SYNC follows is that origin
-follows_by : (own : ℕ) (receives : Bool) (origin : ℕ) (body : Body) (provider : ℕ) →
-    errand_in own receives origin body ≡ Some (ToFollow provider) →
-    (body ≡ Sync) × (receives ≡ true) × (origin ≡ provider)
-follows_by own receives origin (EnableSubscription set provider receiver forward era) other asked =
+-- a node follows the SYNCs of another node of which it keeps sets
+follows_by : (own : ℕ) (receives : Bool) (origin : ℕ) (body : Body) →
+    errand_in own receives origin body ≡ Some ToFollow → (body ≡ Sync) × (receives ≡ true) × (origin ≢ own)
+follows_by own receives origin (EnableSubscription set provider receiver forward era) asked =
     by (receiver == own) asked
   where
-    by : (b : Bool) →
-        cond b (Some (ToCopy (record { set_id = set; provider = provider; era = era }))) None ≡ Some (ToFollow other) →
-        (EnableSubscription set provider receiver forward era ≡ Sync) × (receives ≡ true) × (origin ≡ other)
+    by : (b : Bool) → cond b (Some (ToCopy (record { set_id = set; provider = provider; era = era }))) None ≡
+        Some ToFollow →
+        (EnableSubscription set provider receiver forward era ≡ Sync) × (receives ≡ true) × (origin ≢ own)
     by true is = absurd cc
     by false is = absurd cc
-follows_by own true origin Sync provider asked = (refl, refl, cc)
-follows_by own false origin Sync provider asked = absurd cc
-follows_by own receives origin others provider asked = absurd cc
-
-followed_ok : (w : World) (s : Seat) (e : Event) → IsRegular w → (provider : ℕ) →
-    errand_of s e ≡ Some (ToFollow provider) → OnOk (Finds w s e) (found_by w s e (Some (ToFollow provider)))
-followed_ok w s e regular provider asked =
-    bind_ok (IsOther w provider s) (Finds w s e) (provided provider w.memory s (at_node provider w)) _
-    (provided_ok provider w s regular) follows
+follows_by own receives origin Sync asked = by receives (origin == own) refl asked
   where
-    asks : (e.body ≡ Sync) × (receives_from e.origin s.known ≡ true) × (e.origin ≡ provider)
-    asks = follows_by s.node.id (receives_from e.origin s.known) e.origin e.body provider asked
+    by : (r same : Bool) → (origin == own) ≡ same → cond (r && not same) (Some ToFollow) None ≡ Some ToFollow →
+        (Sync ≡ Sync) × (r ≡ true) × (origin ≢ own)
+    by true false other is = (refl, refl, λ same. true≢false (sym (eq-eqb origin own same) ∙ other))
+    by true true same is = absurd cc
+    by false same at is = absurd cc
+follows_by own receives origin others asked = absurd cc
 
-    follows : (p : Seat) → IsOther w provider s p → OnOk (Finds w s e) (followed s e (logged p.node))
-    follows p at = Brings (record {
+taken_of_all : (w : World) (s : Seat) (e : Event) → IsRegular w → (vs : Views) →
+    OnOk (AreTakenOf w s e vs) (followed_all w s e vs)
+taken_of_all w s e regular [] = tt
+taken_of_all w s e regular (v ∷ more) =
+    bind_ok (IsTakenOf w s e v) (AreTakenOf w s e (v ∷ more)) (followed w s e v) _
+    (bind_ok (HasReached w e (provider_of e.origin s v.0) s) (IsTakenOf w s e v)
+    (provided (provider_of e.origin s v.0) w s e) _ (provided_ok (provider_of e.origin s v.0) w s e regular)
+    (λ p at. record { provider = p; reached = at; is = refl }))
+    (λ t here. bind_ok (AreTakenOf w s e more) (AreTakenOf w s e (v ∷ more)) (followed_all w s e more) _
+    (taken_of_all w s e regular more) (λ ts all. (here, all)))
+
+followed_ok : (w : World) (s : Seat) (e : Event) → IsRegular w → errand_of s e ≡ Some ToFollow →
+    OnOk (Finds w s e) (found_by w s e (Some ToFollow))
+followed_ok w s e regular asked =
+    let asks = follows_by s.node.id (receives_from e.origin s.known) e.origin e.body asked in
+    bind_ok (AreTakenOf w s e (kept_from e.origin s.known)) (Finds w s e)
+    (followed_all w s e (kept_from e.origin s.known)) _ (taken_of_all w s e regular (kept_from e.origin s.known))
+    (λ ts taken. Brings (record {
       body = asks.0;
       receives = asks.1;
-      provider = p;
-      seat = at.0.0;
-      own = at.0.1 ∙ sym asks.2;
-      apart = λ same. at.1 (sym asks.2 ∙ same);
+      apart = asks.2;
+      syncs = ts;
+      taken = taken;
       is = refl;
-    })
+    }))
 
-pub found_ok : (w : World) → IsRegular w → (s : Seat) (e : Event) → IsSeat w.places s →
-    OnOk (Finds w s e) (found_by w s e (errand_of s e))
-found_ok w regular s e is = by (errand_of s e) refl
+pub found_ok : (w : World) → IsRegular w → (s : Seat) (e : Event) → OnOk (Finds w s e) (found_by w s e (errand_of s e))
+found_ok w regular s e = by (errand_of s e) refl
   where
     by : (a : Option Errand) → errand_of s e ≡ a → OnOk (Finds w s e) (found_by w s e a)
     by None none = Nothing refl (NoErrand none)
-    by (Some (ToCopy k)) asked = copied_ok w s e regular is k asked
-    by (Some (ToFollow provider)) asked = followed_ok w s e regular provider asked
+    by (Some (ToCopy k)) asked = copied_ok w s e regular k asked
+    by (Some ToFollow) asked = followed_ok w s e regular asked

@@ -1,9 +1,8 @@
 -- The event that a turn finds to be applied: the next one of its stream for the node, of an origin that it knows.
-use Rattle.std.proofs.Common.{◌≡◌, ◌≢◌, ℕ, suc, true, [], ◌∷◌, Option, Some, None, Ok, is_some, refl, sym, ap}
-use Rattle.std.proofs.Common.{subst, ◌∙◌, not, arith}
+use Rattle.std.proofs.Common.{◌≡◌, ◌≢◌, ℕ, suc, true, [], ◌∷◌, Option, Some, None, Ok, is_some, refl, sym, ap, subst}
+use Rattle.std.proofs.Common.{◌∙◌, not, arith}
 use Rattle.std.specs.Prelude.{codes, option_map, ◌==◌, ◌+◌}
 use Rattle.std.proofs.lemmas.Bool.{eqb-true, not-false}
-use Rattle.slon_model.specs.declared.reply.Refusal.TheVariants as refused
 use Rattle.slon_model.specs.Maps.{entry_at}
 use Rattle.slon_model.specs.Events.{Event}
 use Rattle.slon_model.specs.Deeds.{knowledge, nothing_brought, progress}
@@ -25,6 +24,7 @@ use Rattle.stream_laws.proofs.Applies.{MayCome, Applying, not_own, meeting, may_
 use Rattle.stream_laws.proofs.Commits.{applying_at}
 use Rattle.stream_laws.proofs.Copies.{Finds, found_ok}
 use Rattle.stream_laws.proofs.Waiting.{waiting_in}
+use Rattle.slon_model.specs.declared.reply.Refusal.TheVariants as refused
 
 -- The seat is that of a node of the session, which can carry out what the event says. It is an event of this origin, of
 -- a stream of the session, of another node that this one knows, and the next one of that stream.
@@ -117,7 +117,7 @@ fetched_ok node origin w regular =
     (λ s is. bind_ok (IsWork w origin s) (IsFetched w origin) (taken_up (next_at w.memory s origin)) _
     (taken_ok (IsWork w origin s) (next_at w.memory s origin) (next_work w regular s origin is))
     (λ e work. bind_ok (Finds w s e) (IsFetched w origin) (found_by w s e (errand_of s e)) _
-    (found_ok w regular s e is) (λ f finds. record { work = work; finds = finds })))
+    (found_ok w regular s e) (λ f finds. record { work = work; finds = finds })))
 
 -- what there is for an event: what is found now, or what was fetched and still stands
 pub data IsThere (w : World) (s : Seat) (e : Event) (f : Found) : Type 0 where
@@ -130,7 +130,7 @@ there_ok w regular s e is = by (kept_fetch s.name e.origin e w.memory) refl
   where
     by : (o : Option Found) → kept_fetch s.name e.origin e w.memory ≡ o → OnOk (IsThere w s e) (found_or w s e o)
     by None none =
-        ok_then (Finds w s e) (IsThere w s e) (found_by w s e (errand_of s e)) (found_ok w regular s e is)
+        ok_then (Finds w s e) (IsThere w s e) (found_by w s e (errand_of s e)) (found_ok w regular s e)
         (λ f finds. Fresh finds)
     by (Some g) some = Kept g some refl
 

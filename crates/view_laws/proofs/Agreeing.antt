@@ -55,7 +55,7 @@ member_known table c set is = by (member_of table c) refl is
         )
 
 -- the node that keeps the set knows the table
-known_there : (t : Past) (k : KnownTable t) (name : List ℕ) (n : Node) → nodes_in t.world.places name ≡ Some n →
+pub known_there : (t : Past) (k : KnownTable t) (name : List ℕ) (n : Node) → nodes_in t.world.places name ≡ Some n →
     (v : View) → IsSeen (WasUpTo t) n k.entry.1.set_id v →
     IsAmong k.entry.1.name (names_of k.entry.1.set_id (knowledge n).config)
 known_there t k name n is v seen =

@@ -8,16 +8,15 @@ use Rattle.std.specs.Str.{bytes_eq}
 use Rattle.std.proofs.lemmas.Bool.{and_parts, eqb-true, false≢true}
 use Rattle.slon_model.specs.Snapshots.{Snapshot}
 use Rattle.slon_model.specs.Events.{Event}
-use Rattle.slon_model.specs.Views.{View, view_after}
-use Rattle.slon_model.specs.Config.{names_of}
+use Rattle.slon_model.specs.Views.{View, Views, first_view, view_after}
 use Rattle.slon_model.specs.Names.{find_named}
-use Rattle.slon_model.specs.Deeds.{Node, Brought, Knowledge, Logged, nothing_brought, view_of}
+use Rattle.slon_model.specs.Deeds.{Node, Brought, Knowledge, nothing_brought, view_of}
 use Rattle.slon_model.specs.Logs.{logged}
 use Rattle.slon_model.specs.Following.{Found, SetSync, brought_of, kept_from}
-use Rattle.slon_model.specs.Following.{set_sync, set_syncs, with_syncs}
+use Rattle.slon_model.specs.Following.{FoundCopy, is_on_one, with_syncs}
 use Rattle.slon_model.specs.Sessions.{World, Fetch, Seat}
 use Rattle.slon_model.specs.Turns.{same_snapshot}
-use Rattle.slon_model.specs.Working.{Carried, Fetched, copy_of, fetch_of, fetched, is_view, kept_fetch}
+use Rattle.slon_model.specs.Working.{Carried, Fetched, fetch_of, fetched, is_view, kept_fetch, names_taken, rows_at}
 use Rattle.slon_model.specs.Working.{same_view, stands, still}
 use Rattle.slon_model.specs.World.{start, Happening, Leads}
 use Rattle.slon_model.proofs.Names.{bytes_same, one_found}
@@ -27,23 +26,32 @@ use Rattle.image_laws.proofs.Staying.{Stays}
 use Rattle.slon_laws.specs.Fetches.{AllKept, FoundOn}
 use Rattle.slon_laws.proofs.Fetches.{IsKeptFor, all_kept, kept_for, kept_step}
 use Rattle.slon_laws.proofs.Fillable.{still_on}
-use Rattle.slon_laws.proofs.Following.{syncs_on}
+use Rattle.slon_laws.proofs.Following.{sync_on}
 use Rattle.slon_laws.proofs.Results.{OnOk, any_ok, ok_is}
 use Rattle.stream_laws.specs.Nodes.{IsAmong}
-use Rattle.stream_laws.proofs.Copies.{Finds, IsCopy, IsFollowed, IsVain, Nothing as FindsNothing}
+use Rattle.stream_laws.proofs.Copies.{AreTakenOf, Finds, IsCopy, IsFollowed, IsTakenOf, IsVain}
+use Rattle.stream_laws.proofs.Copies.{Nothing as FindsNothing}
 use Rattle.stream_laws.proofs.Copies.{Brings as FindsSyncs, Copies as FindsCopy}
-use Rattle.stream_laws.proofs.Lists.{all_mapped, all_passed, among_all}
+use Rattle.stream_laws.proofs.Lists.{all_each, all_passed, among_all}
 use Rattle.stream_laws.proofs.Works.{IsCarried, IsFetched, IsThere, IsWork, Fresh, Kept, fetched_ok}
-use Rattle.view_laws.specs.Past.{Past, IsBefore, WasBefore, WasUpTo, past}
+use Rattle.view_laws.specs.Past.{Past, IsBefore, IsPastBefore, PastBefore, PastUpTo, WasUpTo, past}
 use Rattle.view_laws.proofs.Reached.{event_now, now_stays, one_of, regular_now}
 use Rattle.view_laws.proofs.Rising.{found_stands}
 
 -- ---- what is kept
 
--- What the node of the database of this name keeps for this origin, a turn fetched in such a session.
-pub record WasFetched (Was : World → Type 0) (name : List ℕ) (origin : ℕ) (f : Fetch) : Type 0 where
+-- a session of the history up to one before is one before
+pub past_earlier : (limit : ℕ) (history : List Happening) (w : World) (leads : Leads (start limit) history w)
+    (s : Past) → IsPastBefore limit history w leads s → (u : World) → WasUpTo s u → IsBefore limit history w leads u
+past_earlier limit [] w leads s to u was = absurd to
+past_earlier limit (h ∷ hs) w leads s (inl same) u was = subst (λ r. WasUpTo r u) same was
+past_earlier limit (h ∷ hs) w leads s (inr to) u was = inr (past_earlier limit hs leads.0 leads.1 s to u was)
+
+-- What the node of the database of this name keeps for this origin, a turn fetched in a session to which one of these
+-- histories leads.
+pub record WasFetched (Was : Past → Type 0) (name : List ℕ) (origin : ℕ) (f : Fetch) : Type 0 where
   pub to : Past
-  pub earlier : (u : World) → WasUpTo to u → Was u
+  pub was : Was to
   pub by : ℕ
   pub of : ℕ
   pub read : Fetched
@@ -53,15 +61,15 @@ pub record WasFetched (Was : World → Type 0) (name : List ℕ) (origin : ℕ) 
   pub same : fetch_of read ≡ f
 
 kept_was : (limit : ℕ) (history : List Happening) (w : World) (leads : Leads (start limit) history w) →
-    AllKept (WasFetched (IsBefore limit history w leads)) w.memory.fetches
-kept_was limit [] w is = subst (λ u. AllKept (WasFetched (λ v. ⊥)) u.memory.fetches) (sym is) tt
+    AllKept (WasFetched (IsPastBefore limit history w leads)) w.memory.fetches
+kept_was limit [] w is = subst (λ u. AllKept (WasFetched (λ s. ⊥)) u.memory.fetches) (sym is) tt
 kept_was limit (h ∷ hs) w leads =
     kept_step Now leads.0 w h leads.2
     (λ node origin. ok_is (λ x. Unit {0}) (λ x. Now x.seat.name x.event.origin (fetch_of x))
     (fetched node origin leads.0) (any_ok (λ x. Unit {0}) (fetched node origin leads.0) (λ x. tt))
     (λ x turn any. record {
       to = past limit hs leads.0 leads.1;
-      earlier = λ u was. was;
+      was = inl refl;
       by = node;
       of = origin;
       read = x;
@@ -70,10 +78,10 @@ kept_was limit (h ∷ hs) w leads =
       own = refl;
       same = refl;
     }))
-    (all_kept (WasFetched (IsBefore limit hs leads.0 leads.1)) Now
+    (all_kept (WasFetched (IsPastBefore limit hs leads.0 leads.1)) Now
     (λ name origin f was. record {
       to = was.to;
-      earlier = λ u is. inr (was.earlier u is);
+      was = inr was.was;
       by = was.by;
       of = was.of;
       read = was.read;
@@ -84,7 +92,7 @@ kept_was limit (h ∷ hs) w leads =
     }) leads.0.memory.fetches (kept_was limit hs leads.0 leads.1))
   where
     Now : List ℕ → ℕ → Fetch → Type 0
-    Now = WasFetched (IsBefore limit (h ∷ hs) w leads)
+    Now = WasFetched (IsPastBefore limit (h ∷ hs) w leads)
 
 -- ---- what is brought
 
@@ -92,7 +100,7 @@ kept_was limit (h ∷ hs) w leads =
 -- then.
 pub record Finding (t : Past) (s : Seat) (e : Event) : Type 0 where
   pub to : Past
-  pub earlier : (u : World) → WasUpTo to u → WasUpTo t u
+  pub within : PastUpTo t to
   pub seat : Seat
   pub name : seat.name ≡ s.name
   pub origin : ℕ
@@ -121,23 +129,29 @@ pub record IsSilent (t : Past) (s : Seat) (e : Event) (b : Brought) : Type 0 whe
   pub none : b ≡ nothing_brought
   pub vain : IsVain at.to.world at.seat e
 
+-- the view that begins with a copy, and what is found for it
+abbrev pub copied_view : {w : World} {s : Seat} {e : Event} {f : Found} → IsCopy w s e f → View
+copied_view {e = e} k = first_view k.copying.era e.origin e.number k.seen
+
+abbrev pub found_copy : {w : World} {s : Seat} {e : Event} {f : Found} → IsCopy w s e f → Found
+found_copy {s = s} k =
+    FoundCopy k.copying.set_id (copied_view k) (rows_at k.provider.place (names_taken s k.copying.set_id))
+
 -- A set was copied.
 pub record IsCopied (t : Past) (s : Seat) (e : Event) (b : Brought) : Type 0 where
   pub at : Finding t s e
   pub found : Found
   pub copy : IsCopy at.to.world at.seat e found
-  pub is : b ≡ brought_of s.place (copy_of copy.copying e.number copy.provider
-      (names_of copy.copying.set_id at.seat.known.config))
+  pub is : b ≡ brought_of s.place (found_copy copy)
 
--- What was read of the log of the origin of a SYNC, of the sets of which the view stands.
+-- What was read for a SYNC of the logs of providers, of the sets of which the view stands.
 pub record IsSynced (t : Past) (s : Seat) (e : Event) (b : Brought) : Type 0 where
   pub at : Finding t s e
   pub found : Found
   pub follows : IsFollowed at.to.world at.seat e found
   pub syncs : List SetSync
   pub kept : AllByRecursion (IsKept s.known e) syncs
-  pub part : IsPart s.known syncs
-      (set_syncs at.seat.node.id at.seat.known e (logged follows.provider.node))
+  pub part : IsPart s.known syncs follows.syncs
   pub is : b ≡ with_syncs s.place syncs nothing_brought
 
 -- what a node brings with an event
@@ -189,15 +203,54 @@ stands_among k y stands = by (view_of y.set_id k) refl stands
         subst (λ u. IsAmong (y.set_id, u) k.views) (same_view_is v y.before same)
         (found_stands y.set_id v k.views found)
 
+-- what holds of all that is taken of a set that is kept holds of all that is taken
+pub taken_each : {w : World} {s : Seat} {e : Event} (P : ℕ × View → Type 0) (Q : SetSync → Type 0) →
+    ((v : ℕ × View) (y : SetSync) → P v → IsTakenOf w s e v y → Q y) → (vs : Views) (ys : List SetSync) →
+    AreTakenOf w s e vs ys → AllByRecursion P vs → AllByRecursion Q ys
+taken_each P Q each [] [] taken have = tt
+taken_each P Q each (v ∷ vs) (y ∷ ys) taken have =
+    (each v y have.0 taken.0, taken_each P Q each vs ys taken.1 have.1)
+taken_each P Q each [] (y ∷ ys) taken have = absurd taken
+taken_each P Q each (v ∷ vs) [] taken have = absurd taken
+
+-- of each set that is kept something is taken
+pub taken_at : {w : World} {s : Seat} {e : Event} (v : ℕ × View) (vs : Views) (ys : List SetSync) →
+    AreTakenOf w s e vs ys → IsAmong v vs → (y : SetSync) × IsAmong y ys × IsTakenOf w s e v y
+taken_at {w} {s} {e} v (u ∷ vs) (y ∷ ys) taken (inl is) =
+    (y, inl refl, subst (λ x. IsTakenOf w s e x y) (sym is) taken.0)
+taken_at v (u ∷ vs) (y ∷ ys) taken (inr later) =
+    let rest = taken_at v vs ys taken.1 later in (rest.0, inr rest.1, rest.2)
+taken_at v (u ∷ vs) [] taken among = absurd taken
+taken_at v [] ys taken among = absurd among
+
+-- and what holds of all that is taken, of each set that is kept
+pub taken_back : {w : World} {s : Seat} {e : Event} (P : ℕ × View → Type 0) (Q : SetSync → Type 0) →
+    ((v : ℕ × View) (y : SetSync) → Q y → IsTakenOf w s e v y → P v) → (vs : Views) (ys : List SetSync) →
+    AreTakenOf w s e vs ys → AllByRecursion Q ys → AllByRecursion P vs
+taken_back P Q each [] [] taken have = tt
+taken_back P Q each (v ∷ vs) (y ∷ ys) taken have =
+    (each v y have.0 taken.0, taken_back P Q each vs ys taken.1 have.1)
+taken_back P Q each [] (y ∷ ys) taken have = absurd taken
+taken_back P Q each (v ∷ vs) [] taken have = absurd taken
+
+-- the sets that a node keeps of an origin
+pub all_kept_from : (k : Knowledge) (origin : ℕ) →
+    AllByRecursion (λ v. IsAmong v k.views × (v.1.origin ≡ origin)) (kept_from origin k)
+all_kept_from k origin =
+    all_passed (λ v. IsAmong v k.views) (λ v. IsAmong v k.views × (v.1.origin ≡ origin))
+    (λ v. v.1.origin == origin) (λ v among from. (among, eqb-true v.1.origin origin from)) k.views
+    (among_all (λ v. IsAmong v k.views) k.views (λ v among. among))
+
 -- what is read for a SYNC
-syncs_kept : (own : ℕ) (k : Knowledge) (e : Event) (log : List Logged) →
-    AllByRecursion (IsKept k e) (set_syncs own k e log)
-syncs_kept own k e log =
-    all_mapped (λ v. IsAmong v k.views × (v.1.origin ≡ e.origin)) (IsKept k e) (set_sync own k e log)
-    (λ v is. record { among = is.0; origin = is.1; view = refl }) (kept_from e.origin k)
-    (all_passed (λ v. IsAmong v k.views) (λ v. IsAmong v k.views × (v.1.origin ≡ e.origin))
-    (λ v. v.1.origin == e.origin) (λ v among from. (among, eqb-true v.1.origin e.origin from)) k.views
-    (among_all (λ v. IsAmong v k.views) k.views (λ v among. among)))
+syncs_kept : (w : World) (s : Seat) (e : Event) (f : Found) (k : IsFollowed w s e f) →
+    AllByRecursion (IsKept s.known e) k.syncs
+syncs_kept w s e f k =
+    taken_each (λ v. IsAmong v s.known.views × (v.1.origin ≡ e.origin)) (IsKept s.known e)
+    (λ v y is taken. record {
+      among = subst (λ (z : SetSync). IsAmong (z.set_id, z.before) s.known.views) (sym taken.is) is.0;
+      origin = ap (λ (z : SetSync). z.before.origin) taken.is ∙ is.1;
+      view = ap (λ (z : SetSync). z.view) taken.is ∙ ap (λ (z : SetSync). view_after e z.before) (sym taken.is);
+    }) (kept_from e.origin s.known) k.syncs k.taken (all_kept_from s.known e.origin)
 
 -- of which the view still stands
 standing_kept : (k now : Knowledge) (e : Event) (ys : List SetSync) → AllByRecursion (IsKept k e) ys →
@@ -218,7 +271,7 @@ kept_found : (t : Past) (origin : ℕ) (s : Seat) (e : Event) → IsWork t.world
 kept_found t origin s e work f some = record {
   at = record {
     to = k.to;
-    earlier = λ u is. inr (k.earlier u is);
+    within = inr k.was;
     seat = k.read.seat;
     name = k.named;
     origin = k.of;
@@ -229,11 +282,11 @@ kept_found t origin s e work f some = record {
       (subst (λ ev. Finds k.to.world k.read.seat ev k.read.found) one is.finds);
 }
   where
-    kept : IsKeptFor (WasFetched (WasBefore t)) s.name e f
-    kept = kept_for (WasFetched (WasBefore t)) s.name e t.world.memory f
+    kept : IsKeptFor (WasFetched (PastBefore t)) s.name e f
+    kept = kept_for (WasFetched (PastBefore t)) s.name e t.world.memory f
         (kept_was t.limit t.history t.world t.leads) some
 
-    k : WasFetched (WasBefore t) s.name e.origin kept.fetch
+    k : WasFetched (PastBefore t) s.name e.origin kept.fetch
     k = kept.has
 
     is : IsFetched k.to.world k.of k.read
@@ -244,7 +297,7 @@ kept_found t origin s e work f some = record {
         one_of t k.read.event e
         (event_now t k.read.event (record {
           session = k.to.world;
-          was = inr (k.earlier k.to.world (inl refl));
+          was = inr (past_earlier t.limit t.history t.world t.leads k.to k.was k.to.world (inl refl));
           is = is.work.event;
         })) work.event
         (k.own, ap (λ (g : Fetch). g.number) k.same ∙ kept.number)
@@ -253,7 +306,11 @@ finds_on : (w : World) (s : Seat) (e : Event) (f : Found) → Finds w s e f → 
 finds_on w s e f (FindsNothing none vain) = subst FoundOn (sym none) tt
 finds_on w s e f (FindsCopy k) = subst FoundOn (sym k.is) tt
 finds_on w s e f (FindsSyncs k) =
-    subst FoundOn (sym k.is) (syncs_on s.node.id s.known e (logged k.provider.node))
+    subst FoundOn (sym k.is) (taken_each (λ v. Unit {0})
+    (λ y. AllByRecursion (λ l. is_on_one y.tables l ≡ true) y.rows)
+    (λ v y any taken. subst (λ (z : SetSync). AllByRecursion (λ l. is_on_one z.tables l ≡ true) z.rows) (sym taken.is)
+    (sync_on s.node.id s.known e (logged taken.provider.node) v)) (kept_from e.origin s.known) k.syncs k.taken
+    (all_each (λ v. Unit {0}) (λ v. tt) (kept_from e.origin s.known)))
 
 -- its actions are on the tables that it names
 pub there_on : (t : Past) (origin : ℕ) (s : Seat) (e : Event) (f : Found) → IsWork t.world origin s e →
@@ -276,7 +333,7 @@ brought_is t origin x c = by c.there
     now : Finding t s e
     now = record {
       to = t;
-      earlier = λ u is. is;
+      within = inl refl;
       seat = s;
       name = refl;
       origin = origin;
@@ -292,8 +349,8 @@ brought_is t origin x c = by c.there
       at = now;
       found = c.found;
       follows = k;
-      syncs = set_syncs s.node.id s.known e (logged k.provider.node);
-      kept = syncs_kept s.node.id s.known e (logged k.provider.node);
+      syncs = k.syncs;
+      kept = syncs_kept t.world s e c.found k;
       part = Whole refl;
       is = c.is ∙ ap (brought_of s.place) k.is;
     })
@@ -314,14 +371,12 @@ brought_is t origin x c = by c.there
           is = c.is ∙ ap (brought_of s.place) (same ∙ ap (still s.known) copy.is);
         })
     kept g same k (FindsSyncs f) =
-        let all = set_syncs k.at.seat.node.id k.at.seat.known e (logged f.provider.node) in
         Brings (record {
           at = k.at;
           found = g;
           follows = f;
-          syncs = filter (stands s.known) all;
-          kept = standing_kept k.at.seat.known s.known e all
-              (syncs_kept k.at.seat.node.id k.at.seat.known e (logged f.provider.node));
+          syncs = filter (stands s.known) f.syncs;
+          kept = standing_kept k.at.seat.known s.known e f.syncs (syncs_kept k.at.to.world k.at.seat e g f);
           part = Standing refl;
           is = c.is ∙ ap (brought_of s.place) (same ∙ ap (still s.known) f.is);
         })
@@ -332,9 +387,17 @@ brought_is t origin x c = by c.there
 
 -- ---- the node then and now
 
+-- a session of the history up to there is one of the history
+pub earlier : {t : Past} {s : Seat} {e : Event} (a : Finding t s e) (u : World) → WasUpTo a.to u → WasUpTo t u
+earlier {t = t} a u was = by a.within
+  where
+    by : PastUpTo t a.to → WasUpTo t u
+    by (inl same) = subst (λ r. WasUpTo r u) same was
+    by (inr to) = inr (past_earlier t.limit t.history t.world t.leads a.to to u was)
+
 -- that session is one of the history
 abbrev pub was_then : {t : Past} {s : Seat} {e : Event} (a : Finding t s e) → WasUpTo t a.to.world
-was_then a = a.earlier a.to.world (inl refl)
+was_then a = earlier a a.to.world (inl refl)
 
 -- the node is the same one
 pub seat_stays : (t : Past) (s : Seat) (e : Event) (a : Finding t s e) → IsSeat t.world.places s →

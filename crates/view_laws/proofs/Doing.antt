@@ -1,9 +1,10 @@
 -- What each commit of a step does, beside the session before the step.
 use Rattle.std.specs.Prelude.{◌≡◌, ℕ, true, List, [], ◌∷◌, Some, None}
 use Rattle.node_rows.specs.declared.body.Body.{Body}
-use Rattle.node_rows.specs.declared.body.Body.TheVariants.{SetAddTable, EnableSubscription}
+use Rattle.node_rows.specs.declared.body.Body.TheVariants.{SetAddTable, SubscribeSet, EnableSubscription}
 use Rattle.slon_model.specs.Names.{find_named}
 use Rattle.slon_model.specs.Config.{is_origin}
+use Rattle.slon_model.specs.Maps.{pair_at}
 use Rattle.slon_model.specs.Deeds.{Node, Applies, Hears as HearsOf, knowledge}
 use Rattle.slon_model.specs.Place.{Place, deed}
 use Rattle.slon_model.specs.Sessions.{World, Commit, Seat, Emission}
@@ -25,14 +26,19 @@ abbrev pub IsAllowed : Seat → Body → Type 0
 IsAllowed s (SetAddTable set table name comment) =
     (receiver_with (λ e. true) set (knowledge s.node).config ≡ None)
     × (is_origin s.node.id set (knowledge s.node).config ≡ true)
+IsAllowed s (SubscribeSet set provider receiver forward) = ⊥
 IsAllowed s (EnableSubscription set provider receiver forward era) = ⊥
 IsAllowed s others = is_emitted others ≡ true
 
--- one event, or those of a subscription, of which the node is the provider
+-- The node at its seat is the origin of the set, and the receiver does not subscribe to that yet.
+pub record MayFeed (s : Seat) (f : NewFeed) : Type 0 where
+  pub leads : is_origin s.node.id f.set_id (knowledge s.node).config ≡ true
+  pub new : pair_at f.set_id f.receiver (knowledge s.node).config.subscriptions ≡ None
+
+-- one event, or those of a subscription
 pub data AreAllowed (s : Seat) (ms : List Emission) : Type 0 where
   IsOne : (m : Emission) → ms ≡ m ∷ [] → IsAllowed s m.body → AreAllowed s ms
-  AreFeeds : (era : ℕ) (f : NewFeed) → ms ≡ all_tell (feed_bodies era f) → f.provider ≡ s.node.id →
-      AreAllowed s ms
+  AreFeeds : (era : ℕ) (f : NewFeed) → ms ≡ all_tell (feed_bodies era f) → MayFeed s f → AreAllowed s ms
 
 -- A node emits events.
 pub record Tells (w : World) (c : Commit) (p : Place) : Type 0 where
@@ -74,17 +80,19 @@ pub record Hears (w : World) (c : Commit) (p : Place) : Type 0 where
   pub confirms : List (ℕ × ℕ × ℕ)
   pub commit : c ≡ record { name = seat.name; becomes = None; deeds = deed seat.place [] [] (HearsOf confirms) ∷ [] }
 
--- What a new node knows of sets and tables, a node of the session knows.
+-- What a new node knows of sets, tables and subscriptions, a node of the session knows.
 pub record IsGiven (w : World) (n : Node) : Type 0 where
   pub name : List ℕ
   pub giver : Node
   pub is : nodes_in w.places name ≡ Some giver
   pub sets : n.given.config.sets ≡ (knowledge giver).config.sets
   pub tables : n.given.config.tables ≡ (knowledge giver).config.tables
+  pub subscriptions : n.given.config.subscriptions ≡ (knowledge giver).config.subscriptions
 
 -- or nothing
 pub data KnowsFrom (w : World) (n : Node) : Type 0 where
-  KnowsNone : (n.given.config.sets ≡ []) × (n.given.config.tables ≡ []) → KnowsFrom w n
+  KnowsNone : (n.given.config.sets ≡ []) × (n.given.config.tables ≡ []) × (n.given.config.subscriptions ≡ []) →
+      KnowsFrom w n
   KnowsGiven : IsGiven w n → KnowsFrom w n
 
 -- A database becomes a node, which has done nothing and keeps no set.

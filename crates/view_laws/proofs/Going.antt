@@ -1,46 +1,38 @@
 -- The snapshot that a node keeps of a set never goes back.
 use Rattle.std.proofs.Common.{◌≡◌, ◌≢◌, ◌⊎◌, inl, inr, ℕ, Bool, true, false, cond, [], ◌∷◌, Some, refl}
 use Rattle.std.proofs.Common.{sym, ap, subst, ◌∙◌}
-use Rattle.std.specs.Prelude.{◌==◌}
 use Rattle.std.specs.List.{AllByRecursion}
-use Rattle.std.proofs.lemmas.Bool.{eqb-true}
-use Rattle.slon_model.specs.Names.{find_named}
 use Rattle.slon_model.specs.Maps.{entry_at}
 use Rattle.slon_model.specs.Snapshots.{Covers, covers}
 use Rattle.slon_model.specs.Events.{Event}
-use Rattle.slon_model.specs.Config.{Config, era_of, is_origin}
-use Rattle.slon_model.specs.Views.{View, first_view, view_after, with_views}
+use Rattle.slon_model.specs.Views.{View, view_after, with_views}
 use Rattle.slon_model.specs.Deeds.{Node, Brought, Hears as HearsOf, Knowledge, knowledge, nothing_brought}
 use Rattle.slon_model.specs.Deeds.{view_of, with_deeds}
 use Rattle.slon_model.specs.Moves.{with_commit}
 use Rattle.slon_model.specs.Place.{Place, deed, taken}
 use Rattle.slon_model.specs.Sessions.{Seat}
-use Rattle.slon_model.specs.Following.{Found, SetSync}
+use Rattle.slon_model.specs.Following.{SetSync}
 use Rattle.slon_model.specs.Working.{Carried}
 use Rattle.slon_model.proofs.Names.{all_map, one_found}
 use Rattle.slon_laws.proofs.Later.{HoldsOf}
-use Rattle.stream_laws.specs.Nodes.{IsAmong, nodes_in, node_in}
-use Rattle.stream_laws.proofs.Copies.{IsCopy, one_leader}
+use Rattle.stream_laws.specs.Nodes.{IsAmong, nodes_in}
 use Rattle.stream_laws.proofs.Lists.{all_among}
-use Rattle.stream_laws.proofs.Seats.{IsSeat, seat_node}
-use Rattle.stream_laws.proofs.Streams.{one_node}
+use Rattle.stream_laws.proofs.Seats.{seat_node}
 use Rattle.view_laws.proofs.Doing.{IsTaken}
 use Rattle.view_laws.specs.Known.{IsEmitted, IsSeen}
 use Rattle.view_laws.specs.Laws.{GoesOn, ViewsGoOn}
 use Rattle.view_laws.specs.Past.{Past, past, WasUpTo}
 use Rattle.view_laws.proofs.Brought.{IsBrought, IsKept, Nothing, Copies, Brings}
 use Rattle.view_laws.proofs.Doing.{taking}
-use Rattle.view_laws.proofs.Unmoved.{copied_old, copy_from, since, view_then}
 use Rattle.view_laws.proofs.Viewed.{rising_now, seen_now}
 use Rattle.view_laws.proofs.Emitted.{emitted_in}
 use Rattle.view_laws.proofs.Living.{HasNode, NodeGoes, deed_of, event_of}
 use Rattle.view_laws.proofs.Living.{node_passes}
-use Rattle.view_laws.proofs.Moments.{node_now, now_stays, one_name, regular_now, taken_covers}
-use Rattle.image_laws.proofs.Staying.{Stays}
 use Rattle.view_laws.proofs.Rising.{found_in, stands_found, there_in}
-use Rattle.view_laws.proofs.Seen.{copy_leads, is_older, same_views, stays_leading, syncs_seen}
+use Rattle.view_laws.proofs.Seen.{is_older, same_views, syncs_seen}
 use Rattle.view_laws.proofs.Unfed.{says_emitted}
 use Rattle.view_laws.proofs.Walking.{passing_later}
+use Rattle.view_laws.proofs.Unmoved.{unviewed}
 
 -- ---- a SYNC
 
@@ -61,72 +53,6 @@ after_covers t n set v e emitted origin is = by (covers v.seen e.taken) refl
 abbrev GoesFrom : View → View → Type 0
 GoesFrom before v = (v.origin ≡ before.origin) × (v.era ≡ before.era) × Covers v.seen before.seen
 
--- a set that is copied goes on from the view that the node keeps
-copies_goes : (t : Past) (s : Seat) (e : Event) → IsSeat t.world.places s → (v : View) (f : Found)
-    (k : IsCopy t.world s e f) → view_of k.copying.set_id (knowledge s.node) ≡ Some v →
-    GoesFrom v (first_view k.copying.era k.provider.node.id e.number (taken k.provider.place))
-copies_goes t s e is v f k found = (
-  sym id ∙ seen.own,
-  sym (eqb-true (era_of set known) k.copying.era leads.1) ∙ leading ∙ sym seen.era,
-  subst (Covers (taken k.provider.place)) (sym seen.seen) (subst (λ p. Covers (taken p) (taken seen.moment.place)) place
-      (taken_covers t seen.moment.session seen.moment.was seen.moment.name seen.moment.place now.0 seen.moment.found
-      now.1)),
-)
-  where
-    set : ℕ
-    set = k.copying.set_id
-
-    known : Config
-    known = (knowledge k.provider.node).config
-
-    seen : IsSeen (WasUpTo t) s.node set v
-    seen = seen_now t s.name s.node (seat_node t.world.places s is) set v found
-
-    leads : (is_origin k.provider.node.id set known ≡ true) × ((era_of set known == k.copying.era) ≡ true)
-    leads = copy_leads t.world s e f k
-
-    -- the node that was the origin then, now
-    now : HoldsOf (Stays seen.moment.node) seen.moment.name t.world.places
-    now = now_stays t seen.moment.session seen.moment.was seen.moment.name seen.moment.place seen.moment.node
-        seen.moment.found seen.moment.at
-
-    there : nodes_in t.world.places seen.moment.name ≡ Some now.2.node
-    there = ap node_in now.1 ∙ now.2.is
-
-    then : (is_origin now.2.node.id set (knowledge now.2.node).config ≡ true)
-        × (era_of set (knowledge now.2.node).config ≡ era_of set (knowledge seen.moment.node).config)
-    then = stays_leading seen.moment.node now.0 now.2.node now.2 now.2.is set seen.leads
-
-    one : now.2.node ≡ k.provider.node
-    one = one_node (nodes_in t.world.places) (regular_now t).nodes seen.moment.name k.provider.name now.2.node
-        k.provider.node there (
-          seat_node t.world.places k.provider k.seat,
-          one_leader (nodes_in t.world.places) (regular_now t).nodes set
-              (record { name = seen.moment.name; node = now.2.node; is = there; leads = then.0 })
-              (record {
-                name = k.provider.name;
-                node = k.provider.node;
-                is = seat_node t.world.places k.provider k.seat;
-                leads = leads.0;
-              }),
-        )
-
-    id : seen.moment.node.id ≡ k.provider.node.id
-    id = sym now.2.id ∙ ap (λ (n : Node). n.id) one
-
-    leading : era_of set known ≡ era_of set (knowledge seen.moment.node).config
-    leading = ap (λ (n : Node). era_of set (knowledge n).config) (sym one) ∙ then.1
-
-    place : now.0 ≡ k.provider.place
-    place = one_found now.0 k.provider.place (sym now.1
-        ∙ ap (λ name. find_named name t.world.places) (one_name t (node_now t seen.moment now) (record {
-          name = k.provider.name;
-          place = k.provider.place;
-          found = k.seat.found;
-          node = k.provider.node;
-          at = k.seat.node;
-        }) (ap (λ (n : Node). n.id) one)) ∙ k.seat.found)
-
 brought_goes : (t : Past) (x : Carried) (origin : ℕ) → IsTaken t origin x → (set : ℕ) (v : View) →
     view_of set (knowledge x.seat.node) ≡ Some v → IsBrought t x.seat x.event x.brought →
     AllByRecursion (λ y. y.0 ≡ set → GoesFrom v y.1) x.brought.views
@@ -134,10 +60,7 @@ brought_goes t x origin is set v found (Nothing n) =
     subst (λ (c : Brought). AllByRecursion (λ y. y.0 ≡ set → GoesFrom v y.1) c.views) (sym n.none) tt
 brought_goes t x origin is set v found (Copies k) =
     subst (λ (c : Brought). AllByRecursion (λ y. y.0 ≡ set → GoesFrom v y.1) c.views) (sym k.is) (
-      λ same. let there = ap (λ i. view_of i (knowledge x.seat.node)) same ∙ found in
-          copies_goes k.at.to k.at.seat x.event k.at.work.seat v k.found k.copy
-          (view_then t (since origin x is k.at) k.copy.copying.set_id v there
-          (copied_old t x.seat x.event x.brought is.work.seat k v there ∙ copy_from t x.seat x.event x.brought k)),
+      λ same. absurd (unviewed t origin x is k v (ap (λ i. view_of i (knowledge x.seat.node)) same ∙ found)),
       tt,
     )
 brought_goes t x origin is set v found (Brings y) =

@@ -1,12 +1,16 @@
 pub mod Agreeing
 pub mod Brought
+pub mod Claiming
+pub mod Copied
 pub mod Doing
 pub mod Emitted
+pub mod FedBy
 pub mod Feeds
 pub mod Going
 pub mod Living
 pub mod Moments
 pub mod Numbered
+pub mod Once
 pub mod Owned
 pub mod Reached
 pub mod Reaching

@@ -1,14 +1,16 @@
 -- What each deed of a node keeps is kept by every history.
-use Rattle.std.proofs.Common.{◌≡◌, ◌⊎◌, inl, inr, ℕ, List, [], ◌∷◌, Option, Some, None}
+use Rattle.std.proofs.Common.{◌≡◌, ◌⊎◌, inl, inr, ℕ, true, List, [], ◌∷◌, Option, Some, None}
 use Rattle.std.proofs.Common.{refl, sym, ap, subst, ◌∙◌}
-use Rattle.std.specs.Prelude.{◌+◌, option_map}
+use Rattle.std.specs.Prelude.{◌+◌, ◌==◌, option_map}
 use Rattle.std.specs.Option.{option_or}
 use Rattle.node_rows.specs.declared.body.Body.{Body}
 use Rattle.node_rows.specs.declared.body.Body.TheVariants.{Sync, SubscribeSet, EnableSubscription}
 use Rattle.slon_model.specs.Names.{find_named}
 use Rattle.slon_model.specs.Events.{Event}
-use Rattle.slon_model.specs.Config.{Config}
-use Rattle.slon_model.specs.Deeds.{Node, Deed, Emits, Hears as HearsOf, knowledge, with_deeds}
+use Rattle.slon_model.specs.Config.{is_origin}
+use Rattle.slon_model.specs.Maps.{pair_at}
+use Rattle.std.proofs.lemmas.Bool.{and_from, eq-eqb}
+use Rattle.slon_model.specs.Deeds.{Node, Deed, Emits, Hears as HearsOf, knowledge, stream, with_deeds}
 use Rattle.slon_model.specs.Place.{Place, deed, taken}
 use Rattle.slon_model.specs.Moves.{Move, done, with_commit}
 use Rattle.slon_model.specs.Deciding.{decide, move_of}
@@ -20,8 +22,8 @@ use Rattle.stream_laws.specs.Nodes.{nodes_in, node_in}
 use Rattle.stream_laws.proofs.Seats.{IsSeat}
 use Rattle.stream_laws.proofs.Steps.{Logs, prepared_node, done_logs}
 use Rattle.view_laws.proofs.Doing.{IsTaken}
-use Rattle.view_laws.specs.Known.{IsFed}
-use Rattle.view_laws.specs.Past.{Past, WasBefore, WasUpTo}
+use Rattle.view_laws.specs.Known.{IsFed, subscribes}
+use Rattle.view_laws.specs.Past.{Past, PastUpTo, WasBefore, WasUpTo}
 use Rattle.view_laws.proofs.Doing.{IsAllowed, AreAllowed, IsOne, AreFeeds, taking, KnowsFrom}
 use Rattle.view_laws.proofs.Doing.{Does, DoesTell, DoesTake, DoesHear, DoesBecome}
 use Rattle.view_laws.proofs.Feeds.{some_put}
@@ -33,20 +35,35 @@ event_of s number body = record { origin = s.node.id; number = number; taken = t
 abbrev pub deed_of : Seat → ℕ → Emission → Deed
 deed_of s number m = deed s.place m.rows [] (Emits (event_of s number m.body))
 
--- An event of a subscription that a node of this id emits, which knows this by then.
-abbrev pub IsOfFeed : ℕ → Config → Body → Type 0
-IsOfFeed own c Sync = Unit {0}
-IsOfFeed own c (SubscribeSet set provider receiver forward) = Unit {0}
-IsOfFeed own c (EnableSubscription set provider receiver forward era) = IsFed set c × (provider ≡ own)
-IsOfFeed own c others = ⊥
+-- The last one of these events is that by which the receiver subscribes to the set.
+pub record HasSubscribed (set receiver : ℕ) (es : List Event) : Type 0 where
+  pub event : Event
+  pub earlier : List Event
+  pub all : es ≡ event ∷ earlier
+  pub subscribes : subscribes set receiver event.body ≡ true
+
+-- An event of a subscription to a set of which the node at its seat is the origin, which is this one by now.
+abbrev pub IsOfFeed : Seat → Node → Body → Type 0
+IsOfFeed s n Sync = Unit {0}
+IsOfFeed s n (SubscribeSet set provider receiver forward) =
+    (is_origin s.node.id set (knowledge s.node).config ≡ true)
+    × (pair_at set receiver (knowledge n).config.subscriptions ≡ None)
+IsOfFeed s n (EnableSubscription set provider receiver forward era) =
+    (is_origin s.node.id set (knowledge s.node).config ≡ true)
+    × IsFed set (knowledge n).config × HasSubscribed set receiver (stream n)
+IsOfFeed s n others = ⊥
 
 -- The node at its seat, as it is by now in a commit, may emit it.
 abbrev pub Says : Seat → Node → Emission → Type 0
-Says s n m = ((n ≡ s.node) × IsAllowed s m.body) ⊎ IsOfFeed s.node.id (knowledge n).config m.body
+Says s n m = ((n ≡ s.node) × IsAllowed s m.body) ⊎ IsOfFeed s n m.body
 
 -- What was known of each node of the session before the step.
 abbrev pub Knew : ((World → Type 0) → Node → Type 0) → Past → Type 0
 Knew J t = (name : List ℕ) (m : Node) → nodes_in t.world.places name ≡ Some m → J (WasBefore t) m
+
+-- and in each session before
+abbrev pub KnewAll : ((World → Type 0) → Node → Type 0) → Past → Type 0
+KnewAll J t = (s : Past) → PastUpTo t s → Knew J s
 
 -- What holds of a new node, and is kept by each deed of a node. It may speak of the sessions before.
 pub record NodeLives (J : (World → Type 0) → Node → Type 0) : Type 0 where
@@ -54,7 +71,7 @@ pub record NodeLives (J : (World → Type 0) → Node → Type 0) : Type 0 where
   pub logs : (t : Past) (n : Node) (p : Place) (xid : ℕ) → J (WasUpTo t) n → J (WasUpTo t) (with_commit xid p n)
   pub tells : (t : Past) (s : Seat) → IsSeat t.world.places s → (number : ℕ) (m : Emission) (n : Node) → Says s n m →
       J (WasUpTo t) n → J (WasUpTo t) (with_deeds (deed_of s number m ∷ []) n)
-  pub takes : (t : Past) → Knew J t → (x : Carried) (origin : ℕ) → IsTaken t origin x →
+  pub takes : (t : Past) → KnewAll J t → (x : Carried) (origin : ℕ) → IsTaken t origin x →
       J (WasUpTo t) x.seat.node → J (WasUpTo t) (with_deeds (taking x).deeds x.seat.node)
   pub hears : (t : Past) (s : Seat) (confirms : List (ℕ × ℕ × ℕ)) → J (WasUpTo t) s.node →
       J (WasUpTo t) (with_deeds (deed s.place [] [] (HearsOf confirms) ∷ []) s.node)
@@ -89,15 +106,26 @@ pub tells_lives : (T : Node → Type 0) (s : Seat) → TellsKeep s T → (ms : L
 tells_lives T s tell ms (IsOne m same may) was =
     subst (λ ms. T (with_deeds (emissions s (next_event s) ms) s.node)) (sym same)
     (tell (next_event s) m s.node (inl (refl, may)) was)
-tells_lives T s tell ms (AreFeeds era f same own) was =
+tells_lives T s tell ms (AreFeeds era f same may) was =
     subst (λ ms. T (with_deeds (emissions s (next_event s) ms) s.node)) (sym same)
     (tell (next_event s + 1 + 1) (tells enables) two
-    (inr (some_put f.set_id f.set_id f.receiver _ (knowledge one).config.subscriptions (inr refl), own))
-    (tell (next_event s + 1) (tells subscribes) one (inr tt)
+    (inr (
+      may.leads,
+      some_put f.set_id f.set_id f.receiver _ (knowledge one).config.subscriptions (inr refl),
+      record {
+        event = event_of s (next_event s + 1) first;
+        earlier = stream one;
+        all = refl;
+        subscribes =
+            and_from (f.set_id == f.set_id) (f.receiver == f.receiver) (eq-eqb f.set_id f.set_id refl)
+            (eq-eqb f.receiver f.receiver refl);
+      },
+    ))
+    (tell (next_event s + 1) (tells first) one (inr (may.leads, may.new))
     (tell (next_event s) (tells Sync) s.node (inr tt) was)))
   where
-    subscribes : Body
-    subscribes = SubscribeSet f.set_id f.provider f.receiver f.forward
+    first : Body
+    first = SubscribeSet f.set_id f.provider f.receiver f.forward
 
     enables : Body
     enables = EnableSubscription f.set_id f.provider f.receiver f.forward era
@@ -106,10 +134,10 @@ tells_lives T s tell ms (AreFeeds era f same own) was =
     one = with_deeds (deed_of s (next_event s) (tells Sync) ∷ []) s.node
 
     two : Node
-    two = with_deeds (deed_of s (next_event s + 1) (tells subscribes) ∷ []) one
+    two = with_deeds (deed_of s (next_event s + 1) (tells first) ∷ []) one
 
-commits_live : {J : (World → Type 0) → Node → Type 0} → NodeLives J → (t : Past) → Knew J t → (c : Commit) (p : Place) →
-    Does t c p → OfNode J (WasUpTo t) p → OfNode J (WasUpTo t) (committing c p)
+commits_live : {J : (World → Type 0) → Node → Type 0} → NodeLives J → (t : Past) → KnewAll J t → (c : Commit)
+    (p : Place) → Does t c p → OfNode J (WasUpTo t) p → OfNode J (WasUpTo t) (committing c p)
 commits_live {J} l t before c p (DoesTell d) was m at =
     subst (J (WasUpTo t)) (one_found _ m (sym node ∙ at))
     (subst (λ (k : Commit). J (WasUpTo t) (with_deeds k.deeds d.seat.node)) (sym d.commit)
@@ -141,7 +169,8 @@ commits_live {J} l t before c p (DoesHear d) was m at =
     node : (committing c p).node ≡ Some (with_deeds c.deeds d.seat.node)
     node = does_node c p d.seat.node (ap (λ (k : Commit). k.becomes) d.commit) here
 commits_live {J} l t before c p (DoesBecome d) was m at =
-    subst (J (WasUpTo t)) (one_found d.node m (sym node ∙ at)) (l.becomes t before d.node d.deeds d.views d.knows)
+    subst (J (WasUpTo t)) (one_found d.node m (sym node ∙ at))
+    (l.becomes t (before t (inl refl)) d.node d.deeds d.views d.knows)
   where
     node : (committing c p).node ≡ Some d.node
     node =
@@ -175,7 +204,7 @@ node_lives {J} l = record {
     wavers = λ stands p was. was;
     promises = λ node p was. was;
     commits = λ c p step was.
-        commits_live l t (knew J t all) c p step.does (λ n is. l.later t n (was.1 n is));
+        commits_live l t (λ s to. knew J s (all s to)) c p step.does (λ n is. l.later t n (was.1 n is));
   };
 }
 

@@ -14,18 +14,18 @@ use Rattle.slon_model.specs.Moves.{Move, Founds, Writes, prepared, done, with_co
 use Rattle.slon_model.specs.Place.{Place, own_actions}
 use Rattle.slon_model.specs.Sessions.{World, Commit, Seat, committing}
 use Rattle.slon_model.proofs.Names.{all_found, all_map, one_found}
-use Rattle.slon_model.specs.Following.{set_syncs}
-use Rattle.slon_laws.proofs.Following.{logs_own, syncs_taken_own}
+use Rattle.slon_laws.proofs.Following.{logs_own, rows_own}
 use Rattle.slon_laws.proofs.Spells.{own_logs_have}
 use Rattle.stream_laws.specs.Nodes.{IsAmong}
-use Rattle.view_laws.proofs.Brought.{IsBrought, Nothing, Copies, Brings, part_has}
-use Rattle.stream_laws.proofs.Lists.{all_appended, all_filtered, among_all}
+use Rattle.view_laws.proofs.Brought.{IsBrought, Nothing, Copies, Brings, part_has, taken_each}
+use Rattle.stream_laws.proofs.Lists.{all_appended, all_filtered, among_all, all_each}
 use Rattle.stream_laws.proofs.Steps.{Logs, prepared_node, done_logs}
 use Rattle.image_laws.proofs.Since.{first_same, prepared_same}
 use Rattle.view_laws.specs.Past.{Past, WasBefore}
 use Rattle.view_laws.proofs.Doing.{DoesTell, DoesTake, DoesHear, DoesBecome, Does}
 use Rattle.view_laws.proofs.Living.{NodeDoes, commits_goes}
 use Rattle.view_laws.proofs.Walking.{LivesOn, lives_in}
+use Rattle.slon_model.specs.Following.{SetSync, kept_from}
 
 -- what it logged of its own is one of these actions
 abbrev pub IsOwned : List Action → Node → Type 0
@@ -89,8 +89,12 @@ brought_own t s e b (Copies k) =
 brought_own t s e b (Brings y) =
     subst (λ (c : Brought). AllByRecursion (λ l. l.origin ≡ e.origin) c.logs) (sym y.is)
     (logs_own s.place e.origin y.syncs (part_has (λ z. AllByRecursion (λ l. l.origin ≡ e.origin) z.rows) s.known y.syncs
-    (set_syncs y.at.seat.node.id y.at.seat.known e (logged y.follows.provider.node)) y.part
-    (syncs_taken_own y.at.seat.node.id y.at.seat.known e (logged y.follows.provider.node))))
+    y.follows.syncs y.part
+    (taken_each (λ v. Unit {0}) (λ z. AllByRecursion (λ l. l.origin ≡ e.origin) z.rows)
+    (λ v z any taken. subst (λ (x : SetSync). AllByRecursion (λ l. l.origin ≡ e.origin) x.rows) (sym taken.is)
+    (rows_own y.at.seat.node.id y.at.seat.known e (logged taken.provider.node) v))
+    (kept_from e.origin y.at.seat.known) y.follows.syncs y.follows.taken
+    (all_each (λ v. Unit {0}) (λ v. tt) (kept_from e.origin y.at.seat.known)))))
 
 does_owned : (t : Past) (actions : List Action) → NodeDoes t (IsOwned actions)
 does_owned t actions = record {

@@ -1,45 +1,45 @@
 -- The snapshot of each view that a node keeps was taken at the origin of the set, in a session of the history.
-use Rattle.std.proofs.Common.{◌≡◌, inl, inr, ℕ, Bool, true, false, cond, List, [], ◌∷◌, Option, Some, None, refl}
-use Rattle.std.proofs.Common.{sym, ap, subst, ◌∙◌}
-use Rattle.std.specs.Prelude.{◌==◌, ◌&&◌, option_map, unwrap_or}
+use Rattle.std.proofs.Common.{◌≡◌, ◌≢◌, inl, inr, ℕ, Bool, true, false, cond, List, [], ◌∷◌, Some, refl}
+use Rattle.std.proofs.Common.{sym, subst, ◌∙◌}
 use Rattle.std.specs.List.{AllByRecursion}
-use Rattle.std.proofs.lemmas.Bool.{false≢true, true≢false, and_parts, eqb-true, eq-eqb}
+use Rattle.std.proofs.lemmas.Bool.{false≢true, true≢false}
 use Rattle.node_rows.specs.declared.body.Body.{Body}
-use Rattle.node_rows.specs.declared.body.Body.TheVariants.{Sync, EnableSubscription, MoveSet, FailoverSet}
-use Rattle.node_rows.specs.declared.rows.SetRow.{SetRow}
-use Rattle.slon_model.specs.Maps.{Map, entry_at}
+use Rattle.node_rows.specs.declared.body.Body.TheVariants.{MoveSet, FailoverSet}
+use Rattle.slon_model.specs.Maps.{Map}
 use Rattle.slon_model.specs.Snapshots.{Covers, covers}
 use Rattle.slon_model.specs.Events.{Event}
-use Rattle.slon_model.specs.Config.{era_of, is_origin, leads_row, live_set}
-use Rattle.slon_model.specs.Views.{View, first_view, view_after, views_emitted, with_views}
-use Rattle.slon_model.specs.Deeds.{Node, Brought, Hears as HearsOf, Knowledge, knowledge, nothing_brought}
+use Rattle.slon_model.specs.Views.{View, view_after, views_emitted, with_views}
+use Rattle.slon_model.specs.Deeds.{Node, Brought, Hears as HearsOf, Knowledge, knowledge, nothing_brought, view_of}
 use Rattle.slon_model.specs.Deeds.{stream, with_deeds}
 use Rattle.slon_model.specs.Moves.{with_commit}
 use Rattle.slon_model.specs.Place.{Place, deed, taken}
 use Rattle.slon_model.specs.Sessions.{World, Seat}
-use Rattle.slon_model.specs.Following.{Found, SetSync, with_sync, with_syncs}
-use Rattle.slon_model.specs.Working.{Carried, Copying, ToCopy, errand_in, receives_from}
+use Rattle.slon_model.specs.Following.{SetSync, with_sync, with_syncs}
+use Rattle.slon_model.specs.Working.{Carried}
 use Rattle.slon_model.proofs.Names.{all_map, one_found}
 use Rattle.stream_laws.specs.Nodes.{IsAmong, nodes_in, IsEvent}
 use Rattle.stream_laws.specs.Applied.{applied_events}
 use Rattle.stream_laws.specs.Making.{is_emitted}
-use Rattle.stream_laws.proofs.Applies.{IsSetOf}
-use Rattle.stream_laws.proofs.Copies.{IsCopy, origin_row}
 use Rattle.stream_laws.proofs.Lists.{all_among, all_with, among_behind}
 use Rattle.stream_laws.proofs.Seats.{IsSeat, seat_node}
 use Rattle.stream_laws.proofs.Streams.{one_node}
 use Rattle.view_laws.proofs.Doing.{IsTaken}
-use Rattle.view_laws.specs.Known.{IsEmitted, IsOfOwn, IsUnfedBefore, IsSeen, AreSeen, feeds}
+use Rattle.view_laws.specs.Known.{IsEmitted, IsUnfedBefore, IsSeen, AreSeen, feeds, enables}
 use Rattle.view_laws.proofs.Doing.{taking}
-use Rattle.view_laws.specs.Past.{Past, Moment, WasBefore, WasUpTo}
+use Rattle.view_laws.specs.Past.{Past, WasBefore, WasUpTo}
 use Rattle.view_laws.proofs.Brought.{IsBrought, IsCopied, IsKept, IsSynced, Nothing, Copies, Brings, same_id}
-use Rattle.view_laws.proofs.Brought.{was_then}
-use Rattle.view_laws.proofs.Emitted.{moment_later, emitted_in}
-use Rattle.view_laws.proofs.Living.{NodeLives, deed_of, event_of, knew, node_lives}
+use Rattle.view_laws.proofs.Brought.{copied_view, earlier}
+use Rattle.view_laws.proofs.Emitted.{moment_later, emitted_in, moment_of}
+use Rattle.view_laws.proofs.Living.{NodeLives, deed_of, event_of, knew, node_lives, KnewAll}
 use Rattle.view_laws.proofs.Moments.{IsLater, covers_passes, regular_now, two_moments}
 use Rattle.image_laws.proofs.Staying.{Stays}
 use Rattle.view_laws.proofs.Unfed.{says_emitted, tables_unfed}
 use Rattle.view_laws.proofs.Walking.{lives_in}
+use Rattle.view_laws.proofs.Copied.{CopySource, FromOrigin, FromForwarder, copy_asks, copy_moment, copy_source}
+use Rattle.view_laws.proofs.Copied.{enables_feeds}
+use Rattle.view_laws.proofs.Copied.{feeder_leads, seen_leads, stays_leading, feeder_is}
+use Rattle.view_laws.proofs.Rising.{found_stands}
+use Rattle.slon_model.specs.Config.{is_origin}
 
 -- ---- the same node, later
 
@@ -54,6 +54,9 @@ seen_later t n set v is = record {
   leads = is.leads;
   enabled = is.enabled;
   applied = is.applied;
+  enables = is.enables;
+  of = is.of;
+  first = is.first;
   feeds = is.feeds;
   before = is.before;
 }
@@ -71,6 +74,9 @@ seen_more Was n m id more set v is = record {
   leads = is.leads;
   enabled = is.enabled;
   applied = more is.enabled is.applied;
+  enables = subst (λ i. enables set i is.enabled.body ≡ true) (sym id) is.enables;
+  of = is.of;
+  first = is.first;
   feeds = is.feeds;
   before = is.before;
 }
@@ -84,127 +90,129 @@ all_seen Was n m id more vs all =
 
 -- ---- a copy
 
--- a set is copied with the event of a new subscription
-copies_by : (own : ℕ) (receives : Bool) (origin : ℕ) (body : Body) (c : Copying) →
-    errand_in own receives origin body ≡ Some (ToCopy c) →
-    (feeds c.set_id body ≡ true) × ((by : ℕ) → IsOfOwn by body → c.provider ≡ by)
-copies_by own receives origin (EnableSubscription set provider receiver forward era) c asked =
-    by (receiver == own) asked
-  where
-    of : Copying → Type 0
-    of k = ((set == k.set_id) ≡ true) × ((by : ℕ) → provider ≡ by → k.provider ≡ by)
-
-    first : Copying
-    first = record { set_id = set; provider = provider; era = era }
-
-    by : (b : Bool) → cond b (Some (ToCopy first)) None ≡ Some (ToCopy c) → of c
-    by true is = let one : first ≡ c = cc in subst of one (eq-eqb set set refl, λ by same. same)
-    by false none = absurd cc
-copies_by own true origin Sync c asked = absurd cc
-copies_by own false origin Sync c asked = absurd cc
-copies_by own receives origin others c asked = absurd cc
-
 pub unfed_now : (t : Past) (name : List ℕ) (n : Node) → nodes_in t.world.places name ≡ Some n →
     IsUnfedBefore (WasBefore t) n
 unfed_now t = knew IsUnfedBefore t (lives_in (node_lives tables_unfed) t)
 
--- what is known of the provider of a copy
-pub copy_leads : (w : World) (s : Seat) (e : Event) (f : Found) (k : IsCopy w s e f) →
-    (is_origin k.provider.node.id k.copying.set_id (knowledge k.provider.node).config ≡ true)
-    × ((era_of k.copying.set_id (knowledge k.provider.node).config == k.copying.era) ≡ true)
-copy_leads w s e f k =
-    let set = k.copying.set_id in
-    and_parts _ _ (subst (λ (j : Knowledge). (is_origin k.provider.node.id set j.config
-    && era_of set j.config == k.copying.era) ≡ true) k.seat.known k.leads)
+-- what is known of the views of the provider of a copy
+abbrev pub ProviderSeen : {t : Past} {s : Seat} {e : Event} {b : Brought} → IsCopied t s e b → Type 0
+ProviderSeen k =
+    (v : View) → view_of k.copy.copying.set_id (knowledge k.copy.provider.node) ≡ Some v →
+    IsSeen (WasUpTo k.at.to) k.copy.provider.node k.copy.copying.set_id v
 
-pub copy_asks : (w : World) (s : Seat) (e : Event) (f : Found) (k : IsCopy w s e f) →
-    (feeds k.copying.set_id e.body ≡ true) × ((by : ℕ) → IsOfOwn by e.body → k.copying.provider ≡ by)
-copy_asks w s e f k = copies_by s.node.id (receives_from e.origin s.known) e.origin e.body k.copying k.asked
+-- A copy that the node at its seat makes with an event, with what is known of the views of the provider; and a node
+-- that has applied the event, as that one does.
+pub record Copier (t : Past) : Type 0 where
+  pub seat : Seat
+  pub event : Event
+  pub brought : Brought
+  pub is : IsSeat t.world.places seat
+  pub copied : IsCopied t seat event brought
+  pub seen : ProviderSeen copied
+  pub node : Node
+  pub id : node.id ≡ seat.node.id
+  pub applied : IsAmong event (applied_events node)
 
--- it is the origin of the event
-pub copy_own : (t : Past) (s : Seat) (e : Event) (f : Found) → IsEvent (nodes_in t.world.places) e →
-    (k : IsCopy t.world s e f) → k.copying.provider ≡ e.origin
-copy_own t s e f is k =
-    (copy_asks t.world s e f k).1 e.origin (all_among (λ f. IsOfOwn f.origin f.body) e (stream is.node)
-    (unfed_now t is.name is.node is.is).own is.among)
+abbrev pub set_of : {t : Past} → Copier t → ℕ
+set_of c = c.copied.copy.copying.set_id
 
--- it had emitted the event
-pub copy_before : (t : Past) (s : Seat) (e : Event) (f : Found) → IsEvent (nodes_in t.world.places) e →
-    (k : IsCopy t.world s e f) → IsAmong e (stream k.provider.node)
-copy_before t s e f is k = subst (λ n. IsAmong e (stream n)) one is.among
-  where
-    one : is.node ≡ k.provider.node
-    one = one_node (nodes_in t.world.places) (regular_now t).nodes is.name k.provider.name is.node k.provider.node is.is
-        (seat_node t.world.places k.provider k.seat, is.own ∙ sym (copy_own t s e f is k) ∙ sym k.own)
+-- the session in which it was found
+abbrev pub then_of : {t : Past} → Copier t → Past
+then_of c = c.copied.at.to
 
--- the provider, as it was then
-abbrev pub copy_moment : (t : Past) (s : Seat) (e : Event) (b : Brought) → IsCopied t s e b → Moment (WasUpTo t)
-copy_moment t s e b k =
+pub copier_at : {t : Past} (c : Copier t) → c.copied.at.seat.node.id ≡ c.node.id
+copier_at {t} c = same_id t c.seat c.event c.copied.at c.is ∙ sym c.id
+
+pub copier_asks : {t : Past} (c : Copier t) → enables (set_of c) c.copied.at.seat.node.id c.event.body ≡ true
+copier_asks c = copy_asks (then_of c).world c.copied.at.seat c.event c.copied.found c.copied.copy
+
+pub copier_feed : {t : Past} (c : Copier t) → feeds (set_of c) c.event.body ≡ true
+copier_feed c = enables_feeds (set_of c) c.copied.at.seat.node.id c.event.body (copier_asks c)
+
+pub copier_enables : {t : Past} (c : Copier t) → enables (set_of c) c.node.id c.event.body ≡ true
+copier_enables c = subst (λ id. enables (set_of c) id c.event.body ≡ true) (copier_at c) (copier_asks c)
+
+pub copier_apart : {t : Past} (c : Copier t) → c.event.origin ≢ c.node.id
+copier_apart c same = c.copied.at.work.other (same ∙ sym (copier_at c))
+
+-- the provider that leads the set is the origin of the event
+pub copier_led : {t : Past} (c : Copier t) →
+    is_origin c.copied.copy.provider.node.id (set_of c) (knowledge c.copied.copy.provider.node).config ≡ true →
+    c.copied.copy.provider.node.id ≡ c.copied.at.work.event.node.id
+copier_led c =
+    feeder_is (then_of c) c.event c.copied.at.work.event (set_of c) (copier_feed c) c.copied.copy.provider
+    c.copied.copy.reached.0.0.0
+
+pub copier_before : {t : Past} (c : Copier t) →
+    is_origin c.copied.copy.provider.node.id (set_of c) (knowledge c.copied.copy.provider.node).config ≡ true →
+    IsAmong c.event (stream c.copied.copy.provider.node)
+copier_before c leads =
+    let u = then_of c in
+    let p = c.copied.copy.provider in
+    let y : IsEvent (nodes_in u.world.places) c.event = c.copied.at.work.event in
+    subst (λ n. IsAmong c.event (stream n)) (one_node (nodes_in u.world.places) (regular_now u).nodes y.name p.name
+    y.node p.node y.is (seat_node u.world.places p c.copied.copy.reached.0.0.0, sym (copier_led c leads))) y.among
+
+-- the view of a provider that forwards the set is of that origin too
+pub copier_origin : {t : Past} (c : Copier t) (v : View) →
+    IsSeen (WasUpTo (then_of c)) c.copied.copy.provider.node (set_of c) v → v.origin ≡ c.event.origin
+copier_origin c v seen =
+    let y : IsEvent (nodes_in (then_of c).world.places) c.event = c.copied.at.work.event in
+    seen_leads (then_of c) c.copied.copy.provider.node (set_of c) v seen (record {
+      name = y.name;
+      node = y.node;
+      is = y.is;
+      leads = feeder_leads (then_of c) c.event y (set_of c) (copier_feed c);
+    }) ∙ y.own
+
+-- the view that begins with the copy
+abbrev pub seen_from : (t : Past) (c : Copier t) →
+    CopySource c.copied.copy.copying c.copied.copy.provider c.copied.copy.seen →
+    IsSeen (WasUpTo t) c.node c.copied.copy.copying.set_id (copied_view c.copied.copy)
+seen_from t c (FromOrigin leads era same) =
     record {
-      session = k.at.to.world;
-      was = was_then k.at;
-      name = k.copy.provider.name;
-      place = k.copy.provider.place;
-      found = k.copy.seat.found;
-      node = k.copy.provider.node;
-      at = k.copy.seat.node;
+      moment = copy_moment t c.seat c.event c.brought c.copied;
+      own = copier_led c leads ∙ c.copied.at.work.event.own;
+      apart = copier_apart c;
+      seen = same;
+      era = sym era;
+      leads = leads;
+      enabled = c.event;
+      applied = c.applied;
+      enables = copier_enables c;
+      of = refl;
+      first = c.event;
+      feeds = copier_feed c;
+      before = copier_before c leads;
+    }
+seen_from t c (FromForwarder v found era forward same) =
+    record {
+      moment = moment_of (WasUpTo (then_of c)) (WasUpTo t) (earlier c.copied.at) (c.seen v found).moment;
+      own = (c.seen v found).own ∙ copier_origin c v (c.seen v found);
+      apart = copier_apart c;
+      seen = same ∙ (c.seen v found).seen;
+      era = sym era ∙ (c.seen v found).era;
+      leads = (c.seen v found).leads;
+      enabled = c.event;
+      applied = c.applied;
+      enables = copier_enables c;
+      of = refl;
+      first = (c.seen v found).first;
+      feeds = (c.seen v found).feeds;
+      before = (c.seen v found).before;
     }
 
--- the view of a set that is copied
-abbrev pub copied_seen : (t : Past) (s : Seat) (e : Event) (b : Brought) → IsSeat t.world.places s →
-    (k : IsCopied t s e b) → (m : Node) → (m.id ≡ s.node.id) × IsAmong e (applied_events m) →
-    IsSeen (WasUpTo t) m k.copy.copying.set_id
-    (first_view k.copy.copying.era k.copy.provider.node.id e.number (taken k.copy.provider.place))
-copied_seen t s e b is k m applied =
-    record {
-      moment = copy_moment t s e b k;
-      own = refl;
-      apart = λ same. k.copy.apart (sym k.copy.own ∙ same ∙ applied.0 ∙ sym (same_id t s e k.at is));
-      seen = refl;
-      era = sym (eqb-true (era_of k.copy.copying.set_id (knowledge k.copy.provider.node).config) k.copy.copying.era
-          (copy_leads k.at.to.world k.at.seat e k.found k.copy).1);
-      leads = (copy_leads k.at.to.world k.at.seat e k.found k.copy).0;
-      enabled = e;
-      applied = applied.1;
-      feeds = (copy_asks k.at.to.world k.at.seat e k.found k.copy).0;
-      before = copy_before k.at.to k.at.seat e k.found k.at.work.event k.copy;
-    }
+-- who gives it
+abbrev pub source_of : {t : Past} (c : Copier t) →
+    CopySource c.copied.copy.copying c.copied.copy.provider c.copied.copy.seen
+source_of c = copy_source (then_of c).world c.copied.at.seat c.event c.copied.found c.copied.copy
 
-copy_seen : (t : Past) (s : Seat) (e : Event) (b : Brought) → IsSeat t.world.places s →
-    (k : IsCopied t s e b) → (m : Node) → (m.id ≡ s.node.id) × IsAmong e (applied_events m) →
-    AllByRecursion (λ v. IsSeen (WasUpTo t) m v.0 v.1) b.views
-copy_seen t s e b is k m applied =
-    subst (λ (c : Brought). AllByRecursion (λ v. IsSeen (WasUpTo t) m v.0 v.1) c.views) (sym k.is)
-    (copied_seen t s e b is k m applied, tt)
+copy_seen : (t : Past) (c : Copier t) → AllByRecursion (λ v. IsSeen (WasUpTo t) c.node v.0 v.1) c.brought.views
+copy_seen t c =
+    subst (λ (b : Brought). AllByRecursion (λ v. IsSeen (WasUpTo t) c.node v.0 v.1) b.views) (sym c.copied.is)
+    (seen_from t c (source_of c), tt)
 
 -- ---- a SYNC
-
--- the set is led as before
-pub stays_leading : (a : Node) (q : Place) (b : Node) → Stays a q → q.node ≡ Some b → (set : ℕ) →
-    is_origin a.id set (knowledge a).config ≡ true →
-    (is_origin b.id set (knowledge b).config ≡ true)
-    × (era_of set (knowledge b).config ≡ era_of set (knowledge a).config)
-stays_leading a q b stays is set leads = (
-  ap (λ o. leads_row b.id (live_set o)) row ∙ ap (λ id. leads_row id (live_set (Some found.0))) (id)
-      ∙ ap (λ o. leads_row a.id (live_set o)) (sym found.1) ∙ leads,
-  ap era_by row ∙ sym (ap era_by found.1),
-)
-  where
-    found : IsSetOf set a.id (knowledge a).config
-    found = origin_row a.id set (knowledge a).config leads
-
-    one : stays.node ≡ b
-    one = one_found stays.node b (sym stays.is ∙ is)
-
-    id : b.id ≡ a.id
-    id = ap (λ (n : Node). n.id) (sym one) ∙ stays.id
-
-    row : entry_at set (knowledge b).config.sets ≡ Some found.0
-    row =
-        ap (λ (n : Node). entry_at set (knowledge n).config.sets) (sym one) ∙ stays.rows set found.0 found.1
-
-    era_by : Option SetRow → ℕ
-    era_by o = unwrap_or (option_map (λ row. row.era) (live_set o)) 0
 
 pub stays_streaming : (a : Node) (q : Place) (b : Node) → Stays a q → q.node ≡ Some b → (e : Event) →
     IsAmong e (stream a) → IsAmong e (stream b)
@@ -225,6 +233,9 @@ same_seen Was n set v number is =
       leads = is.leads;
       enabled = is.enabled;
       applied = is.applied;
+      enables = is.enables;
+      of = is.of;
+      first = is.first;
       feeds = is.feeds;
       before = is.before;
     }
@@ -246,9 +257,12 @@ newer_seen Was n set v e from is later =
           is.leads).0;
       enabled = is.enabled;
       applied = is.applied;
+      enables = is.enables;
+      of = is.of;
+      first = is.first;
       feeds = is.feeds;
       before = stays_streaming is.moment.node from.0.moment.place from.0.moment.node later.stays
-          from.0.moment.at is.enabled is.before;
+          from.0.moment.at is.first is.before;
     }
 
 -- where it does not cover that of a SYNC of its origin, it is older
@@ -318,15 +332,35 @@ record HasTaken (x : Carried) : Type 0 where
   applied : IsAmong x.event (applied_events node)
   more : (e : Event) → IsAmong e (applied_events x.seat.node) → IsAmong e (applied_events node)
 
-brought_seen : (t : Past) (x : Carried) (origin : ℕ) → IsTaken t origin x → (h : HasTaken x) →
+brought_seen : (t : Past) → KnewAll AreSeen t → (x : Carried) (origin : ℕ) → IsTaken t origin x → (h : HasTaken x) →
     AllByRecursion (λ v. IsSeen (WasUpTo t) x.seat.node v.0 v.1) (knowledge x.seat.node).views →
     IsBrought t x.seat x.event x.brought →
     AllByRecursion (λ v. IsSeen (WasUpTo t) h.node v.0 v.1) x.brought.views
-brought_seen t x origin is h all (Nothing n) =
+brought_seen t knew x origin is h all (Nothing n) =
     subst (λ (c : Brought). AllByRecursion (λ v. IsSeen (WasUpTo t) h.node v.0 v.1) c.views) (sym n.none) tt
-brought_seen t x origin is h all (Copies k) =
-    copy_seen t x.seat x.event x.brought is.work.seat k h.node (h.id, h.applied)
-brought_seen t x origin is h all (Brings y) =
+brought_seen t knew x origin is h all (Copies k) =
+    copy_seen t (record {
+      seat = x.seat;
+      event = x.event;
+      brought = x.brought;
+      is = is.work.seat;
+      copied = k;
+      seen = provider;
+      node = h.node;
+      id = h.id;
+      applied = h.applied;
+    })
+  where
+    p : Seat
+    p = k.copy.provider
+
+    provider : ProviderSeen k
+    provider v found =
+        seen_later k.at.to p.node k.copy.copying.set_id v (all_among (λ v. IsSeen (WasBefore k.at.to) p.node v.0 v.1)
+        (k.copy.copying.set_id, v) (knowledge p.node).views
+        (knew k.at.to k.at.within p.name p.node (seat_node k.at.to.world.places p k.copy.reached.0.0.0))
+        (found_stands k.copy.copying.set_id v (knowledge p.node).views found))
+brought_seen t knew x origin is h all (Brings y) =
     all_seen (WasUpTo t) x.seat.node h.node h.id h.more x.brought.views
     (synced_seen t x.seat x.event x.brought is.work.event is.work.seat y all)
 
@@ -344,7 +378,7 @@ views_seen = record {
   takes = λ t knew x origin is was.
       let m : Node = with_deeds (taking x).deeds x.seat.node in
       views_with (λ v. IsSeen (WasUpTo t) m v.0 v.1) x.brought.views (knowledge x.seat.node).views
-      (brought_seen t x origin is
+      (brought_seen t knew x origin is
       (record { node = m; id = refl; applied = inl refl; more = λ e among. inr among }) was is.brings)
       (all_seen (WasUpTo t) x.seat.node m refl (λ e among. inr among) (knowledge x.seat.node).views was);
   hears = λ t s confirms was.

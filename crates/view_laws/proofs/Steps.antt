@@ -1,8 +1,8 @@
 -- What the commits of every statement and every turn do.
-use Rattle.std.proofs.Common.{◌≡◌, ℕ, true, List, [], ◌∷◌, Bool, false, Option, Some, None, Result}
-use Rattle.std.proofs.Common.{is_some, not, refl, sym, ap, subst, ◌∙◌}
-use Rattle.std.specs.Prelude.{option_map, codes, ◌==◌, ◌||◌}
-use Rattle.std.proofs.lemmas.Bool.{eqb-true, true≢false}
+use Rattle.std.proofs.Common.{◌≡◌, ℕ, true, List, [], ◌∷◌, Option, Some, None, Result}
+use Rattle.std.proofs.Common.{refl, sym, ap, subst, ◌∙◌}
+use Rattle.std.specs.Prelude.{option_map, codes}
+use Rattle.slon_lemmas.proofs.Tests.{none_of}
 use Rattle.slonik_script.specs.declared.script.Command.{Command as Order}
 use Rattle.slonik_script.specs.declared.script.Command.TheVariants as order
 use Rattle.node_rows.specs.declared.body.Body.{Body}
@@ -12,7 +12,7 @@ use Rattle.slon_model.specs.declared.command.Delivery.TheVariants.{Lost}
 use Rattle.slon_model.specs.declared.reply.Refusal.{Refusal}
 use Rattle.slon_model.specs.declared.reply.Refusal.TheVariants as refused
 use Rattle.slon_model.specs.Names.{find_named}
-use Rattle.slon_model.specs.Config.{era_of}
+use Rattle.slon_model.specs.Config.{era_of, is_origin}
 use Rattle.slon_model.specs.Tasks.{Act}
 use Rattle.slon_model.specs.Deeds.{Node, Brought, Knowledge, with_deeds}
 use Rattle.slon_model.specs.Sessions.{World, Running, Commit, Stated, Seat, Emission, bind, tells, committing}
@@ -23,7 +23,7 @@ use Rattle.slon_model.specs.Membership.{drop_path, becoming, first_of_cluster, j
 use Rattle.slon_model.specs.Reaching.{database_of_line, reach, down_among, receiver_with}
 use Rattle.slon_model.specs.Reaching.{origin_of, owner, commit_of, emitting}
 use Rattle.slon_model.specs.Sets.{NewTable, adding, create_set, set_add_table}
-use Rattle.slon_model.specs.Subscribing.{NewFeed, subscribing, is_unbuilt, feed_checks, feed_bodies, all_tell}
+use Rattle.slon_model.specs.Subscribing.{NewFeed, subscribing, feed_checks, feed_bodies, all_tell}
 use Rattle.slon_model.specs.Subscribing.{subscribe_set}
 use Rattle.slon_model.specs.Scripts.{ordered}
 use Rattle.slon_model.specs.Turns.{on_turn, sync_turn}
@@ -38,13 +38,14 @@ use Rattle.slon_laws.proofs.Results.{any_ok}
 use Rattle.stream_laws.specs.Nodes.{node_in}
 use Rattle.stream_laws.proofs.Commits.{Newcomer, other_name}
 use Rattle.stream_laws.proofs.Seats.{OnOk, ok_then, IsSeat, IsFound, IsReached, IsLeading, bind_ok, checked_ok, kept_ok}
-use Rattle.stream_laws.proofs.Seats.{all_none, when_none, turn_ok, owner_ok, origin_ok, already_none, line_ok}
+use Rattle.stream_laws.proofs.Seats.{all_none, when_none, turn_ok, origin_ok, already_none, line_ok}
 use Rattle.stream_laws.proofs.Seats.{reach_ok, no_nodes, seat_node}
 use Rattle.stream_laws.proofs.Statements.{create_checks, table_checks}
 use Rattle.stream_laws.proofs.Waiting.{IsPoll, polled_ok}
 use Rattle.stream_laws.proofs.Works.{IsCarried, worked_ok}
 use Rattle.image_laws.proofs.Fitting.{newcomer, store_checks}
 use Rattle.view_laws.specs.Past.{Past}
+use Rattle.view_laws.proofs.Claiming.{IsClaiming, owner_claiming}
 use Rattle.view_laws.proofs.Brought.{brought_is, there_on}
 use Rattle.view_laws.proofs.Reached.{regular_now}
 use Rattle.view_laws.proofs.Doing.{IsAllowed, AreAllowed, IsOne, AreFeeds, taking, KnowsNone, KnowsGiven, IsStep}
@@ -100,7 +101,7 @@ init_step id comment run t =
           commit = refl;
           deeds = refl;
           views = refl;
-          knows = KnowsNone (refl, refl);
+          knows = KnowsNone (refl, refl, refl);
         });
       }),
       tt,
@@ -125,6 +126,7 @@ stores_step t s c comment run is = (
           is = seat_node t.world.places s is;
           sets = refl;
           tables = refl;
+          subscriptions = refl;
         });
       });
     }),
@@ -200,21 +202,16 @@ no_path_step server client run t =
 
 feed_step : (f : NewFeed) (run : Running) (t : Past) → OnOk (IsStated t) (subscribe_set f run t.world)
 feed_step f run t =
-    bind_ok (IsSeat t.world.places) (IsStated t) (owner run f.set_id t.world) _
-    (owner_ok run f.set_id t.world (regular_now t).once)
+    bind_ok (IsClaiming f.set_id t.world) (IsStated t) (owner run f.set_id t.world) _
+    (owner_claiming run f.set_id t.world (regular_now t).once)
     (λ s is. let era = era_of f.set_id s.known.config in
     checked_ok (IsStated t) (feed_checks s f) (emitting s (all_tell (feed_bodies era f)))
-    (λ none. emits_step t s (all_tell (feed_bodies era f)) is (AreFeeds era f refl (provides s
-    (when_none _ (refused.NotBuilt (codes "subscribe")) (all_none (feed_checks s f) none).1.1.1.0)))))
-  where
-    provides : (s : Seat) → is_unbuilt s f ≡ false → f.provider ≡ s.node.id
-    provides s none = by (f.provider == s.node.id) refl none
-      where
-        by : (b : Bool) → (f.provider == s.node.id) ≡ b →
-            (not b || is_some (pair_at f.set_id f.receiver s.known.config.subscriptions)) ≡ false →
-            f.provider ≡ s.node.id
-        by true same none = eqb-true f.provider s.node.id same
-        by false other none = absurd (true≢false none)
+    (λ none. emits_step t s (all_tell (feed_bodies era f)) is.0 (AreFeeds era f refl (record {
+      leads = subst (λ (k : Knowledge). is_origin s.node.id f.set_id k.config ≡ true) is.0.known is.1;
+      new = subst (λ (k : Knowledge). pair_at f.set_id f.receiver k.config.subscriptions ≡ None) is.0.known
+          (none_of _ (when_none _ (refused.NotBuilt (codes "subscribe"))
+          (all_none (feed_checks s f) none).1.1.1.1.1.0));
+    }))))
 
 ordered_step : (t : Past) → (o : Order) (run : Running) → OnOk (IsStated t) (ordered o run t.world)
 ordered_step t (order.InitCluster id comment) run = init_step id comment run t

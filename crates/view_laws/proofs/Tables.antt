@@ -33,10 +33,11 @@ use Rattle.view_laws.specs.Known.{AreTold, AreUnfed, IsLoggedAs, IsSeen, IsTold,
 use Rattle.view_laws.specs.Past.{Past, WasBefore, WasUpTo, Moment}
 use Rattle.view_laws.proofs.Living.{knew, node_lives}
 use Rattle.view_laws.proofs.Moments.{Reached, event_now, now_stays, past_of, reached_up_to, regular_now}
-use Rattle.view_laws.proofs.Seen.{stays_leading, unfed_now}
+use Rattle.view_laws.proofs.Seen.{unfed_now}
 use Rattle.image_laws.proofs.Staying.{Stays}
 use Rattle.view_laws.proofs.Told.{heard_was, tables_told}
 use Rattle.view_laws.proofs.Walking.{lives_in}
+use Rattle.view_laws.proofs.Copied.{stays_leading}
 
 -- ---- one event
 
@@ -238,11 +239,11 @@ made_by_leader t table leader =
     (sym by.0.is ∙ ap (nodes_in t.world.places) once.0 ∙ table.is.is) in
     ap (λ (n : Node). n.id) (sym node) ∙ by.1 ∙ row.2
 
--- an event that says a table of a set was emitted before the node copied the set
+-- an event that says a table of a set was emitted before the snapshot of a view of the set was taken
 pub was_before : (t : Past) (table : Table t) (n : Node) (v : View) →
     (seen : IsSeen (WasUpTo t) n table.set_id v) → IsAmong table.event (stream seen.moment.node)
 was_before t table n v seen =
-    came_before set now.2.more (stream then) table.event seen.enabled (
+    came_before set now.2.more (stream then) table.event seen.first (
       subst AreUnfed now.2.all (unfed_now t seen.moment.name origin is_origin_now).unfed,
       subst (IsAmong table.event) now.2.all (subst (λ n. IsAmong table.event (stream n)) one table.is.among),
     )

@@ -19,10 +19,10 @@ use Rattle.slon_model.specs.Logs.{logged, logged_on, own_logs}
 use Rattle.slon_model.specs.Place.{deed, own_actions}
 use Rattle.slon_model.specs.Moves.{with_commit}
 use Rattle.slon_model.specs.Sessions.{World, Seat}
-use Rattle.slon_model.specs.Following.{kept_from, set_syncs}
+use Rattle.slon_model.specs.Following.{kept_from, SetSync, tables_taken}
 use Rattle.slon_model.specs.Deeds.{Brought, nothing_brought}
 use Rattle.slon_model.proofs.Names.{all_map, bytes_same}
-use Rattle.slon_laws.proofs.Following.{syncs_have, taken_have}
+use Rattle.slon_laws.proofs.Following.{syncs_have, delta_has}
 use Rattle.slon_laws.proofs.Lists.{all_given}
 use Rattle.slon_laws.proofs.Owners.{OnSome}
 use Rattle.stream_laws.specs.Nodes.{IsAmong, nodes_in, node_in, IsEvent}
@@ -34,16 +34,20 @@ use Rattle.view_laws.specs.Known.{WasEvent, IsHeard, IsTold, IsLoggedAs, AreTold
 use Rattle.view_laws.specs.Past.{Past, WasBefore, WasUpTo}
 use Rattle.view_laws.proofs.Doing.{KnowsFrom, KnowsNone, KnowsGiven, taking}
 use Rattle.view_laws.proofs.Living.{NodeLives, Knew, deed_of, event_of}
-use Rattle.view_laws.proofs.Brought.{IsBrought, IsSynced, Nothing, Copies, Brings, part_has, was_then}
+use Rattle.view_laws.proofs.Brought.{IsBrought, Nothing, Copies, Brings, part_has, was_then}
 use Rattle.view_laws.proofs.Reached.{now_stays, regular_now}
 use Rattle.view_laws.proofs.Unfed.{says_emitted, may_emitted}
+use Rattle.stream_laws.proofs.Copies.{IsTakenOf}
+use Rattle.view_laws.proofs.Brought.{Finding, taken_each}
+use Rattle.stream_laws.proofs.Seats.{IsSeat}
+use Rattle.slon_model.specs.Views.{View}
 
 -- ---- events that are heard
 
 event_later : (t : Past) (e : Event) → WasEvent (WasBefore t) e → WasEvent (WasUpTo t) e
 event_later t e is = record { session = is.session; was = inr is.was; is = is.is }
 
-heard_later : (t : Past) (n : Node) (e : Event) → IsHeard (WasBefore t) n e → IsHeard (WasUpTo t) n e
+pub heard_later : (t : Past) (n : Node) (e : Event) → IsHeard (WasBefore t) n e → IsHeard (WasUpTo t) n e
 heard_later t n e (inl met) = inl met
 heard_later t n e (inr was) = inr (event_later t e was)
 
@@ -60,7 +64,7 @@ heard_was t name n is e (inr was) = event_later t e was
 -- ---- what is heard by another node too
 
 -- all that one heard by then the other heard
-abbrev HearsToo : (World → Type 0) → Node → (World → Type 0) → Node → Type 0
+abbrev pub HearsToo : (World → Type 0) → Node → (World → Type 0) → Node → Type 0
 HearsToo Was n Now m = (e : Event) → IsHeard Was n e → IsHeard Now m e
 
 one_told : (Was Now : World → Type 0) (n m : Node) → HearsToo Was n Now m → (t : ℕ × TableRow) → IsTold Was n t →
@@ -81,7 +85,7 @@ all_logged Was Now n m hears ls all =
 -- ---- an event
 
 -- who meets one more event
-more_heard : (Was : World → Type 0) (n : Node) (d : Deed) (e : Event) → met_by d.doing ≡ Some e →
+pub more_heard : (Was : World → Type 0) (n : Node) (d : Deed) (e : Event) → met_by d.doing ≡ Some e →
     HearsToo Was n Was (with_deeds (d ∷ []) n)
 more_heard Was n d e is f (inl among) =
     inl (subst (λ o. IsAmong f (cons_option o (filter_map (λ d. met_by d.doing) n.deeds) ++ n.events)) (sym is)
@@ -161,20 +165,17 @@ all_older P [] older all = all
 all_older P (x ∷ newer) older all = all_older P newer older all.1
 
 -- the log of another node, as it was in a session
-log_then : (t : Past) → Knew AreTold t → (s : Seat) (e : Event) (b : Brought) (y : IsSynced t s e b) → (m : Node) →
-    AllByRecursion (IsLoggedAs (WasUpTo t) m) (logged y.follows.provider.node)
-log_then t knew s e b y m =
+log_then : (t : Past) → Knew AreTold t → (s : Seat) (e : Event) (a : Finding t s e) (p : Seat) →
+    IsSeat a.to.world.places p → (m : Node) → AllByRecursion (IsLoggedAs (WasUpTo t) m) (logged p.node)
+log_then t knew s e a p is m =
     all_older (IsLoggedAs (WasUpTo t) m) now.2.newer (logged p.node)
     (subst (AllByRecursion (IsLoggedAs (WasUpTo t) m)) now.2.log
     (all_logged (WasBefore t) (WasUpTo t) now.2.node m
     (λ ev heard. inr (heard_was t p.name now.2.node there ev heard)) (logged now.2.node)
     (knew p.name now.2.node there).logs))
   where
-    p : Seat
-    p = y.follows.provider
-
     now : HoldsOf (Stays p.node) p.name t.world.places
-    now = now_stays t y.at.to.world (was_then y.at) p.name p.place p.node y.follows.seat.found y.follows.seat.node
+    now = now_stays t a.to.world (was_then a) p.name p.place p.node is.found is.node
 
     there : nodes_in t.world.places p.name ≡ Some now.2.node
     there = ap node_in now.1 ∙ now.2.is
@@ -189,14 +190,22 @@ brought_logs t knew s e b (Copies k) m =
 brought_logs t knew s e b (Brings y) m =
     subst (λ (c : Brought). AllByRecursion (IsLoggedAs (WasUpTo t) m) c.logs) (sym y.is)
     (syncs_have s.place (λ r. Unit {0}) (IsLoggedAs (WasUpTo t) m) (λ rows l old is. tt) y.syncs nothing_brought
-    (part_has (λ z. AllByRecursion (IsLoggedAs (WasUpTo t) m) z.rows) s.known y.syncs
-    (set_syncs then.node.id then.known e (logged y.follows.provider.node)) y.part
-    (taken_have then.node.id then.known e (logged y.follows.provider.node) (IsLoggedAs (WasUpTo t) m)
-    (IsLoggedAs (WasUpTo t) m) (log_then t knew s e b y m) (kept_from e.origin then.known)
-    (all_each _ (λ v l is on. is) (kept_from e.origin then.known)))) (tt, tt)).1
+    (part_has (λ z. AllByRecursion (IsLoggedAs (WasUpTo t) m) z.rows) s.known y.syncs y.follows.syncs y.part
+    (taken_each (λ v. Unit {0}) (λ z. AllByRecursion (IsLoggedAs (WasUpTo t) m) z.rows) rows
+    (kept_from e.origin then.known) y.follows.syncs y.follows.taken
+    (all_each (λ v. Unit {0}) (λ v. tt) (kept_from e.origin then.known)))) (tt, tt)).1
   where
     then : Seat
     then = y.at.seat
+
+    rows : (v : ℕ × View) (z : SetSync) → Unit {0} → IsTakenOf y.at.to.world then e v z →
+        AllByRecursion (IsLoggedAs (WasUpTo t) m) z.rows
+    rows v z any taken =
+        subst (λ (x : SetSync). AllByRecursion (IsLoggedAs (WasUpTo t) m) x.rows) (sym taken.is)
+        (delta_has (IsLoggedAs (WasUpTo t) m) (IsLoggedAs (WasUpTo t) m)
+        (tables_taken then.node.id v.0 then.known.config) (λ l is on. is) e.origin v.1.seen e.taken
+        (logged taken.provider.node)
+        (log_then t knew s e y.at taken.provider taken.reached.0.0.0 m))
 
 -- ---- a new node
 
@@ -265,7 +274,8 @@ tables_told = record {
   takes = λ t knew x origin is was.
       met_told t x.seat.node (deed x.seat.place [] x.brought.logs (Applies x.event x.brought)) x.event
       (refl, may_emitted x.event.origin x.event.body (knowledge x.seat.node).config is.work.may) refl
-      (brought_logs t knew x.seat x.event x.brought is.brings (with_deeds (taking x).deeds x.seat.node)) was;
+      (brought_logs t (knew t (inl refl)) x.seat x.event x.brought is.brings (with_deeds (taking x).deeds x.seat.node))
+      was;
   hears = λ t s confirms was.
       let m : Node = with_deeds (deed s.place [] [] (HearsOf confirms) ∷ []) s.node in
       record {

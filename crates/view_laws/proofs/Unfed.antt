@@ -18,7 +18,7 @@ use Rattle.slon_model.specs.Sessions.{World, Seat, Emission}
 use Rattle.slon_model.proofs.Names.{all_map}
 use Rattle.stream_laws.specs.Making.{is_emitted}
 use Rattle.stream_laws.proofs.Applies.{MayCome}
-use Rattle.view_laws.specs.Known.{IsFed, feeds, IsOfOwn, IsUnfed, IsUnfedBefore}
+use Rattle.view_laws.specs.Known.{IsFed, feeds, IsUnfed, IsUnfedBefore}
 use Rattle.view_laws.specs.Past.{WasUpTo}
 use Rattle.view_laws.proofs.Doing.{IsAllowed}
 use Rattle.view_laws.proofs.Living.{NodeLives, Says, IsOfFeed, event_of}
@@ -47,50 +47,47 @@ fed_still set origin number others c may had = had
 
 allowed_emitted : (s : Seat) (body : Body) → IsAllowed s body → is_emitted body ≡ true
 allowed_emitted s (SetAddTable set table name comment) may = refl
+allowed_emitted s (SubscribeSet set provider receiver forward) may = absurd may
 allowed_emitted s (EnableSubscription set provider receiver forward era) may = absurd may
 allowed_emitted s others may = may
 
-feed_emitted : (own : ℕ) (c : Config) (body : Body) → IsOfFeed own c body → is_emitted body ≡ true
-feed_emitted own c Sync is = refl
-feed_emitted own c (SubscribeSet set provider receiver forward) is = refl
-feed_emitted own c (EnableSubscription set provider receiver forward era) is = refl
-feed_emitted own c others is = absurd is
+feed_emitted : (s : Seat) (n : Node) (body : Body) → IsOfFeed s n body → is_emitted body ≡ true
+feed_emitted s n Sync is = refl
+feed_emitted s n (SubscribeSet set provider receiver forward) is = refl
+feed_emitted s n (EnableSubscription set provider receiver forward era) is = refl
+feed_emitted s n others is = absurd is
 
--- no event of a subscription but the first two stands alone
-abbrev is_single : Body → Bool
+-- no event of a subscription but the first one stands alone
+abbrev pub is_single : Body → Bool
+is_single (SubscribeSet set provider receiver forward) = false
 is_single (EnableSubscription set provider receiver forward era) = false
 is_single others = true
 
 allowed_single : (s : Seat) (body : Body) → IsAllowed s body → is_single body ≡ true
+allowed_single s (SubscribeSet set provider receiver forward) may = absurd may
 allowed_single s (EnableSubscription set provider receiver forward era) may = absurd may
 allowed_single s others may = refl
 
-says_single : (s : Seat) (n : Node) (m : Emission) → Says s n m →
-    IsOfFeed s.node.id (knowledge n).config m.body ⊎ (is_single m.body ≡ true)
+pub says_single : (s : Seat) (n : Node) (m : Emission) → Says s n m →
+    IsOfFeed s n m.body ⊎ (is_single m.body ≡ true)
 says_single s n m (inl may) = inr (allowed_single s m.body may.1)
 says_single s n m (inr feed) = inl feed
 
--- the provider is the node itself
-single_own : (own : ℕ) (c : Config) (body : Body) → IsOfFeed own c body ⊎ (is_single body ≡ true) → IsOfOwn own body
-single_own own c (EnableSubscription set provider receiver forward era) (inl may) = may.1
-single_own own c (EnableSubscription set provider receiver forward era) (inr single) = absurd (false≢true single)
-single_own own c others may = tt
-
 -- who subscribes is one
-fed_then : (set origin number own : ℕ) (body : Body) (c : Config) → feeds set body ≡ true →
-    IsOfFeed own c body ⊎ (is_single body ≡ true) → IsFed set (change_by origin number body c)
-fed_then set origin number own (SubscribeSet id provider receiver forward) c is may =
-    some_put set id receiver _ c.subscriptions (inr (eqb-true id set is))
-fed_then set origin number own (EnableSubscription id provider receiver forward era) c is (inl may) =
-    fed_still set origin number (EnableSubscription id provider receiver forward era) c refl
-    (subst (λ k. IsFed k c) (eqb-true id set is) may.0)
-fed_then set origin number own (EnableSubscription id provider receiver forward era) c is (inr single) =
+fed_then : (set number : ℕ) (s : Seat) (n : Node) (body : Body) → feeds set body ≡ true →
+    IsOfFeed s n body ⊎ (is_single body ≡ true) → IsFed set (change_by s.node.id number body (knowledge n).config)
+fed_then set number s n (SubscribeSet id provider receiver forward) is may =
+    some_put set id receiver _ (knowledge n).config.subscriptions (inr (eqb-true id set is))
+fed_then set number s n (EnableSubscription id provider receiver forward era) is (inl may) =
+    fed_still set s.node.id number (EnableSubscription id provider receiver forward era) (knowledge n).config refl
+    (subst (λ k. IsFed k (knowledge n).config) (eqb-true id set is) may.1)
+fed_then set number s n (EnableSubscription id provider receiver forward era) is (inr single) =
     absurd (false≢true single)
-fed_then set origin number own others c is may = absurd (false≢true is)
+fed_then set number s n others is may = absurd (false≢true is)
 
 pub says_emitted : (s : Seat) (n : Node) (m : Emission) → Says s n m → is_emitted m.body ≡ true
 says_emitted s n m (inl may) = allowed_emitted s m.body may.1
-says_emitted s n m (inr feed) = feed_emitted s.node.id (knowledge n).config m.body feed
+says_emitted s n m (inr feed) = feed_emitted s n m.body feed
 
 pub may_emitted : (own : ℕ) (body : Body) (c : Config) → MayCome own body c → is_emitted body ≡ true
 may_emitted own (StoreSet set origin comment) c may = refl
@@ -111,9 +108,9 @@ allowed_unfed s (SetAddTable set table name comment) may fed =
     (λ f is. false_from_ne_true _ (λ feeds. true≢false (sym (is set feeds) ∙ none_fed _ may.0))) (stream s.node) fed
 allowed_unfed s others may fed = tt
 
-feed_unfed : (earlier : List Event) (own : ℕ) (c : Config) (body : Body) → IsOfFeed own c body → IsUnfed earlier body
-feed_unfed earlier own c (SetAddTable set table name comment) is = absurd is
-feed_unfed earlier own c others is = tt
+feed_unfed : (earlier : List Event) (s : Seat) (n : Node) (body : Body) → IsOfFeed s n body → IsUnfed earlier body
+feed_unfed earlier s n (SetAddTable set table name comment) is = absurd is
+feed_unfed earlier s n others is = tt
 
 says_unfed : (Was : World → Type 0) (s : Seat) (n : Node) (m : Emission) → Says s n m → IsUnfedBefore Was n →
     IsUnfed (stream n) m.body
@@ -121,7 +118,7 @@ says_unfed Was s n m (inl may) was =
     subst (λ x. IsUnfed (stream x) m.body) (sym may.0) (allowed_unfed s m.body may.1
     (subst (λ x. AllByRecursion (λ f. (set : ℕ) → feeds set f.body ≡ true → IsFed set (knowledge x).config) (stream x))
     may.0 was.fed))
-says_unfed Was s n m (inr feed) was = feed_unfed (stream n) s.node.id (knowledge n).config m.body feed
+says_unfed Was s n m (inr feed) was = feed_unfed (stream n) s n m.body feed
 
 -- who knows that sets have receivers knows it behind an event
 all_fed : (n : Node) (e : Event) → is_emitted e.body ≡ true → (es : List Event) →
@@ -135,15 +132,14 @@ all_fed n e may es fed =
 
 pub tables_unfed : NodeLives IsUnfedBefore
 tables_unfed = record {
-  later = λ t n was. record { unfed = was.unfed; fed = was.fed; own = was.own };
-  logs = λ t n p xid was. record { unfed = was.unfed; fed = was.fed; own = was.own };
+  later = λ t n was. record { unfed = was.unfed; fed = was.fed };
+  logs = λ t n p xid was. record { unfed = was.unfed; fed = was.fed };
   tells = λ t s is number m n says was. record {
     unfed = (says_unfed (WasUpTo t) s n m says was, was.unfed);
     fed = (
-      λ set feeds. fed_then set s.node.id number s.node.id m.body (knowledge n).config feeds (says_single s n m says),
+      λ set feeds. fed_then set number s n m.body feeds (says_single s n m says),
       all_fed n (event_of s number m.body) (says_emitted s n m says) (stream n) was.fed,
     );
-    own = (single_own s.node.id (knowledge n).config m.body (says_single s n m says), was.own);
   };
   takes = λ t knew x origin is was. record {
     unfed = was.unfed;
@@ -151,10 +147,9 @@ tables_unfed = record {
         all_fed x.seat.node x.event
         (may_emitted x.event.origin x.event.body (knowledge x.seat.node).config is.work.may) (stream x.seat.node)
         was.fed;
-    own = was.own;
   };
-  hears = λ t s confirms was. record { unfed = was.unfed; fed = was.fed; own = was.own };
+  hears = λ t s confirms was. record { unfed = was.unfed; fed = was.fed };
   becomes = λ t knew n deeds views knows.
       subst (λ ds. IsUnfedBefore (WasUpTo t) (record n { deeds = ds })) (sym deeds)
-      (record { unfed = tt; fed = tt; own = tt });
+      (record { unfed = tt; fed = tt });
 }

@@ -2,7 +2,7 @@
 -- other event of the origin is applied: the node keeps the same views of sets of that origin, and the origin had
 -- emitted all events before that one.
 use Rattle.std.proofs.Common.{◌≡◌, ◌∙◌, inl, inr, ℕ, suc, ◌≤◌, Bool, true, false, cond, List, [], ◌∷◌, ◌++◌, Option}
-use Rattle.std.proofs.Common.{◌≢◌, Some, None, refl, sym, ap, subst, arith, filter, length, map}
+use Rattle.std.proofs.Common.{◌≢◌, Some, None, refl, sym, ap, subst, arith, filter, length}
 use Rattle.std.specs.Prelude.{◌==◌, ◌+◌, nat_lt}
 use Rattle.std.specs.Str.{bytes_eq}
 use Rattle.std.specs.List.{AllByRecursion}
@@ -11,40 +11,42 @@ use Rattle.slon_model.specs.Names.{find_named}
 use Rattle.slon_model.specs.Maps.{Map, entry_at, number_at, with_entry}
 use Rattle.slon_model.specs.Events.{Event}
 use Rattle.slon_model.specs.Views.{View, with_views}
-use Rattle.slon_model.specs.Deeds.{Node, Brought, Knowledge, Logged, knowledge, nothing_brought, progress, stream}
+use Rattle.slon_model.specs.Deeds.{Node, Brought, Knowledge, knowledge, nothing_brought, progress, stream}
 use Rattle.slon_model.specs.Deeds.{view_of, with_deeds}
-use Rattle.slon_model.specs.Following.{SetSync, kept_from, set_sync, set_syncs, with_sync, with_syncs}
-use Rattle.slon_model.specs.Logs.{logged}
+use Rattle.slon_model.specs.Following.{SetSync, kept_from, with_sync, with_syncs}
 use Rattle.slon_model.specs.Snapshots.{Snapshot}
 use Rattle.slon_model.specs.Turns.{same_snapshot}
 use Rattle.slon_model.specs.Place.{Place}
-use Rattle.slon_model.specs.Sessions.{Seat}
+use Rattle.slon_model.specs.Sessions.{Seat, World}
 use Rattle.slon_model.specs.Working.{Carried, is_view, same_view, stands}
 use Rattle.slon_model.proofs.Names.{all_map, bytes_itself, one_found}
 use Rattle.slon_laws.proofs.Later.{HoldsOf}
 use Rattle.stream_laws.specs.Nodes.{IsAmong, nodes_in, node_in, IsEvent}
-use Rattle.stream_laws.specs.Applied.{applied_events, of_origin}
+use Rattle.stream_laws.specs.Applied.{applied_events, of_origin, HasApplied}
 use Rattle.stream_laws.specs.Facts.{Facts}
 use Rattle.stream_laws.specs.Making.{AreEmitted}
-use Rattle.stream_laws.proofs.Copies.{one_leader}
-use Rattle.stream_laws.proofs.Lists.{all_among, all_mapped, among_all}
+use Rattle.stream_laws.proofs.Lists.{all_among, among_all}
 use Rattle.stream_laws.proofs.Seats.{IsSeat, seat_node}
 use Rattle.stream_laws.proofs.Streams.{among_earlier, number_within, one_node}
 use Rattle.stream_laws.proofs.Works.{IsWork}
 use Rattle.image_laws.proofs.Logging.{among_filtered, filtered_among}
 use Rattle.image_laws.proofs.Staying.{Stays}
-use Rattle.view_laws.specs.Known.{IsSeen}
+use Rattle.view_laws.specs.Known.{IsSeen, enables}
 use Rattle.view_laws.specs.Past.{Past, WasUpTo}
 use Rattle.view_laws.proofs.Brought.{Finding, IsBrought, IsCopied, IsKept, IsPart, IsSynced, Nothing, Copies, Brings}
-use Rattle.view_laws.proofs.Brought.{Whole, Standing, was_then}
+use Rattle.view_laws.proofs.Brought.{Whole, Standing, was_then, taken_each, taken_back, same_id}
 use Rattle.view_laws.proofs.Doing.{IsTaken, taking}
 use Rattle.view_laws.proofs.Living.{HasNode, NodeGoes, event_of, node_passes}
-use Rattle.view_laws.proofs.Reached.{Reached, now_stays, past_of, reached_up_to, regular_now}
+use Rattle.view_laws.proofs.Reached.{Reached, now_stays, past_of, reached_up_to, regular_now, event_now}
 use Rattle.view_laws.proofs.Rising.{found_in, found_stands, stands_found}
-use Rattle.view_laws.proofs.Seen.{copy_leads, copy_own, same_views, stays_leading, syncs_seen}
+use Rattle.view_laws.proofs.Seen.{same_views, syncs_seen}
 use Rattle.view_laws.proofs.Unfed.{says_emitted}
 use Rattle.view_laws.proofs.Viewed.{rising_now, seen_now}
 use Rattle.view_laws.proofs.Walking.{passing_later}
+use Rattle.view_laws.proofs.Copied.{copy_asks, enables_feeds, feeder_leads, seen_leads}
+use Rattle.view_laws.proofs.Within.{applied_within}
+use Rattle.view_laws.proofs.Once.{one_copied}
+use Rattle.stream_laws.proofs.Laws.{events_are_applied_once}
 
 -- ---- what is brought
 
@@ -53,43 +55,24 @@ pub record IsFrom (s : Seat) (e : Event) (y : ℕ × View) : Type 0 where
   pub own : y.1.origin ≡ e.origin
   pub old : (v : View) → view_of y.0 (knowledge s.node) ≡ Some v → v.origin ≡ e.origin
 
--- the node that leads a set that is copied is the origin of the view that is kept of it
-pub copied_old : (t : Past) (s : Seat) (e : Event) (b : Brought) → IsSeat t.world.places s → (k : IsCopied t s e b) →
-    (v : View) → view_of k.copy.copying.set_id (knowledge s.node) ≡ Some v → v.origin ≡ k.copy.provider.node.id
+-- a view that the node keeps of a set that is copied is of the origin of the event
+copied_old : (t : Past) (s : Seat) (e : Event) (b : Brought) → IsSeat t.world.places s → (k : IsCopied t s e b) →
+    (v : View) → view_of k.copy.copying.set_id (knowledge s.node) ≡ Some v → v.origin ≡ e.origin
 copied_old t s e b is k v found =
-    sym seen.own ∙ sym first.2.id
-    ∙ one_leader (nodes_in t.world.places) (regular_now t).nodes set (record {
-      name = seen.moment.name;
-      node = first.2.node;
-      is = ap node_in first.1 ∙ first.2.is;
-      leads = (stays_leading seen.moment.node first.0 first.2.node first.2 first.2.is set seen.leads).0;
-    }) (record {
-      name = p.name;
-      node = second.2.node;
-      is = ap node_in second.1 ∙ second.2.is;
-      leads = (stays_leading p.node second.0 second.2.node second.2 second.2.is set
-          (copy_leads k.at.to.world k.at.seat e k.found k.copy).0).0;
-    }) ∙ second.2.id
+    seen_leads t s.node set v (seen_now t s.name s.node (seat_node t.world.places s is) set v found) (record {
+      name = y.name;
+      node = y.node;
+      is = y.is;
+      leads =
+          feeder_leads t e y set (enables_feeds set k.at.seat.node.id e.body
+          (copy_asks k.at.to.world k.at.seat e k.found k.copy));
+    }) ∙ y.own
   where
     set : ℕ
     set = k.copy.copying.set_id
 
-    p : Seat
-    p = k.copy.provider
-
-    seen : IsSeen (WasUpTo t) s.node set v
-    seen = seen_now t s.name s.node (seat_node t.world.places s is) set v found
-
-    first : HoldsOf (Stays seen.moment.node) seen.moment.name t.world.places
-    first = now_stays t seen.moment.session seen.moment.was seen.moment.name seen.moment.place seen.moment.node
-        seen.moment.found seen.moment.at
-
-    second : HoldsOf (Stays p.node) p.name t.world.places
-    second = now_stays t k.at.to.world (was_then k.at) p.name p.place p.node k.copy.seat.found k.copy.seat.node
-
-pub copy_from : (t : Past) (s : Seat) (e : Event) (b : Brought) (k : IsCopied t s e b) →
-    k.copy.provider.node.id ≡ e.origin
-copy_from t s e b k = k.copy.own ∙ copy_own k.at.to k.at.seat e k.found k.at.work.event k.copy
+    y : IsEvent (nodes_in t.world.places) e
+    y = event_now t e (record { session = k.at.to.world; was = was_then k.at; is = k.at.work.event })
 
 pub views_from : (t : Past) (s : Seat) (e : Event) (b : Brought) → IsSeat t.world.places s → IsBrought t s e b →
     AllByRecursion (IsFrom s e) b.views
@@ -97,8 +80,8 @@ views_from t s e b is (Nothing n) = subst (λ (c : Brought). AllByRecursion (IsF
 views_from t s e b is (Copies k) =
     subst (λ (c : Brought). AllByRecursion (IsFrom s e) c.views) (sym k.is) (
       record {
-        own = copy_from t s e b k;
-        old = λ v found. copied_old t s e b is k v found ∙ copy_from t s e b k;
+        own = refl;
+        old = copied_old t s e b is k;
       },
       tt,
     )
@@ -295,37 +278,26 @@ view_then t i set v found from =
     then : Seat
     then = i.at.seat
 
--- each event of the origin before this one was of its stream then
-pub event_then : (t : Past) (i : Since t) (f : Event) → IsEvent (nodes_in t.world.places) f →
-    f.origin ≡ i.event.origin → f.number ≤ progress i.event.origin (knowledge i.seat.node) →
-    IsEvent (nodes_in i.at.to.world.places) f
-event_then t i f is from within = cases (find_named y.name a.to.world.places) refl y.is
+-- an event that comes before one of a session of the history was of the same stream there
+pub event_before : (t : Past) (u : World) → WasUpTo t u → (e : Event) (y : IsEvent (nodes_in u.places) e) (f : Event) →
+    IsEvent (nodes_in t.world.places) f → (f.origin ≡ e.origin) × (f.number ≤ e.number) → IsAmong f (stream y.node)
+event_before t u was e y f is before = cases (find_named y.name u.places) refl y.is
   where
-    e : Event
-    e = i.event
+    then : Facts (nodes_in u.places) y.node
+    then = (regular_now (past_of t u (reached_up_to t u was))).nodes.each y.name y.node y.is
 
-    a : Finding t i.seat e
-    a = i.at
-
-    y : IsEvent (nodes_in a.to.world.places) e
-    y = a.work.event
-
-    then : Facts (nodes_in a.to.world.places) y.node
-    then = (regular_now a.to).nodes.each y.name y.node y.is
-
-    among : (p : Place) → find_named y.name a.to.world.places ≡ Some p → p.node ≡ Some y.node →
-        IsAmong f (stream y.node)
+    among : (p : Place) → find_named y.name u.places ≡ Some p → p.node ≡ Some y.node → IsAmong f (stream y.node)
     among p found at =
         among_earlier y.node.id now.2.more (stream y.node) f
         (subst (λ id. AreEmitted id (now.2.more ++ stream y.node)) now.2.id
         (subst (AreEmitted now.2.node.id) now.2.all facts.emitted))
         (subst (IsAmong f) now.2.all (subst (λ n. IsAmong f (stream n)) one is.among))
         (let low = (number_within y.node.id (stream y.node) e then.emitted y.among).1 in
-        let next = i.work.next in
-        omega (arith, low, next, within))
+        let within = before.1 in
+        omega (arith, low, within))
       where
         now : HoldsOf (Stays y.node) y.name t.world.places
-        now = now_stays t a.to.world (was_then a) y.name p y.node found at
+        now = now_stays t u was y.name p y.node found at
 
         there : nodes_in t.world.places y.name ≡ Some now.2.node
         there = ap node_in now.1 ∙ now.2.is
@@ -335,13 +307,26 @@ event_then t i f is from within = cases (find_named y.name a.to.world.places) re
 
         one : is.node ≡ now.2.node
         one = one_node (nodes_in t.world.places) (regular_now t).nodes is.name y.name is.node now.2.node is.is
-            (there, is.own ∙ from ∙ sym y.own ∙ sym now.2.id)
+            (there, is.own ∙ before.0 ∙ sym y.own ∙ sym now.2.id)
 
-    cases : (o : Option Place) → find_named y.name a.to.world.places ≡ o → node_in o ≡ Some y.node →
-        IsEvent (nodes_in a.to.world.places) f
+    cases : (o : Option Place) → find_named y.name u.places ≡ o → node_in o ≡ Some y.node → IsAmong f (stream y.node)
     cases None found none = absurd cc
-    cases (Some p) found at =
-        record { name = y.name; node = y.node; is = y.is; own = y.own ∙ sym from; among = among p found at }
+    cases (Some p) found at = among p found at
+
+-- each event of the origin before this one was of its stream then
+pub event_then : (t : Past) (i : Since t) (f : Event) → IsEvent (nodes_in t.world.places) f →
+    f.origin ≡ i.event.origin → f.number ≤ progress i.event.origin (knowledge i.seat.node) →
+    IsEvent (nodes_in i.at.to.world.places) f
+event_then t i f is from within =
+    let y : IsEvent (nodes_in i.at.to.world.places) i.event = i.at.work.event in
+    let next = i.work.next in
+    record {
+      name = y.name;
+      node = y.node;
+      is = y.is;
+      own = y.own ∙ sym from;
+      among = event_before t i.at.to.world (was_then i.at) i.event y f is (from, omega (arith, next, within));
+    }
 
 -- ---- what is taken of sets
 
@@ -368,9 +353,8 @@ filter_whole test (x ∷ xs) all =
 
 -- the view of each set of which something was read stands, so nothing that was read is passed over
 pub syncs_are : (t : Past) (origin : ℕ) (x : Carried) → IsTaken t origin x →
-    (y : IsSynced t x.seat x.event x.brought) → y.syncs ≡ map (set_sync y.at.seat.node.id (knowledge y.at.seat.node)
-    x.event (logged y.follows.provider.node)) (kept_from x.event.origin (knowledge y.at.seat.node))
-syncs_are t origin x is y = cases y.part ∙ known
+    (y : IsSynced t x.seat x.event x.brought) → y.syncs ≡ y.follows.syncs
+syncs_are t origin x is y = cases y.part
   where
     s : Seat
     s = x.seat
@@ -381,36 +365,29 @@ syncs_are t origin x is y = cases y.part ∙ known
     then : Seat
     then = y.at.seat
 
-    log : List Logged
-    log = logged y.follows.provider.node
-
-    known : set_syncs then.node.id then.known e log
-        ≡ map (set_sync then.node.id (knowledge then.node) e log) (kept_from e.origin (knowledge then.node))
-    known = ap (λ k. set_syncs then.node.id k e log) y.at.work.seat.known
-
     own : nodes_in t.world.places s.name ≡ Some s.node
     own = seat_node t.world.places s is.work.seat
 
     stand : (v : ℕ × View) → IsAmong v (kept_from e.origin (knowledge s.node)) →
-        stands s.known (set_sync then.node.id then.known e log v) ≡ true
+        is_view v.1 (view_of v.0 s.known) ≡ true
     stand v among =
         let kept = filtered_among (λ u. u.1.origin == e.origin) v (knowledge s.node).views among in
         let found = stands_found v.0 v.1 (knowledge s.node).views (rising_now t s.name s.node own) kept.0 in
         ap (is_view v.1) (ap (view_of v.0) is.work.seat.known ∙ found) ∙ same_view_itself v.1
 
-    all : AllByRecursion (λ z. stands s.known z ≡ true) (set_syncs then.node.id then.known e log)
+    all : AllByRecursion (λ z. stands s.known z ≡ true) y.follows.syncs
     all =
-        all_mapped (λ v. IsAmong v (kept_from e.origin then.known)) (λ z. stands s.known z ≡ true)
-        (set_sync then.node.id then.known e log)
-        (λ v among. stand v (subst (IsAmong v) (ap (kept_from e.origin) y.at.work.seat.known
-        ∙ sym (views_stay t (since origin x is y.at))) among)) (kept_from e.origin then.known)
+        taken_each (λ v. IsAmong v (kept_from e.origin then.known)) (λ z. stands s.known z ≡ true)
+        (λ v z among taken. ap (stands s.known) taken.is
+        ∙ stand v (subst (IsAmong v) (ap (kept_from e.origin) y.at.work.seat.known
+        ∙ sym (views_stay t (since origin x is y.at))) among)) (kept_from e.origin then.known) y.follows.syncs
+        y.follows.taken
         (among_all (λ v. IsAmong v (kept_from e.origin then.known)) (kept_from e.origin then.known)
         (λ v among. among))
 
-    cases : IsPart s.known y.syncs (set_syncs then.node.id then.known e log) →
-        y.syncs ≡ set_syncs then.node.id then.known e log
+    cases : IsPart s.known y.syncs y.follows.syncs → y.syncs ≡ y.follows.syncs
     cases (Whole all_of) = all_of
-    cases (Standing those) = those ∙ filter_whole (stands s.known) (set_syncs then.node.id then.known e log) all
+    cases (Standing those) = those ∙ filter_whole (stands s.known) y.follows.syncs all
 
 -- ---- the views that are brought
 
@@ -426,19 +403,68 @@ views_synced P here [] b all = tt
 views_synced P here (t ∷ more) b all =
     ((views_before P here more (with_sync here t b) all).0, views_synced P here more (with_sync here t b) all)
 
-pub all_unmapped : {X Y : Type 0} (P : Y → Type 0) (f : X → Y) (xs : List X) → AllByRecursion P (map f xs) →
-    AllByRecursion (λ x. P (f x)) xs
-all_unmapped P f [] all = tt
-all_unmapped P f (x ∷ xs) all = (all.0, all_unmapped P f xs all.1)
-
 -- where no view of a set is brought, the node kept none of the origin as it read the log
 pub none_kept : (t : Past) (origin : ℕ) (x : Carried) → IsTaken t origin x →
     (y : IsSynced t x.seat x.event x.brought) (set : ℕ) → AllByRecursion (λ u. u.0 ≢ set) x.brought.views →
     AllByRecursion (λ u. u.0 ≢ set) (kept_from x.event.origin (knowledge y.at.seat.node))
 none_kept t origin x is y set none =
-    all_unmapped (λ (z : SetSync). z.set_id ≢ set)
-    (set_sync y.at.seat.node.id (knowledge y.at.seat.node) x.event (logged y.follows.provider.node))
-    (kept_from x.event.origin (knowledge y.at.seat.node))
+    subst (λ k. AllByRecursion (λ u. u.0 ≢ set) (kept_from x.event.origin k)) y.at.work.seat.known
+    (taken_back (λ u. u.0 ≢ set) (λ z. z.set_id ≢ set)
+    (λ v z apart taken same. apart (ap (λ (w : SetSync). w.set_id) taken.is ∙ same))
+    (kept_from x.event.origin y.at.seat.known) y.follows.syncs y.follows.taken
     (subst (AllByRecursion (λ z. z.set_id ≢ set)) (syncs_are t origin x is y)
     (views_synced (λ u. u.0 ≢ set) x.seat.place y.syncs nothing_brought
-    (subst (λ (c : Brought). AllByRecursion (λ u. u.0 ≢ set) c.views) y.is none)))
+    (subst (λ (c : Brought). AllByRecursion (λ u. u.0 ≢ set) c.views) y.is none))))
+
+-- ---- a copy
+
+-- who copies a set keeps no view of it: a receiver is told once to copy
+pub unviewed : (t : Past) (origin : ℕ) (x : Carried) → IsTaken t origin x →
+    (k : IsCopied t x.seat x.event x.brought) → (v : View) →
+    view_of k.copy.copying.set_id (knowledge x.seat.node) ≡ Some v → ⊥
+unviewed t origin x is k v found =
+    let number = ap (λ (f : Event). f.number) same in
+    let next = is.work.next in
+    let within = applied_within (number_at e.origin n.given.progress) (of_origin e.origin (applied_events n))
+    seen.enabled (has.each e.origin is.work.other) (among_filtered (λ f. f.origin == e.origin) seen.enabled
+    (applied_events n) seen.applied (eq-eqb seen.enabled.origin e.origin from)) in
+    let far = has.all e.origin is.work.other in
+    omega (arith, number, next, within, far)
+  where
+    e : Event
+    e = x.event
+
+    n : Node
+    n = x.seat.node
+
+    set : ℕ
+    set = k.copy.copying.set_id
+
+    own : nodes_in t.world.places x.seat.name ≡ Some n
+    own = seat_node t.world.places x.seat is.work.seat
+
+    seen : IsSeen (WasUpTo t) n set v
+    seen = seen_now t x.seat.name n own set v found
+
+    from : seen.enabled.origin ≡ e.origin
+    from = seen.of ∙ copied_old t x.seat e x.brought is.work.seat k v found
+
+    applied : IsEvent (nodes_in t.world.places) seen.enabled
+    applied = (events_are_applied_once t.limit t.history t.world t.leads).events x.seat.name n own seen.enabled
+        seen.applied
+
+    y : IsEvent (nodes_in t.world.places) e
+    y = is.work.event
+
+    same : seen.enabled ≡ e
+    same =
+        one_copied t seen.enabled e y (subst (λ m. IsAmong seen.enabled (stream m)) (one_node (nodes_in t.world.places)
+        (regular_now t).nodes applied.name y.name applied.node y.node applied.is
+        (y.is, applied.own ∙ from ∙ sym y.own)) applied.among) set n.id (
+          seen.enables,
+          subst (λ id. enables set id e.body ≡ true) (same_id t x.seat e k.at is.work.seat)
+              (copy_asks k.at.to.world k.at.seat e k.found k.copy),
+        )
+
+    has : HasApplied n.id n.given.progress (knowledge n).progress (applied_events n)
+    has = ((regular_now t).nodes.each x.seat.name n own).applied

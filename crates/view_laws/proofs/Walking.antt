@@ -1,5 +1,5 @@
 -- What each way in which a database goes on keeps is kept by every history.
-use Rattle.std.proofs.Common.{◌≡◌, ℕ, Bool, true, false, cond, List, [], ◌∷◌, ◌++◌, Option, Some, None}
+use Rattle.std.proofs.Common.{◌≡◌, inl, inr, refl, ℕ, Bool, true, false, cond, List, [], ◌∷◌, ◌++◌, Option, Some, None}
 use Rattle.std.proofs.Common.{sym, ap, subst, ◌∙◌}
 use Rattle.std.specs.List.{AllByRecursion}
 use Rattle.slon_model.specs.Names.{Named, find_named}
@@ -20,7 +20,7 @@ use Rattle.slon_laws.proofs.Later.{HoldsOf, put_holds}
 use Rattle.stream_laws.specs.Nodes.{nodes_in, node_in}
 use Rattle.image_laws.proofs.Images.{joined, later_step, ready_world}
 pub use Rattle.image_laws.proofs.Staying.{KeptLater}
-use Rattle.view_laws.specs.Past.{Past, past, IsBefore, WasBefore, WasUpTo}
+use Rattle.view_laws.specs.Past.{Past, PastUpTo, past, WasBefore, WasUpTo}
 use Rattle.view_laws.proofs.Doing.{IsStep}
 use Rattle.view_laws.proofs.Steps.{outcome_steps}
 
@@ -110,26 +110,30 @@ abbrev pub IsHere : Past → Place → Type 0
 IsHere t p = (n : Node) → p.node ≡ Some n → (name : List ℕ) × (nodes_in t.world.places name ≡ Some n)
 
 -- What holds of a database that is made, and is kept by each way in which a database goes on. It may speak of the
--- sessions before.
+-- sessions before, in each of which it held of all databases.
 pub record LivesOn (I : (World → Type 0) → Place → Type 0) : Type 0 where
   pub bare : (t : Past) → I (WasBefore t) bare_place
   pub stays : (t : Past) (p : Place) → I (WasBefore t) p → I (WasUpTo t) p
-  pub passes : (t : Past) → AllPlaces (I (WasBefore t)) t.world →
+  pub passes : (t : Past) → ((s : Past) → PastUpTo t s → AllPlaces (I (WasBefore s)) s.world) →
       Passes t (λ p. IsHere t p × I (WasBefore t) p) (I (WasUpTo t))
 
 -- it holds of every database of every session
-pub lives : {I : (World → Type 0) → Place → Type 0} → LivesOn I → (limit : ℕ) (history : List Happening) (w : World)
-    (leads : Leads (start limit) history w) → AllPlaces (I (IsBefore limit history w leads)) w
-lives {I} l limit [] w is = subst (AllPlaces (I (λ u. ⊥))) (sym is) tt
-lives {I} l limit (h ∷ hs) w leads =
+lives : {I : (World → Type 0) → Place → Type 0} → LivesOn I → (limit : ℕ) (history : List Happening) (w : World)
+    (leads : Leads (start limit) history w) (s : Past) → PastUpTo (past limit history w leads) s →
+    AllPlaces (I (WasBefore s)) s.world
+lives {I} l limit [] w is s (inl same) =
+    subst (λ (r : Past). AllPlaces (I (WasBefore r)) r.world) (sym same) (subst (AllPlaces (I (λ u. ⊥))) (sym is) tt)
+lives l limit [] w is s (inr before) = absurd before
+lives {I} l limit (h ∷ hs) w leads s (inl same) =
     let before = lives l limit hs leads.0 leads.1 in
     let t = past limit hs leads.0 leads.1 in
-    step_passes t w h leads.2
+    subst (λ (r : Past). AllPlaces (I (WasBefore r)) r.world) (sym same) (step_passes t w h leads.2
     (l.stays t, (λ name p found was. ((λ n is. (name, ap node_in found ∙ is)), was)))
-    (l.passes t before) ((λ n is. absurd cc), l.bare t) before
+    (l.passes t before) ((λ n is. absurd cc), l.bare t) (before t (inl refl)))
+lives l limit (h ∷ hs) w leads s (inr before) = lives l limit hs leads.0 leads.1 s before
 
 pub lives_in : {I : (World → Type 0) → Place → Type 0} → LivesOn I → (t : Past) → AllPlaces (I (WasBefore t)) t.world
-lives_in l t = lives l t.limit t.history t.world t.leads
+lives_in l t = lives l t.limit t.history t.world t.leads t (inl refl)
 
 -- ---- one database, beside the sessions
 

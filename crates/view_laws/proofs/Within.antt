@@ -8,18 +8,22 @@ use Rattle.slon_model.specs.Maps.{number_at}
 use Rattle.slon_model.specs.Events.{Event}
 use Rattle.slon_model.specs.Deeds.{Node, knowledge, progress, stream}
 use Rattle.slon_model.specs.Views.{View}
-use Rattle.stream_laws.specs.Nodes.{IsAmong, nodes_in, node_in}
+use Rattle.stream_laws.specs.Nodes.{IsAmong, nodes_in, node_in, IsEvent}
 use Rattle.stream_laws.specs.Applied.{AreSuccessive, HasApplied, applied_events, of_origin}
 use Rattle.stream_laws.specs.Making.{AreEmitted as AreNumbered}
 use Rattle.stream_laws.specs.Facts.{Facts}
-use Rattle.stream_laws.proofs.Lists.{all_among}
-use Rattle.stream_laws.proofs.Streams.{among_found, number_within}
+use Rattle.stream_laws.proofs.Lists.{all_among, among_behind}
+use Rattle.stream_laws.proofs.Streams.{among_found, number_within, one_node}
 use Rattle.image_laws.proofs.Logging.{among_filtered}
 use Rattle.view_laws.specs.Known.{AreUnfed, IsSeen, IsUnfed, feeds}
 use Rattle.view_laws.specs.Past.{Past, WasUpTo}
-use Rattle.view_laws.proofs.Moments.{past_of, reached_up_to, regular_now}
+use Rattle.view_laws.proofs.Moments.{regular_now, now_stays}
 use Rattle.view_laws.proofs.Seen.{unfed_now}
 use Rattle.view_laws.proofs.Tables.{Table, was_before}
+use Rattle.slon_laws.proofs.Later.{HoldsOf}
+use Rattle.image_laws.proofs.Staying.{Stays}
+use Rattle.stream_laws.proofs.Laws.{events_are_applied_once}
+use Rattle.view_laws.proofs.Copied.{enables_feeds}
 
 -- each event that was applied is one that the node is as far as
 pub applied_within : (before : ℕ) (es : List Event) (e : Event) → AreSuccessive before es → IsAmong e es →
@@ -54,42 +58,55 @@ pub came_within : (t : Past) (name : List ℕ) (n : Node) → nodes_in t.world.p
     (v : View) → IsSeen (WasUpTo t) n table.set_id v →
     table.event.number < progress table.event.origin (knowledge n)
 came_within t name n is table v seen =
-    let less = adds_before table.set_id then.id (stream then) table.event seen.enabled
-    (facts.emitted, (unfed_now s seen.moment.name then there).unfed) (among, seen.before)
-    (λ rest unfed. subst (IsUnfed rest) table.body unfed, ap (feeds table.set_id) table.body, seen.feeds) in
+    let less = adds_before table.set_id now.id (stream now) table.event seen.enabled
+    (facts.emitted, (unfed_now t seen.moment.name now there).unfed) (among, among_enabled) (
+      λ rest unfed. subst (IsUnfed rest) table.body unfed,
+      ap (feeds table.set_id) table.body,
+      enables_feeds table.set_id n.id seen.enabled.body seen.enables,
+    ) in
     let within = applied_within (number_at origin n.given.progress)
     (of_origin origin (applied_events n)) seen.enabled (has.each origin apart)
     (among_filtered (λ f. f.origin == origin) seen.enabled (applied_events n) seen.applied
-    (eq-eqb seen.enabled.origin origin (by ∙ sym from))) in
+    (eq-eqb seen.enabled.origin origin (seen.of ∙ sym seen.own ∙ sym later.2.id ∙ sym from))) in
     let far = has.all origin apart in
     omega (arith, less, within, far)
   where
     origin : ℕ
     origin = table.event.origin
 
-    then : Node
-    then = seen.moment.node
+    -- the origin of the set, now
+    later : HoldsOf (Stays seen.moment.node) seen.moment.name t.world.places
+    later = now_stays t seen.moment.session seen.moment.was seen.moment.name seen.moment.place seen.moment.node
+        seen.moment.found seen.moment.at
 
-    s : Past
-    s = past_of t seen.moment.session (reached_up_to t seen.moment.session seen.moment.was)
+    now : Node
+    now = later.2.node
 
-    there : nodes_in seen.moment.session.places seen.moment.name ≡ Some then
-    there = ap node_in seen.moment.found ∙ seen.moment.at
+    there : nodes_in t.world.places seen.moment.name ≡ Some now
+    there = ap node_in later.1 ∙ later.2.is
 
-    facts : Facts (nodes_in seen.moment.session.places) then
-    facts = (regular_now s).nodes.each seen.moment.name then there
+    facts : Facts (nodes_in t.world.places) now
+    facts = (regular_now t).nodes.each seen.moment.name now there
 
-    among : IsAmong table.event (stream then)
-    among = was_before t table n v seen
+    among : IsAmong table.event (stream now)
+    among =
+        subst (IsAmong table.event) (sym later.2.all)
+        (among_behind table.event later.2.more (stream seen.moment.node) (was_before t table n v seen))
 
-    from : origin ≡ then.id
-    from = (among_found then.id (stream then) table.event facts.emitted among).are.0
+    from : origin ≡ now.id
+    from = (among_found now.id (stream now) table.event facts.emitted among).are.0
 
-    by : seen.enabled.origin ≡ then.id
-    by = (among_found then.id (stream then) seen.enabled facts.emitted seen.before).are.0
+    applied : IsEvent (nodes_in t.world.places) seen.enabled
+    applied = (events_are_applied_once t.limit t.history t.world t.leads).events name n is seen.enabled seen.applied
+
+    among_enabled : IsAmong seen.enabled (stream now)
+    among_enabled =
+        subst (λ m. IsAmong seen.enabled (stream m)) (one_node (nodes_in t.world.places) (regular_now t).nodes
+        applied.name seen.moment.name applied.node now applied.is
+        (there, applied.own ∙ seen.of ∙ sym seen.own ∙ sym later.2.id)) applied.among
 
     apart : origin ≢ n.id
-    apart same = seen.apart (sym seen.own ∙ sym from ∙ same)
+    apart same = seen.apart (sym seen.own ∙ sym later.2.id ∙ sym from ∙ same)
 
     has : HasApplied n.id n.given.progress (knowledge n).progress (applied_events n)
     has = ((regular_now t).nodes.each name n is).applied

@@ -1,10 +1,10 @@
 -- What is known of the nodes of a session, beside the sessions before it in its history.
-use Rattle.std.specs.Prelude.{◌≡◌, ◌≢◌, ℕ, ◌<◌, ◌⊎◌, ◌==◌, Bool, is_some, true, false, List, [], ◌∷◌, find}
+use Rattle.std.specs.Prelude.{◌≡◌, ◌≢◌, ℕ, ◌<◌, ◌⊎◌, ◌==◌, ◌&&◌, ◌||◌, Bool, is_some, true, false, List, [], ◌∷◌, find}
 use Rattle.std.specs.List.{AllByRecursion}
 use Rattle.node_rows.specs.declared.body.Body.{Body}
 use Rattle.node_rows.specs.declared.body.Body.TheVariants.{SetAddTable, SubscribeSet, EnableSubscription}
 use Rattle.node_rows.specs.declared.rows.TableRow.{TableRow}
-use Rattle.slon_model.specs.Maps.{Map}
+use Rattle.slon_model.specs.Maps.{Map, pair_at}
 use Rattle.slon_model.specs.Events.{Event}
 use Rattle.slon_model.specs.Config.{Config, era_of, is_origin, receivers}
 use Rattle.slon_model.specs.Deeds.{Node, Logged, knowledge, stream, met}
@@ -18,11 +18,20 @@ use Rattle.view_laws.specs.Past.{Moment}
 
 -- ---- when events were emitted
 
--- The event was emitted in such a session, with the snapshot that was taken there.
+-- a node subscribes to the set by an event of this body
+abbrev pub feeds : ℕ → Body → Bool
+feeds set (SubscribeSet id provider receiver forward) = id == set
+feeds set (EnableSubscription id provider receiver forward era) = id == set
+feeds set others = false
+
+-- The event was emitted in such a session, with the snapshot that was taken there. Who says that a node subscribes to a
+-- set was the origin of it.
 pub record IsEmitted (Was : World → Type 0) (e : Event) : Type 0 where
   pub moment : Moment Was
   pub own : moment.node.id ≡ e.origin
   pub taken : e.taken ≡ taken moment.place
+  pub leads : (set : ℕ) → feeds set e.body ≡ true →
+      is_origin moment.node.id set (knowledge moment.node).config ≡ true
 
 -- each event of the stream of a node was emitted once
 abbrev pub AreEmitted : (World → Type 0) → Node → Type 0
@@ -33,17 +42,6 @@ AreEmitted Was n = AllByRecursion (IsEmitted Was) (stream n)
 -- the set has receivers
 abbrev pub IsFed : ℕ → Config → Type 0
 IsFed set c = is_some (find (λ e. true) (receivers set c)) ≡ true
-
--- a node subscribes to the set by an event of this body
-abbrev pub feeds : ℕ → Body → Bool
-feeds set (SubscribeSet id provider receiver forward) = id == set
-feeds set (EnableSubscription id provider receiver forward era) = id == set
-feeds set others = false
-
--- the receiver copies a set from the node that emits the event
-abbrev pub IsOfOwn : ℕ → Body → Type 0
-IsOfOwn own (EnableSubscription set provider receiver forward era) = provider ≡ own
-IsOfOwn own others = Unit {0}
 
 -- no event before one by which a table comes into a set is of a subscription to it
 abbrev pub IsUnfed : List Event → Body → Type 0
@@ -58,7 +56,43 @@ AreUnfed (e ∷ es) = IsUnfed es e.body × AreUnfed es
 pub record IsUnfedBefore (Was : World → Type 0) (n : Node) : Type 0 where
   pub unfed : AreUnfed (stream n)
   pub fed : AllByRecursion (λ f. (set : ℕ) → feeds set f.body ≡ true → IsFed set (knowledge n).config) (stream n)
-  pub own : AllByRecursion (λ f. IsOfOwn f.origin f.body) (stream n)
+
+-- ---- a receiver subscribes once
+
+-- the receiver subscribes to the set by an event of this body
+abbrev pub subscribes : ℕ → ℕ → Body → Bool
+subscribes set node (SubscribeSet id provider receiver forward) = id == set && receiver == node
+subscribes set node others = false
+
+-- it is to copy the set
+abbrev pub enables : ℕ → ℕ → Body → Bool
+enables set node (EnableSubscription id provider receiver forward era) = id == set && receiver == node
+enables set node others = false
+
+abbrev pub is_on_feed : ℕ → ℕ → Body → Bool
+is_on_feed set node body = subscribes set node body || enables set node body
+
+-- no event before the one by which a receiver subscribes is on its subscription, and it is to copy the set once
+abbrev pub IsOnce : List Event → Body → Type 0
+IsOnce earlier (SubscribeSet set provider receiver forward) =
+    AllByRecursion (λ f. is_on_feed set receiver f.body ≡ false) earlier
+IsOnce earlier (EnableSubscription set provider receiver forward era) =
+    AllByRecursion (λ f. enables set receiver f.body ≡ false) earlier
+IsOnce earlier others = Unit {0}
+
+abbrev pub AreOnce : List Event → Type 0
+AreOnce [] = Unit {0}
+AreOnce (e ∷ es) = IsOnce es e.body × AreOnce es
+
+-- the configuration has the subscription of the receiver
+abbrev pub HasFeed : ℕ → ℕ → Config → Type 0
+HasFeed set receiver c = is_some (pair_at set receiver c.subscriptions) ≡ true
+
+-- So it is of the stream of a node, which has each subscription of which an event of it is.
+pub record IsFedOnce (Was : World → Type 0) (n : Node) : Type 0 where
+  pub once : AreOnce (stream n)
+  pub has : AllByRecursion (λ f. (set receiver : ℕ) → is_on_feed set receiver f.body ≡ true →
+      HasFeed set receiver (knowledge n).config) (stream n)
 
 -- ---- the events by which tables are known
 
@@ -92,10 +126,19 @@ pub record AreTold (Was : World → Type 0) (n : Node) : Type 0 where
   pub sets : AllByRecursion (λ e. e.1.live ≡ true) (knowledge n).config.sets
   pub logs : AllByRecursion (IsLoggedAs Was n) (logged n)
 
+-- The subscription of a receiver is known by an event on it.
+pub record IsFedBy (Was : World → Type 0) (n : Node) (set receiver : ℕ) : Type 0 where
+  pub event : Event
+  pub heard : IsHeard Was n event
+  pub on : is_on_feed set receiver event.body ≡ true
+
+abbrev pub AreFedBy : (World → Type 0) → Node → Type 0
+AreFedBy Was n = (set receiver : ℕ) → HasFeed set receiver (knowledge n).config → IsFedBy Was n set receiver
+
 -- ---- the views that a node keeps
 
--- The snapshot of the view was taken at the origin of the set, in the era of the view. By then that had emitted the
--- event with which the node copied the set.
+-- The snapshot of the view was taken at the origin of the set, in the era of the view. The node copied the set with an
+-- event of the origin, which by then had emitted an event by which some node subscribed to the set.
 pub record IsSeen (Was : World → Type 0) (n : Node) (set : ℕ) (v : View) : Type 0 where
   pub moment : Moment Was
   pub own : moment.node.id ≡ v.origin
@@ -105,8 +148,11 @@ pub record IsSeen (Was : World → Type 0) (n : Node) (set : ℕ) (v : View) : T
   pub leads : is_origin moment.node.id set (knowledge moment.node).config ≡ true
   pub enabled : Event
   pub applied : IsAmong enabled (applied_events n)
-  pub feeds : feeds set enabled.body ≡ true
-  pub before : IsAmong enabled (stream moment.node)
+  pub enables : enables set n.id enabled.body ≡ true
+  pub of : enabled.origin ≡ v.origin
+  pub first : Event
+  pub feeds : feeds set first.body ≡ true
+  pub before : IsAmong first (stream moment.node)
 
 -- so it is with each view of a node
 abbrev pub AreSeen : (World → Type 0) → Node → Type 0

@@ -27,6 +27,20 @@ WasBefore t u = IsBefore t.limit t.history t.world t.leads u
 abbrev pub WasUpTo : Past → World → Type 0
 WasUpTo t u = (u ≡ t.world) ⊎ WasBefore t u
 
+-- the history up to a session before this one
+abbrev pub IsPastBefore : (limit : ℕ) (history : List Happening) (w : World) → Leads (start limit) history w → Past →
+    Type 0
+IsPastBefore limit [] w leads s = ⊥
+IsPastBefore limit (h ∷ hs) w leads s =
+    (s ≡ past limit hs leads.0 leads.1) ⊎ IsPastBefore limit hs leads.0 leads.1 s
+
+abbrev pub PastBefore : Past → Past → Type 0
+PastBefore t s = IsPastBefore t.limit t.history t.world t.leads s
+
+-- this one, or one up to a session before it
+abbrev pub PastUpTo : Past → Past → Type 0
+PastUpTo t s = (s ≡ t) ⊎ PastBefore t s
+
 -- A database that was a node in such a session, by its name.
 pub record Moment (Was : World → Type 0) : Type 0 where
   pub session : World

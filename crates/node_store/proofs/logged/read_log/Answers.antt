@@ -18,7 +18,7 @@ returns-in-Ok-clause-looks g c p ready memory =
     let seen = sight-idle b.kept (c.args.database.now.idle c.requires.up) ∙ ready.fits.held.1 in
     let m = ready.fits.held.0 in
     let found = c.in-Ok.ensures.says m (logs_in p.node) seen (holds_logs p.node m ready.fits.held.2.node_held)
-    ready.spelled.logged (c.first_of-first.ensures.ended p ready) in (
+    ready.spelled.logged (c.first_of-first.ensures.over p ready) in (
       λ n is. subst (λ (o : Option Node). HasLogged c.args.origin (delta c.args.origin c.args.tables.now
           (seen_as c.args.old.now) (seen_as c.args.new.now) (logs_in o)) c.in-Ok.found.rows c.in-Ok.found.actions) is
           found,
@@ -42,4 +42,4 @@ returns-in-Err-clause-looks g c p ready memory =
       fault_is = c.fall.ensures.fault;
     }) memory
     (c.in-Err.ensures.says m (logs_in p.node) seen (holds_logs p.node m ready.fits.held.2.node_held)
-    ready.spelled.logged (c.first_of-first.ensures.ended p ready))
+    ready.spelled.logged (c.first_of-first.ensures.over p ready))

@@ -1,11 +1,12 @@
 use Rattle.std.proofs.Common.{◌≡◌, ◌∙◌, refl, Err, List, ℕ, arith}
-use Rattle.slon_model.specs.Config.{Config, names_of}
+use Rattle.slon_model.specs.Config.{Config}
 use Rattle.slon_model.specs.Deeds.{knowledge}
 use Rattle.app_store.specs.Base.{base_of}
 use Rattle.app_store.proofs.Pending.{sight-idle}
 use Rattle.app_store.proofs.Upright.{up_at}
 use Rattle.node_store.proofs.Emitted.{held_node}
 use Rattle.node_store.proofs.Lookups.{look_gives, look_stops, look_fits}
+use Rattle.remote_worker.specs.Keeping.{names_to}
 use Rattle.remote_worker.proofs.fetching.tables_of.Goals as goal
 
 pub returns-in-Ok-clause-looks : goal.returns-in-Ok-clause-looks
@@ -33,6 +34,6 @@ returns-in-Err-clause-looks g c p ready memory =
       rose = λ failed. c.in-Err.ensures.safe.rises failed _ (omega arith);
       fault_is = c.fall.ensures.fault;
     }) memory
-    (look_gives (λ (k : Config) (names : List (List ℕ)). names ≡ names_of c.args.set k) p ready.fits.held.0
+    (look_gives (λ (k : Config) (names : List (List ℕ)). names ≡ names_to c.args.id c.args.set k) p ready.fits.held.0
     (Err c.in-Err.stop) ready.fits.held.2.node_held
     (λ k held orderly. c.in-Err.ensures.says ready.fits.held.0 k seen held orderly))

@@ -27,8 +27,8 @@ fetch_between-requires-clause-up g c =
           server_held,
     )
 
-pub fetch_between-requires-clause-node : goal.fetch_between-requires-clause-node
-fetch_between-requires-clause-node g c =
+pub fetch_between-requires-clause-nodes : goal.fetch_between-requires-clause-nodes
+fetch_between-requires-clause-nodes g c =
     let olds = c.args.databases.now in
     let cut = c.split_at_mut-front in
     let front = cut.result.0.now in
@@ -43,7 +43,12 @@ fetch_between-requires-clause-node g c =
     } in
     let own_held = subst (λ z. z ≡ get_or olds at.from z) c.index-front-spots.is
     (held_front olds front back at.from at.to own h c.index-front-spots.is) in
-    c.requires.visiting.node (get_or front at.from own) own_held
+    let server = c.index-back-0.result in
+    let server_held = subst (λ z. z ≡ get_or olds at.to z) c.index-back-0.is
+    (held_back olds front back at.from at.to server h c.index-back-0.is) in (
+      c.requires.visiting.node (get_or front at.from own) own_held,
+      c.requires.visiting.other_node (get_or back 0 server) server_held,
+    )
 
 pub fetch_between-requires-else-spots-clause-up : goal.fetch_between-requires-else-spots-clause-up
 fetch_between-requires-else-spots-clause-up g c =
@@ -69,8 +74,8 @@ fetch_between-requires-else-spots-clause-up g c =
           server_held,
     )
 
-pub fetch_between-requires-else-spots-clause-node : goal.fetch_between-requires-else-spots-clause-node
-fetch_between-requires-else-spots-clause-node g c =
+pub fetch_between-requires-else-spots-clause-nodes : goal.fetch_between-requires-else-spots-clause-nodes
+fetch_between-requires-else-spots-clause-nodes g c =
     let olds = c.args.databases.now in
     let cut = c.split_at_mut-front-else-spots in
     let front = cut.result.0.now in
@@ -85,7 +90,12 @@ fetch_between-requires-else-spots-clause-node g c =
     } in
     let own_held = subst (λ z. z ≡ get_or olds at.from z) c.index-back-0-else-spots.is
     (held_back olds front back at.to at.from own h c.index-back-0-else-spots.is) in
-    c.requires.visiting.node (get_or back 0 own) own_held
+    let server = c.index-front-spots-else-spots.result in
+    let server_held = subst (λ z. z ≡ get_or olds at.to z) c.index-front-spots-else-spots.is
+    (held_front olds front back at.to at.from server h c.index-front-spots-else-spots.is) in (
+      c.requires.visiting.node (get_or back 0 own) own_held,
+      c.requires.visiting.other_node (get_or front at.to server) server_held,
+    )
 
 pub returns-then-spots : goal.returns-then-spots
 returns-then-spots g c =

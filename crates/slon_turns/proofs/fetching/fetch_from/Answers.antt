@@ -1,5 +1,4 @@
 use Rattle.std.proofs.Common.{◌∙◌, get_or, refl, sym, ap, subst}
-use Rattle.std.specs.List.{position}
 use Rattle.std.proofs.lemmas.List.{get_or_default}
 use Rattle.std.proofs.lemmas.Result.{IfOk-weaker}
 use Rattle.slon_model.specs.declared.reply.Refusal.TheVariants as refused
@@ -10,7 +9,6 @@ use Rattle.slonik_exec.proofs.Seated.{found_inside}
 use Rattle.slonik_exec.proofs.Seating.{runs_quiet}
 use Rattle.slon_turns.specs.declared.fetching.Trip.{Trip}
 use Rattle.slon_turns.specs.Fetching.{BringsFrom}
-use Rattle.slon_turns.specs.Planning.{provider_by}
 use Rattle.slon_turns.proofs.Fetched.{Pointed, brings_brought, provider_down, provider_missed, runs_brought}
 use Rattle.slon_turns.proofs.Fetched.{visiting_at}
 use Rattle.slon_turns.proofs.fetching.fetch_from.Goals as goal
@@ -21,12 +19,9 @@ returns-in_default g c =
     let items = c.args.databases.now in
     let a : Trip = c.args.trip in
     record {
-      runs = runs_quiet (refused.NoNode c.provider_of-node.result) (bases_of kept items) refl;
-      brings = subst (λ n. BringsFrom kept a c.args.index (items, c.args.held.now)
-          (replied.Refused (refused.NoNode n)) (items, c.args.held.now)) (sym c.provider_of-node.ensures)
-          (provider_missed kept a c.args.index items c.args.held.now
-          (ap (λ n. position (is_this n) items) (sym c.provider_of-node.ensures) ∙ sym c.index_of_node.ensures
-          ∙ c.in_default.is));
+      runs = runs_quiet (refused.NoNode a.copying.provider) (bases_of kept items) refl;
+      brings = provider_missed kept a c.args.index items c.args.held.now
+          (sym c.index_of_node.ensures ∙ c.in_default.is);
     }
 
 pub returns-then-not-is_up : goal.returns-then-not-is_up
@@ -35,11 +30,11 @@ returns-then-not-is_up g c =
     let items = c.args.databases.now in
     let a : Trip = c.args.trip in
     let e = get_or items c.in-Some.to c.index-databases-to.result in
-    let at = ap (λ n. position (is_this n) items) (sym c.provider_of-node.ensures) ∙ sym c.index_of_node.ensures
+    let at = sym c.index_of_node.ensures
     ∙ c.in-Some.is
     in
     let held = get_or_default items c.in-Some.to c.index-databases-to.result e
-    (found_inside (is_this (provider_by a.errand)) items c.in-Some.to c.index-databases-to.result at) in
+    (found_inside (is_this a.copying.provider) items c.in-Some.to c.index-databases-to.result at) in
     record {
       runs = runs_quiet (refused.Down c.in_ok-database.database) (bases_of kept items) refl;
       brings = subst (λ n. BringsFrom kept a c.args.index (items, c.args.held.now)
@@ -53,7 +48,7 @@ fetch_both-requires-clause-visiting g c =
     let items = c.args.databases.now in
     let to = c.in-Some.to in
     let x = c.index-databases-to.result in
-    let at = ap (λ n. position (is_this n) items) (sym c.provider_of-node.ensures) ∙ sym c.index_of_node.ensures
+    let at = sym c.index_of_node.ensures
     ∙ c.in-Some.is
     in
     let p : Pointed g.K.Keeper.kept c.args.trip items
@@ -66,7 +61,7 @@ fetch_both-requires-clause-visiting g c =
     } in
     visiting_at x p (λ e held.
     ap (λ z. z.database.state.up)
-    (held ∙ get_or_default items to e x (found_inside (is_this (provider_by c.args.trip.errand)) items to x at))
+    (held ∙ get_or_default items to e x (found_inside (is_this c.args.trip.copying.provider) items to x at))
     ∙ sym c.is_up.ensures ∙ c.if-not-is_up.false)
 
 pub returns : goal.returns
@@ -75,7 +70,7 @@ returns g c =
     let items = c.args.databases.now in
     let to = c.in-Some.to in
     let x = c.index-databases-to.result in
-    let at = ap (λ n. position (is_this n) items) (sym c.provider_of-node.ensures) ∙ sym c.index_of_node.ensures
+    let at = sym c.index_of_node.ensures
     ∙ c.in-Some.is
     in
     let p : Pointed kept c.args.trip items
@@ -90,6 +85,6 @@ returns g c =
       runs = IfOk-weaker c.fetch_both.result _ _ (λ reply d. runs_brought d p) c.fetch_both.ensures.brought;
       brings = IfOk-weaker c.fetch_both.result _ _ (λ reply d. brings_brought d p (λ e held.
           ap (λ z. z.database.state.up)
-          (held ∙ get_or_default items to e x (found_inside (is_this (provider_by c.args.trip.errand)) items to x at))
+          (held ∙ get_or_default items to e x (found_inside (is_this c.args.trip.copying.provider) items to x at))
           ∙ sym c.is_up.ensures ∙ c.if-not-is_up.false)) c.fetch_both.ensures.brought;
     }

@@ -12,7 +12,7 @@ use Rattle.app_store.specs.Base.{Base, base_of}
 use Rattle.node_store.specs.Acting.{own_id}
 use Rattle.remote_worker.specs.Kept.{kept_at}
 use Rattle.remote_worker.specs.Working.{Takes}
-use Rattle.remote_worker.proofs.Abilities.{able_of, due_brings}
+use Rattle.remote_worker.proofs.Abilities.{able_of, due_copies}
 use Rattle.slonik_exec.proofs.Telling.{not_short, words_at}
 use Rattle.slonik_exec.proofs.Works.{ready_still, replied}
 use Rattle.slon_turns.specs.declared.held.Held.{Held}
@@ -124,8 +124,7 @@ plan_anew-requires-clause-node g c =
     let memory = c.args.own.now.database.state.node in (
       subst IsId (sym (took.0 ∙ c.in-Ok.ensures.own.0))
           (own_small memory.identity memory.identified c.requires.node),
-      bringer_of t.state.errand (λ x is.
-          due_brings (subst IsId (sym c.in-Ok.ensures.own.1) c.requires.origin) due is),
+      bringer_of t.state.errand (λ x is. due_copies due is),
     )
 
 pub returns-in-None-clause-can : goal.returns-in-None-clause-can
@@ -137,8 +136,7 @@ returns-in-None-clause-can g c =
     let memory = c.args.own.now.database.state.node in
     let id = subst IsId (sym (took.0 ∙ c.in-Ok.ensures.own.0))
     (own_small memory.identity memory.identified c.requires.node) in
-    let brings = bringer_of t.state.errand (λ x is.
-    due_brings (subst IsId (sym c.in-Ok.ensures.own.1) c.requires.origin) due is) in
+    let brings = bringer_of t.state.errand (λ x is. due_copies due is) in
     IfOk-weaker c.plan_anew.result _ _ (λ plan same. anew_can queue t plan (able_of due, id, brings) same)
     c.plan_anew.ensures.anew
 

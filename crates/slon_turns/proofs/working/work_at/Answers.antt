@@ -7,12 +7,13 @@ use Rattle.slonik_exec.specs.Answering.{Answers}
 use Rattle.slonik_exec.specs.Databases.{bases_of}
 use Rattle.slonik_exec.proofs.Lifting.{runs_worked}
 use Rattle.slonik_exec.proofs.Trying.{runs_then}
-use Rattle.slon_turns.specs.declared.planning.Plan.TheVariants.{Bring}
+use Rattle.slon_turns.specs.declared.planning.Plan.TheVariants.{Bring, Follow}
 use Rattle.slon_turns.specs.Applying.{EndsWith, goal_in}
 use Rattle.slon_turns.specs.Planning.{CanPlan, PlanRuns, PlansAt, PlansFrom}
 use Rattle.slon_turns.specs.Working.{Turn}
 use Rattle.slon_turns.proofs.Listens.{if_both}
 use Rattle.slon_turns.proofs.Mids.{LookedAt, mids_distinct, mids_inside, mids_seat, mids_try, worked_here}
+use Rattle.slon_turns.proofs.Onwards.{carries_followed}
 use Rattle.slon_turns.proofs.Taking.{carries_had, carries_brought, carries_told}
 use Rattle.slon_turns.proofs.working.work_at.Goals as goal
 
@@ -59,7 +60,7 @@ end_at-requires-clause-can g c = (subst (CanPlan c.args.held.now.queue) c.in-Has
 
 pub fetch_from-requires-clause-can : goal.fetch_from-requires-clause-can
 fetch_from-requires-clause-can g c =
-    subst (λ q. CanPlan q (Bring c.in-Bring.taken c.in-Bring.errand)) (sym c.plan_at.ensures.queue)
+    subst (λ q. CanPlan q (Bring c.in-Bring.taken c.in-Bring.copying)) (sym c.plan_at.ensures.queue)
     (subst (CanPlan c.args.held.now.queue) c.in-Bring.is c.in_ok-reply.ensures.can)
 
 pub returns-in-Has-clause-runs : goal.returns-in-Has-clause-runs
@@ -241,6 +242,111 @@ returns-in-Bring-clause-carries g c =
     (base_of kept y.database, mid)) c.in-Bring.is c.in_ok-reply.ensures.plans in
     let from = subst (PlansFrom c.args.work.origin) c.in-Bring.is c.in_ok-reply.ensures.from in
     IfOk-weaker c.fetch_from.result _ _ (λ reply brings.
-    carries_brought {kept = kept} {t = t} {w = c.in-Bring.taken} {c = c.in-Bring.errand} c.fetch_from.new.databases
+    carries_brought {kept = kept} {t = t} {w = c.in-Bring.taken} {c = c.in-Bring.copying} c.fetch_from.new.databases
     (record { look = look; plans = plans; queue = c.plan_at.ensures.queue }, from) brings)
     c.fetch_from.ensures.brings
+
+pub follow_from-requires-clause-can : goal.follow_from-requires-clause-can
+follow_from-requires-clause-can g c =
+    subst (λ q. CanPlan q (Follow c.in-Follow.taken)) (sym c.plan_at.ensures.queue)
+    (subst (CanPlan c.args.held.now.queue) c.in-Follow.is c.in_ok-reply.ensures.can)
+
+pub follow_from-requires-clause-distinct : goal.follow_from-requires-clause-distinct
+follow_from-requires-clause-distinct g c =
+    let kept = g.K.Keeper.kept in
+    let items = c.args.databases.now in
+    let i = c.args.index in
+    let inside = c.requires.seat.0 in
+    let x = get_or items i c.index-databases-index.result in
+    let y = c.plan_at.new.own in
+    let held = get_or_default items i c.index-databases-index.result x inside in
+    let runs = subst (λ p. PlanRuns x.name (base_of kept x.database) p (base_of kept y.database)) c.in-Follow.is
+    c.in_ok-reply.ensures.runs in
+    let look : LookedAt kept items i x y = record {
+      distinct = c.requires.distinct;
+      inside = inside;
+      held = held;
+      name = c.in_ok-reply.ensures.name;
+      acts = runs.0;
+      same = runs.1;
+    } in
+    mids_distinct look
+
+pub follow_from-requires-clause-seat : goal.follow_from-requires-clause-seat
+follow_from-requires-clause-seat g c =
+    let kept = g.K.Keeper.kept in
+    let items = c.args.databases.now in
+    let i = c.args.index in
+    let inside = c.requires.seat.0 in
+    let x = get_or items i c.index-databases-index.result in
+    let y = c.plan_at.new.own in
+    let held = get_or_default items i c.index-databases-index.result x inside in
+    let runs = subst (λ p. PlanRuns x.name (base_of kept x.database) p (base_of kept y.database)) c.in-Follow.is
+    c.in_ok-reply.ensures.runs in
+    let look : LookedAt kept items i x y = record {
+      distinct = c.requires.distinct;
+      inside = inside;
+      held = held;
+      name = c.in_ok-reply.ensures.name;
+      acts = runs.0;
+      same = runs.1;
+    } in
+    mids_seat look c.requires.seat
+
+pub returns-in-Follow-clause-runs : goal.returns-in-Follow-clause-runs
+returns-in-Follow-clause-runs g c =
+    let kept = g.K.Keeper.kept in
+    let items = c.args.databases.now in
+    let i = c.args.index in
+    let inside = c.requires.seat.0 in
+    let x = get_or items i c.index-databases-index.result in
+    let y = c.plan_at.new.own in
+    let held = get_or_default items i c.index-databases-index.result x inside in
+    let runs = subst (λ p. PlanRuns x.name (base_of kept x.database) p (base_of kept y.database)) c.in-Follow.is
+    c.in_ok-reply.ensures.runs in
+    let look : LookedAt kept items i x y = record {
+      distinct = c.requires.distinct;
+      inside = inside;
+      held = held;
+      name = c.in_ok-reply.ensures.name;
+      acts = runs.0;
+      same = runs.1;
+    } in
+    IfOk-weaker c.follow_from.result _ _ (λ reply runs.
+    runs_then reply (bases_of kept items) (bases_of kept (set items i y)) (bases_of kept c.follow_from.new.databases)
+    (mids_try look) runs) c.follow_from.ensures.runs
+
+pub returns-in-Follow-clause-carries : goal.returns-in-Follow-clause-carries
+returns-in-Follow-clause-carries g c =
+    let kept = g.K.Keeper.kept in
+    let items = c.args.databases.now in
+    let i = c.args.index in
+    let inside = c.requires.seat.0 in
+    let x = get_or items i c.index-databases-index.result in
+    let y = c.plan_at.new.own in
+    let held = get_or_default items i c.index-databases-index.result x inside in
+    let old = c.args.held.now in
+    let mid = c.plan_at.new.held in
+    let t : Turn = record {
+      node = c.args.work.node;
+      goal = goal_in c.args.work;
+      index = i;
+      cuts = c.args.cuts.now;
+    } in
+    let runs = subst (λ p. PlanRuns x.name (base_of kept x.database) p (base_of kept y.database)) c.in-Follow.is
+    c.in_ok-reply.ensures.runs in
+    let look : LookedAt kept items i x y = record {
+      distinct = c.requires.distinct;
+      inside = inside;
+      held = held;
+      name = c.in_ok-reply.ensures.name;
+      acts = runs.0;
+      same = runs.1;
+    } in
+    let plans = subst (λ p. PlansAt t.goal t.cuts x.name (base_of kept x.database, old) p
+    (base_of kept y.database, mid)) c.in-Follow.is c.in_ok-reply.ensures.plans in
+    let from = subst (PlansFrom c.args.work.origin) c.in-Follow.is c.in_ok-reply.ensures.from in
+    IfOk-weaker c.follow_from.result _ _ (λ reply follows.
+    carries_followed {kept = kept} {t = t} {w = c.in-Follow.taken} c.follow_from.new.databases
+    (record { look = look; plans = plans; queue = c.plan_at.ensures.queue }, from) follows)
+    c.follow_from.ensures.follows

@@ -30,27 +30,6 @@ Due f s = when (is_unbuilt s (feed_as f)) (refused.NotBuilt (codes "subscribe"))
 abbrev Unbuilt : Option Reply
 Unbuilt = Some (Refused (refused.NotBuilt (codes "subscribe")))
 
--- what the check makes of it, where the provider is the node or not
-built_is : (name : List ℕ) (p : Place) (n : Node) (old : Base) (f : NewFeed) (own : Bool) →
-    Ready p old × (p.node ≡ Some n) → (old.memory.up ≡ true) × (is_id f.provider old.memory.identity ≡ own) →
-    first_refusal (Due f (seat name p n))
-    ≡ first_refusal (when (not own || is_some (pair_at f.set_id f.receiver (knowledge n).config.subscriptions))
-    (refused.NotBuilt (codes "subscribe")) ∷ [])
-built_is name p n old f own ready (up, is) =
-    ap (λ b. first_refusal (when (not b || is_some (pair_at f.set_id f.receiver (knowledge n).config.subscriptions))
-    (refused.NotBuilt (codes "subscribe")) ∷ [])) (own_test p n old f.provider own ready up is)
-
-pub returns-then-not-is_own-clause-refuses : goal.returns-then-not-is_own-clause-refuses
-returns-then-not-is_own-clause-refuses g c =
-    let name = c.args.seat.now.name in
-    let f = c.args.feed in
-    let old = base_of g.K.Keeper.kept c.args.seat.now.database in
-    let at : AtSeat name (Due f) old Unbuilt old = λ p n ready is.
-    RefusedAt (refused.NotBuilt (codes "subscribe")) (built_is name p n old f false (ready, is)
-    (c.requires.up, sym c.is_own.ensures ∙ c.if-not-is_own.true)) refl ready.fits in
-    if_ok (λ found. found ≡ Unbuilt) (λ found. AtSeat name (Due f) old found old) c.unbuilt.result
-    (λ found is. subst (λ o. AtSeat name (Due f) old o old) (sym is) at) c.unbuilt.ensures
-
 pub returns-in-Ok-true-clause-refuses : goal.returns-in-Ok-true-clause-refuses
 returns-in-Ok-true-clause-refuses g c =
     let name = c.args.seat.now.name in
@@ -60,23 +39,20 @@ returns-in-Ok-true-clause-refuses g c =
     let done = refuses name (Due f) (refused.NotBuilt (codes "subscribe")) refl (looked_by (Says f)
     (c.in-Ok-true.is ∙ ap (λ b. Ok b) c.in-Ok-true.field-0-test) c.knows_receiver.ensures.acts
     (c.knows_receiver.ensures.looks, c.knows_receiver.ensures.same))
-    (λ p n ready is says. built_is name p n old f true (ready, is)
-    (c.requires.up, sym c.is_own.ensures ∙ c.if-not-is_own.false)
-    ∙ ap (λ b. first_refusal (when b (refused.NotBuilt (codes "subscribe")) ∷ [])) (sym (says n is))) in
-    if_ok (λ found. found ≡ Unbuilt) (λ found. AtSeat name (Due f) old found new) c.unbuilt-in-Ok-true.result
-    (λ found is. subst (λ o. AtSeat name (Due f) old o new) (sym is) done.refuses) c.unbuilt-in-Ok-true.ensures
+    (λ p n ready is says.
+    ap (λ b. first_refusal (when b (refused.NotBuilt (codes "subscribe")) ∷ [])) (sym (says n is))) in
+    if_ok (λ found. found ≡ Unbuilt) (λ found. AtSeat name (Due f) old found new) c.unbuilt.result
+    (λ found is. subst (λ o. AtSeat name (Due f) old o new) (sym is) done.refuses) c.unbuilt.ensures
 
 pub returns-in-Ok-false-clause-refuses : goal.returns-in-Ok-false-clause-refuses
 returns-in-Ok-false-clause-refuses g c =
     let name = c.args.seat.now.name in
     let f = c.args.feed in
-    let old = base_of g.K.Keeper.kept c.args.seat.now.database in
     (passes name (Due f) (looked_by (Says f)
     (c.in-Ok-false.is ∙ ap (λ b. Ok b) c.in-Ok-false.field-0-test) c.knows_receiver.ensures.acts
     (c.knows_receiver.ensures.looks, c.knows_receiver.ensures.same))
-    (λ p n ready is says. built_is name p n old f true (ready, is)
-    (c.requires.up, sym c.is_own.ensures ∙ c.if-not-is_own.false)
-    ∙ ap (λ b. first_refusal (when b (refused.NotBuilt (codes "subscribe")) ∷ [])) (sym (says n is)))).refuses
+    (λ p n ready is says.
+    ap (λ b. first_refusal (when b (refused.NotBuilt (codes "subscribe")) ∷ [])) (sym (says n is)))).refuses
 
 pub returns-in_ok-told-in-Err : goal.returns-in_ok-told-in-Err
 returns-in_ok-told-in-Err g c =

@@ -1,0 +1,122 @@
+use Rattle.std.proofs.Common.{◌≡◌, ◌∙◌, true, get_or, set, None, Some, map, sym, subst}
+use Rattle.std.proofs.lemmas.List.{get_or_default}
+use Rattle.std.proofs.lemmas.Result.{IfOk-weaker}
+use Rattle.std.specs.List.{AllByRecursion}
+use Rattle.store_rows.specs.Rows.{IsId}
+use Rattle.event_store.specs.declared.event.Event.{Event}
+use Rattle.event_store.specs.Seen.{seen_event}
+use Rattle.app_store.specs.Base.{base_of}
+use Rattle.remote_worker.specs.Keeping.{seen_kept}
+use Rattle.remote_worker.specs.Loading.{CanFetch, CanLoad}
+use Rattle.remote_worker.specs.Working.{IsAble, waits_as}
+use Rattle.slonik_exec.specs.Databases.{bases_of}
+use Rattle.slonik_exec.proofs.Distinct.{distinct_tries}
+use Rattle.slonik_exec.proofs.Lifting.{runs_worked}
+use Rattle.slonik_exec.proofs.Trying.{runs_then}
+use Rattle.slon_turns.specs.declared.following.Looked.TheVariants.{Told, Gives}
+use Rattle.slon_turns.specs.Following.{CanGive, FollowsAll, RunsLooked, Way}
+use Rattle.slon_turns.proofs.Follows.{seat_same}
+use Rattle.slon_turns.proofs.Listens.{if_both}
+use Rattle.slon_turns.proofs.Mids.{worked_here}
+use Rattle.slon_turns.proofs.Onwards.{EndsOnward, event_same, sets_ended, sets_stopped}
+use Rattle.slon_turns.proofs.Several.{AreRead}
+use Rattle.slon_turns.proofs.following.follow_sets.Goals as goal
+
+pub follow_all-requires-clause-can : goal.follow_all-requires-clause-can
+follow_all-requires-clause-can g c = (subst IsId (sym c.requires.own) c.requires.can.0.1, c.requires.can.1)
+
+pub returns-in-Told : goal.returns-in-Told
+returns-in-Told g c =
+    let kept = g.K.Keeper.kept in
+    let ds = c.args.databases.now in
+    let news = c.follow_all.new.databases in
+    let way = c.args.way in
+    let t : Way = record { node = way.node; index = way.index; cuts = way.cuts.now } in
+    let ks = map seen_kept c.args.sets in
+    let found = c.in_ok-reply.ensures in
+    record {
+      runs = subst (λ o. RunsLooked (bases_of kept ds) o (bases_of kept news)) c.in-Told.is found.runs;
+      follows = sets_stopped {x = c.args.round} kept t ds news (λ o is.
+          subst (λ (e : Event). FollowsAll kept t (seen_event e) ks ds (Told c.in-Told.reply) news)
+          (event_same (sym c.in-Some.ensures) is)
+          (subst (λ o. FollowsAll kept t (seen_event c.in-Some.event.now) ks ds o news) c.in-Told.is found.follows));
+    }
+
+pub end_at-requires-clause-able : goal.end_at-requires-clause-able
+end_at-requires-clause-able g c =
+    let queue = c.args.held.now.queue in
+    let taken = c.args.round.taken in
+    subst (λ o. IsAble (waits_as o c.with-fetched.result.state.number queue)) (sym c.with-fetched.ensures.origin)
+    (subst (λ n. IsAble (waits_as taken.origin n queue)) (sym c.with-fetched.ensures.number) c.requires.can.0.0)
+
+pub end_at-requires-clause-can : goal.end_at-requires-clause-can
+end_at-requires-clause-can g c =
+    subst CanLoad (sym c.with-fetched.ensures.load_is)
+    (subst (CanGive (AllByRecursion CanFetch)) c.in-Gives.is c.in_ok-reply.ensures.can)
+
+pub end_at-requires-clause-up : goal.end_at-requires-clause-up
+end_at-requires-clause-up g c =
+    let kept = g.K.Keeper.kept in
+    let ds = c.args.databases.now in
+    let news = c.follow_all.new.databases in
+    let i = c.args.way.index in
+    let runs = subst (λ o. RunsLooked (bases_of kept ds) o (bases_of kept news)) c.in-Gives.is
+    c.in_ok-reply.ensures.runs in
+    let distinct = distinct_tries true None (bases_of kept ds) (bases_of kept news) runs.0 c.requires.distinct in
+    let seat = seat_same kept ds news i runs.1 distinct c.requires.seat in
+    let y = get_or news i c.index-databases-way.result in
+    let held = get_or_default news i c.index-databases-way.result y seat.0 in
+    (seat.1 y held).here.up y held
+
+pub end_at-requires-clause-node : goal.end_at-requires-clause-node
+end_at-requires-clause-node g c =
+    let kept = g.K.Keeper.kept in
+    let ds = c.args.databases.now in
+    let news = c.follow_all.new.databases in
+    let i = c.args.way.index in
+    let runs = subst (λ o. RunsLooked (bases_of kept ds) o (bases_of kept news)) c.in-Gives.is
+    c.in_ok-reply.ensures.runs in
+    let distinct = distinct_tries true None (bases_of kept ds) (bases_of kept news) runs.0 c.requires.distinct in
+    let seat = seat_same kept ds news i runs.1 distinct c.requires.seat in
+    let y = get_or news i c.index-databases-way.result in
+    let held = get_or_default news i c.index-databases-way.result y seat.0 in
+    (seat.1 y held).node y held
+
+pub returns-in-Gives : goal.returns-in-Gives
+returns-in-Gives g c =
+    let kept = g.K.Keeper.kept in
+    let ds = c.args.databases.now in
+    let news = c.follow_all.new.databases in
+    let way = c.args.way in
+    let i = way.index in
+    let t : Way = record { node = way.node; index = i; cuts = way.cuts.now } in
+    let x = c.args.round in
+    let ks = map seen_kept c.args.sets in
+    let fetches = c.in-Gives.fetches in
+    let found = c.in_ok-reply.ensures in
+    let runs = subst (λ o. RunsLooked (bases_of kept ds) o (bases_of kept news)) c.in-Gives.is found.runs in
+    let distinct = distinct_tries true None (bases_of kept ds) (bases_of kept news) runs.0 c.requires.distinct in
+    let seat = seat_same kept ds news i runs.1 distinct c.requires.seat in
+    let read : AreRead kept i ds news = record { distinct = distinct; seat = seat; tries = runs.0; same = runs.1 } in
+    let y = get_or news i c.index-databases-way.result in
+    let z = c.end_at.new.own in
+    let held = get_or_default news i c.index-databases-way.result y seat.0 in
+    let follows : (o : Event) → waits_as x.taken.origin x.taken.state.number c.args.held.now.queue ≡ Some o →
+    FollowsAll kept t (seen_event o) ks ds (Gives fetches) news = λ o is.
+    subst (λ (e : Event). FollowsAll kept t (seen_event e) ks ds (Gives fetches) news)
+    (event_same (sym c.in-Some.ensures) is)
+    (subst (λ o. FollowsAll kept t (seen_event c.in-Some.event.now) ks ds o news) c.in-Gives.is found.follows) in
+    record {
+      runs = IfOk-weaker c.end_at.result _ _ (λ reply answers.
+          runs_then reply (bases_of kept ds) (bases_of kept news) (bases_of kept (set news i z)) runs.0
+          (runs_worked reply (worked_here kept news i y z distinct (seat.0, held) c.end_at.ensures.name) answers))
+          c.end_at.ensures.answers;
+      follows = if_both c.end_at.result (λ reply answers ends.
+          sets_ended {t = t} {x = x} z fetches (read, c.requires.seat.0) follows (λ e at.
+          let same = at ∙ get_or_default news i e c.index-databases-way.result seat.0 in
+          subst (λ q. (z.name ≡ q.name) × EndsOnward x fetches q.name (base_of kept q.database, c.args.held.now) reply
+          (base_of kept z.database, c.end_at.new.held)) (sym same) (
+            c.end_at.ensures.name,
+            record { fetched = c.with-fetched.result; with = c.with-fetched.ensures; answers = answers; ends = ends },
+          ))) c.end_at.ensures.answers c.end_at.ensures.ends;
+    }

@@ -1,0 +1,265 @@
+// A node reads what was logged for the sets that it keeps, each set at its provider.
+ghost use Rattle.std.specs.Prelude.{◌≡◌, ℕ, true, is_some, IfOk, map};
+ghost use Rattle.std.specs.List.{AllByRecursion};
+ghost use Rattle.slon_base.specs.Codec.{AllAre};
+ghost use Rattle.store_rows.specs.Rows.{IsId};
+ghost use Rattle.event_store.specs.Seen.{seen_event};
+ghost use Rattle.app_store.specs.Base.{base_of};
+ghost use Rattle.slonik_exec.specs.Databases.{bases_of, Runs};
+ghost use Rattle.slonik_exec.specs.Heard.{AreDistinct};
+ghost use Rattle.slonik_exec.specs.Turning.{IsSeatHere};
+ghost use Rattle.slonik_exec.specs.declared.reaching.Reached.TheVariants.{At};
+ghost use Rattle.remote_worker.specs.Keeping.{CanFollow, seen_kept};
+ghost use Rattle.remote_worker.specs.Loading.{CanFetch};
+ghost use Rattle.slon_turns.specs.declared.planning.Plan.TheVariants.{Follow as ToFollow};
+ghost use Rattle.slon_turns.specs.Following.{CanGive, FollowsAll, FollowsAt, FollowsFrom, FollowsOne, FollowsSets};
+ghost use Rattle.slon_turns.specs.Following.{GivesAt, KeepsAt, RunsLooked, TakesAt};
+ghost use Rattle.slon_turns.specs.Planning.{CanPlan};
+
+use crate::held::Held;
+use crate::planning::check_link;
+use crate::working::{Aim, end_at};
+use event_store::Event;
+use node_keeper::Keeper;
+use remote_worker::{KeptSet, Load, SetFetch, Taken, Worker, check_provider, fetch_of, sets_of};
+use slon_base::Many;
+use slon_model::{Refusal, Reply};
+use slonik_exec::{Named, NoMemory, index_of_node, told};
+use std::alloc::Global;
+
+/// A node that reads at others: the index of its database, its id, and the pairs of nodes that are cut off.
+#[derive(Clone, Copy)]
+pub(crate) struct Way<'a> {
+    pub(crate) index: usize,
+    pub(crate) node: u32,
+    pub(crate) cuts: &'a [(u32, u32)],
+}
+
+/// What came of reading something.
+#[derive(Drop)]
+pub(crate) enum Looked<T: Drop> {
+    /// It was not read, and this is replied.
+    Told(Reply),
+    /// This was read.
+    Gives(T),
+}
+
+/// What the node takes of a set, from a provider whose database this is.
+fn take_log<K: Keeper>(
+    alloc: Global,
+    provider: &mut Named<K>,
+    event: &Event,
+    kept: KeptSet,
+) -> Result<Looked<SetFetch>, NoMemory>
+    requires up { provider.old.database.state.up ≡ true }
+    requires can { CanFollow kept }
+    ensures can { IfOk result (CanGive CanFetch) }
+    ensures gives { IfOk result (λ given. GivesAt (seen_event event.now) (seen_kept kept) provider.old.name
+        (base_of K.kept provider.old.database) given (base_of K.kept provider.new.database)) }
+    ensures name { provider.new.name ≡ provider.old.name }
+{
+    match fetch_of(&mut provider.database, event, kept) {
+        Ok(fetch) => Ok(Looked::Gives(fetch)),
+        Err(fault) => Ok(Looked::Told(told(alloc, &provider.name, fault)?)),
+    }
+}
+
+/// What the node takes of a set, from the provider whose database this is, unless 62 that does not know the node, or 63
+/// it has not met the event.
+fn take_set<K: Keeper>(
+    alloc: Global,
+    provider: &mut Named<K>,
+    node: u32,
+    event: &Event,
+    kept: KeptSet,
+) -> Result<Looked<SetFetch>, NoMemory>
+    requires up { provider.old.database.state.up ≡ true }
+    requires node { is_some provider.old.database.state.node.identity ≡ true }
+    requires can { IsId node × CanFollow kept }
+    ensures can { IfOk result (CanGive CanFetch) }
+    ensures takes { IfOk result (λ given. TakesAt (record { node = node; event = seen_event event.now })
+        (seen_kept kept) provider.old.name (base_of K.kept provider.old.database) given
+        (base_of K.kept provider.new.database)) }
+    ensures name { provider.new.name ≡ provider.old.name }
+{
+    match check_provider(&mut provider.database, node, kept.provider, event) {
+        Ok(refusal) => match refusal {
+            Some(refusal) => Ok(Looked::Told(Reply::Refused(refusal))),
+            None => take_log(alloc, provider, event, kept),
+        },
+        Err(fault) => Ok(Looked::Told(told(alloc, &provider.name, fault)?)),
+    }
+}
+
+/// The same from the provider, which is sought: 44 there is none, 16 it is down, 62, 63.
+fn follow_at<K: Keeper>(
+    alloc: Global,
+    databases: &mut [Named<K>],
+    node: u32,
+    event: &Event,
+    kept: KeptSet,
+) -> Result<Looked<SetFetch>, NoMemory>
+    requires distinct { AreDistinct (bases_of K.kept databases.old) }
+    requires can { IsId node × CanFollow kept }
+    ensures can { IfOk result (CanGive CanFetch) }
+    ensures runs { IfOk result (λ given. RunsLooked (bases_of K.kept databases.old) given
+        (bases_of K.kept databases.new)) }
+    ensures follows { IfOk result (λ given. FollowsAt K.kept
+        (record { node = node; event = seen_event event.now }) (seen_kept kept) databases.old given databases.new) }
+{
+    let Some(to) = index_of_node(databases, kept.provider) else {
+        let node = kept.provider;
+        return Ok(Looked::Told(Reply::Refused(Refusal::NoNode { node })));
+    };
+    let provider = &mut databases[to];
+    if !provider.database.is_up() {
+        let database = provider.name.copy(alloc)?;
+        return Ok(Looked::Told(Reply::Refused(Refusal::Down { database })));
+    }
+    take_set(alloc, provider, node, event, kept)
+}
+
+/// The same, unless 75 the node has no path to the provider, 68 it is cut off from it, or 44 it is the provider itself.
+fn follow_one<K: Keeper>(
+    alloc: Global,
+    databases: &mut [Named<K>],
+    way: Way<'_>,
+    event: &Event,
+    kept: KeptSet,
+) -> Result<Looked<SetFetch>, NoMemory>
+    requires distinct { AreDistinct (bases_of K.kept databases.old) }
+    requires seat { IsSeatHere databases.old (At way.index) }
+    requires can { IsId way.node × CanFollow kept }
+    ensures can { IfOk result (CanGive CanFetch) }
+    ensures runs { IfOk result (λ given. RunsLooked (bases_of K.kept databases.old) given
+        (bases_of K.kept databases.new)) }
+    ensures follows { IfOk result (λ given. FollowsOne K.kept
+        (record { node = way.entry.node; index = way.entry.index; cuts = way.entry.cuts.now }) (seen_event event.now)
+        (seen_kept kept) databases.old given databases.new) }
+{
+    let own = &mut databases[way.index];
+    if let Some(reply) = check_link(alloc, own, way.cuts, way.node, kept.provider)? {
+        return Ok(Looked::Told(reply));
+    }
+    follow_at(alloc, databases, way.node, event, kept)
+}
+
+/// The same of each of these sets, the first one first.
+fn follow_all<K: Keeper>(
+    alloc: Global,
+    databases: &mut [Named<K>],
+    way: Way<'_>,
+    event: &Event,
+    sets: Many<KeptSet>,
+) -> Result<Looked<Many<SetFetch>>, NoMemory>
+    requires distinct { AreDistinct (bases_of K.kept databases.old) }
+    requires seat { IsSeatHere databases.old (At way.index) }
+    requires can { IsId way.node × AllAre CanFollow sets }
+    ensures can { IfOk result (CanGive (AllByRecursion CanFetch)) }
+    ensures runs { IfOk result (λ given. RunsLooked (bases_of K.kept databases.old) given
+        (bases_of K.kept databases.new)) }
+    ensures follows { IfOk result (λ given. FollowsAll K.kept
+        (record { node = way.entry.node; index = way.entry.index; cuts = way.entry.cuts.now }) (seen_event event.now)
+        (map seen_kept sets) databases.old given databases.new) }
+{
+    let mut fetches = Many::new(alloc);
+    for kept in sets.into_vec() {
+        match follow_one(alloc, databases, way, event, kept)? {
+            Looked::Told(reply) => return Ok(Looked::Told(reply)),
+            Looked::Gives(fetch) => fetches.push(fetch)?,
+        }
+    }
+    Ok(Looked::Gives(fetches))
+}
+
+/// The sets of the event's origin that the node, whose database this is, keeps, as it is to take the SYNC.
+fn read_sets<K: Keeper>(
+    alloc: Global,
+    own: &mut Named<K>,
+    node: u32,
+    event: &Event,
+) -> Result<Looked<Many<KeptSet>>, NoMemory>
+    requires up { own.old.database.state.up ≡ true }
+    requires node { is_some own.old.database.state.node.identity ≡ true }
+    requires id { IsId node }
+    ensures can { IfOk result (CanGive (AllAre CanFollow)) }
+    ensures keeps { IfOk result (λ given. KeepsAt (record { node = node; event = seen_event event.now }) own.old.name
+        (base_of K.kept own.old.database) given (base_of K.kept own.new.database)) }
+    ensures name { own.new.name ≡ own.old.name }
+{
+    match sets_of(&mut own.database, node, event) {
+        Ok(sets) => Ok(Looked::Gives(sets)),
+        Err(fault) => Ok(Looked::Told(told(alloc, &own.name, fault)?)),
+    }
+}
+
+/// An event that a node took, and what becomes of what comes with it.
+#[derive(Drop)]
+pub(crate) struct Round {
+    pub(crate) taken: Worker<Taken>,
+    pub(crate) aim: Aim,
+}
+
+/// The node of the database at this index reads what was logged for these sets, which it keeps of the origin of the
+/// event, and keeps that or applies the event.
+fn follow_sets<K: Keeper>(
+    alloc: Global,
+    databases: &mut [Named<K>],
+    way: Way<'_>,
+    held: &mut Held,
+    round: Round,
+    sets: Many<KeptSet>,
+) -> Result<Reply, NoMemory>
+    requires distinct { AreDistinct (bases_of K.kept databases.old) }
+    requires seat { IsSeatHere databases.old (At way.index) }
+    requires can { CanPlan held.old.queue (ToFollow round.taken) × AllAre CanFollow sets }
+    requires own { way.node ≡ round.taken.node }
+    ensures runs { IfOk result (λ reply. Runs (bases_of K.kept databases.old) reply
+        (bases_of K.kept databases.new)) }
+    ensures follows { IfOk result (λ reply. FollowsSets K.kept
+        (record { node = way.entry.node; index = way.entry.index; cuts = way.entry.cuts.now }) round
+        (map seen_kept sets)
+        (databases.old, held.old) reply (databases.new, held.new)) }
+{
+    let Round { taken, aim } = round;
+    let Some(event) = held.queue.get(taken.origin, taken.state.number) else {
+        unreachable!()
+    };
+    match follow_all(alloc, databases, way, event, sets)? {
+        Looked::Told(reply) => Ok(reply),
+        Looked::Gives(fetches) => {
+            let fetched = taken.with(Some(Load::Syncs(fetches)));
+            end_at(alloc, &mut databases[way.index], held, fetched, aim)
+        }
+    }
+}
+
+/// The node of the database at this index reads what was logged for the sets that it keeps of the origin of the event,
+/// each at its provider, and keeps it or applies the event. It is refused where one of them cannot be read, and where
+/// the event is applied 66 an open transaction of the node wrote a table that is to be changed.
+pub(crate) fn follow_from<K: Keeper>(
+    alloc: Global,
+    databases: &mut [Named<K>],
+    way: Way<'_>,
+    held: &mut Held,
+    round: Round,
+) -> Result<Reply, NoMemory>
+    requires distinct { AreDistinct (bases_of K.kept databases.old) }
+    requires seat { IsSeatHere databases.old (At way.index) }
+    requires can { CanPlan held.old.queue (ToFollow round.taken) }
+    requires own { way.node ≡ round.taken.node }
+    ensures runs { IfOk result (λ reply. Runs (bases_of K.kept databases.old) reply
+        (bases_of K.kept databases.new)) }
+    ensures follows { IfOk result (λ reply. FollowsFrom K.kept
+        (record { node = way.entry.node; index = way.entry.index; cuts = way.entry.cuts.now }) round
+        (databases.old, held.old) reply (databases.new, held.new)) }
+{
+    let node = round.taken.node;
+    let Some(event) = held.queue.get(round.taken.origin, round.taken.state.number) else {
+        unreachable!()
+    };
+    match read_sets(alloc, &mut databases[way.index], node, event)? {
+        Looked::Told(reply) => Ok(reply),
+        Looked::Gives(sets) => follow_sets(alloc, databases, way, held, round, sets),
+    }
+}
