@@ -12,6 +12,7 @@ use Rattle.store_rows.specs.Steps.{Safe, IsOutside, IsWithinLimit, is_failed}
 use Rattle.store_rows.specs.declared.stop.Stop.{Stop}
 use Rattle.store_rows.specs.declared.stop.Stop.TheVariants.{Failed as StopFailed}
 use Rattle.store_rows.proofs.Causes.{stays, spends, rose, outside_within}
+use Rattle.store_rows.proofs.Putting.{none_more}
 use Rattle.app_store.specs.declared.transact.Made.{Made}
 use Rattle.app_store.specs.declared.transact.Made.TheVariants.{Done, InDoubt}
 use Rattle.app_store.specs.Steps.{Knows, Starts, Transacts, Finishes, EndsAs, Leaves, Doubts, Looks, Says}
@@ -69,6 +70,7 @@ start_failed b = record {
   doubts = b.doubts;
   only = tt;
   opened = tt;
+  puts = none_more b.puts;
 }
 
 pub doubted : {T : Type 0} {old new : Kept} → Commits {T = T} old new (Err Failed) → Finishes old new (Ok InDoubt)
@@ -78,6 +80,7 @@ doubted c = record {
   closed = tt;
   doubts = (c.cause.failed refl, c.doubted refl);
   ends = c.in_doubt refl;
+  puts = none_more c.puts;
 }
 
 -- what stands between the calls of a transaction

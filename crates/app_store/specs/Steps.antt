@@ -5,7 +5,7 @@ use Rattle.slon_base.specs.Keeper.{Kept, Store, sight}
 use Rattle.slon_base.specs.Charges.{KeepsTold}
 use Rattle.slon_base.specs.Counts.{Rose}
 use Rattle.store_rows.specs.declared.stop.Stop.{Stop}
-use Rattle.store_rows.specs.Spending.{Stays, Spends, Rests}
+use Rattle.store_rows.specs.Spending.{PutsUpTo, Stays, Spends, Rests}
 use Rattle.store_rows.specs.Steps.{Rises, Gives, IsOutside, IsWithinLimit, is_failed, is_stop_failed}
 use Rattle.app_store.specs.declared.transact.Made.{Made}
 use Rattle.app_store.specs.declared.transact.Made.TheVariants.{Done, InDoubt}
@@ -50,6 +50,7 @@ pub record Starts (old new : Kept) (result : Result (Unit {0}) Stop) : Type 0 wh
   pub doubts : new.doubts ≡ old.doubts
   pub only : IfErr result IsOutside
   pub opened : OnOk result (new.pending ≡ Some old.held)
+  pub puts : PutsUpTo 0 old.puts new.puts
 
 -- no transaction is left pending, but where its commit is in doubt
 abbrev pub Closes : Kept → Result Made Stop → Type 0
@@ -81,6 +82,7 @@ pub record Finishes (old new : Kept) (result : Result Made Stop) : Type 0 where
   pub closed : Closes new result
   pub doubts : Doubts old new result
   pub ends : EndsAs old new result
+  pub puts : PutsUpTo 0 old.puts new.puts
 
 -- what a transaction leaves of what was held: with its change, and where its commit failed with the change or without
 abbrev pub Leaves : (Store → Store) → Store → Result Made Stop → Kept → Type 0

@@ -47,7 +47,7 @@ impl<'a> Put<'a> {
 }
 
 /// Begins.
-#[tactic(auto, using(store_rows::proofs::Causes::stays))]
+#[tactic(auto, using(store_rows::proofs::Causes::stays, store_rows::proofs::Putting::none_more))]
 pub fn begin<K: Keeper>(keeper: &mut K) -> Result<(), Stop>
     requires { is_some (K.kept keeper.old).pending ≡ false }
     ensures { Starts (K.kept keeper.old) (K.kept keeper.new) result }
@@ -60,7 +60,7 @@ pub fn begin<K: Keeper>(keeper: &mut K) -> Result<(), Stop>
 }
 
 /// Commits. It stops only where memory ran out.
-#[tactic(auto, using(store_rows::proofs::Causes::stays))]
+#[tactic(auto, using(store_rows::proofs::Causes::stays, store_rows::proofs::Putting::none_more))]
 pub fn finish<K: Keeper>(keeper: &mut K) -> Result<Made, Stop>
     requires { is_some (K.kept keeper.old).pending ≡ true }
     ensures ends { Finishes (K.kept keeper.old) (K.kept keeper.new) result }

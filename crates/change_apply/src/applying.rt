@@ -1,7 +1,8 @@
 // What actions do to the rows of their tables in a store.
-ghost use Rattle.std.specs.Prelude.{◌≡◌, List, ℕ, Some, true, is_some, IfOk, IfErr};
+ghost use Rattle.std.specs.Prelude.{◌≡◌, List, ℕ, Some, true, is_some, length, IfOk, IfErr};
 ghost use Rattle.slon_base.specs.Codec.{IsText, AllAre};
 ghost use Rattle.slon_base.specs.Keeper.{Store};
+ghost use Rattle.store_rows.specs.Spending.{PutsUpTo};
 ghost use Rattle.store_rows.specs.Steps.{Safe, IsOutside, IsWithinLimit, IsOfSpace};
 ghost use Rattle.store_rows.specs.Space.{IsPending, Becomes};
 ghost use Rattle.slon_model.specs.Rows.{Rows};
@@ -29,6 +30,7 @@ pub(crate) fn apply_change<K: Keeper>(
     requires table { IsText table }
     requires words { CanApply (change_of change) }
     ensures safe { Safe (K.kept keeper.old) (K.kept keeper.new) result }
+    ensures puts { PutsUpTo 1 (K.kept keeper.old).puts (K.kept keeper.new).puts }
     ensures within { IfErr result IsWithinLimit }
     ensures space { IfErr result (IsOfSpace 3) }
     ensures changed { (m : Store) → (K.kept keeper.old).pending ≡ Some (Some m) →
@@ -63,6 +65,7 @@ pub fn apply_action<K: Keeper>(alloc: Global, keeper: &mut K, action: Action) ->
     requires table { IsText action.table }
     requires words { CanApply (change_of action.change) }
     ensures safe { Safe (K.kept keeper.old) (K.kept keeper.new) result }
+    ensures puts { PutsUpTo 1 (K.kept keeper.old).puts (K.kept keeper.new).puts }
     ensures within { IfErr result IsWithinLimit }
     ensures space { IfErr result (IsOfSpace 3) }
     // One row is put or taken away, or none, in whatever store is pending,
@@ -89,6 +92,7 @@ pub fn apply_actions<K: Keeper>(
     requires opened { is_some (K.kept keeper.old).pending ≡ true }
     requires can { CanApplyAll actions }
     ensures safe { Safe (K.kept keeper.old) (K.kept keeper.new) result }
+    ensures puts { PutsUpTo (length actions) (K.kept keeper.old).puts (K.kept keeper.new).puts }
     ensures within { IfErr result IsWithinLimit }
     ensures space { IfErr result (IsOfSpace 3) }
     ensures others { (m : Store) → (K.kept keeper.old).pending ≡ Some (Some m) →

@@ -1,5 +1,5 @@
 // The action of a row.
-ghost use Rattle.std.specs.Prelude.{◌≡◌, ◌↔◌, IsTrue, IfOk, IfErr};
+ghost use Rattle.std.specs.Prelude.{◌≡◌, ◌<◌, ◌↔◌, IsTrue, IfOk, IfErr};
 ghost use Rattle.std.specs.Fmt.{decimal};
 ghost use Rattle.change_capture.specs.Reading.{IsPrinted, AreNamed, AreValues, IsLogOf, HasParts, IsLoggedBy};
 ghost use Rattle.change_capture.specs.Reading.{IsReadFault, Gives, Reads};
@@ -12,10 +12,21 @@ use std::alloc::{AllocError, Global};
 /// The number of the column of the first value behind the key.
 pub(crate) const FIRST_VALUE_COLUMN: u64 = 2;
 
-/// Whether the text is what is printed for this number.
+/// Whether the text is this digit.
+fn is_digit(text: &Text, digit: u8) -> bool
+    requires { digit < 10 }
+    ensures { IsTrue result ↔ (text.now ≡ decimal digit) }
+{
+    text.as_slice() == [b'0' + digit].as_slice()
+}
+
+/// Whether the text is what is printed for this number. Most numbers are digits, and nothing is printed for these.
 fn is_number(alloc: Global, text: &Text, number: u64) -> Result<bool, AllocError>
     ensures { IfOk result (λ is. IsTrue is ↔ (text.now ≡ decimal number)) }
 {
+    if number < 10 {
+        return Ok(is_digit(text, number as u8));
+    }
     let printed = format!(in alloc; "{number}")?;
     Ok(printed.as_str() == text.as_str())
 }
@@ -50,8 +61,14 @@ fn table_of(alloc: Global, namespace: &Text, name: &Text) -> Result<Text, RowFau
     if !is_part(namespace.as_slice()) || !is_part(name.as_slice()) {
         return Err(RowFault::NotCanonical);
     }
-    let (namespace, name) = (namespace.as_str(), name.as_str());
-    Ok(Text::from_string(format!(in alloc; "{namespace}.{name}")?))
+    let mut text = String::with_capacity(
+        alloc,
+        namespace.as_slice().len() + 1 + name.as_slice().len(),
+    )?;
+    text.push_str(namespace.as_str())?;
+    text.push_str(".")?;
+    text.push_str(name.as_str())?;
+    Ok(Text::from_string(text))
 }
 
 /// The columns that are named one after another.

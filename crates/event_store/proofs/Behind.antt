@@ -22,7 +22,7 @@ use Rattle.store_rows.specs.Scan.{ranged, spelled_rows}
 use Rattle.store_rows.specs.Steps.{Gives}
 use Rattle.store_rows.specs.declared.stop.Stop.{Stop}
 use Rattle.store_rows.proofs.Listing.{after_sorted, after_below}
-use Rattle.store_rows.proofs.Numbers.{numbers_ordered}
+use Rattle.slon_base.proofs.Numbers.{behind_front, numbers_ordered}
 use Rattle.slon_model.specs.Events.{Event as Model}
 use Rattle.slon_model.specs.Maps.{ids}
 use Rattle.slon_model.specs.Snapshots.{Rising}
@@ -31,7 +31,6 @@ use Rattle.set_config.specs.Loaded.{same_id}
 use Rattle.set_config.specs.Rows.{row_of}
 use Rattle.set_config.proofs.Entries.{self_eq, not_eq}
 use Rattle.set_config.proofs.Keyed.{id_test}
-use Rattle.set_config.proofs.Ordering.{same_front}
 use Rattle.set_config.proofs.Ranges.{IsRange, are_map, both_are, scanned, scanned_rows, row_found, sorted_in}
 use Rattle.event_store.specs.declared.event.Event.{Event}
 use Rattle.event_store.specs.declared.event.EventRow.{EventRow}
@@ -109,13 +108,13 @@ number_tells p a b one two = by (cases_lt a b) (cases_lt b a)
 
     by : (a < b) ⊎ (b ≤ a) → (b < a) ⊎ (a ≤ b) → is_lt (key_cmp (p ++ x) (p ++ y)) ≡ nat_lt a b
     by (inl less) other =
-        ap is_lt (same_front p x y ∙ numbers_ordered a b less (omega (arith, two))) ∙ sym (lt-ltb a b less)
+        ap is_lt (behind_front p x y ∙ numbers_ordered a b less (omega (arith, two))) ∙ sym (lt-ltb a b less)
     by (inr le) (inl more) =
-        ap is_lt (same_front p x y ∙ nat_list_cmp_total.antisymm x y
+        ap is_lt (behind_front p x y ∙ nat_list_cmp_total.antisymm x y
         ∙ ap ordering_reverse (numbers_ordered b a more (omega (arith, one)))) ∙ sym (le-ltb a b le)
     by (inr le) (inr ge) =
         let same : a ≡ b = omega arith in
-        ap is_lt (same_front p x y ∙ ap (λ k. key_cmp (number_bytes a) (number_bytes k)) (sym same)
+        ap is_lt (behind_front p x y ∙ ap (λ k. key_cmp (number_bytes a) (number_bytes k)) (sym same)
         ∙ tied_itself nat_list_cmp_total x) ∙ sym (le-ltb a b le)
 
 -- ---- rows behind a number

@@ -8,7 +8,7 @@ use Rattle.node_rows.specs.declared.body.Body.TheVariants.{MoveSet, FailoverSet}
 use Rattle.slon_model.specs.Maps.{number_at}
 use Rattle.slon_model.specs.Events.{Event}
 use Rattle.slon_model.specs.Deeds.{knowledge, with_deeds, met}
-use Rattle.slon_model.specs.Views.{Views, views_emitted, with_views}
+use Rattle.slon_model.specs.Views.{Views, views_emitted, views_told, with_views}
 use Rattle.event_store.specs.Keeping.{KeepsViews}
 use Rattle.event_store.specs.Streams.{streams_of, emitted, given}
 use Rattle.event_store.specs.Following.{EmittingAdds, KeepingAdds, ApplyingAdds, CommittingStays, HearingAdds}
@@ -38,7 +38,7 @@ pub applying_adds : ApplyingAdds
 applying_adds n d e b is behind =
     let low = (knowledge n).low in
     let s = streams_of n in
-    let views = with_views b.views s.views in
+    let views = with_views b.views (views_told n.id e.body (knowledge n).config s.views) in
     ap (λ doing. streams_of (with_deeds (record d { doing = doing } ∷ []) n)) is
     ∙ ap (λ b. record (emitted e s) { views = views; events = cond b (e ∷ s.events) s.events })
     (lt-ltb (number_at e.origin low) e.number behind)

@@ -1,4 +1,5 @@
 pub mod Apart
+pub mod Based
 pub mod Behind
 pub mod Clearing
 pub mod Copies

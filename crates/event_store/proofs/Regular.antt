@@ -1,7 +1,7 @@
 -- What holds of the streams of every node holds of them whatever the node does.
 use Rattle.std.proofs.Common.{◌≡◌, ◌∙◌, ℕ, ◌<◌, ◌≤◌, Bool, true, false, cond, List, [], ◌∷◌, map, Some}
 use Rattle.std.proofs.Common.{None, refl, sym, ap, subst, arith, eq-eqb, unwrap_or}
-use Rattle.std.specs.Prelude.{◌==◌, ◌||◌, nat_lt, not}
+use Rattle.std.specs.Prelude.{◌==◌, ◌&&◌, ◌||◌, nat_lt, not}
 use Rattle.std.specs.List.{AllByRecursion}
 use borrow.Author.Tests.{eqb-true}
 use Rattle.slon_base.specs.Codec.{AllAre}
@@ -10,7 +10,11 @@ use Rattle.slon_model.specs.Events.{Event}
 use Rattle.slon_model.specs.Maps.{Map, Map2, entry_at, number_at, row_at, pair_at, with_entry, with_pair}
 use Rattle.slon_model.specs.Deeds.{Doing, Node, Emits, Applies, Commits, Hears, raised, heard, knowledge, held}
 use Rattle.slon_model.specs.Deeds.{with_deeds, noticed, told_to, told_progress}
-use Rattle.slon_model.specs.Views.{Views, views_emitted, with_views}
+use Rattle.slon_model.specs.Config.{Config, forwards}
+use Rattle.slon_model.specs.Views.{View, Views, based, based_at, views_emitted, views_told}
+use Rattle.slon_model.specs.Views.{with_views}
+use Rattle.node_rows.specs.declared.body.Body.{Body}
+use Rattle.node_rows.specs.declared.body.Body.TheVariants.{Sync, SubscribeSet}
 use Rattle.event_store.proofs.Deeds.{kept_views}
 use Rattle.set_config.specs.Holds.{AreIds}
 use Rattle.set_config.proofs.Entries.{entry-with}
@@ -148,6 +152,26 @@ views_ordered [] views ids ordered = ordered
 views_ordered (v ∷ more) views ids ordered =
     ordered_with v.0 v.1 (with_views more views) ids.0 (views_ordered more views ids.1 ordered)
 
+-- views of sets, one of which is logged from here on
+based_ordered : (set : ℕ) (views : Views) → IsOrdered views → IsOrdered (based_at set views)
+based_ordered set views ordered =
+    ordered_mapped (λ v. cond (v.0 == set) (v.0, based v.1) v) views (λ v. same v (v.0 == set)) ordered
+  where
+    same : (v : ℕ × View) (b : Bool) → (cond b (v.0, based v.1) v).0 ≡ v.0
+    same v true = refl
+    same v false = refl
+
+pub told_views_ordered : (own : ℕ) (body : Body) (c : Config) (views : Views) → IsOrdered views →
+    IsOrdered (views_told own body c views)
+told_views_ordered own Sync c views ordered = ordered
+told_views_ordered own (SubscribeSet set provider receiver forward) c views ordered =
+    elim (receiver == own && (forward && not (forwards set own c))) as
+    (λ b. IsOrdered (cond b (based_at set views) views)) [
+      | true ↦ based_ordered set views ordered
+      | false ↦ ordered
+    ]
+told_views_ordered own others c views ordered = ordered
+
 pub regular_stays : RegularStays
 regular_stays n d goes regular = of d.doing goes
   where
@@ -156,8 +180,10 @@ regular_stays n d goes regular = of d.doing goes
         meets_regular n e (views_emitted e e.body (knowledge n).views) goes.0
         (subst IsOrdered (sym (kept_views e e.body (knowledge n).views goes.1)) regular.views) regular
     of (Applies e b) goes =
-        meets_regular n e (with_views b.views (knowledge n).views) goes.0
-        (views_ordered b.views (knowledge n).views goes.1 regular.views) regular
+        let told = views_told n.id e.body (knowledge n).config (knowledge n).views in
+        meets_regular n e (with_views b.views told) goes.0
+        (views_ordered b.views told goes.1
+        (told_views_ordered n.id e.body (knowledge n).config (knowledge n).views regular.views)) regular
     of (Commits xid) goes = record {
       others = regular.others;
       views = regular.views;

@@ -9,7 +9,7 @@ use Rattle.slon_model.specs.Maps.{number_at}
 use Rattle.slon_model.specs.Events.{Event}
 use Rattle.slon_model.specs.Deeds.{Node, Deed, Doing, Brought, Emits, Applies, Commits, Hears, heard, knowledge}
 use Rattle.slon_model.specs.Deeds.{with_deeds}
-use Rattle.slon_model.specs.Views.{views_emitted, with_views}
+use Rattle.slon_model.specs.Views.{views_emitted, views_told, with_views}
 use Rattle.slon_model.specs.Sessions.{Running}
 use Rattle.slon_model.specs.Membership.{first_of_cluster, joining}
 use Rattle.event_store.specs.Keeping.{KeepsViews}
@@ -33,11 +33,14 @@ abbrev pub KeepingAdds : Type 0
 KeepingAdds = (n : Node) (d : Deed) (e : Event) → d.doing ≡ Emits e → IsBehindLow e n → KeepsViews e.body →
     streams_of (with_deeds (d ∷ []) n) ≡ emitted e (streams_of n)
 
--- Applying an event of another node adds it to what the node has, and it keeps of sets what it brings of them.
+-- Applying an event of another node adds it to what the node has, changes the views as the event tells how the node
+-- receives a set, and it keeps of sets what it brings of them.
 abbrev pub ApplyingAdds : Type 0
 ApplyingAdds = (n : Node) (d : Deed) (e : Event) (b : Brought) → d.doing ≡ Applies e b → IsBehindLow e n →
     streams_of (with_deeds (d ∷ []) n)
-    ≡ record (emitted e (streams_of n)) { views = with_views b.views (streams_of n).views }
+    ≡ record (emitted e (streams_of n)) {
+      views = with_views b.views (views_told n.id e.body (knowledge n).config (streams_of n).views);
+    }
 
 -- What an application commits changes nothing of the streams.
 abbrev pub CommittingStays : Type 0

@@ -5,6 +5,7 @@ ghost use Rattle.std.specs.FinMap.{get};
 ghost use Rattle.slon_base.specs.Keeper.{Store, sight};
 ghost use Rattle.slon_base.specs.Codec.{number_bytes};
 ghost use Rattle.store_rows.specs.Rows.{IsId};
+ghost use Rattle.store_rows.specs.Spending.{PutsUpTo};
 ghost use Rattle.store_rows.specs.Steps.{Safe, IsOutside, IsWithinLimit, IsOfSpace, Gives};
 ghost use Rattle.store_rows.specs.Space.{IsPending, Becomes, AllOf};
 ghost use Rattle.slon_model.specs.Maps.{entry_at};
@@ -73,6 +74,7 @@ pub fn store<K: Keeper>(alloc: Global, keeper: &mut K, own: u32, event: &Event) 
     requires opened { is_some (K.kept keeper.old).pending ≡ true }
     requires own { IsId own }
     ensures safe { Safe (K.kept keeper.old) (K.kept keeper.new) result }
+    ensures puts { PutsUpTo 3 (K.kept keeper.old).puts (K.kept keeper.new).puts }
     ensures only { IfErr result IsOutside }
     ensures turns { (base : Store) (s : Streams) → s.own ≡ own →
         IsPending (ShowsStreams base s) (K.kept keeper.old) →

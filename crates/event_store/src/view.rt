@@ -5,9 +5,11 @@ ghost use Rattle.std.specs.FinMap.{get};
 ghost use Rattle.slon_base.specs.Codec.{number_bytes};
 ghost use Rattle.slon_base.specs.Keeper.{Store, sight};
 ghost use Rattle.store_rows.specs.Rows.{IsId};
+ghost use Rattle.store_rows.specs.Spending.{PutsUpTo};
 ghost use Rattle.store_rows.specs.Steps.{Safe, IsOutside, IsWithinLimit, IsOfSpace, Gives};
 ghost use Rattle.store_rows.specs.Space.{IsPending, Becomes, AllOf};
 ghost use Rattle.slon_model.specs.Maps.{entry_at, with_entry};
+ghost use Rattle.slon_model.specs.Views.{based, based_at};
 ghost use Rattle.event_store.specs.Formed.{Lacks, Reads};
 ghost use Rattle.event_store.specs.Holds.{HoldsStreams, ShowsStreams};
 ghost use Rattle.event_store.specs.Kept.{seen_view, HasView};
@@ -111,10 +113,47 @@ pub fn keep_view<K: Keeper>(
     requires set { IsId set }
     requires can { CanView (seen_view view.now) }
     ensures safe { Safe (K.kept keeper.old) (K.kept keeper.new) result }
+    ensures puts { PutsUpTo 1 (K.kept keeper.old).puts (K.kept keeper.new).puts }
     ensures only { IfErr result IsOutside }
     ensures turns { (base : Store) (s : Streams) → IsPending (ShowsStreams base s) (K.kept keeper.old) →
         Becomes (ShowsStreams base (record s { views = with_entry set (seen_view view.now) s.views }))
         (K.kept keeper.new) result }
 {
     put_row(alloc, keeper, VIEWS, &set, view)
+}
+
+/// What is kept of a set, where the node logs from here on what it applies of it.
+fn rebased(alloc: Global, view: &View) -> Result<View, AllocError>
+    ensures { IfOk result (λ v. seen_view v ≡ based (seen_view view.now)) }
+{
+    Ok(View {
+        era: view.era,
+        origin: view.origin,
+        number: view.number,
+        seen: view.seen.copy(alloc)?,
+        base_era: view.era,
+        base: view.seen.copy(alloc)?,
+    })
+}
+
+/// The node logs from here on what it applies of a set, in what is pending: the base of what it keeps of the set
+/// becomes the era and the snapshot that it has reached. Where it keeps nothing of the set, nothing is changed.
+///
+/// # Errors
+///
+/// `BadRow` of space 9 where the row of the set is not in its form, what stopped the store, and `NoMemory`.
+pub fn base_view<K: Keeper>(alloc: Global, keeper: &mut K, set: u32) -> Result<(), Stop>
+    requires opened { is_some (K.kept keeper.old).pending ≡ true }
+    requires set { IsId set }
+    ensures safe { Safe (K.kept keeper.old) (K.kept keeper.new) result }
+    ensures turns { (base : Store) (s : Streams) → IsPending (ShowsStreams base s) (K.kept keeper.old) →
+        Becomes (ShowsStreams base (record s { views = based_at set s.views })) (K.kept keeper.new) result }
+{
+    match find_view(alloc, keeper, set)? {
+        None => Ok(()),
+        Some(view) => {
+            let now = rebased(alloc, &view)?;
+            keep_view(alloc, keeper, set, &now)
+        }
+    }
 }

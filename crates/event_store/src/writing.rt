@@ -2,6 +2,7 @@
 ghost use Rattle.std.specs.Prelude.{◌≡◌, if◌then◌else◌, ◌∷◌, true, is_some, IfOk, IfErr};
 ghost use Rattle.slon_base.specs.Keeper.{Store};
 ghost use Rattle.store_rows.specs.Rows.{IsId};
+ghost use Rattle.store_rows.specs.Spending.{PutsUpTo};
 ghost use Rattle.store_rows.specs.Steps.{Safe, IsOutside};
 ghost use Rattle.store_rows.specs.Space.{IsPending, Becomes};
 ghost use Rattle.node_rows.specs.Spellings.{CanBody};
@@ -44,6 +45,7 @@ fn put_event<K: Keeper>(
     requires name { IsNumbered name }
     requires can { CanSnapshot (seen_as taken.now) × CanBody body.now }
     ensures safe { Safe (K.kept keeper.old) (K.kept keeper.new) result }
+    ensures puts { PutsUpTo 1 (K.kept keeper.old).puts (K.kept keeper.new).puts }
     ensures only { IfErr result IsOutside }
     ensures turns { (base : Store) (s : Streams) → IsPending (ShowsStreams base s) (K.kept keeper.old) →
         let event = event_by name.0 name.1 taken.now body.now in
@@ -65,6 +67,7 @@ fn put_progress<K: Keeper>(
     requires opened { is_some (K.kept keeper.old).pending ≡ true }
     requires can { IsId own × IsId origin × IsStored number }
     ensures safe { Safe (K.kept keeper.old) (K.kept keeper.new) result }
+    ensures puts { PutsUpTo 1 (K.kept keeper.old).puts (K.kept keeper.new).puts }
     ensures only { IfErr result IsOutside }
     ensures turns { (base : Store) (s : Streams) → s.own ≡ own →
         IsPending (ShowsStreams base s) (K.kept keeper.old) →
@@ -91,6 +94,7 @@ fn put_news<K: Keeper>(
     requires opened { is_some (K.kept keeper.old).pending ≡ true }
     requires can { IsId origin × IsStored number }
     ensures safe { Safe (K.kept keeper.old) (K.kept keeper.new) result }
+    ensures puts { PutsUpTo 1 (K.kept keeper.old).puts (K.kept keeper.new).puts }
     ensures only { IfErr result IsOutside }
     ensures turns { (base : Store) (s : Streams) → IsPending (ShowsStreams base s) (K.kept keeper.old) →
         let news = if is_sync body.now then s.news else with_entry origin number s.news in
@@ -116,6 +120,7 @@ pub(crate) fn write_event<K: Keeper>(
     requires name { IsNumbered name }
     requires can { CanSnapshot (seen_as taken.now) × CanBody body.now }
     ensures safe { Safe (K.kept keeper.old) (K.kept keeper.new) result }
+    ensures puts { PutsUpTo 3 (K.kept keeper.old).puts (K.kept keeper.new).puts }
     ensures only { IfErr result IsOutside }
     ensures turns { (base : Store) (s : Streams) → s.own ≡ own →
         IsPending (ShowsStreams base s) (K.kept keeper.old) →

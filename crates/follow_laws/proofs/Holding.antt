@@ -6,7 +6,7 @@ use Rattle.std.specs.Option.{option_or}
 use Rattle.std.specs.List.{AllByRecursion}
 use Rattle.std.proofs.lemmas.Bool.{true≢false}
 use Rattle.node_rows.specs.declared.rows.TableRow.{TableRow}
-use Rattle.slon_model.specs.Maps.{entry_at}
+use Rattle.slon_model.specs.Maps.{Map, entry_at}
 use Rattle.slon_model.specs.Events.{Event}
 use Rattle.slon_model.specs.Config.{era_of, is_origin}
 use Rattle.slon_model.specs.Deciding.{closed_at, decide, move_of}
@@ -18,7 +18,7 @@ use Rattle.slon_model.specs.Moves.{Move, done, prepared, with_commit}
 use Rattle.slon_model.specs.Place.{Place, deed, doubted, fallen, filled_by, filling_of, standing_rows, taken}
 use Rattle.slon_model.specs.Tasks.{Task}
 use Rattle.slon_model.specs.Sessions.{World, Commit, Emission, Seat, committing, emissions, next_event}
-use Rattle.slon_model.specs.Views.{View, view_after}
+use Rattle.slon_model.specs.Views.{View, based, view_after, views_told}
 use Rattle.slon_model.specs.Working.{receives_from}
 use Rattle.slon_model.proofs.Names.{all_found, all_map, one_found}
 use Rattle.slon_laws.proofs.Later.{HoldsOf}
@@ -46,7 +46,8 @@ use Rattle.follow_laws.proofs.Kept.{same_filled, takes_known, tells_ahead}
 use Rattle.view_laws.proofs.Moments.{NodeAt, now_stays}
 use Rattle.follow_laws.proofs.Opened.{open_move}
 use Rattle.view_laws.proofs.Rising.{found_in, stands_found}
-use Rattle.view_laws.proofs.Seen.{seen_more, syncs_seen}
+use Rattle.view_laws.proofs.Seen.{based_seen, seen_more, syncs_seen}
+use Rattle.view_laws.proofs.Turned.{IsBased, IsSame, IsToldAs, found_told}
 use Rattle.view_laws.proofs.Tables.{Today, held_today, held_then, moment_today}
 use Rattle.follow_laws.proofs.Synced.{image_then, synced_nothing}
 use Rattle.view_laws.proofs.Agreeing.{table_known}
@@ -66,7 +67,7 @@ takes_filled : (t : Past) (k : Taking t) (e : ℕ × TableRow) → IsAmong e (kn
     (v : View) → view_of e.1.set_id (knowledge (node_then k)) ≡ Some v →
     IsFilled (WasUpTo t) (place_then k) (node_then k) e.1.set_id v e.1.name
 takes_filled t k e among v found =
-    by k.is.brings (found_in e.1.set_id v k.carried.brought.views (knowledge n).views found)
+    by k.is.brings (found_in e.1.set_id v k.carried.brought.views told found)
   where
     n : Node
     n = k.carried.seat.node
@@ -74,9 +75,33 @@ takes_filled t k e among v found =
     event : Event
     event = k.carried.event
 
+    told : Map View
+    told = views_told n.id event.body (knowledge n).config (knowledge n).views
+
     Kept : Type 0
-    Kept = (entry_at e.1.set_id (knowledge n).views ≡ Some v)
-        × AllByRecursion (λ u. u.0 ≢ e.1.set_id) k.carried.brought.views
+    Kept = (entry_at e.1.set_id told ≡ Some v) × AllByRecursion (λ u. u.0 ≢ e.1.set_id) k.carried.brought.views
+
+    Filled : View → Type 0
+    Filled u = IsFilled (WasUpTo t) (place_then k) (node_then k) e.1.set_id u e.1.name
+
+    -- a view with another base
+    based_filled : (u : View) → Filled u → Filled (based u)
+    based_filled u f = record {
+      seen = based_seen (WasUpTo t) (node_then k) e.1.set_id u f.seen;
+      rows = f.rows;
+      before = f.before;
+    }
+
+    as_told : (u : View) → IsToldAs n.id e.1.set_id event.body (knowledge n).config u v → Filled u → Filled v
+    as_told u (IsSame same) f = subst Filled (sym same) f
+    as_told u (IsBased same turns) f = subst Filled (sym same) (based_filled u f)
+
+    -- where the content of the table is as before
+    still : Kept → content k.carried.seat.place k.carried.brought.rows e.1.name
+        ≡ standing_rows k.carried.seat.place e.1.name → Filled v
+    still old same =
+        let of = found_told n.id e.1.set_id event.body (knowledge n).config (knowledge n).views v old.0 in
+        as_told of.0 of.2 (still_filled t k e (known_before t k e of.0 of.1 among) of.0 of.1 same)
 
     by : IsBrought t k.carried.seat event k.carried.brought →
         IsAmong (e.1.set_id, v) k.carried.brought.views ⊎ Kept →
@@ -84,8 +109,7 @@ takes_filled t k e among v found =
     by (Nothing s) (inl new) =
         absurd (subst (λ (b : Brought). IsAmong (e.1.set_id, v) b.views) s.none new)
     by (Nothing s) (inr old) =
-        still_filled t k e (known_before t k e v old.0 among) v old.0
-        (ap (λ (b : Brought). content k.carried.seat.place b.rows e.1.name) s.none)
+        still old (ap (λ (b : Brought). content k.carried.seat.place b.rows e.1.name) s.none)
     by (Copies c) (inl new) = copied (subst (λ (b : Brought). IsAmong (e.1.set_id, v) b.views) c.is new)
       where
         first : ℕ × View
@@ -106,9 +130,10 @@ takes_filled t k e among v found =
             (copy_filled t k c e there (ap (λ (u : ℕ × View). u.0) is))
         copied (inr never) = absurd never
     by (Copies c) (inr old) =
-        let there = known_before t k e v old.0 among in
+        let of = found_told n.id e.1.set_id event.body (knowledge n).config (knowledge n).views v old.0 in
         let apart = subst (λ (b : Brought). AllByRecursion (λ u. u.0 ≢ e.1.set_id) b.views) c.is old.1 in
-        still_filled t k e there v old.0 (copy_beside t k c e there (λ same. apart.0 (sym same)))
+        still old
+        (copy_beside t k c e (known_before t k e of.0 of.1 among) (λ same. apart.0 (sym same)))
     by (Brings y) (inl new) =
         let of = all_among P (e.1.set_id, v) k.carried.brought.views views new in
         let here = stands_found e.1.set_id of.0 (knowledge n).views (rising_now t k.carried.seat.name n own) of.1 in
@@ -133,8 +158,9 @@ takes_filled t k e among v found =
               is.view,
             )) y.syncs y.kept) tt)
     by (Brings y) (inr old) =
-        let there = known_before t k e v old.0 among in
-        still_filled t k e there v old.0 (sync_content t k y e.1.name
+        let of = found_told n.id e.1.set_id event.body (knowledge n).config (knowledge n).views v old.0 in
+        let there = known_before t k e of.0 of.1 among in
+        still old (sync_content t k y e.1.name
         ∙ synced_nothing t (reading t k y e there) (kept_then t k y) none (standing_rows k.carried.seat.place e.1.name))
       where
         none : AllByRecursion (λ u. u.0 ≢ e.1.set_id) (kept_then t k y)

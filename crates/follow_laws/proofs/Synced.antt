@@ -27,7 +27,6 @@ use Rattle.stream_laws.proofs.Lists.{all_each, all_mapped, all_passed, any_among
 use Rattle.stream_laws.proofs.Seats.{IsSeat, seat_node}
 use Rattle.image_laws.specs.Deltas.{IsRead, applied}
 use Rattle.image_laws.specs.Facts.{IsHeldBy}
-use Rattle.image_laws.specs.Laws.{WasTaken}
 use Rattle.image_laws.proofs.Images.{image_is_committed_rows, reading_leads}
 use Rattle.image_laws.proofs.Logging.{among_filtered, filtered_among}
 use Rattle.view_laws.specs.Contents.{actions_on}
@@ -37,6 +36,7 @@ use Rattle.follow_laws.proofs.Contents.{actions_none, synced, synced_none, synce
 use Rattle.view_laws.proofs.Viewed.{rising_now}
 use Rattle.follow_laws.proofs.Kept.{other_leads}
 use Rattle.view_laws.proofs.Moments.{IsLater, node_now, now_stays, one_name, reached_up_to}
+use Rattle.view_laws.proofs.Divided.{was_taken}
 use Rattle.view_laws.proofs.Numbered.{mapped_among}
 use Rattle.view_laws.proofs.Rising.{found_stands}
 use Rattle.view_laws.proofs.Seen.{newer_seen}
@@ -45,22 +45,6 @@ use Rattle.view_laws.proofs.Tables.{KnownTable, held_then, one_table, table_of, 
 use Rattle.view_laws.proofs.Taken.{Follows, delta_read}
 
 -- ---- moments of the origin
-
--- the snapshot of a moment was taken in the history
-was_taken : (t : Past) (m : Moment (WasUpTo t)) (name : List ℕ) → m.name ≡ name → (k : Snapshot) → k ≡ taken m.place →
-    WasTaken t.limit name t.world k
-was_taken t m name same k is =
-    let r = reached_up_to t m.session m.was in
-    record {
-      history = r.history;
-      later = r.later;
-      before = m.session;
-      leads = r.leads;
-      goes_on = r.goes_on;
-      place = m.place;
-      found = subst (λ k. find_named k m.session.places ≡ Some m.place) same m.found;
-      is = is;
-    }
 
 -- what a snapshot sees of a table is what the table held then
 pub image_then : (t : Past) (m : Moment (WasUpTo t)) (now : Today t m) (set : ℕ) (table : List ℕ) →

@@ -14,12 +14,13 @@ use Rattle.slon_model.specs.declared.command.Delivery.TheVariants.{Lost}
 use Rattle.slon_model.specs.declared.reply.Refusal.{Refusal}
 use Rattle.node_rows.specs.declared.rows.NodeRow.{NodeRow}
 use Rattle.node_rows.specs.declared.rows.SetRow.{SetRow}
+use Rattle.node_rows.specs.declared.rows.Subscription.{Subscription}
 use Rattle.node_rows.specs.declared.rows.TableRow.{TableRow}
 use Rattle.node_rows.specs.declared.body.Body.{Body}
 use Rattle.node_rows.specs.declared.body.Body.TheVariants.{Sync, StoreNode, StorePath, DropPath, StoreSet, DropSet}
 use Rattle.node_rows.specs.declared.body.Body.TheVariants.{SetAddTable, MoveSet, FailoverSet}
 use Rattle.slon_model.specs.Names.{Named, find_named}
-use Rattle.slon_model.specs.Maps.{entry_at}
+use Rattle.slon_model.specs.Maps.{entry_at, pair_at}
 use Rattle.slon_model.specs.Events.{Event}
 use Rattle.slon_model.specs.Config.{Config, change_by, is_origin, is_table_of, era_of, live_set, leads_row, tables_of}
 use Rattle.slon_model.specs.Deeds.{Node, Deed, Doing, Emits, Applies, Hears, Brought, Knowledge, Logged, brought_in}
@@ -32,7 +33,7 @@ use Rattle.slon_model.specs.Membership.{drop_path, becoming, first_of_cluster, j
 use Rattle.slon_model.specs.Reaching.{database_of_line, reach, down_among, any_down, known_somewhere, origin_of, owner}
 use Rattle.slon_model.specs.Reaching.{commit_of, emitting}
 use Rattle.slon_model.specs.Sets.{NewTable, adding, create_set, set_add_table}
-use Rattle.slon_model.specs.Subscribing.{NewFeed, subscribing, feed_bodies, all_tell, subscribe_set}
+use Rattle.slon_model.specs.Subscribing.{NewFeed, subscribing, bodies_of, told_bodies, all_tell, subscribe_set}
 use Rattle.slon_model.specs.Scripts.{ordered}
 use Rattle.slon_model.specs.Turns.{on_turn, sync_turn}
 use Rattle.slon_model.specs.Polls.{Poll, polled, stated_by, hearing}
@@ -389,15 +390,17 @@ no_path_fit server client run w =
 sync_is_quiet : AllByRecursion IsQuiet (Sync ∷ [])
 sync_is_quiet = (λ origin number c. (refl, refl), tt)
 
-feed_is_quiet : (era : ℕ) (f : NewFeed) → AllByRecursion IsQuiet (feed_bodies era f)
-feed_is_quiet era f =
+feed_is_quiet : (era : ℕ) (f : NewFeed) (o : Option Subscription) → AllByRecursion IsQuiet (bodies_of era f o)
+feed_is_quiet era f None =
     (λ origin number c. (refl, refl), (λ origin number c. (refl, refl), (λ origin number c. (refl, refl), tt)))
+feed_is_quiet era f (Some row) = (λ origin number c. (refl, refl), (λ origin number c. (refl, refl), tt))
 
 feed_fit : (f : NewFeed) (run : Running) (w : World) → Ready w → OnOk (IsStated w) (subscribe_set f run w)
 feed_fit f run w r =
     bind_ok (IsSeat w.places) (IsStated w) (owner run f.set_id w) _ (owner_ok run f.set_id w r.regular.once)
-    (λ s is. let era = era_of f.set_id s.known.config in
-    let fit = quiet_fit w s (feed_bodies era f) is (feed_is_quiet era f) in
+    (λ s is. let had = pair_at f.set_id f.receiver s.known.config.subscriptions in
+    let fit = quiet_fit w s (told_bodies f s.known.config) is
+    (feed_is_quiet (era_of f.set_id s.known.config) f had) in
     search (kept_ok (IsStated w), fit))
 
 ordered_fit : (w : World) → Ready w → (o : Order) (run : Running) → OnOk (IsStated w) (ordered o run w)

@@ -9,6 +9,7 @@ pub mod Images
 pub mod Logging
 pub mod Logs
 pub mod Moving
+pub mod Older
 pub mod Orders
 pub mod Reading
 pub mod Since

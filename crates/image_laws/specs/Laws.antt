@@ -1,14 +1,15 @@
 -- The laws of what snapshots see, in every session that a legal history leads to.
-use Rattle.std.specs.Prelude.{◌≡◌, ℕ, ◌≤◌, ◌↔◌, true, List, Option, Some, None}
+use Rattle.std.specs.Prelude.{◌≡◌, ℕ, suc, ◌≤◌, ◌↔◌, true, List, Option, Some, None}
 use Rattle.slon_model.specs.Names.{find_named}
 use Rattle.slon_model.specs.Rows.{Action, member}
-use Rattle.slon_model.specs.Snapshots.{Snapshot, Covers}
+use Rattle.slon_model.specs.Snapshots.{Snapshot, Covers, sees}
 use Rattle.slon_model.specs.Config.{era_of}
 use Rattle.slon_model.specs.Deeds.{Node, Logged, knowledge}
 use Rattle.slon_model.specs.Logs.{logged}
 use Rattle.slon_model.specs.Place.{Place, standing_rows, taken}
 use Rattle.slon_model.specs.Eras.{Stretch, stretch_of, is_within, image_of, image_in, delta_on}
 use Rattle.slon_model.specs.World.{World, start, Happening, Leads}
+use Rattle.slon_laws.specs.Older.{IsOlder}
 use Rattle.image_laws.specs.Deltas.{applied, IsRead}
 use Rattle.image_laws.specs.Facts.{IsHeldBy, IsOf, IsLogged}
 use Rattle.stream_laws.specs.Nodes.{IsAmong}
@@ -65,6 +66,20 @@ abbrev pub CountsTell : Type 0
 CountsTell =
     (order : ℕ → Option ℕ) (now : ℕ) → IsOrder order now → (a b : Snapshot) → IsTaken order now a →
     IsTaken order now b → Covers a b ↔ (count_of b ≤ count_of a)
+
+-- All actions that were drawn in a database up to one that a snapshot of it sees are of transactions that had begun
+-- before the snapshot was taken; so it is whatever comes later.
+abbrev pub SnapshotsDivide : Type 0
+SnapshotsDivide =
+    (limit : ℕ) (name : List ℕ) (w : World) (p : Place) → find_named name w.places ≡ Some p → (k : Snapshot) →
+    WasTaken limit name w k → (a : Action) → IsAmong a p.actions → sees k a.xid ≡ true → IsOlder (suc a.number) k.xmax p
+
+-- It stays so.
+abbrev pub OlderStay : Type 0
+OlderStay =
+    (limit : ℕ) (history later : List Happening) (w v : World) → Leads (start limit) history w → Leads w later v →
+    (name : List ℕ) (p q : Place) → find_named name w.places ≡ Some p → find_named name v.places ≡ Some q →
+    (number xid : ℕ) → IsOlder number xid p → IsOlder number xid q
 
 -- ---- logs
 

@@ -3,7 +3,7 @@
 #![tactic(auto)]
 
 ghost use Rattle.image_laws.specs.Laws.{ImageIsCommittedRows, DeltaLeads, SnapshotsAreMoments};
-ghost use Rattle.image_laws.specs.Laws.{CountsTell, LogsHaveTheActions, ReadingLeads};
+ghost use Rattle.image_laws.specs.Laws.{CountsTell, LogsHaveTheActions, ReadingLeads, SnapshotsDivide, OlderStay};
 
 /// What a snapshot sees of a table of a set, in the era in which it is taken at the origin of the set, is what the
 /// table holds at that moment; and it is so still after whatever happens later: transactions that were open then, or
@@ -25,6 +25,14 @@ pub fn delta_leads()
 pub fn snapshots_are_moments()
     ensures moments { SnapshotsAreMoments }
     ensures tells { CountsTell }
+{}
+
+/// Of an action that a snapshot sees, and of all that were drawn before it, the transactions had begun when the
+/// snapshot was taken, and so it is still after whatever happens later. So a log in the order of numbers need not be
+/// read from its beginning for a later snapshot, whose oldest open transaction began behind the earlier one.
+pub fn snapshots_divide()
+    ensures divide { SnapshotsDivide }
+    ensures stay { OlderStay }
 {}
 
 /// The log of the origin of a set has, of each table of the set, exactly the committed actions since the table came

@@ -22,7 +22,7 @@ use Rattle.store_rows.specs.Rows.{IsId}
 use Rattle.store_rows.specs.Scan.{ranged, spelled_rows}
 use Rattle.store_rows.specs.Space.{AllOf}
 use Rattle.store_rows.proofs.Listing.{AllHave, have_ranged, after_sorted, after_below, sorted_ranged, find-ranged}
-use Rattle.store_rows.proofs.Numbers.{numbers_ordered}
+use Rattle.slon_base.proofs.Numbers.{numbers_ordered}
 use Rattle.change_capture.specs.declared.log_row.LogRow.{LogRow}
 use Rattle.change_capture.specs.Spellings.{log_row_bytes, CanLogRow}
 use Rattle.slon_model.specs.Maps.{entry_at, ids}

@@ -1,6 +1,7 @@
 -- A node applies its next event.
 use Rattle.std.proofs.Common.{◌≡◌, ℕ, ◌+◌, ◌≤◌, max, Bool, true, false, cond, List, ◌∷◌, length, Option, Some, None}
 use Rattle.std.proofs.Common.{refl, sym, ap, subst, ◌∙◌, arith, inl, inr}
+use Rattle.std.specs.Prelude.{◌||◌, not}
 use Rattle.std.proofs.lemmas.Bool.{cases_lt, false≢true, cond-true}
 use Rattle.std.proofs.lemmas.Option.{same_Some}
 use Rattle.net_laws.specs.Subscriptions.{Subscription, Event, Sync, Enable, up_to, last_moment, readied, row}
@@ -42,7 +43,7 @@ goes w n next = by next.turn
         more : (b : Bool) (moment : ℕ) → Logs old.log moment → Logs (cond b (stretch v m ∷ old.log) old.log) moment
         more true moment logs = inr logs
         more false moment logs = logs
-    by (Turns p v f u event view has is) = silent old.view (cond u.forward old.base v) is
+    by (Turns p v f u event view has is) = silent old.view (cond (u.forward || not f) old.base v) is
     by (Copies v u event has low high is) = silent (Some v) v is
     by (Skips event gone is) = silent old.view old.base is
     by (Leaves ends is) = silent None old.base is
@@ -140,7 +141,7 @@ serves_turn w n next a s past f viewed = by next.turn
         let before = forwards_before w n a (omega (arith, past)) f in
         let rows = same_Some u before.row (sym has ∙ before.is) in
         let on : u.forward ≡ true = ap (λ (x : Subscription). x.forward) rows ∙ before.holds.0 in
-        subst Serves (sym is) (viewed, cond-true u.forward (w.nodes n).base v on)
+        subst Serves (sym is) (viewed, cond-true (u.forward || not g) (w.nodes n).base v (ap (λ b. b || not g) on))
     by (Copies v u event has low high is) =
         let here = ap (λ d. row w.start n (d ∷ heard w n)) (sym event) ∙ after.is in
         let rows = same_Some (readied (length (heard w n) + 1) u) after.row (sym (row_enabled w n u has) ∙ here) in

@@ -1,7 +1,7 @@
 -- What holds of a node after its next event.
 use Rattle.std.proofs.Common.{◌≡◌, ℕ, ◌+◌, ◌<◌, ◌≤◌, max, Bool, true, false, cond, List, ◌∷◌, length, Option, Some}
 use Rattle.std.proofs.Common.{None, refl, sym, ap, subst, ◌∙◌, arith, ◌⊎◌, inl, inr}
-use Rattle.std.specs.Prelude.{◌==◌}
+use Rattle.std.specs.Prelude.{◌==◌, ◌||◌, not}
 use Rattle.std.proofs.lemmas.Bool.{ne_eqb, eq-eqb, cases_lt, cases_eq, false≢true, cond-true, cond-false}
 use Rattle.std.proofs.lemmas.Option.{same_Some}
 use Rattle.net_laws.specs.Subscriptions.{Subscription, Event, Sync, Subscribe, Enable, Unsubscribe, DropSet}
@@ -135,18 +135,18 @@ holds_synced w n m v u s known keeps =
         let below = (s.holds n).fresh moment old in omega (arith, below)
 
 holds_turned : (w : Net) (n p v : ℕ) (f : Bool) (u : Subscription) → Sound w → Keeps w n v u →
-    Holds w.start w.now (Subscribe n p f ∷ heard w n) n (turned_by v u.forward (w.nodes n))
+    Holds w.start w.now (Subscribe n p f ∷ heard w n) n (turned_by v (u.forward || not f) (w.nodes n))
 holds_turned w n p v f u s keeps =
     let h = s.holds n in record {
       covers = h.covers;
       within = h.within;
       based = λ t is. let same = same_Some v t (sym keeps.view ∙ is) in let old = h.based v keeps.view in
-          elim u.forward as (λ b. cond b (w.nodes n).base v ≤ t) [
+          elim (u.forward || not f) as (λ b. cond b (w.nodes n).base v ≤ t) [
             | true ↦ omega (arith, same, old)
             | false ↦ omega (arith, same)
           ];
       came = λ t is. let same = same_Some v t (sym keeps.view ∙ is) in
-          elim u.forward as (λ b. (t ≡ cond b (w.nodes n).base v) ⊎ (t ≤ last_moment (heard w n))) [
+          elim (u.forward || not f) as (λ b. (t ≡ cond b (w.nodes n).base v) ⊎ (t ≤ last_moment (heard w n))) [
             | true ↦ h.came t is
             | false ↦ inl (sym same)
           ];
@@ -155,10 +155,14 @@ holds_turned w n p v f u s keeps =
           let same = ap (λ (y : Subscription). y.cut) (same_Some after x (sym now_row ∙ has)) in
           omega (arith, old, same);
       logged = λ t x is has forward. let same = same_Some v t (sym keeps.view ∙ is) in
-          elim u.forward as (λ b. u.forward ≡ b → LogsAll (w.nodes n).log (stretch (cond b (w.nodes n).base v) t)) [
-            | true ↦ λ on. h.logged t u is keeps.row on
+          let on : f ≡ true =
+          ap (λ (y : Subscription). y.forward) (same_Some after x (sym now_row ∙ has)) ∙ forward in
+          elim u.forward as (λ b. u.forward ≡ b →
+          LogsAll (w.nodes n).log (stretch (cond (b || not f) (w.nodes n).base v) t)) [
+            | true ↦ λ was. h.logged t u is keeps.row was
             | false ↦ λ off moment inside.
-                let low = inside.from in let high = inside.to in absurd (omega (arith, same, low, high))
+                let low = subst (λ g. cond (not g) (w.nodes n).base v ≤ moment) on inside.from in
+                let high = inside.to in absurd (omega (arith, same, low, high))
           ] refl;
       fresh = h.fresh;
     }
@@ -249,7 +253,8 @@ holds_turn w n next s = by next.turn
         let all = subst (λ d. last_moment (d ∷ heard w n) ≤ w.now) event (moment_next w n e s next.comes) in
         known (Sync m) (synced m v u.forward (w.nodes n)) event is
         (holds_synced w n m v u s (omega (arith, all)) (record { view = view; row = has }))
-    by (Turns p v f u event view has is) = known (Subscribe n p f) (turned_by v u.forward (w.nodes n)) event is
+    by (Turns p v f u event view has is) =
+        known (Subscribe n p f) (turned_by v (u.forward || not f) (w.nodes n)) event is
         (holds_turned w n p v f u s (record { view = view; row = has }))
     by (Copies v u event has low high is) = known (Enable n) (copied v (w.nodes n)) event is
         (holds_copied w n v u s low high has)

@@ -1,6 +1,6 @@
 -- One table of a set, in one era of the set: what its origin emits, and what each node has made of it.
-use Rattle.std.specs.Prelude.{◌≡◌, ℕ, ◌+◌, ◌<◌, ◌≤◌, max, ◌==◌, ◌||◌, ◌⊎◌, if◌then◌else◌, Bool, true, false, List, []}
-use Rattle.std.specs.Prelude.{◌∷◌, length, Option, Some, None}
+use Rattle.std.specs.Prelude.{◌≡◌, ℕ, ◌+◌, ◌<◌, ◌≤◌, max, ◌==◌, ◌||◌, ◌⊎◌, if◌then◌else◌, not, Bool, true, false}
+use Rattle.std.specs.Prelude.{List, [], ◌∷◌, length, Option, Some, None}
 use Rattle.std.specs.List.{AllByRecursion}
 use Rattle.net_laws.specs.Updates.{set_at}
 use Rattle.net_laws.specs.Subscriptions.{Subscription, Event, Sync, Subscribe, Enable, Unsubscribe, DropSet, MoveSet}
@@ -53,7 +53,7 @@ passed o = record o { progress = o.progress + 1 }
 abbrev pub synced : ℕ → ℕ → Bool → Node → Node
 synced m v f o = record (passed o) { view = Some (max v m); log = if f then stretch v m ∷ o.log else o.log }
 
--- by SUBSCRIBE_SET for itself, with view v; f says that it forwarded before
+-- by SUBSCRIBE_SET for itself, with view v; f says that its base stays
 abbrev pub turned_by : ℕ → Bool → Node → Node
 turned_by v f o = record (passed o) { base = if f then o.base else v }
 
@@ -185,8 +185,9 @@ pub data Turn (w : Net) (n : ℕ) (e : Event) (node : Node) : Type 0 where
   Passes : IsQuiet n (w.nodes n).view e ⊎ IsOut (w.nodes n) → node ≡ passed (w.nodes n) → Turn w n e node
   Syncs : (m v : ℕ) (u : Subscription) → e ≡ Sync m → (w.nodes n).view ≡ Some v → configured w n n ≡ Some u →
       node ≡ synced m v u.forward (w.nodes n) → Turn w n e node
+  -- its base becomes its view where it forwards from now on and did not before
   Turns : (p v : ℕ) (f : Bool) (u : Subscription) → e ≡ Subscribe n p f → (w.nodes n).view ≡ Some v →
-      configured w n n ≡ Some u → node ≡ turned_by v u.forward (w.nodes n) → Turn w n e node
+      configured w n n ≡ Some u → node ≡ turned_by v (u.forward || not f) (w.nodes n) → Turn w n e node
   Copies : (v : ℕ) (u : Subscription) → e ≡ Enable n → configured w n n ≡ Some u → last_moment (heard w n) ≤ v →
       v ≤ w.now → node ≡ copied v (w.nodes n) → Turn w n e node
   -- the set was given up here, or the subscription is gone at the origin

@@ -1,30 +1,32 @@
 -- A node applies an event of the stream of a net: the node of the net does too.
-use Rattle.std.proofs.Common.{◌≡◌, ◌⊎◌, inl, inr, ℕ, ◌<◌, ◌≤◌, Bool, true, false, cond, List, [], ◌∷◌, not, suc}
+use Rattle.std.proofs.Common.{◌≡◌, ◌≢◌, ◌⊎◌, inl, inr, ℕ, ◌≤◌, Bool, true, false, cond, List, ◌∷◌, not, suc}
 use Rattle.std.proofs.Common.{length, Option, Some, None, refl, sym, ap, subst, ◌∙◌, arith, unwrap_or}
-use Rattle.std.specs.Prelude.{◌+◌, ◌==◌, max, option_map, ◌&&◌}
+use Rattle.std.specs.Prelude.{◌+◌, ◌==◌, max, option_map, ◌&&◌, ◌||◌}
 use Rattle.std.specs.Str.{bytes_eq}
-use Rattle.std.proofs.lemmas.Bool.{eqb-true, eq-eqb, true≢false, le-ltb, lt-ltb, cases_lt}
+use Rattle.std.proofs.lemmas.Bool.{eqb-true, eq-eqb, true≢false, false≢true, le-ltb, lt-ltb, cases_eq, cases_lt}
 use Rattle.node_rows.specs.declared.rows.Subscription.{Subscription}
 use Rattle.node_rows.specs.declared.body.Body.{Body}
 use Rattle.node_rows.specs.declared.body.Body.TheVariants.{Sync, SubscribeSet, EnableSubscription}
 use Rattle.net_laws.specs.Updates.{set_at}
-use Rattle.net_laws.specs.Subscriptions.{Event as Said, Subscribe, Enable, Unrelated, Subscription as Row}
+use Rattle.net_laws.specs.Subscriptions.{Subscribe, Enable, Unrelated, Subscription as Row}
 use Rattle.net_laws.specs.Subscriptions.{last_moment, row, up_to}
 use Rattle.net_laws.specs.Net.{Applies as AppliesStep, Copies as CopiesTurn, Here, IsIn, IsQuiet, Logs, More}
 use Rattle.net_laws.specs.Net.{Net}
 use Rattle.net_laws.specs.Net.{Node as NetNode, Passes, Syncs as SyncsTurn, Turn, configured, copied, heard, passed}
 use Rattle.net_laws.specs.Net.{stretch}
-use Rattle.net_laws.specs.Net.{synced}
+use Rattle.net_laws.specs.Net.{Turns as TurnsTurn, synced, turned_by}
 use Rattle.net_laws.proofs.Laws.{view_has_row}
-use Rattle.net_laws.proofs.Prefixes.{length_up_to, up_to_new, up_to_old}
+use Rattle.net_laws.proofs.Prefixes.{length_up_to}
 use Rattle.net_laws.proofs.Updates.{set_here, set_other}
-use Rattle.slon_model.specs.Maps.{number_at, with_entry, pair_at}
+use Rattle.slon_model.specs.Maps.{entry_at, number_at, with_entry, pair_at}
+use Rattle.slon_model.specs.Config.{forwards}
 use Rattle.slon_model.specs.Snapshots.{Snapshot, covers, sees}
 use Rattle.slon_model.specs.Events.{Event, is_sync}
-use Rattle.slon_model.specs.Deeds.{Logged, Node, knowledge, stream, view_of, Knowledge, progress}
+use Rattle.slon_model.specs.Deeds.{Brought, Logged, Node, knowledge, stream, view_of, Knowledge, progress}
+use Rattle.slon_model.specs.Deeds.{nothing_brought}
 use Rattle.slon_model.specs.Logs.{logged}
 use Rattle.slon_model.specs.Sessions.{Seat}
-use Rattle.slon_model.specs.Views.{View, later_of, view_after}
+use Rattle.slon_model.specs.Views.{View, based, later_of, view_after, views_told, with_views}
 use Rattle.slon_model.specs.Working.{Copying, ToCopy, errand_in, receives_from, ToFollow}
 use Rattle.slon_model.proofs.Names.{bytes_itself, one_found}
 use Rattle.stream_laws.specs.Nodes.{IsAmong, nodes_in, IsEvent}
@@ -34,12 +36,15 @@ use Rattle.image_laws.proofs.Logging.{among_left, among_right}
 use Rattle.image_laws.proofs.Orders.{order_in, order_is}
 use Rattle.image_laws.proofs.Ticking.{counts_tell}
 use Rattle.view_laws.specs.Past.{Past}
-use Rattle.view_laws.proofs.Brought.{IsCopied, IsSynced, same_id, copied_view}
+use Rattle.view_laws.specs.Known.{enables as enables_of, feeds}
+use Rattle.view_laws.proofs.Brought.{Brings, Copies, IsBrought, IsCopied, IsSynced, Nothing, same_id, copied_view}
+use Rattle.view_laws.proofs.Copied.{copy_asks}
+use Rattle.view_laws.proofs.Turned.{Turns, own_told}
 use Rattle.view_laws.proofs.Emitted.{emitted_in}
 use Rattle.view_laws.proofs.Moments.{covers_passes, passes_covers, regular_now}
 use Rattle.view_laws.proofs.Reaching.{own_covered}
 use Rattle.view_laws.proofs.Unfed.{may_emitted}
-use Rattle.view_laws.proofs.Unmoved.{since, view_then}
+use Rattle.view_laws.proofs.Unmoved.{fed_from, since, view_then}
 use Rattle.net_relation.specs.Reading.{moment_of, read, said, said_by, unfed, plain}
 use Rattle.net_relation.specs.Matching.{IsEntry, IsKept, IsWhole, MatchesNode, HasRow}
 use Rattle.net_relation.proofs.Beside.{Before, worker, worker_at, worker_before}
@@ -47,9 +52,9 @@ use Rattle.net_relation.proofs.Coming.{Coming, FindingOf, Source, comes, configu
 use Rattle.net_relation.proofs.Coming.{heard_bounded, heard_of, is_at, node_of, reached_is, row_then, source_then}
 use Rattle.net_relation.proofs.Entries.{Forwarding, entry_logged}
 use Rattle.net_relation.proofs.Leading.{copy_comes}
-use Rattle.net_relation.proofs.Relating.{AreFirst, FitsNode, IsFirstOf, NodeLater, frame, netted_sound, node_behind}
+use Rattle.net_relation.proofs.Relating.{FitsNode, NodeLater, frame, netted_sound, node_behind}
 use Rattle.net_relation.proofs.Rows.{row_changed}
-use Rattle.net_relation.proofs.Views.{Copied, Followed, Keeps, ViewTaken, behind, view_taken}
+use Rattle.net_relation.proofs.Views.{Copied, Followed, Keeps, Turned as TurnedView, ViewTaken, behind, view_taken}
 use Rattle.net_relation.proofs.Coming.{copy_ordered, origin_then}
 use Rattle.net_relation.proofs.Giving.{gives_the_same}
 use Rattle.net_relation.specs.Laws.{Keeper}
@@ -455,18 +460,29 @@ copy_turned set t c s = record {
 
 -- ---- any other event
 
-first_at : (k : ℕ) (e : Said) (before : List Said) (z : List Said) → AreFirst z → up_to k z ≡ e ∷ before →
-    IsFirstOf e before
-first_at k e before [] all is = absurd cc
-first_at k e before (f ∷ z) all is = by (cases_lt (length z) k) (first_at k e before z all.1)
+-- the event is of no subscription of the node itself to the set
+abbrev IsOfOthers : ℕ → ℕ → Body → Type 0
+IsOfOthers set own (SubscribeSet id provider receiver forward) = id ≡ set → receiver ≡ own → ⊥
+IsOfOthers set own others = Unit {0}
+
+-- it says how the node itself receives the set
+abbrev IsOwn : ℕ → ℕ → Body → Type 0
+IsOwn set own body = (provider : ℕ) × (forward : Bool) × (body ≡ SubscribeSet set provider own forward)
+
+own_or_not : (set own : ℕ) (body : Body) → IsOwn set own body ⊎ IsOfOthers set own body
+own_or_not set own (SubscribeSet id provider receiver forward) = by (cases_eq id set) (cases_eq receiver own)
   where
-    by : (length z < k) ⊎ (k ≤ length z) → (up_to k z ≡ e ∷ before → IsFirstOf e before) → IsFirstOf e before
-    by (inl more) rest =
-        let same : f ∷ z ≡ e ∷ before = sym (up_to_new k f z more) ∙ is in
-        let head : f ≡ e = cc in
-        let tail : z ≡ before = cc in
-        subst (λ e. IsFirstOf e before) head (subst (IsFirstOf f) tail all.0)
-    by (inr less) rest = rest (sym (up_to_old k f z less) ∙ is)
+    by : (id ≡ set) ⊎ (id ≢ set) → (receiver ≡ own) ⊎ (receiver ≢ own) →
+        IsOwn set own (SubscribeSet id provider receiver forward)
+        ⊎ IsOfOthers set own (SubscribeSet id provider receiver forward)
+    by (inl same) (inl at) = inl (
+      provider,
+      forward,
+      ap (λ i. SubscribeSet i provider receiver forward) same ∙ ap (λ r. SubscribeSet set provider r forward) at,
+    )
+    by (inr other) at = inr (λ same here. other same)
+    by (inl same) (inr other) = inr (λ id here. other here)
+own_or_not set own others = inr tt
 
 -- The view stays, as no SYNC was followed and no set was copied.
 record Passing (set : ℕ) (t : Past) (c : Coming set t) : Type 0 where
@@ -474,6 +490,7 @@ record Passing (set : ℕ) (t : Past) (c : Coming set t) : Type 0 where
   sync : (v : View) → view_of set (knowledge (worker c.work)) ≡ Some v → is_sync (event_of c).body ≡ true →
       (event_of c).origin ≡ v.origin → ⊥
   copy : (k : IsCopied t c.work.carried.seat (event_of c) c.work.carried.brought) → k.copy.copying.set_id ≡ set → ⊥
+  others : IsOfOthers set (worker c.work).id (event_of c).body
 
 pass_quiet : (set : ℕ) (t : Past) (c : Coming set t) → Passing set t c → (body : Body) → (event_of c).body ≡ body →
     IsQuiet (worker c.work).id (node_of c).view (said_by set (event_of c).taken body)
@@ -490,30 +507,9 @@ pass_quiet set t c s Sync is = (worker_before c.work).view ∙ by (view_of set (
     by (Some v) found = at v found (v.origin == c.work.leader.id) refl
 pass_quiet set t c s (SubscribeSet id provider receiver forward) is = by (id == set) refl
   where
-    n : Net
-    n = c.work.netted.net
-
-    o : Node
-    o = worker c.work
-
-    -- who keeps a view has subscribed before
-    viewed : row unfed receiver (heard_of c) ≡ None → receiver ≡ o.id → (k : Option ℕ) → (node_of c).view ≡ k →
-        k ≡ None
-    viewed none same None view = refl
-    viewed none same (Some v) view =
-        let u = view_has_row n (netted_sound c.work.netted) o.id v view in
-        let never : None ≡ Some u.0 =
-        sym none ∙ ap (λ i. row unfed i (heard_of c)) same ∙ sym (configured_is set t c o.id) ∙ u.1.0 in
-        absurd cc
-
     by : (b : Bool) → (id == set) ≡ b →
-        IsQuiet o.id (node_of c).view (cond b (Subscribe receiver provider forward) Unrelated)
-    by true same = λ at.
-        viewed (subst (λ z. row unfed receiver z ≡ None) (ap (up_to (node_of c).progress) c.work.netted.origin.stream)
-        (first_at ((node_of c).progress + 1) (Subscribe receiver provider forward) (heard n o.id) n.stream
-        c.work.netted.once ((comes set t c).next ∙ ap (λ e. e ∷ heard n o.id)
-        (ap (said_by set (event_of c).taken) is
-        ∙ ap (λ b. cond b (Subscribe receiver provider forward) Unrelated) same)))) at (node_of c).view refl
+        IsQuiet (worker c.work).id (node_of c).view (cond b (Subscribe receiver provider forward) Unrelated)
+    by true same = λ at. absurd (subst (IsOfOthers set (worker c.work).id) is s.others (eqb-true id set same) at)
     by false other = tt
 pass_quiet set t c s (EnableSubscription id provider receiver forward era) is = by (id == set) refl
   where
@@ -549,14 +545,169 @@ pass_turned set t c s = record {
     old : Before c.work
     old = worker_before c.work
 
+-- ---- the node's own subscription
+
+-- The event says how the node receives the set.
+record Telling (set : ℕ) (t : Past) (c : Coming set t) : Type 0 where
+  provider : ℕ
+  forward : Bool
+  body : (event_of c).body ≡ SubscribeSet set provider (worker c.work).id forward
+
+-- nothing comes with it
+telling_none : (set : ℕ) (t : Past) (c : Coming set t) → Telling set t c →
+    c.work.carried.brought ≡ nothing_brought
+telling_none set t c k = by c.work.is.brings
+  where
+    own : Body
+    own = SubscribeSet set k.provider (worker c.work).id k.forward
+
+    by : IsBrought t c.work.carried.seat (event_of c) c.work.carried.brought →
+        c.work.carried.brought ≡ nothing_brought
+    by (Nothing n) = n.none
+    by (Copies y) =
+        let enables = copy_asks y.at.to.world y.at.seat (event_of c) y.found y.copy in
+        absurd (false≢true (ap (enables_of y.copy.copying.set_id y.at.seat.node.id) (sym k.body) ∙ enables))
+    by (Brings y) =
+        let never : own ≡ Sync = sym k.body ∙ y.follows.body in absurd cc
+
+-- begins to forward, by what it is told and what it knew
+abbrev begins : (set : ℕ) (t : Past) (c : Coming set t) → Telling set t c → Bool
+begins set t c k = k.forward && not (forwards set (worker c.work).id (knowledge (worker c.work)).config)
+
+-- its view behind the event
+telling_view : (set : ℕ) (t : Past) (c : Coming set t) (k : Telling set t c) →
+    view_of set (knowledge (behind c.work.carried))
+    ≡ option_map (λ v. cond (begins set t c k) (based v) v) (view_of set (knowledge (worker c.work)))
+telling_view set t c k =
+    ap (λ (b : Brought). entry_at set (with_views b.views
+    (views_told o.id (event_of c).body (knowledge o).config (knowledge o).views))) (telling_none set t c k)
+    ∙ ap (λ body. entry_at set (views_told o.id body (knowledge o).config (knowledge o).views)) k.body
+    ∙ own_told o.id set k.provider k.forward (knowledge o).config (knowledge o).views
+  where
+    o : Node
+    o = worker c.work
+
+telling_says : (set : ℕ) (t : Past) (c : Coming set t) (k : Telling set t c) →
+    said set (event_of c) ≡ Subscribe (worker c.work).id k.provider k.forward
+telling_says set t c k =
+    ap (said_by set (event_of c).taken) k.body
+    ∙ ap (λ b. cond b (Subscribe (worker c.work).id k.provider k.forward) Unrelated) (eq-eqb set set refl)
+
+-- it keeps no view of the set
+telling_quiet : (set : ℕ) (t : Past) (c : Coming set t) → Telling set t c →
+    view_of set (knowledge (worker c.work)) ≡ None → Turned set t c
+telling_quiet set t c k none = record {
+  node = passed (node_of c);
+  turn = Passes (inl (subst (IsQuiet o.id (node_of c).view) (sym (telling_says set t c k))
+      (λ at. old.view ∙ ap (moment_of c.work.leader.id) none))) refl;
+  far = refl;
+  view = old.view ∙ ap (moment_of c.work.leader.id) (none ∙ sym behind_none);
+  kept = λ v found own. let never : None ≡ Some v = sym behind_none ∙ found in absurd cc;
+  logs = λ l moment e logs.
+      among_right l c.work.carried.brought.logs (logged o) (old.logs l moment e logs);
+  whole = record { keeps = old.whole.keeps; bars = old.whole.bars; has = old.whole.has };
+}
+  where
+    o : Node
+    o = worker c.work
+
+    old : Before c.work
+    old = worker_before c.work
+
+    behind_none : view_of set (knowledge (behind c.work.carried)) ≡ None
+    behind_none = telling_view set t c k ∙ ap (option_map (λ v. cond (begins set t c k) (based v) v)) none
+
+-- it keeps this one
+telling_turned : (set : ℕ) (t : Past) (c : Coming set t) → Telling set t c → (v : View) →
+    view_of set (knowledge (worker c.work)) ≡ Some v → Turned set t c
+telling_turned set t c k v found = record {
+  node = turned_by m (u.0.forward || not k.forward) (node_of c);
+  turn = TurnsTurn k.provider m k.forward u.0 (telling_says set t c k) viewed u.1.0 refl;
+  far = refl;
+  view = viewed ∙ sym (ap (moment_of c.work.leader.id) there ∙ seen_as (begins set t c k)
+      ∙ moment_own c.work.leader.id v own);
+  kept = λ w has of.
+      subst (λ (w : View). IsKept (order_in c.work.ended) (length c.work.ended) w
+      (turned_by m (u.0.forward || not k.forward) (node_of c)))
+      (one_found (cond (begins set t c k) (based v) v) w (sym there ∙ has))
+      (subst (λ b. IsKept (order_in c.work.ended) (length c.work.ended) (cond (k.forward && not b) (based v) v)
+      (turned_by m (u.0.forward || not k.forward) (node_of c))) (sym forward) (kept_as u.0.forward k.forward));
+  logs = λ l moment e logs.
+      among_right l c.work.carried.brought.logs (logged o) (old.logs l moment e logs);
+  whole = record { keeps = old.whole.keeps; bars = old.whole.bars; has = old.whole.has };
+}
+  where
+    o : Node
+    o = worker c.work
+
+    old : Before c.work
+    old = worker_before c.work
+
+    m : ℕ
+    m = count_of v.seen
+
+    own : v.origin ≡ c.work.leader.id
+    own =
+        fed_from t c.work.carried c.work.origin c.work.is set v found
+        (ap (feeds set) k.body ∙ eq-eqb set set refl) ∙ c.own
+
+    kept : IsKept (order_in c.work.ended) (length c.work.ended) v (node_of c)
+    kept = old.kept v found own
+
+    viewed : (node_of c).view ≡ Some m
+    viewed = old.view ∙ ap (moment_of c.work.leader.id) found ∙ moment_own c.work.leader.id v own
+
+    there : view_of set (knowledge (behind c.work.carried)) ≡ Some (cond (begins set t c k) (based v) v)
+    there = telling_view set t c k ∙ ap (option_map (λ v. cond (begins set t c k) (based v) v)) found
+
+    seen_as : (b : Bool) → moment_of c.work.leader.id (Some (cond b (based v) v))
+        ≡ moment_of c.work.leader.id (Some v)
+    seen_as true = refl
+    seen_as false = refl
+
+    u : (u : Row) × ((configured c.work.netted.net o.id o.id ≡ Some u) × (u.ready ≡ true))
+    u = view_has_row c.work.netted.net (netted_sound c.work.netted) o.id m viewed
+
+    forward : forwards set o.id (knowledge o).config ≡ u.0.forward
+    forward =
+        ap (λ q. unwrap_or (option_map (λ (s : Subscription). s.forward) q) false)
+        (old.row u.0 (sym (configured_is set t c o.id) ∙ u.1.0))
+
+    -- the base of the net is that of the view, whether the node forwarded and is to forward or not
+    kept_as : (was now : Bool) →
+        IsKept (order_in c.work.ended) (length c.work.ended) (cond (now && not was) (based v) v)
+        (turned_by m (was || not now) (node_of c))
+    kept_as true true = record { base = kept.base; seen = kept.seen; began = kept.began }
+    kept_as true false = record { base = kept.base; seen = kept.seen; began = kept.began }
+    kept_as false true = record { base = refl; seen = kept.seen; began = kept.seen }
+    kept_as false false = record { base = kept.base; seen = kept.seen; began = kept.began }
+
+telling_later : (set : ℕ) (t : Past) (c : Coming set t) → Telling set t c → Turned set t c
+telling_later set t c k = by (view_of set (knowledge (worker c.work))) refl
+  where
+    by : (o : Option View) → view_of set (knowledge (worker c.work)) ≡ o → Turned set t c
+    by None none = telling_quiet set t c k none
+    by (Some v) found = telling_turned set t c k v found
+
 -- ---- every event of the stream
 
 pub coming_later : (set : ℕ) (t : Past) (c : Coming set t) →
     NodeLater c.work.netted c.work.carried.seat.name (behind c.work.carried)
-coming_later set t c = turned_later set t c (by (view_taken t c.work.carried c.work.origin c.work.is set))
+coming_later set t c = turned_later set t c (elim (own_or_not set (worker c.work).id (event_of c).body) [
+  | inl own ↦ telling_later set t c (record { provider = own.0; forward = own.1; body = own.2 })
+  | inr others ↦ by others (view_taken t c.work.carried c.work.origin c.work.is set)
+])
   where
-    by : ViewTaken t c.work.carried set → Turned set t c
-    by (Keeps same sync copy) = pass_turned set t c (record { same = same; sync = sync; copy = copy })
-    by (Copied k same now) = copy_turned set t c (record { made = k; same = same; now = now })
-    by (Followed y v found own now) =
+    -- nor does it begin to forward the set then
+    no_turn : (body : Body) → IsOfOthers set (worker c.work).id body →
+        Turns (worker c.work).id set body (knowledge (worker c.work)).config → ⊥
+    no_turn (SubscribeSet id provider receiver forward) others turns = others turns.0 turns.1
+    no_turn others of turns = absurd turns
+
+    by : IsOfOthers set (worker c.work).id (event_of c).body → ViewTaken t c.work.carried set → Turned set t c
+    by others (Keeps same sync copy) =
+        pass_turned set t c (record { same = same; sync = sync; copy = copy; others = others })
+    by others (TurnedView v found turns now) = absurd (no_turn (event_of c).body others turns)
+    by others (Copied k same now) = copy_turned set t c (record { made = k; same = same; now = now })
+    by others (Followed y v found own now) =
         sync_turned set t c (record { synced = y; view = v; found = found; own = own; now = now })

@@ -32,7 +32,7 @@ use Rattle.net_relation.proofs.Leading.{feeds_at}
 use Rattle.net_relation.proofs.Links.{Join, giver, joined}
 use Rattle.net_relation.proofs.Moments.{count_is}
 use Rattle.net_relation.proofs.Nets.{Passed, Spares, Ticked, all_up_to, at_fresh, passes, spared_none, ticks}
-use Rattle.net_relation.proofs.Relating.{AreFirst, Netted, NodeLater}
+use Rattle.net_relation.proofs.Relating.{Netted, NodeLater}
 
 -- ---- a net that begins
 
@@ -79,7 +79,6 @@ new_net set ended all q y none clock others = record {
       subst (λ (f : ℕ → NetNode). MatchesNode set (order_in ended) (length ended) y o (f o.id)) (sym t.nodes)
       (fresh_matches set (order_in ended) (length ended) y o none (others name o is other));
   strangers = λ id free. ap (λ (f : ℕ → NetNode). f id) t.nodes;
-  once = subst AreFirst (sym t.stream) tt;
 }
   where
     later : (v : Net) × Ticked (length ended) (first_net y.id) v

@@ -16,7 +16,7 @@ use Rattle.slon_model.specs.Names.{find_named}
 use Rattle.slon_model.specs.Deeds.{Node, knowledge, stream, view_of}
 use Rattle.slon_model.specs.Logs.{logged}
 use Rattle.slon_model.specs.Place.{Place}
-use Rattle.slon_model.specs.Views.{View, view_after}
+use Rattle.slon_model.specs.Views.{View, view_after, based}
 use Rattle.slon_model.specs.Working.{Carried}
 use Rattle.slon_model.proofs.Names.{one_found}
 use Rattle.stream_laws.specs.Nodes.{nodes_in, node_in}
@@ -40,7 +40,8 @@ use Rattle.net_relation.proofs.Leading.{Known, feeds_at, one_storer}
 use Rattle.net_relation.proofs.Nets.{all_up_to}
 use Rattle.net_relation.proofs.Relating.{Netted}
 use Rattle.net_relation.proofs.Rows.{IsBeside, row_beside}
-use Rattle.net_relation.proofs.Views.{Copied, Followed, Keeps, ViewTaken, behind, view_taken}
+use Rattle.net_relation.proofs.Views.{Copied, Followed, Keeps, Turned, ViewTaken, behind, view_taken}
+use Rattle.view_laws.proofs.Unmoved.{turned_from}
 use Rattle.view_laws.proofs.Brought.{copied_view}
 
 -- ---- a node at work
@@ -178,6 +179,7 @@ same_moment : {set : ℕ} {t : Past} (w : Work set t) → w.carried.event.origin
     moment_of w.leader.id (view_of set (knowledge (behind w.carried)))
     ≡ moment_of w.leader.id (view_of set (knowledge (worker w)))
 same_moment w apart (Keeps same sync copy) = ap (moment_of w.leader.id) same
+same_moment w apart (Turned v found turns now) = ap (moment_of w.leader.id) now ∙ sym (ap (moment_of w.leader.id) found)
 same_moment {set} {t} w apart (Copied k same now) =
     ap (moment_of w.leader.id) now
     ∙ moment_other w.leader.id first apart
@@ -206,6 +208,9 @@ same_kept : {set : ℕ} {t : Past} (w : Work set t) → w.carried.event.origin �
     v.origin ≡ w.leader.id →
     IsKept (order_in w.ended) (length w.ended) v (w.netted.net.nodes (worker w).id)
 same_kept w apart (Keeps same sync copy) v found own = (worker_before w).kept v (sym same ∙ found) own
+same_kept {set} {t} w apart (Turned u had turns now) v found own =
+    absurd (apart (sym (turned_from t w.carried w.origin w.is set u had turns)
+    ∙ ap (λ (v : View). v.origin) (one_found (based u) v (sym now ∙ found)) ∙ own))
 same_kept {set} {t} w apart (Copied k same now) v found own =
     absurd (apart (ap (λ (v : View). v.origin) (one_found (copied_view k.copy) v (sym now ∙ found)) ∙ own))
 same_kept w apart (Followed f u is of now) v found own =

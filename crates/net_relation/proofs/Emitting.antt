@@ -2,7 +2,7 @@
 use Rattle.std.proofs.Common.{◌≡◌, ◌≢◌, inl, ℕ, Bool, true, false, cond, List, [], ◌∷◌, length, Option, ◌⊎◌, inr, ◌≤◌}
 use Rattle.std.proofs.Common.{Some, None, refl, sym, ap, subst, ◌∙◌, arith}
 use Rattle.std.specs.Prelude.{◌+◌, ◌==◌, max}
-use Rattle.std.proofs.lemmas.Bool.{eqb-true, eq-eqb, false≢true}
+use Rattle.std.proofs.lemmas.Bool.{eqb-true, eq-eqb, false≢true, true≢false}
 use Rattle.std.proofs.lemmas.List.{length-map}
 use Rattle.node_rows.specs.declared.body.Body.{Body}
 use Rattle.node_rows.specs.declared.body.Body.TheVariants.{Sync, SubscribeSet, EnableSubscription}
@@ -10,33 +10,35 @@ use Rattle.net_laws.specs.Subscriptions.{Event as Said, Sync as Syncs, Subscribe
 use Rattle.net_laws.specs.Subscriptions.{Subscription as Row, is_over, last_moment}
 use Rattle.net_laws.specs.Subscriptions.{row, subscribed}
 use Rattle.net_laws.specs.Net.{Emits as EmitsStep, Here, MayEmit, More, Net, Node as NetNode, emitted, owned, IsReady}
+use Rattle.net_laws.specs.Net.{ProvidesNone}
 use Rattle.slon_model.specs.Maps.{entry_at, pair_at}
 use Rattle.slon_model.specs.Events.{Event}
 use Rattle.slon_model.specs.Snapshots.{Snapshot}
-use Rattle.slon_model.specs.Config.{era_of}
+use Rattle.slon_model.specs.Config.{era_of, receivers}
 use Rattle.slon_model.specs.Deeds.{Emits, Knowledge, Node, knowledge, progress, stream, with_deeds}
 use Rattle.slon_model.specs.Place.{Place, deed, taken}
 use Rattle.slon_model.specs.Reaching.{commit_of}
 use Rattle.slon_model.specs.Sessions.{Emission, Seat, next_event, tells}
-use Rattle.slon_model.specs.Subscribing.{NewFeed}
+use Rattle.slon_model.specs.Subscribing.{NewFeed, provides as is_provided}
 use Rattle.slon_laws.specs.Sound.{Sound}
 use Rattle.stream_laws.specs.Nodes.{Nodes}
 use Rattle.stream_laws.specs.Making.{is_emitted}
-use Rattle.stream_laws.proofs.Lists.{number_beside}
+use Rattle.stream_laws.proofs.Lists.{among_any, number_beside}
 use Rattle.stream_laws.proofs.Seats.{IsSeat, seat_node}
 use Rattle.image_laws.specs.Moments.{count_of}
 use Rattle.image_laws.proofs.Ticking.{ClockAt}
 use Rattle.view_laws.specs.Past.{Past}
 use Rattle.view_laws.proofs.Moments.{regular_now}
+use Rattle.view_laws.proofs.Rising.{found_stands}
 use Rattle.view_laws.proofs.Seen.{same_views}
 use Rattle.net_relation.specs.Reading.{moment_of, plain, read, said, said_by, unfed}
 use Rattle.net_relation.proofs.Feeding.{plain_emitted}
-use Rattle.net_relation.proofs.Links.{Alone, CanFeed, Feeds, MayTell, is_plain}
+use Rattle.net_relation.proofs.Links.{Alone, CanFeed, Changes, Feeds, MayTell, is_plain}
 use Rattle.net_relation.proofs.Moments.{taken_now}
 use Rattle.net_relation.proofs.Nets.{stays_on}
-use Rattle.net_relation.proofs.Relating.{FitsNode, Frame, IsFirstOf, Netted, netted_sound, origin_later}
+use Rattle.net_relation.proofs.Relating.{FitsNode, Frame, Netted, netted_sound, origin_later}
 use Rattle.net_relation.proofs.Rows.{IsBeside, row_beside, row_changed}
-use Rattle.net_relation.proofs.Relaying.{IsAsFar, Relay}
+use Rattle.net_relation.proofs.Relaying.{AreReadyFor, IsAsFar, Relay}
 use Rattle.node_rows.specs.declared.rows.Subscription.{Subscription}
 use Rattle.slon_model.proofs.Names.{one_found}
 
@@ -58,9 +60,8 @@ telling p y number m =
 
 pub emit_one : {set : ℕ} {ended : List ℕ} {all : Nodes} {p : Place} {y : Node} (e : Emitting set ended all p y)
     (m : Emission) → is_emitted m.body ≡ true → MayEmit e.netted.net (said_by set (taken p) m.body) →
-    IsFirstOf (said_by set (taken p) m.body) e.netted.net.stream →
     Netted set ended all p (telling p y e.number m)
-emit_one {set} {ended} {all} {p} {y} e m is may first =
+emit_one {set} {ended} {all} {p} {y} e m is may =
     origin_later n [] p (telling p y e.number m) (record {
       id = refl;
       new = event ∷ [];
@@ -84,7 +85,6 @@ emit_one {set} {ended} {all} {p} {y} e m is may first =
       };
       now = n.now;
       events = (taken_now p ended e.sound e.clock, n.events);
-      once = (first, n.once);
     })
   where
     n : Netted set ended all p y
@@ -111,18 +111,11 @@ plain_may set n k (SubscribeSet id provider receiver forward) plain now = absurd
 plain_may set n k (EnableSubscription id provider receiver forward era) plain now = absurd (false≢true plain)
 plain_may set n k others plain now = tt
 
-plain_first : (set : ℕ) (k : Snapshot) (body : Body) (z : List Said) → is_plain body ≡ true →
-    IsFirstOf (said_by set k body) z
-plain_first set k (SubscribeSet id provider receiver forward) z plain = absurd (false≢true plain)
-plain_first set k (EnableSubscription id provider receiver forward era) z plain = absurd (false≢true plain)
-plain_first set k others z plain = tt
-
 abbrev emit_plain : {set : ℕ} {ended : List ℕ} {all : Nodes} {p : Place} {y : Node} (e : Emitting set ended all p y)
     (m : Emission) → is_plain m.body ≡ true → Netted set ended all p (telling p y e.number m)
 emit_plain {set} {p = p} e m plain =
     emit_one e m (plain_emitted m.body plain)
     (plain_may set e.netted.net (taken p) m.body plain (sym e.netted.origin.now))
-    (plain_first set (taken p) m.body e.netted.net.stream plain)
 
 -- ---- the events of a subscription
 
@@ -143,8 +136,9 @@ no_row {set} {y = y} n f none same = by (owned n.net f.receiver) refl
 -- A node is about to emit the subscription, behind a SYNC with the snapshot of now.
 record Feeding {set : ℕ} {ended : List ℕ} {all : Nodes} {p : Place} {y : Node} (e : Emitting set ended all p y)
     (f : NewFeed) : Type 0 where
-  new : pair_at f.set_id f.receiver (knowledge y).config.subscriptions ≡ None
-  provides : (f.provider ≡ y.id) ⊎ Relay all y f
+  ready : AreReadyFor all y f
+  apart : f.receiver ≢ y.id
+  keeps : (f.forward ≡ true) ⊎ (is_provided f.receiver f.set_id (knowledge y).config ≡ false)
   distinct : f.provider ≢ f.receiver
   before : List Event
   synced : Event
@@ -152,11 +146,20 @@ record Feeding {set : ℕ} {ended : List ℕ} {all : Nodes} {p : Place} {y : Nod
   body : synced.body ≡ Sync
   snapshot : synced.taken ≡ taken p
 
+-- a node of the net is as far as one of the session
+far_reached : {set : ℕ} {ended : List ℕ} {all : Nodes} {p : Place} {y : Node} (n : Netted set ended all p y) (r k : ℕ) →
+    r ≢ y.id → IsAsFar all y r k → k ≤ (n.net.nodes r).progress
+far_reached n r k other (inl none) = omega (arith, none)
+far_reached n r k other (inr (name, o, is, id, less)) =
+    let reached = (n.nodes name o is (λ own. other (sym id ∙ own))).reached in
+    let at = ap (λ i. (n.net.nodes i).progress) id in
+    omega (arith, reached, less, at)
+
 -- the provider is the origin, or ready
 feed_provider : {set : ℕ} {ended : List ℕ} {all : Nodes} {p : Place} {y : Node} (e : Emitting set ended all p y)
     (f : NewFeed) → Feeding e f → f.set_id ≡ set →
     (f.provider ≡ e.netted.net.origin) ⊎ ((u : Row) × IsReady e.netted.net f.provider u)
-feed_provider {set} {ended} {all} {p} {y} e f k same = by k.provides
+feed_provider {set} {ended} {all} {p} {y} e f k same = by k.ready.provides
   where
     n : Net
     n = e.netted.net
@@ -166,7 +169,9 @@ feed_provider {set} {ended} {all} {p} {y} e f k same = by k.provides
       row = has;
       ready = r.ready;
       forward = ap (λ (u : Subscription). u.forward) known ∙ r.forward;
-      confirmed = far r.far;
+      confirmed =
+          let far = far_reached e.netted f.provider r.known.mark r.other r.far in
+          omega (arith, mark, far);
     }
       where
         has : owned n f.provider ≡ Some r.feed
@@ -183,16 +188,17 @@ feed_provider {set} {ended} {all} {p} {y} e f k same = by k.provides
         mark : r.feed.mark ≡ r.known.mark
         mark = ap (λ (u : Subscription). u.mark) known
 
-        far : IsAsFar all y f.provider r.known.mark → r.feed.mark ≤ (n.nodes f.provider).progress
-        far (inl none) = omega (arith, mark, none)
-        far (inr (name, o, is, id, less)) =
-            let reached = (e.netted.nodes name o is (λ own. r.other (sym id ∙ own))).reached in
-            let at = ap (λ i. (n.nodes i).progress) id in
-            omega (arith, mark, reached, less, at)
-
     by : (f.provider ≡ y.id) ⊎ Relay all y f → (f.provider ≡ n.origin) ⊎ ((u : Row) × IsReady n f.provider u)
     by (inl own) = inl (own ∙ sym e.netted.origin.origin)
     by (inr r) = inr (r.feed, relayed r)
+
+-- who provides for a receiver is found among the providers of the configuration
+provides_none : {set : ℕ} {ended : List ℕ} {all : Nodes} {p : Place} {y : Node} (n : Netted set ended all p y)
+    (r : ℕ) → is_provided r set (knowledge y).config ≡ false → ProvidesNone n.net r
+provides_none {set} {y = y} n r none q u has own =
+    true≢false (sym (among_any (λ e. e.1.provider == r) (q, plain u) (receivers set (knowledge y).config)
+    (found_stands q (plain u) (receivers set (knowledge y).config) (n.origin.rows q u has))
+    (eq-eqb u.provider r own)) ∙ none)
 
 feed_may : {set : ℕ} {ended : List ℕ} {all : Nodes} {p : Place} {y : Node} (e : Emitting set ended all p y)
     (f : NewFeed) → Feeding e f →
@@ -221,34 +227,28 @@ feed_may {set} {p = p} {y} e f k = by (f.set_id == set) refl
       synced = last;
       apart = k.distinct;
       provider = feed_provider e f k (eqb-true f.set_id set same);
-      settled = λ u is. none u is;
-      keeps = λ u is. none u is;
+      settled = λ u is.
+          far_reached e.netted f.receiver u.mark k.apart
+          (k.ready.settled (plain u)
+          (ap (λ i. pair_at i f.receiver (knowledge y).config.subscriptions) (eqb-true f.set_id set same)
+          ∙ e.netted.origin.rows f.receiver u is));
+      keeps = λ u is. keeps k.keeps;
     }
       where
-        none : {X : Type 0} (u : Row) → owned n f.receiver ≡ Some u → X
-        none u is =
-            let never : None ≡ Some u =
-            sym (no_row e.netted f k.new (eqb-true f.set_id set same)) ∙ is in absurd cc
-    by false other = tt
-
-feed_first : {set : ℕ} {ended : List ℕ} {all : Nodes} {p : Place} {y : Node} (e : Emitting set ended all p y)
-    (f : NewFeed) → Feeding e f →
-    IsFirstOf (said_by set (taken p) (SubscribeSet f.set_id f.provider f.receiver f.forward)) e.netted.net.stream
-feed_first {set} e f k = by (f.set_id == set) refl
-  where
-    by : (b : Bool) → (f.set_id == set) ≡ b →
-        IsFirstOf (cond b (Subscribe f.receiver f.provider f.forward) Unrelated) e.netted.net.stream
-    by true same =
-        ap (λ s. row s f.receiver e.netted.net.stream) (sym e.netted.origin.start)
-        ∙ no_row e.netted f k.new (eqb-true f.set_id set same)
+        keeps : (f.forward ≡ true) ⊎ (is_provided f.receiver f.set_id (knowledge y).config ≡ false) →
+            (f.forward ≡ true) ⊎ ProvidesNone n f.receiver
+        keeps (inl on) = inl on
+        keeps (inr none) =
+            inr (provides_none e.netted f.receiver
+            (subst (λ i. is_provided f.receiver i (knowledge y).config ≡ false) (eqb-true f.set_id set same) none))
     by false other = tt
 
 -- ENABLE_SUBSCRIPTION behind it
 enable_may : {set : ℕ} {ended : List ℕ} {all : Nodes} {p : Place} {y : Node} (e : Emitting set ended all p y)
-    (f : NewFeed) → Feeding e f → (number : ℕ)
+    (f : NewFeed) → pair_at f.set_id f.receiver (knowledge y).config.subscriptions ≡ None → (number : ℕ)
     (n : Netted set ended all p (telling p y number (tells (SubscribeSet f.set_id f.provider f.receiver f.forward)))) →
     (era : ℕ) → MayEmit n.net (said_by set (taken p) (EnableSubscription f.set_id f.provider f.receiver f.forward era))
-enable_may {set} {p = p} {y} e f k number n era = by (f.set_id == set) refl
+enable_may {set} {p = p} {y} e f new number n era = by (f.set_id == set) refl
   where
     z : List Said
     z = read set (stream y)
@@ -279,43 +279,36 @@ enable_may {set} {p = p} {y} e f k number n era = by (f.set_id == set) refl
         none =
             ap (row unfed f.receiver) (sym e.netted.origin.stream)
             ∙ ap (λ s. row s f.receiver e.netted.net.stream) (sym e.netted.origin.start)
-            ∙ no_row e.netted f k.new (eqb-true f.set_id set same)
+            ∙ no_row e.netted f new (eqb-true f.set_id set same)
     by false other = tt
-
-enable_first : (set : ℕ) (k : Snapshot) (id provider receiver : ℕ) (forward : Bool) (era : ℕ) (z : List Said) →
-    IsFirstOf (said_by set k (EnableSubscription id provider receiver forward era)) z
-enable_first set k id provider receiver forward era z = by (id == set)
-  where
-    by : (b : Bool) → IsFirstOf (cond b (Enable receiver) Unrelated) z
-    by true = tt
-    by false = tt
 
 -- ---- what a node emits at once
 
-emit_feed : {set : ℕ} {ended : List ℕ} {all : Nodes} {p : Place} {y : Node} (e : Emitting set ended all p y)
-    (f : NewFeed) → CanFeed y f → (f.provider ≡ y.id) ⊎ Relay all y f →
-    Netted set ended all p (telling p (telling p (telling p y e.number (tells Sync)) (e.number + 1)
-    (tells (SubscribeSet f.set_id f.provider f.receiver f.forward))) (e.number + 1 + 1)
-    (tells (EnableSubscription f.set_id f.provider f.receiver f.forward (era_of f.set_id (knowledge y).config))))
-emit_feed {set} {ended} {all} {p} {y} e f can provides =
-    emit_one three (tells (EnableSubscription f.set_id f.provider f.receiver f.forward era)) refl
-    (enable_may two f fed (e.number + 1) three.netted era)
-    (enable_first set (taken p) f.set_id f.provider f.receiver f.forward era three.netted.net.stream)
-  where
-    era : ℕ
-    era = era_of f.set_id (knowledge y).config
-
-    one : Node
-    one = telling p y e.number (tells Sync)
-
-    two : Emitting set ended all p one
-    two = record {
+-- a SYNC
+abbrev behind_sync : {set : ℕ} {ended : List ℕ} {all : Nodes} {p : Place} {y : Node}
+    (e : Emitting set ended all p y) → Emitting set ended all p (telling p y e.number (tells Sync))
+behind_sync e =
+    record {
       netted = emit_plain e (tells Sync) refl;
       sound = e.sound;
       clock = e.clock;
       number = e.number + 1;
       is = let is = e.is in omega (arith, is);
     }
+
+-- the subscription, behind a SYNC
+emit_change : {set : ℕ} {ended : List ℕ} {all : Nodes} {p : Place} {y : Node} (e : Emitting set ended all p y)
+    (f : NewFeed) → CanFeed y f → AreReadyFor all y f →
+    Netted set ended all p (telling p (telling p y e.number (tells Sync)) (e.number + 1)
+    (tells (SubscribeSet f.set_id f.provider f.receiver f.forward)))
+emit_change {set} {ended} {all} {p} {y} e f can ready =
+    emit_one two (tells (SubscribeSet f.set_id f.provider f.receiver f.forward)) refl (feed_may two f fed)
+  where
+    one : Node
+    one = telling p y e.number (tells Sync)
+
+    two : Emitting set ended all p one
+    two = behind_sync e
 
     -- so it is behind the SYNC
     later : (f.provider ≡ y.id) ⊎ Relay all y f → (f.provider ≡ one.id) ⊎ Relay all one f
@@ -333,8 +326,9 @@ emit_feed {set} {ended} {all} {p} {y} e f can provides =
 
     fed : Feeding two f
     fed = record {
-      new = can.new;
-      provides = later provides;
+      ready = record { provides = later ready.provides; settled = ready.settled };
+      apart = can.apart;
+      keeps = can.keeps;
       distinct = can.distinct;
       before = stream y;
       synced = record { origin = y.id; number = e.number; taken = taken p; body = Sync };
@@ -343,11 +337,27 @@ emit_feed {set} {ended} {all} {p} {y} e f can provides =
       snapshot = refl;
     }
 
+-- and where it is a new one, the event at which the receiver copies the set
+emit_feed : {set : ℕ} {ended : List ℕ} {all : Nodes} {p : Place} {y : Node} (e : Emitting set ended all p y)
+    (f : NewFeed) → CanFeed y f → pair_at f.set_id f.receiver (knowledge y).config.subscriptions ≡ None →
+    AreReadyFor all y f →
+    Netted set ended all p (telling p (telling p (telling p y e.number (tells Sync)) (e.number + 1)
+    (tells (SubscribeSet f.set_id f.provider f.receiver f.forward))) (e.number + 1 + 1)
+    (tells (EnableSubscription f.set_id f.provider f.receiver f.forward (era_of f.set_id (knowledge y).config))))
+emit_feed {set} {ended} {all} {p} {y} e f can new ready =
+    emit_one three (tells (EnableSubscription f.set_id f.provider f.receiver f.forward era)) refl
+    (enable_may (behind_sync e) f new (e.number + 1) three.netted era)
+  where
+    era : ℕ
+    era = era_of f.set_id (knowledge y).config
+
+    one : Node
+    one = telling p y e.number (tells Sync)
+
     three : Emitting set ended all p
         (telling p one (e.number + 1) (tells (SubscribeSet f.set_id f.provider f.receiver f.forward)))
     three = record {
-      netted = emit_one two (tells (SubscribeSet f.set_id f.provider f.receiver f.forward)) refl (feed_may two f fed)
-          (feed_first two f fed);
+      netted = emit_change e f can ready;
       sound = e.sound;
       clock = e.clock;
       number = e.number + 1 + 1;
@@ -356,17 +366,21 @@ emit_feed {set} {ended} {all} {p} {y} e f can provides =
 
 -- the net of the node at its seat, behind all that it emits
 pub told_net : {set : ℕ} {ended : List ℕ} {all : Nodes} (s : Seat) (ms : List Emission) → MayTell s.node ms →
-    ((f : NewFeed) → CanFeed s.node f → (f.provider ≡ s.node.id) ⊎ Relay all s.node f) →
+    ((f : NewFeed) → CanFeed s.node f → AreReadyFor all s.node f) →
     next_event s ≡ length (stream s.node) + 1 → Sound s.place → ClockAt s.place ended →
     Netted set ended all s.place s.node →
     Netted set ended all s.place (with_deeds (commit_of s ms).deeds s.node)
-told_net {set} {ended} {all} s ms (Alone m same plain) provides number sound clock n =
+told_net {set} {ended} {all} s ms (Alone m same plain) ready number sound clock n =
     subst (λ ms. Netted set ended all s.place (with_deeds (commit_of s ms).deeds s.node)) (sym same)
     (emit_plain (record { netted = n; sound = sound; clock = clock; number = next_event s; is = number }) m plain)
-told_net {set} {ended} {all} s ms (Feeds f same can) provides number sound clock n =
+told_net {set} {ended} {all} s ms (Feeds f same can new) ready number sound clock n =
     subst (λ ms. Netted set ended all s.place (with_deeds (commit_of s ms).deeds s.node)) (sym same)
-    (emit_feed (record { netted = n; sound = sound; clock = clock; number = next_event s; is = number }) f can
-    (provides f can))
+    (emit_feed (record { netted = n; sound = sound; clock = clock; number = next_event s; is = number }) f can new
+    (ready f can))
+told_net {set} {ended} {all} s ms (Changes f same can had) ready number sound clock n =
+    subst (λ ms. Netted set ended all s.place (with_deeds (commit_of s ms).deeds s.node)) (sym same)
+    (emit_change (record { netted = n; sound = sound; clock = clock; number = next_event s; is = number }) f can
+    (ready f can))
 
 pub next_number : (t : Past) (s : Seat) → IsSeat t.world.places s → next_event s ≡ length (stream s.node) + 1
 next_number t s is =
@@ -415,7 +429,7 @@ told_matches f s ms node (Alone m same plain) apart old =
       emitted = plain_emitted m.body plain;
       beside = plain_beside f.set_id s.node.id m.body plain;
     }) old)
-told_matches f s ms node (Feeds k same can) apart old =
+told_matches f s ms node (Feeds k same can new) apart old =
     subst (λ ms. FitsNode f (with_deeds (commit_of s ms).deeds s.node) node) (sym same)
     (tell_beside f s.place two (next_event s + 1 + 1)
     (tells (EnableSubscription k.set_id k.provider k.receiver k.forward (era_of k.set_id (knowledge s.node).config)))
@@ -430,3 +444,10 @@ told_matches f s ms node (Feeds k same can) apart old =
 
     two : Node
     two = telling s.place one (next_event s + 1) (tells (SubscribeSet k.set_id k.provider k.receiver k.forward))
+told_matches f s ms node (Changes k same can had) apart old =
+    subst (λ ms. FitsNode f (with_deeds (commit_of s ms).deeds s.node) node) (sym same)
+    (tell_beside f s.place (telling s.place s.node (next_event s) (tells Sync)) (next_event s + 1)
+    (tells (SubscribeSet k.set_id k.provider k.receiver k.forward)) node
+    (record { apart = apart; emitted = refl; beside = λ id is. can.apart is })
+    (tell_beside f s.place s.node (next_event s) (tells Sync) node
+    (record { apart = apart; emitted = refl; beside = tt }) old))

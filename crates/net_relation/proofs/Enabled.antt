@@ -24,7 +24,7 @@ use Rattle.net_relation.specs.Matching.{MatchesNode}
 use Rattle.net_relation.specs.Laws.{SubscribersKeep}
 use Rattle.net_relation.proofs.Feeding.{IsFeed}
 use Rattle.net_relation.proofs.Leading.{feeds_at}
-use Rattle.net_relation.proofs.Relating.{AreFirst, Netted, Origin, netted_sound}
+use Rattle.net_relation.proofs.Relating.{Netted, Origin, netted_sound}
 use Rattle.net_relation.proofs.Sessions.{origin_now}
 use Rattle.net_relation.proofs.Providing.{place_of}
 use Rattle.net_relation.proofs.Readied.{AllExpected, IsReady, Tame, all_expected, read_tame, ready_stays}
@@ -73,10 +73,8 @@ subscribers_keep limit history w leads name x at set o e = by (view_of set (know
         (length (read set found.earlier) + 1)
     ready = ready_stays o.id (read set found.later) (read set found.earlier)
         (subst AllExpected whole (all_expected n.net.stream (λ a less.
-        subst (λ s. IsExpected s (up_to a n.net.stream)) n.origin.start (sound.expected a less)))) (
-          subst AreFirst whole n.once,
-          subst (AllByRecursion Tame) (sym n.origin.stream ∙ whole) (read_tame set (stream x)),
-        )
+        subst (λ s. IsExpected s (up_to a n.net.stream)) n.origin.start (sound.expected a less))))
+        (subst (AllByRecursion Tame) (sym n.origin.stream ∙ whole) (read_tame set (stream x)))
 
     viewed : (v : ℕ) × ((n.net.nodes o.id).view ≡ Some v)
     viewed =

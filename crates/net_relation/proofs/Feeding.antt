@@ -4,7 +4,7 @@ use Rattle.std.proofs.Common.{◌≡◌, ◌≢◌, inl, inr, ℕ, Bool, true, f
 use Rattle.std.proofs.Common.{sym, ap, subst, ◌∙◌, length, suc}
 use Rattle.std.specs.Prelude.{◌+◌, option_map, unwrap_or, ◌==◌}
 use Rattle.std.specs.List.{AllByRecursion}
-use Rattle.std.proofs.lemmas.Bool.{false≢true, eq-eqb}
+use Rattle.std.proofs.lemmas.Bool.{false≢true, eq-eqb, eqb-true}
 use Rattle.node_rows.specs.declared.rows.SetRow.{SetRow}
 use Rattle.node_rows.specs.declared.body.Body.{Body}
 use Rattle.node_rows.specs.declared.body.Body.TheVariants.{Sync, StoreSet, SubscribeSet, EnableSubscription, DropSet}
@@ -30,7 +30,9 @@ use Rattle.view_laws.proofs.Living.{event_of}
 use Rattle.view_laws.proofs.Moments.{regular_now}
 use Rattle.view_laws.proofs.Unfed.{may_emitted}
 use Rattle.net_relation.proofs.Behind.{begun_node, heard_node, holds_now, taken_node, told_node}
-use Rattle.net_relation.proofs.Links.{Alone, Begins, Feeds, HearsSome, Linked, MayTell, TakesOne, Tells, giver, feeding}
+use Rattle.net_relation.proofs.Links.{Alone, Begins, Changes, Feeds, HearsSome, Linked, MayTell, TakesOne, Tells}
+use Rattle.net_relation.proofs.Links.{changing, giver, feeding}
+use Rattle.net_relation.proofs.Rowed.{AreRowed, IsRowed, has_row}
 use Rattle.net_relation.proofs.Links.{is_plain, joined, joins, stores}
 use Rattle.net_relation.proofs.Places.{NodeWent}
 use Rattle.net_relation.proofs.Stepping.{Does, Goes, Gone, Here, IsPut, Joins, Looks, Makes, Shuts, Stays, There}
@@ -52,16 +54,6 @@ abbrev pub IsFeed : ℕ → List Event → Config → Body → Type 0
 IsFeed own es c (SubscribeSet set provider receiver forward) = FeedOf own es c set receiver
 IsFeed own es c (EnableSubscription set provider receiver forward era) = FeedOf own es c set receiver × (era ≡ 1)
 IsFeed own es c others = Unit {0}
-
--- the receiver that is told to copy a set has a subscription by the events before, with the provider that it is told
-abbrev pub IsRowed : List Event → Body → Type 0
-IsRowed earlier (EnableSubscription set provider receiver forward era) =
-    (u : Row) × (row unfed receiver (read set earlier) ≡ Some u) × (u.provider ≡ provider)
-IsRowed earlier others = Unit {0}
-
-abbrev pub AreRowed : List Event → Type 0
-AreRowed [] = Unit {0}
-AreRowed (e ∷ es) = IsRowed es e.body × AreRowed es
 
 -- all events are such, and each set is in its first era
 record AreFeeds (own : ℕ) (es : List Event) (c : Config) : Type 0 where
@@ -218,15 +210,69 @@ ready_feed true f z r old u is = by (r == f.receiver) is
     by true is = ap (λ (v : Row). v.ready) (sym (one_found (readied k made) u is))
     by false is = old u is
 
-told_ready : (s : Seat) (ms : List Emission) → MayTell s.node ms → AreReady (stream s.node) →
-    AreReady (stream (with_deeds (commit_of s ms).deeds s.node))
-told_ready s ms (Alone m same may) was =
-    subst (λ ms. AreReady (stream (with_deeds (commit_of s ms).deeds s.node))) (sym same)
-    (λ set r u is. was set r u (sym (plain_row set (taken s.place) m.body may r (read set (stream s.node))) ∙ is))
-told_ready s ms (Feeds f same can) was =
-    subst (λ ms. AreReady (stream (with_deeds (commit_of s ms).deeds s.node))) (sym same)
-    (λ set r u is. ready_feed (f.set_id == set) f
-    (read set (event_of s (next_event s) Sync ∷ stream s.node)) r (was set r) u is)
+-- what is changed was ready
+ready_changed : (b : Bool) (f : NewFeed) (z : List Said) (old : Row) → row unfed f.receiver z ≡ Some old → (r : ℕ) →
+    ((u : Row) → row unfed r z ≡ Some u → u.ready ≡ true) → (u : Row) →
+    row unfed r (cond b (Subscribe f.receiver f.provider f.forward) Unrelated ∷ z) ≡ Some u → u.ready ≡ true
+ready_changed false f z old had r was u is = was u is
+ready_changed true f z old had r was u is = by (r == f.receiver) refl is
+  where
+    made : Option Row → Row
+    made o = subscribed (length z + 1) (last_moment z) f.provider f.forward o
+
+    by : (c : Bool) → (r == f.receiver) ≡ c → cond c (Some (made (row unfed r z))) (row unfed r z) ≡ Some u →
+        u.ready ≡ true
+    by true same is =
+        let here : row unfed r z ≡ Some old = ap (λ i. row unfed i z) (eqb-true r f.receiver same) ∙ had in
+        ap (λ (v : Row). v.ready) (sym (one_found (made (row unfed r z)) u is))
+        ∙ ap (λ o. (made o).ready) here ∙ was old here
+    by false other is = was u is
+
+-- A node emits, which was ready.
+record Tell (t : Past) : Type 0 where
+  seat : Seat
+  is : IsSeat t.world.places seat
+  rows : AreRowed (stream seat.node)
+  ready : AreReady (stream seat.node)
+
+told_ready : (t : Past) (d : Tell t) (ms : List Emission) → MayTell d.seat.node ms →
+    AreReady (stream (with_deeds (commit_of d.seat ms).deeds d.seat.node))
+told_ready t d ms may = by may
+  where
+    s : Seat
+    s = d.seat
+
+    Ready : List Emission → Type 0
+    Ready ms = AreReady (stream (with_deeds (commit_of s ms).deeds s.node))
+
+    by : MayTell s.node ms → Ready ms
+    by (Alone m same may) =
+        subst Ready (sym same)
+        (λ set r u is. d.ready set r u
+        (sym (plain_row set (taken s.place) m.body may r (read set (stream s.node))) ∙ is))
+    by (Feeds f same can new) =
+        subst Ready (sym same)
+        (λ set r u is. ready_feed (f.set_id == set) f
+        (read set (event_of s (next_event s) Sync ∷ stream s.node)) r (d.ready set r) u is)
+    by (Changes f same can had) =
+        subst Ready (sym same) (λ set r u is. at set r u is (f.set_id == set) refl)
+      where
+        old : (v : Row) × (row unfed f.receiver (read f.set_id (stream s.node)) ≡ Some v)
+        old = has_row t s d.is f.set_id f.receiver can.leads d.rows had
+
+        at : (set r : ℕ) (u : Row) →
+            row unfed r (read set (stream (with_deeds (commit_of s (changing f)).deeds s.node))) ≡ Some u →
+            (b : Bool) → (f.set_id == set) ≡ b → u.ready ≡ true
+        at set r u is true same =
+            ready_changed true f (read set (event_of s (next_event s) Sync ∷ stream s.node)) old.0
+            (ap (λ i. row unfed f.receiver (read i (stream s.node))) (sym (eqb-true f.set_id set same)) ∙ old.1) r
+            (d.ready set r) u
+            (sym (ap (λ b. row unfed r (cond b (Subscribe f.receiver f.provider f.forward) Unrelated
+            ∷ read set (event_of s (next_event s) Sync ∷ stream s.node))) same) ∙ is)
+        at set r u is false other =
+            d.ready set r u
+            (sym (ap (λ b. row unfed r (cond b (Subscribe f.receiver f.provider f.forward) Unrelated
+            ∷ read set (event_of s (next_event s) Sync ∷ stream s.node))) other) ∙ is)
 
 told_feeds : (t : Past) (s : Seat) → IsSeat t.world.places s → (ms : List Emission) → MayTell s.node ms →
     NodeFeeds s.node → NodeFeeds (with_deeds (commit_of s ms).deeds s.node)
@@ -235,14 +281,14 @@ told_feeds t s is ms (Alone m same may) was =
     (node_feeds behind (feeds_more s.node.id e (stream s.node) (knowledge s.node).config (plain_emitted m.body may)
     (plain_feed s.node.id (e ∷ stream s.node) (change_by s.node.id (next_event s) m.body (knowledge s.node).config)
     m.body may) (plain_rowed (stream s.node) m.body may) (are_feeds s.node was))
-    (told_ready s (m ∷ []) (Alone m refl may) was.ready))
+    (told_ready t (record { seat = s; is = is; rows = was.rows; ready = was.ready }) (m ∷ []) (Alone m refl may)))
   where
     behind : Node
     behind = with_deeds (commit_of s (m ∷ [])).deeds s.node
 
     e : Event
     e = event_of s (next_event s) m.body
-told_feeds t s is ms (Feeds f same can) was =
+told_feeds t s is ms (Feeds f same can new) was =
     subst (λ ms. NodeFeeds (with_deeds (commit_of s ms).deeds s.node)) (sym same)
     (node_feeds behind (feeds_more own three (two ∷ one ∷ stream s.node) behind_two refl (
       (still_stored f.set_id three (two ∷ one ∷ stream s.node) stored_two, knows_three, can.apart),
@@ -251,7 +297,8 @@ told_feeds t s is ms (Feeds f same can) was =
     (feeds_more own two (one ∷ stream s.node) (knowledge s.node).config refl
     (stored_two, knows_two, can.apart) tt
     (feeds_more own one (stream s.node) (knowledge s.node).config refl tt tt (are_feeds s.node was))))
-    (told_ready s (feeding s.node f) (Feeds f refl can) was.ready))
+    (told_ready t (record { seat = s; is = is; rows = was.rows; ready = was.ready }) (feeding s.node f)
+    (Feeds f refl can new)))
   where
     behind : Node
     behind = with_deeds (commit_of s (feeding s.node f)).deeds s.node
@@ -288,6 +335,37 @@ told_feeds t s is ms (Feeds f same can) was =
 
     knows_three : IsKnown f.receiver (change_by own (number + 1 + 1) three.body behind_two)
     knows_three = known_changed f.receiver own (number + 1 + 1) three.body behind_two knows_two
+told_feeds t s is ms (Changes f same can had) was =
+    subst (λ ms. NodeFeeds (with_deeds (commit_of s ms).deeds s.node)) (sym same)
+    (node_feeds behind
+    (feeds_more own two (one ∷ stream s.node) (knowledge s.node).config refl
+    (still_stored f.set_id two (one ∷ stream s.node) stored, knows, can.apart) tt
+    (feeds_more own one (stream s.node) (knowledge s.node).config refl tt tt (are_feeds s.node was)))
+    (told_ready t (record { seat = s; is = is; rows = was.rows; ready = was.ready }) (changing f)
+    (Changes f refl can had)))
+  where
+    behind : Node
+    behind = with_deeds (commit_of s (changing f)).deeds s.node
+
+    own : ℕ
+    own = s.node.id
+
+    number : ℕ
+    number = next_event s
+
+    one : Event
+    one = event_of s number Sync
+
+    two : Event
+    two = event_of s (number + 1) (SubscribeSet f.set_id f.provider f.receiver f.forward)
+
+    stored : HasStored f.set_id (one ∷ stream s.node)
+    stored = still_stored f.set_id one (stream s.node)
+        (has_stored (nodes_in t.world.places) (regular_now t).nodes s.name s.node (seat_node t.world.places s is)
+        f.set_id can.leads)
+
+    knows : IsKnown f.receiver (change_by own (number + 1) two.body (knowledge s.node).config)
+    knows = known_changed f.receiver own (number + 1) two.body (knowledge s.node).config can.knows
 
 -- ---- every session
 

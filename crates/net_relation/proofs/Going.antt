@@ -28,7 +28,7 @@ use Rattle.net_relation.proofs.Earlier.{IsOwn, LogsOn, then_later}
 use Rattle.net_relation.proofs.Moments.{count_is, none_ended, taken_more}
 use Rattle.net_relation.proofs.Nets.{Ticked, stays_on, ticks}
 use Rattle.net_relation.proofs.Places.{NodeWent, Went}
-use Rattle.net_relation.proofs.Relating.{AreFirst, FitsNode, Frame, frame, Netted, Origin, node_later, nodes_of}
+use Rattle.net_relation.proofs.Relating.{FitsNode, Frame, frame, Netted, Origin, node_later, nodes_of}
 use Rattle.net_relation.proofs.Relating.{nodes_same, nodes_with, origin_later, origin_placed, still}
 use Rattle.net_relation.proofs.Stepping.{Here, IsPut, Looks, There, is_put, with_look}
 
@@ -147,7 +147,6 @@ origin_went {set} {ended} {all} {p} {x} n q y c on k =
           (all_map (λ e. IsTaken (order_in ended) (length ended) e.taken)
           (λ e. IsTaken (order_in (k.more ++ ended)) (length (k.more ++ ended)) e.taken)
           (λ e is. taken_more k.more ended e.taken k.clock.apart is) (stream x) n.events);
-      once = subst AreFirst (sym t.stream) n.once;
     })
   where
     later : (v : Net) × Ticked (length k.more) n.net v

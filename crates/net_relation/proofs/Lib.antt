@@ -22,6 +22,7 @@ pub mod Providing
 pub mod Readied
 pub mod Relating
 pub mod Relaying
+pub mod Rowed
 pub mod Rows
 pub mod Serving
 pub mod Sessions

@@ -1,10 +1,9 @@
 -- What a statement or a turn commits: nothing, one commit of a node, or the two by which a node joins.
 use Rattle.std.proofs.Common.{◌≡◌, ◌≢◌, ℕ, Bool, true, false, List, [], ◌∷◌, Option, Some, None, Result}
 use Rattle.std.proofs.Common.{is_some, not, refl, sym, subst, ◌∙◌, ◌⊎◌, inl, inr, ◌≤◌, ap}
-use Rattle.std.specs.Prelude.{codes, ◌==◌, ◌&&◌, option_map, unwrap_or}
+use Rattle.std.specs.Prelude.{◌==◌, ◌&&◌, option_map, unwrap_or}
 use Rattle.std.specs.List.{AllByRecursion}
 use Rattle.std.proofs.lemmas.Bool.{eqb-true, eq-eqb, true≢false, and_parts, not-false, or_parts}
-use Rattle.slon_lemmas.proofs.Tests.{none_of}
 use Rattle.slonik_script.specs.declared.script.Command.{Command as Order}
 use Rattle.slonik_script.specs.declared.script.Command.TheVariants as order
 use Rattle.node_rows.specs.declared.rows.NodeRow.{NodeRow}
@@ -27,7 +26,8 @@ use Rattle.slon_model.specs.Membership.{drop_path, becoming, first_of_cluster, j
 use Rattle.slon_model.specs.Reaching.{database_of_line, reach, down_among, claims}
 use Rattle.slon_model.specs.Reaching.{origin_of, owner, commit_of, emitting}
 use Rattle.slon_model.specs.Sets.{NewTable, adding, create_set, set_add_table}
-use Rattle.slon_model.specs.Subscribing.{NewFeed, subscribing, feed_checks, feed_bodies, all_tell}
+use Rattle.slon_model.specs.Subscribing.{NewFeed, subscribing, feed_checks, feed_bodies, all_tell, changed_bodies}
+use Rattle.slon_model.specs.Subscribing.{bodies_of, told_bodies, is_waiting, is_provider, provides as is_provided}
 use Rattle.slon_model.specs.Subscribing.{subscribe_set, is_active, is_confirmed, is_relayed}
 use Rattle.slon_model.specs.Scripts.{ordered}
 use Rattle.slon_model.specs.Turns.{on_turn, sync_turn}
@@ -47,6 +47,7 @@ use Rattle.stream_laws.proofs.Seats.{reach_ok, no_nodes}
 use Rattle.stream_laws.proofs.Waiting.{IsPoll, polled_ok}
 use Rattle.stream_laws.proofs.Works.{IsCarried, worked_ok}
 use Rattle.image_laws.proofs.Fitting.{newcomer, store_checks}
+use Rattle.view_laws.specs.Known.{HasFeed}
 use Rattle.view_laws.specs.Past.{Past}
 use Rattle.view_laws.proofs.Doing.{Takes, Hears, taking}
 use Rattle.view_laws.proofs.Steps.{carried_taken}
@@ -72,21 +73,32 @@ pub record CanRelay (n : Node) (f : NewFeed) : Type 0 where
   pub told : row.mark ≤ told_of n.id n.id f.provider (knowledge n)
 
 -- The node may emit the events of a subscription: it is the origin of the set, and the provider or one that has such a
--- provider, it knows the receiver, which is another node, and the receiver does not subscribe to the set.
+-- provider, and it knows the receiver, which is another node. If the receiver subscribes to the set, this node was told
+-- that it has applied the last event on that. It is to forward the set, or no node has the set from it.
 pub record CanFeed (n : Node) (f : NewFeed) : Type 0 where
   pub leads : is_origin n.id f.set_id (knowledge n).config ≡ true
   pub knows : is_some (entry_at f.receiver (knowledge n).config.nodes) ≡ true
   pub provides : (f.provider ≡ n.id) ⊎ CanRelay n f
   pub distinct : f.provider ≢ f.receiver
   pub apart : f.receiver ≢ n.id
-  pub new : pair_at f.set_id f.receiver (knowledge n).config.subscriptions ≡ None
+  pub settled : (row : Subscription) →
+      pair_at f.set_id f.receiver (knowledge n).config.subscriptions ≡ Some row →
+      row.mark ≤ told_of n.id n.id f.receiver (knowledge n)
+  pub keeps : (f.forward ≡ true) ⊎ (is_provided f.receiver f.set_id (knowledge n).config ≡ false)
 
 abbrev pub feeding : Node → NewFeed → List Emission
 feeding n f = all_tell (feed_bodies (era_of f.set_id (knowledge n).config) f)
 
+-- the events of a subscription that is there
+abbrev pub changing : NewFeed → List Emission
+changing f = all_tell (changed_bodies f)
+
 pub data MayTell (n : Node) (ms : List Emission) : Type 0 where
   Alone : (m : Emission) → ms ≡ m ∷ [] → is_plain m.body ≡ true → MayTell n ms
-  Feeds : (f : NewFeed) → ms ≡ feeding n f → CanFeed n f → MayTell n ms
+  Feeds : (f : NewFeed) → ms ≡ feeding n f → CanFeed n f →
+      pair_at f.set_id f.receiver (knowledge n).config.subscriptions ≡ None → MayTell n ms
+  Changes : (f : NewFeed) → ms ≡ changing f → CanFeed n f → HasFeed f.set_id f.receiver (knowledge n).config →
+      MayTell n ms
 
 -- ---- one commit
 
@@ -258,6 +270,23 @@ can_provide s f active forward known = by (f.provider == s.node.id) refl active 
         u = active_row s f.provider (pair_at f.set_id f.provider s.known.config.subscriptions)
             (not-false (is_active s f.set_id f.provider) active)
 
+-- a receiver that subscribes has confirmed the last event on that
+not_waiting : (s : Seat) (f : NewFeed) → is_waiting s f ≡ false → (row : Subscription) →
+    pair_at f.set_id f.receiver s.known.config.subscriptions ≡ Some row →
+    row.mark ≤ told_of s.node.id s.node.id f.receiver s.known
+not_waiting s f none row has =
+    leb-true row.mark (told_of s.node.id s.node.id f.receiver s.known)
+    (not-false _ (sym (ap (λ o. is_some o && not (is_confirmed s f.receiver o)) has) ∙ none))
+
+not_provider : (s : Seat) (f : NewFeed) → is_provider s f ≡ false →
+    (f.forward ≡ true) ⊎ (is_provided f.receiver f.set_id s.known.config ≡ false)
+not_provider s f none = by f.forward refl none
+  where
+    by : (b : Bool) → f.forward ≡ b → (not b && is_provided f.receiver f.set_id s.known.config) ≡ false →
+        (f.forward ≡ true) ⊎ (is_provided f.receiver f.set_id s.known.config ≡ false)
+    by true on none = inl on
+    by false off none = inr none
+
 can_feed : (w : World) (s : Seat) (f : NewFeed) → IsSeat w.places s → claims f.set_id s ≡ true →
     AllByRecursion (λ o. o ≡ None) (feed_checks s f) → CanFeed s.node f
 can_feed w s f is claimed none = record {
@@ -270,13 +299,25 @@ can_feed w s f is claimed none = record {
       (when_none _ (refused.NotForwarding f.provider) none.1.1.1.1.0) is.known;
   distinct = λ same. true≢false (sym (eq-eqb f.receiver f.provider (sym same)) ∙ others.1);
   apart = λ same. true≢false (sym (eq-eqb f.receiver s.node.id same) ∙ others.0);
-  new = subst (λ (k : Knowledge). pair_at f.set_id f.receiver k.config.subscriptions ≡ None) is.known
-      (none_of _ (when_none _ (refused.NotBuilt (codes "subscribe")) none.1.1.1.1.1.0));
+  settled = λ row has.
+      subst (λ (k : Knowledge). row.mark ≤ told_of s.node.id s.node.id f.receiver k) is.known
+      (not_waiting s f (when_none _ (refused.NotActive f.receiver) none.1.1.1.1.1.0) row
+      (subst (λ (k : Knowledge). pair_at f.set_id f.receiver k.config.subscriptions ≡ Some row) (sym is.known) has));
+  keeps =
+      subst (λ (k : Knowledge). (f.forward ≡ true) ⊎ (is_provided f.receiver f.set_id k.config ≡ false)) is.known
+      (not_provider s f (when_none _ (refused.HasReceivers f.receiver) none.1.1.1.1.1.1.0));
 }
   where
     others : ((f.receiver == s.node.id) ≡ false) × ((f.receiver == f.provider) ≡ false)
     others = or_parts (f.receiver == s.node.id) (f.receiver == f.provider)
         (when_none _ (refused.SameNode f.receiver) none.1.1.0)
+
+-- by what the origin has of the subscription
+feed_told : (n : Node) (f : NewFeed) → CanFeed n f → (o : Option Subscription) →
+    pair_at f.set_id f.receiver (knowledge n).config.subscriptions ≡ o →
+    MayTell n (all_tell (bodies_of (era_of f.set_id (knowledge n).config) f o))
+feed_told n f can None new = Feeds f refl can new
+feed_told n f can (Some row) had = Changes f refl can (ap is_some had)
 
 feed_link : (f : NewFeed) (run : Running) (t : Past) → IsRegular t.world →
     OnOk (IsStated t) (subscribe_set f run t.world)
@@ -284,11 +325,12 @@ feed_link f run t r =
     bind_ok (IsClaiming f.set_id t.world) (IsStated t) (owner run f.set_id t.world) _
     (owner_claiming run f.set_id t.world r.once)
     (λ s is. checked_ok (IsStated t) (feed_checks s f)
-    (emitting s (all_tell (feed_bodies (era_of f.set_id s.known.config) f)))
-    (λ none. subst (λ (k : Knowledge). IsStated t (emitting s (all_tell (feed_bodies (era_of f.set_id k.config) f))))
+    (emitting s (all_tell (told_bodies f s.known.config)))
+    (λ none. subst (λ (k : Knowledge). IsStated t (emitting s (all_tell (told_bodies f k.config))))
     (sym is.0.known)
-    (emits_link t s (feeding s.node f) is.0
-    (Feeds f refl (can_feed t.world s f is.0 is.1 (all_none (feed_checks s f) none))))))
+    (emits_link t s (all_tell (told_bodies f (knowledge s.node).config)) is.0
+    (feed_told s.node f (can_feed t.world s f is.0 is.1 (all_none (feed_checks s f) none))
+    (pair_at f.set_id f.receiver (knowledge s.node).config.subscriptions) refl))))
 
 ordered_link : (t : Past) → IsRegular t.world → (o : Order) (run : Running) → OnOk (IsStated t) (ordered o run t.world)
 ordered_link t r (order.InitCluster id comment) run = init_link id comment run t

@@ -35,12 +35,13 @@ use Rattle.net_relation.specs.Laws.{Keeper}
 use Rattle.net_relation.specs.Matching.{HasRow, IsKept, MatchesNode}
 use Rattle.net_relation.specs.Reading.{moment_of, plain, read, said, said_by, unfed}
 use Rattle.net_relation.proofs.Earlier.{CopiesFind, ProvidersHave}
-use Rattle.net_relation.proofs.Feeding.{AreRowed, IsFeed, IsRowed, NodeFeeds}
+use Rattle.net_relation.proofs.Feeding.{IsFeed, NodeFeeds}
+use Rattle.net_relation.proofs.Rowed.{AreRowed, IsRowed}
 use Rattle.net_relation.proofs.Leading.{feeds_at}
 use Rattle.net_relation.proofs.Moments.{seen_moment, unseen_moment}
 use Rattle.net_relation.proofs.Nets.{said_next}
 use Rattle.net_relation.proofs.Readied.{AllExpected, IsReady, Tame, all_expected, read_tame, ready_stays}
-use Rattle.net_relation.proofs.Relating.{AreFirst, Netted, netted_sound}
+use Rattle.net_relation.proofs.Relating.{Netted, netted_sound}
 use Rattle.slon_model.specs.Sessions.{Seat, seat}
 use Rattle.stream_laws.proofs.Seats.{IsSeat}
 
@@ -295,10 +296,8 @@ copies_find set t s a = (
         (length (read set found.earlier) + 1)
     ready = ready_stays o.id (read set found.later) (read set found.earlier)
         (subst AllExpected whole (all_expected n.stream (λ i less.
-        subst (λ b. IsExpected b (up_to i n.stream)) s.netted.origin.start ((stood_sound s).expected i less)))) (
-          subst AreFirst whole s.netted.once,
-          subst (AllByRecursion Tame) (sym s.netted.origin.stream ∙ whole) (read_tame set (stream x)),
-        )
+        subst (λ b. IsExpected b (up_to i n.stream)) s.netted.origin.start ((stood_sound s).expected i less))))
+        (subst (AllByRecursion Tame) (sym s.netted.origin.stream ∙ whole) (read_tame set (stream x)))
 
     -- its subscription by what it has heard
     known : (u : Row) × (row unfed o.id (read set found.earlier) ≡ Some u) × (u.provider ≡ a.provider)

@@ -1,6 +1,6 @@
 -- A subscription that was enabled stays ready.
 use Rattle.std.proofs.Common.{◌≡◌, ℕ, suc, ◌≤◌, Bool, true, false, cond, List, [], ◌∷◌, ◌++◌, length}
-use Rattle.std.proofs.Common.{Some, None, refl, sym, ap, subst, ◌∙◌, arith}
+use Rattle.std.proofs.Common.{Some, refl, sym, ap, subst, ◌∙◌, arith}
 use Rattle.std.specs.Prelude.{◌+◌, ◌==◌}
 use Rattle.std.specs.List.{AllByRecursion}
 use Rattle.std.proofs.lemmas.Bool.{eqb-true, eq-eqb, true≢false}
@@ -14,7 +14,6 @@ use Rattle.slon_model.specs.Snapshots.{Snapshot}
 use Rattle.slon_model.specs.Events.{Event}
 use Rattle.slon_model.proofs.Names.{one_found}
 use Rattle.net_relation.specs.Reading.{read, said_by, unfed}
-use Rattle.net_relation.proofs.Relating.{AreFirst}
 
 -- ---- a subscription that is enabled stays
 
@@ -67,15 +66,19 @@ ready_first r before expected =
       refl,
     )
 
-ready_more : (r number : ℕ) (e : Said) (z : List Said) → IsExpected unfed (e ∷ z) × AreFirst (e ∷ z) × Tame e →
+ready_more : (r number : ℕ) (e : Said) (z : List Said) → IsExpected unfed (e ∷ z) × Tame e →
     IsReady r z number → IsReady r (e ∷ z) number
 ready_more r number (Subscribe n p f) z is (u, has, ready, made) = by (r == n) refl
   where
     by : (b : Bool) → (r == n) ≡ b → (v : Row)
         × (cond b (Some (subscribed (length z + 1) (last_moment z) p f (row unfed r z))) (row unfed r z) ≡ Some v)
         × (v.ready ≡ true) × (v.made ≡ number)
-    by true same =
-        let never : None ≡ Some u = sym is.1.0 ∙ ap (λ i. row unfed i z) (sym (eqb-true r n same)) ∙ has in absurd cc
+    by true same = (
+      subscribed (length z + 1) (last_moment z) p f (Some u),
+      ap (λ o. Some (subscribed (length z + 1) (last_moment z) p f o)) has,
+      ready,
+      made,
+    )
     by false other = (u, has, ready, made)
 ready_more r number (Enable n) z is (u, has, ready, made) = by (r == n) refl
   where
@@ -87,14 +90,13 @@ ready_more r number (Enable n) z is (u, has, ready, made) = by (r == n) refl
         let one = one_found u waits.0 (sym has ∙ ap (λ i. row unfed i z) (eqb-true r n same) ∙ waits.1.0) in
         absurd (true≢false (sym ready ∙ ap (λ (v : Row). v.ready) one ∙ waits.1.1))
     by false other = (u, has, ready, made)
-ready_more r number (Unsubscribe n) z is ready = absurd is.2
-ready_more r number DropSet z is ready = absurd is.2
+ready_more r number (Unsubscribe n) z is ready = absurd is.1
+ready_more r number DropSet z is ready = absurd is.1
 ready_more r number others z is ready = ready
 
 pub ready_stays : (r : ℕ) (later before : List Said) → AllExpected (later ++ Enable r ∷ before) →
-    AreFirst (later ++ Enable r ∷ before) × AllByRecursion Tame (later ++ Enable r ∷ before) →
-    IsReady r (later ++ Enable r ∷ before) (length before + 1)
-ready_stays r [] before expected is = ready_first r before expected.0
-ready_stays r (e ∷ later) before expected is =
-    ready_more r (length before + 1) e (later ++ Enable r ∷ before) (expected.0, is.0, is.1.0)
-    (ready_stays r later before expected.1 (is.0.1, is.1.1))
+    AllByRecursion Tame (later ++ Enable r ∷ before) → IsReady r (later ++ Enable r ∷ before) (length before + 1)
+ready_stays r [] before expected tame = ready_first r before expected.0
+ready_stays r (e ∷ later) before expected tame =
+    ready_more r (length before + 1) e (later ++ Enable r ∷ before) (expected.0, tame.0)
+    (ready_stays r later before expected.1 tame.1)

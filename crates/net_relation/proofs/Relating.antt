@@ -1,12 +1,12 @@
 -- A net beside a session: what is known of it, and what it needs as the origin goes on, or another node.
-use Rattle.std.proofs.Common.{◌≡◌, ◌≢◌, ◌⊎◌, inl, inr, ℕ, ◌<◌, ◌≤◌, Bool, true, false, cond, List, [], ◌∷◌, ◌++◌}
+use Rattle.std.proofs.Common.{◌≡◌, ◌≢◌, ◌⊎◌, inl, inr, ℕ, ◌<◌, ◌≤◌, Bool, true, false, cond, List, ◌++◌}
 use Rattle.std.proofs.Common.{length}
 use Rattle.std.proofs.Common.{Option, Some, None, refl, sym, ap, subst, ◌∙◌, arith}
 use mathlib.Core.Path.{fun_ext}
 use Rattle.std.specs.List.{AllByRecursion}
 use Rattle.std.specs.Str.{bytes_eq}
 use Rattle.std.proofs.lemmas.List.{map-append}
-use Rattle.net_laws.specs.Subscriptions.{Event as Said, Subscribe, up_to, row}
+use Rattle.net_laws.specs.Subscriptions.{up_to, row}
 use Rattle.net_laws.specs.Net.{Net, Node as NetNode, Here, Leads, Logs}
 use Rattle.net_laws.specs.Sound.{Sound}
 use Rattle.net_laws.proofs.Laws.{logs_are_committed}
@@ -53,15 +53,6 @@ nodes_same name q f same = fun_ext (λ k. by k (bytes_eq k name) refl)
 
 -- ---- a net
 
--- a receiver subscribes for the first time
-abbrev pub IsFirstOf : Said → List Said → Type 0
-IsFirstOf (Subscribe r p f) before = row unfed r before ≡ None
-IsFirstOf others before = Unit {0}
-
-abbrev pub AreFirst : List Said → Type 0
-AreFirst [] = Unit {0}
-AreFirst (e ∷ z) = IsFirstOf e z × AreFirst z
-
 -- The net of a set, beside a database and its node, and all nodes of the session.
 pub record Netted (set : ℕ) (ended : List ℕ) (all : Nodes) (p : Place) (x : Node) : Type 0 where
   pub net : Net
@@ -71,9 +62,8 @@ pub record Netted (set : ℕ) (ended : List ℕ) (all : Nodes) (p : Place) (x : 
   pub events : AllByRecursion (λ e. IsTaken (order_in ended) (length ended) e.taken) (stream x)
   pub nodes : (name : List ℕ) (o : Node) → all name ≡ Some o → o.id ≢ x.id →
       MatchesNode set (order_in ended) (length ended) x o (net.nodes o.id)
-  -- what is no node has applied nothing, and each receiver subscribed once
+  -- what is no node has applied nothing
   pub strangers : (id : ℕ) → ((name : List ℕ) (o : Node) → all name ≡ Some o → o.id ≢ id) → net.nodes id ≡ fresh
-  pub once : AreFirst net.stream
 
 -- The database of this name has an order of what has ended, and where it is a node, a net. What was so in the sessions
 -- before bears on that.
@@ -169,7 +159,6 @@ pub record NetLater {set : ℕ} {ended : List ℕ} {all : Nodes} {p : Place} {x 
   pub origin : MatchesOrigin set q y net
   pub now : net.now ≡ length (more ++ ended)
   pub events : AllByRecursion (λ e. IsTaken (order_in (more ++ ended)) (length (more ++ ended)) e.taken) (stream y)
-  pub once : AreFirst net.stream
 
 pub origin_later : {set : ℕ} {ended : List ℕ} {all : Nodes} {p : Place} {x : Node} (n : Netted set ended all p x)
     (more : List ℕ) (q : Place) (y : Node) → Grown ended more x y → NetLater n more q y →
@@ -186,7 +175,6 @@ origin_later {set} {ended} {all} {p} {x} n more q y g l = record {
       (matches_later set g o (n.net.nodes o.id) (node_behind n o.id, logged_below n o.id)
       (n.nodes name o is (λ same. other (same ∙ sym g.id))));
   strangers = λ id none. ap (λ (f : ℕ → NetNode). f id) l.nodes ∙ n.strangers id none;
-  once = l.once;
 }
 
 -- the origin is found as it is now
@@ -200,7 +188,6 @@ origin_placed {set} {ended} {all} {p} {y} n name was = record {
   events = n.events;
   nodes = λ k o is other. by k o other (bytes_eq k name) is;
   strangers = λ id none. n.strangers id (λ k o is same. stays id none k o is same (bytes_eq k name) refl);
-  once = n.once;
 }
   where
     by : (k : List ℕ) (o : Node) → o.id ≢ y.id → (b : Bool) → cond b (Some y) (all k) ≡ Some o →
@@ -247,7 +234,6 @@ node_later {set} {ended} {all} {p} {x} n name o was l = record {
   strangers = λ id none.
       l.others id (λ same. none name o (ap (λ b. cond b (Some o) (all name)) (bytes_itself name)) (sym same))
       ∙ n.strangers id (λ k m is same. stays id none k m is same (bytes_eq k name) refl);
-  once = n.once;
 }
   where
     by : (k : List ℕ) (m : Node) → m.id ≢ x.id → (b : Bool) → bytes_eq k name ≡ b → cond b (Some o) (all k) ≡ Some m →

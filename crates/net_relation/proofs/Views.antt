@@ -9,7 +9,7 @@ use Rattle.node_rows.specs.declared.body.Body.{Body}
 use Rattle.node_rows.specs.declared.body.Body.TheVariants.{Sync}
 use Rattle.slon_model.specs.Maps.{Map, entry_at}
 use Rattle.slon_model.specs.Events.{is_sync}
-use Rattle.slon_model.specs.Views.{View, view_after, with_views}
+use Rattle.slon_model.specs.Views.{View, based, view_after, views_told, with_views}
 use Rattle.slon_model.specs.Deeds.{Brought, Knowledge, Node, knowledge, nothing_brought, view_of, with_deeds}
 use Rattle.slon_model.specs.Following.{SetSync}
 use Rattle.slon_model.specs.Working.{Carried, Copying, ToCopy, ToFollow, errand_in, receives_from}
@@ -20,6 +20,8 @@ use Rattle.stream_laws.proofs.Seats.{seat_node}
 use Rattle.view_laws.specs.Past.{Past}
 use Rattle.view_laws.proofs.Brought.{Brings, Copies, IsBrought, IsCopied, IsKept, IsSynced, Nothing, copied_view}
 use Rattle.view_laws.proofs.Doing.{IsTaken, taking}
+use Rattle.view_laws.proofs.Copied.{copy_asks}
+use Rattle.view_laws.proofs.Turned.{IsBased, IsSame, IsToldAs, Turns, enables_told, found_told, sync_told, there_told}
 use Rattle.view_laws.proofs.Viewed.{rising_now}
 use Rattle.view_laws.proofs.Reaching.{not_brought}
 use Rattle.view_laws.proofs.Rising.{found_in, stands_found, there_in}
@@ -38,10 +40,14 @@ NoSync x set =
 abbrev NoCopy : Past → Carried → ℕ → Type 0
 NoCopy t x set = (k : IsCopied t x.seat x.event x.brought) → k.copy.copying.set_id ≡ set → ⊥
 
--- The view is as before; or the set was copied; or a SYNC of the origin of the set was followed.
+-- The view is as before; or the node begins to forward the set; or the set was copied; or a SYNC of the origin of the
+-- set was followed.
 pub data ViewTaken (t : Past) (x : Carried) (set : ℕ) : Type 0 where
   Keeps : view_of set (knowledge (behind x)) ≡ view_of set (knowledge x.seat.node) → NoSync x set → NoCopy t x set →
       ViewTaken t x set
+  Turned : (v : View) → view_of set (knowledge x.seat.node) ≡ Some v →
+      Turns x.seat.node.id set x.event.body (knowledge x.seat.node).config →
+      view_of set (knowledge (behind x)) ≡ Some (based v) → ViewTaken t x set
   Copied : (k : IsCopied t x.seat x.event x.brought) → k.copy.copying.set_id ≡ set →
       view_of set (knowledge (behind x))
       ≡ Some (copied_view k.copy) →
@@ -54,14 +60,46 @@ pub data ViewTaken (t : Past) (x : Carried) (set : ℕ) : Type 0 where
 
 nothing_taken : (t : Past) (x : Carried) (origin : ℕ) → IsTaken t origin x → (set : ℕ) →
     x.brought ≡ nothing_brought → ViewTaken t x set
-nothing_taken t x origin is set none =
-    Keeps (ap (λ (b : Brought). entry_at set (with_views b.views (knowledge x.seat.node).views)) none)
-    (λ v found sync from. not_brought t origin x is set v
-    (found, subst (λ (b : Brought). AllByRecursion (λ u. u.0 ≢ set) b.views) (sym none) tt) (sync, from))
-    (λ k same. some_views (ap (λ (b : Brought). b.views) (sym k.is ∙ none)))
+nothing_taken t x origin is set none = by (view_of set k) refl
   where
+    k : Knowledge
+    k = knowledge x.seat.node
+
+    own : ℕ
+    own = x.seat.node.id
+
+    told : Map View
+    told = views_told own x.event.body k.config k.views
+
+    there : view_of set (knowledge (behind x)) ≡ entry_at set told
+    there = ap (λ (b : Brought). entry_at set (with_views b.views told)) none
+
     some_views : {v : ℕ × View} → v ∷ [] ≡ [] → ⊥
     some_views never = absurd cc
+
+    keeps : entry_at set told ≡ view_of set k → ViewTaken t x set
+    keeps same =
+        Keeps (there ∙ same)
+        (λ v found sync from. not_brought t origin x is set v
+        (found, subst (λ (b : Brought). AllByRecursion (λ u. u.0 ≢ set) b.views) (sym none) tt) (sync, from))
+        (λ k same. some_views (ap (λ (b : Brought). b.views) (sym k.is ∙ none)))
+
+    none_told : view_of set k ≡ None → (o : Option View) → entry_at set told ≡ o → o ≡ None
+    none_told missing None found = refl
+    none_told missing (Some y) found =
+        let of = found_told own set x.event.body k.config k.views y found in
+        let never : None ≡ Some of.0 = sym missing ∙ of.1 in
+        absurd cc
+
+    from : (v y : View) → view_of set k ≡ Some v → entry_at set told ≡ Some y →
+        IsToldAs own set x.event.body k.config v y → ViewTaken t x set
+    from v y found is_y (IsSame same) = keeps (is_y ∙ ap Some same ∙ sym found)
+    from v y found is_y (IsBased same turns) = Turned v found turns (there ∙ is_y ∙ ap Some same)
+
+    by : (o : Option View) → view_of set k ≡ o → ViewTaken t x set
+    by None missing = keeps (none_told missing (entry_at set told) refl ∙ sym missing)
+    by (Some v) found =
+        let y = there_told own set x.event.body k.config k.views v found in from v y.0 found y.1 y.2
 
 -- the set of the first view
 abbrev first_id : Map View → ℕ
@@ -78,10 +116,16 @@ copy_taken t x origin is set k = by (set == id) refl
     first : View
     first = copied_view k.copy
 
+    told : Map View
+    told = views_told x.seat.node.id x.event.body (knowledge x.seat.node).config (knowledge x.seat.node).views
+
     there : view_of set (knowledge (behind x)) ≡ cond (set == id) (Some first) (view_of set (knowledge x.seat.node))
     there =
-        ap (λ (b : Brought). entry_at set (with_views b.views (knowledge x.seat.node).views)) k.is
-        ∙ entry-with set id first (knowledge x.seat.node).views
+        ap (λ (b : Brought). entry_at set (with_views b.views told)) k.is
+        ∙ entry-with set id first told
+        ∙ ap (λ vs. cond (set == id) (Some first) (entry_at set vs))
+        (enables_told x.seat.node.id id k.at.seat.node.id x.event.body (knowledge x.seat.node).config
+        (knowledge x.seat.node).views (copy_asks k.at.to.world k.at.seat x.event k.found k.copy))
 
     by : (b : Bool) → (set == id) ≡ b → ViewTaken t x set
     by true same =
@@ -99,6 +143,13 @@ copy_taken t x origin is set k = by (set == id) refl
         apart same = eqb-false set id other (sym same)
 
 -- ---- a SYNC
+
+-- it tells no node how it receives a set
+sync_views : (x : Carried) → x.event.body ≡ Sync →
+    (knowledge (behind x)).views ≡ with_views x.brought.views (knowledge x.seat.node).views
+sync_views x sync =
+    ap (with_views x.brought.views)
+    (sync_told x.seat.node.id x.event.body (knowledge x.seat.node).config (knowledge x.seat.node).views sync)
 
 sync_no_copy : (own : ℕ) (receives : Bool) (origin : ℕ) (body : Body) (c : Copying) → body ≡ Sync →
     errand_in own receives origin body ≡ Some (ToCopy c) → ⊥
@@ -157,7 +208,9 @@ follow_taken t x origin is set s = before (view_of set (knowledge n)) refl
     found : (y : View) → view_of set (knowledge (behind x)) ≡ Some y →
         ((v : View) × (view_of set (knowledge n) ≡ Some v) × (v.origin ≡ x.event.origin) × (y ≡ view_after x.event v))
         ⊎ ((view_of set (knowledge n) ≡ Some y) × AllByRecursion (λ u. u.0 ≢ set) x.brought.views)
-    found y there = by (found_in set y x.brought.views (knowledge n).views there)
+    found y there =
+        by (found_in set y x.brought.views (knowledge n).views
+        (ap (entry_at set) (sym (sync_views x s.follows.body)) ∙ there))
       where
         by : IsAmong (set, y) x.brought.views
             ⊎ ((view_of set (knowledge n) ≡ Some y) × AllByRecursion (λ u. u.0 ≢ set) x.brought.views) →
@@ -212,7 +265,8 @@ follow_taken t x origin is set s = before (view_of set (knowledge n)) refl
         no_some : {v : View} → view_of set (knowledge n) ≡ None → view_of set (knowledge n) ≡ Some v → ⊥
         no_some none some = absurd cc
     before (Some v) is_v =
-        one v is_v (there_in set v x.brought.views (knowledge n).views is_v) (v.origin == x.event.origin) refl
+        let y = there_in set v x.brought.views (knowledge n).views is_v in
+        one v is_v (y.0, ap (entry_at set) (sync_views x s.follows.body) ∙ y.1) (v.origin == x.event.origin) refl
 
 pub view_taken : (t : Past) (x : Carried) (origin : ℕ) → IsTaken t origin x → (set : ℕ) → ViewTaken t x set
 view_taken t x origin is set = by is.brings

@@ -45,7 +45,7 @@ use Rattle.net_relation.proofs.Rows.{row_beside}
 use Rattle.net_relation.proofs.Stepping.{Here, IsPut, Looks, There, is_put}
 use Rattle.net_relation.proofs.Stepping.{look, with_look}
 use Rattle.net_relation.proofs.Views.{behind}
-use Rattle.net_relation.proofs.Relaying.{relay_of}
+use Rattle.net_relation.proofs.Relaying.{ready_of}
 
 -- ---- the origin commits
 
@@ -67,7 +67,6 @@ retaken n same = record {
   events = n.events;
   nodes = n.nodes;
   strangers = n.strangers;
-  once = n.once;
 }
 
 -- A commit of the database of an origin, and what its node is then.
@@ -107,7 +106,6 @@ leader_stays {set} {ended} {all} {p} {x} n q y clock same logs rows =
       now = n.now;
       events = subst (AllByRecursion (λ e. IsTaken (order_in ended) (length ended) e.taken))
           (sym same.1) n.events;
-      once = n.once;
     })
 
 told_leader : (set : ℕ) (ended : List ℕ) (t : Past) (c : Commit) (p : Place) → Leading set ended t c p →
@@ -115,7 +113,7 @@ told_leader : (set : ℕ) (ended : List ℕ) (t : Past) (c : Commit) (p : Place)
     Netted set ended (nodes_in t.world.places) (committing c p)
     (with_deeds (commit_of d.seat d.emits).deeds d.seat.node)
 told_leader set ended t c p l d =
-    retaken (told_net d.seat d.emits d.may (relay_of t d.seat d.is) (next_number t d.seat d.is)
+    retaken (told_net d.seat d.emits d.may (ready_of t d.seat d.is) (next_number t d.seat d.is)
     (sound_now t d.seat.name d.seat.place d.is.found) (subst (λ q. ClockAt q ended) (sym d.at) l.clock)
     (subst (λ q. Netted set ended (nodes_in t.world.places) q d.seat.node) (sym d.at)
     (l.netted d.seat.node (ap (λ (q : Place). q.node) (sym d.at) ∙ d.is.node))))

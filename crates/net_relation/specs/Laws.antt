@@ -111,8 +111,8 @@ pub record IsAhead (set : ℕ) (x : Node) (old new : Snapshot) (l : Logged) : Ty
   pub seen : sees new l.action.xid ≡ true
   pub unseen : sees old l.action.xid ≡ false
 
--- Who forwards a set has logged all that the origin has logged on it between the snapshot with which the node began
--- and that of its view.
+-- Who forwards a set has logged all that the origin has logged on it between the snapshot with which the node last
+-- began to forward it and that of its view.
 abbrev pub ForwardersLog : Type 0
 ForwardersLog =
     (limit : ℕ) (history : List Happening) (w : World) → Leads (start limit) history w →

@@ -26,9 +26,9 @@ pub fn subscribers_keep()
 {}
 
 /// A node that forwards a set has in its log every action that the origin has logged on the set, if the snapshot that
-/// the node keeps sees it and the one with which it began does not. So it has there every such action that was
-/// committed at the origin on the tables of the set. No node has more: each entry of its log is in the log of the node
-/// that is the origin of the entry.
+/// the node keeps sees it and the one with which it last began to forward the set does not. So it has there every such
+/// action that was committed at the origin on the tables of the set. No node has more: each entry of its log is in the
+/// log of the node that is the origin of the entry.
 pub fn forwarders_log()
     ensures entries { ForwardersLog }
     ensures actions { ForwardersHaveTheActions }
@@ -36,8 +36,9 @@ pub fn forwarders_log()
 {}
 
 /// A node that forwards a set could serve any other node that keeps the set and is not behind the snapshot with which
-/// the first one began: of each SYNC that the first one has applied, it has in its log all that the other one takes
-/// with that SYNC from the origin. So the other one would take the same rows from it, in the same order.
+/// the first one last began to forward it: of each SYNC that the first one has applied, it has in its log all that the
+/// other one takes with that SYNC from the origin. So the other one would take the same rows from it, in the same
+/// order.
 pub fn forwarders_serve()
     ensures entries { ForwardersServe }
     ensures same { ForwardersGiveTheSame }

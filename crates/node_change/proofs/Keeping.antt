@@ -26,6 +26,7 @@ use Rattle.node_state.specs.Held.{NodeHeld, items_of, is_own}
 use Rattle.node_state.proofs.Staying as staying
 use Rattle.node_state.proofs.Staying.{AreNear}
 use Rattle.node_change.specs.Done.{HasApplied, HasKept, HoldsKept, row_of, with_logs, with_view}
+use Rattle.node_change.proofs.Meeting.{told_views}
 use Rattle.node_change.proofs.Spaces.{own_else, spare_else, no_stream}
 
 -- the rows that come with an event, and how many, change nothing of the node
@@ -89,7 +90,7 @@ view_held {n} {e} b {mid} {new} kept holds shows id rows count d logs = record {
   behind = h.behind;
   regular = record {
     others = h.regular.others;
-    views = ordered_with kept.0 kept.1 (with_views b.views (knowledge n).views) id h.regular.views;
+    views = ordered_with kept.0 kept.1 (with_views b.views (told_views n e)) id h.regular.views;
     progress = h.regular.progress;
     told = h.regular.told;
     falling = h.regular.falling;

@@ -1,6 +1,8 @@
 pub mod Both
+pub mod Confirmed
 pub mod Copies
 pub mod Emitting
+pub mod Feeds
 pub mod FirstNodes
 pub mod Hearing
 pub mod Keeping
@@ -10,6 +12,6 @@ pub mod Naming
 pub mod NewNodes
 pub mod Orderly
 pub mod Pairs
-pub mod Receivers
+pub mod ReceiverRows
+pub mod Relaying
 pub mod Spaces
-pub mod Confirmed

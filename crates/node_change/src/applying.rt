@@ -1,11 +1,12 @@
 // Events of other nodes, which a node takes over and carries out.
-ghost use Rattle.std.specs.Prelude.{◌≡◌, List, Some, true, is_some, map, IfErr};
+ghost use Rattle.std.specs.Prelude.{◌≡◌, List, Some, true, is_some, length, map, IfErr};
 ghost use Rattle.std.specs.List.{AllByRecursion};
 ghost use Rattle.slon_base.specs.Keeper.{Store};
 ghost use Rattle.store_rows.specs.Rows.{IsId};
 ghost use Rattle.store_rows.specs.Space.{Becomes};
+ghost use Rattle.store_rows.specs.Spending.{PutsUpTo};
 ghost use Rattle.store_rows.specs.Steps.{IsOutside, Safe};
-ghost use Rattle.slon_model.specs.Events.{Event as SeenEvent};
+ghost use Rattle.slon_model.specs.Events.{Event as SeenEvent, is_sync};
 ghost use Rattle.slon_model.specs.Deeds.{Brought, Logged, Node, knowledge, nothing_brought};
 ghost use Rattle.log_switch.specs.Between.{CanBeLogged};
 ghost use Rattle.event_store.specs.Keeping.{KeepsViews};
@@ -16,6 +17,7 @@ ghost use Rattle.node_state.specs.Held.{HoldsNode};
 ghost use Rattle.node_state.specs.Known.{IsHomed};
 ghost use Rattle.node_change.specs.Done.{CanApply, HasApplied, HasKept, HoldsKept, row_of, with_logs, with_view};
 
+use crate::forwarding::tell_views;
 use change_capture::LogRow;
 use event_store::{Event, View, keep_view, store};
 use log_switch::append;
@@ -25,8 +27,9 @@ use std::alloc::Global;
 use store_rows::Stop;
 
 /// The node applies an event of another node, in what is pending: it holds the event, is as far as that in the stream
-/// of its origin, and makes the change that the body names. The event is to be behind all events of its origin that
-/// the node has met, and a table may be put only into a set that the node knows.
+/// of its origin, and makes the change that the body names. Where it is to forward a set from there on, what it keeps
+/// of the set gets a new base. The event is to be behind all events of its origin that the node has met, and a table
+/// may be put only into a set that the node knows.
 ///
 /// # Errors
 ///
@@ -36,11 +39,14 @@ pub fn apply<K: Keeper>(alloc: Global, keeper: &mut K, own: u32, event: &Event) 
     requires own { IsId own }
     requires keeps { KeepsViews event.now.body }
     ensures safe { Safe (K.kept keeper.old) (K.kept keeper.new) result }
+    ensures puts { is_sync event.now.body ≡ true → PutsUpTo 3 (K.kept keeper.old).puts
+        (K.kept keeper.new).puts }
     ensures turns { (n : Node) (m : Store) → n.id ≡ own → (K.kept keeper.old).pending ≡ Some (Some m) →
         HoldsNode (Some n) m → CanApply n (seen_event event.now) → IsHomed event.now.body (knowledge n).config →
         Becomes (HasApplied n (seen_event event.now) m) (K.kept keeper.new) result }
 {
     store(alloc, keeper, own, event)?;
+    tell_views(alloc, keeper, own, &event.body)?;
     change(alloc, keeper, event.origin, event.number, &event.body)
 }
 
@@ -80,6 +86,7 @@ pub fn keep_set<K: Keeper>(alloc: Global, keeper: &mut K, set: u32, view: &View)
     requires opened { is_some (K.kept keeper.old).pending ≡ true }
     requires kept { IsId set × CanView (seen_view view.now) }
     ensures safe { Safe (K.kept keeper.old) (K.kept keeper.new) result }
+    ensures puts { PutsUpTo 1 (K.kept keeper.old).puts (K.kept keeper.new).puts }
     ensures only { IfErr result IsOutside }
     ensures turns { (n : Node) (e : SeenEvent) (b : Brought) (m : Store) →
         (K.kept keeper.old).pending ≡ Some (Some m) → HoldsKept n e b m →
@@ -104,6 +111,7 @@ pub fn log_rows<K: Keeper>(
     requires id { IsId origin }
     requires can { AllByRecursion CanBeLogged rows.now }
     ensures safe { Safe (K.kept keeper.old) (K.kept keeper.new) result }
+    ensures puts { PutsUpTo (length rows.now) (K.kept keeper.old).puts (K.kept keeper.new).puts }
     ensures only { IfErr result IsOutside }
     ensures turns { (n : Node) (e : SeenEvent) (b : Brought) (m : Store) (logs : List Logged) →
         (K.kept keeper.old).pending ≡ Some (Some m) → HoldsKept n e b m →

@@ -5,6 +5,7 @@ mod announcing;
 mod applying;
 mod confirming;
 mod copying;
+mod forwarding;
 mod founding;
 mod joining;
 mod layout;
@@ -20,6 +21,6 @@ pub use joining::join_node;
 pub use listening::{is_known, known, listens};
 pub use lookup::{
     find_node_row, find_set_row, find_subscription, first_receiver, has_fence, has_path,
-    has_subscription, has_table_row,
+    has_subscription, has_table_row, receivers,
 };
 pub use side::{Failed, Side, sided};

@@ -10,7 +10,7 @@ ghost use Rattle.store_rows.specs.Steps.{Safe, IsOutside, IsWithinLimit, IsOfSpa
 ghost use Rattle.node_rows.specs.Spellings.{node_bytes, CanNode, set_bytes, CanSet, subscription_bytes};
 ghost use Rattle.node_rows.specs.Spellings.{CanSubscription};
 ghost use Rattle.slon_model.specs.Maps.{entry_at, pair_at};
-ghost use Rattle.slon_model.specs.Config.{Config, has_path};
+ghost use Rattle.slon_model.specs.Config.{Config, has_path, receivers};
 ghost use Rattle.slon_model.specs.Reaching.{receiver_with};
 ghost use Rattle.set_config.specs.Holds.{HoldsConfig, AreIds, pair_key};
 ghost use Rattle.event_store.specs.Formed.{IsRow, Lacks, Reads};
@@ -19,9 +19,9 @@ ghost use Rattle.node_change.specs.Receivers.{IsPairKey, receiver_of};
 
 use crate::layout::{FENCES, NODES, PATHS, SETS, SUBSCRIPTIONS, TABLES};
 use node_rows::{NodeRow, SetRow, Subscription};
-use slon_base::Keeper;
+use slon_base::{Keeper, Many};
 use std::alloc::Global;
-use store_rows::{Stop, get_row, has_row, next_pair, read_alone, spelling};
+use store_rows::{Stop, get_row, has_row, next_pair, read_alone, scan_rows, spelling};
 
 /// The row of a node, if the database has heard of the node.
 ///
@@ -229,4 +229,28 @@ pub fn first_receiver<K: Keeper>(
         None => Ok(None),
         Some((key, _)) => receiver_in(alloc, set, key.as_slice()),
     }
+}
+
+/// The receivers of a set with the rows of their subscriptions, ascending.
+///
+/// # Errors
+///
+/// `BadRow` of space 8 where the key or the row of a subscription to the set is not in its form, what stopped the
+/// store, and `NoMemory`.
+pub fn receivers<K: Keeper>(
+    alloc: Global,
+    keeper: &mut K,
+    set: u32,
+) -> Result<Many<(u32, Subscription)>, Stop>
+    requires id { IsId set }
+    ensures safe { Safe (K.kept keeper.old) (K.kept keeper.new) result }
+    ensures same { OnOk result ((K.kept keeper.new).pending ≡ (K.kept keeper.old).pending) }
+    ensures within { IfErr result IsWithinLimit }
+    ensures space { IfErr result (IsOfSpace 8) }
+    ensures says { (m : Store) (c : Config) → sight (K.kept keeper.old) ≡ Some m → HoldsConfig c m → IsOrderly c →
+        Gives (λ found. found ≡ receivers set c) result }
+{
+    let prefix = spelling(alloc, &set)?;
+    let key = prefix.as_slice();
+    scan_rows(alloc, keeper, SUBSCRIPTIONS, key, key)
 }

@@ -17,6 +17,7 @@ fuse_kept kept f = record {
   told = f.charge;
   faults = capped ((kept f.keeper).faults + f.own_faults);
   doubts = capped ((kept f.keeper).doubts + f.own_doubts);
+  puts = (kept f.keeper).puts;
 }
 
 -- the same where it is told another charge, with this bound on failures to come
@@ -28,6 +29,7 @@ told_so charge left k = record {
   told = charge;
   faults = k.faults;
   doubts = k.doubts;
+  puts = k.puts;
 }
 
 -- only the charge is another one

@@ -58,12 +58,13 @@ ended_in commits (t ∷ ts) spaces =
     ended_in commits ts (slice_set spaces t (ended commits (slice_index_or spaces t (empty, empty))))
 
 -- the store as it is told
-abbrev pub mem_kept : List (Space × Space) → FaultPlan → Phase → ℕ → Kept
-mem_kept spaces plan phase doubts = record {
+abbrev pub mem_kept : List (Space × Space) → FaultPlan → Phase → ℕ → ℕ → Kept
+mem_kept spaces plan phase doubts puts = record {
   held = Some (held_store spaces);
   pending = pending_in phase (pending_store spaces);
   can_fail = Some (left plan.fails.items plan.calls);
   told = Off;
   faults = plan.faults;
   doubts = doubts;
+  puts = Some puts;
 }

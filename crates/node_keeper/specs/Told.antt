@@ -7,11 +7,19 @@ use Rattle.node_keeper.specs.MemKept.{mem_kept, is_open}
 use Rattle.node_keeper.specs.Plan.{is_due}
 
 abbrev pub kept_of : MemKeeper → Kept
-kept_of k = mem_kept k.spaces.items k.plan k.phase k.doubts
+kept_of k = mem_kept k.spaces.items k.plan k.phase k.doubts k.puts
 
 -- an empty store of which this number of calls can fail
 abbrev pub fresh : ℕ → Kept
-fresh left = record { held = Some nothing; pending = None; can_fail = Some left; told = Off; faults = 0; doubts = 0 }
+fresh left = record {
+  held = Some nothing;
+  pending = None;
+  can_fail = Some left;
+  told = Off;
+  faults = 0;
+  doubts = 0;
+  puts = Some 0;
+}
 
 -- the next call has to fail
 abbrev pub fails_next : MemKeeper → Bool

@@ -1,6 +1,7 @@
 // A store that passes calls on, and fails them from a call on, as it is told.
 ghost use Rattle.std.specs.Prelude.{◌≡◌, None, is_some, true, false};
 ghost use Rattle.slon_base.specs.Keeper.{Begins, Gets, GetsNext, Counts, Changes, Commits, RollsBack, put_at, del_at};
+ghost use Rattle.slon_base.specs.Keeper.{one_put, none_put};
 ghost use Rattle.slon_base.specs.Charges.{burnt, burnt_by_commit, is_blown, strikes, strikes_commit, GoesOn, KeepsTold};
 ghost use Rattle.node_keeper.specs.Fused.{fuse_kept, told_so, IsCharged, Burns, Fuses, FusesCommit, FusesRollback};
 ghost use Rattle.node_keeper.specs.Fused.{masked};
@@ -169,9 +170,9 @@ impl<K: Keeper> Keeper for Fuse<K> {
 
     fn put(&mut self, space: u8, key: &[u8], value: &[u8]) -> Result<(), KeepFault>
         requires { is_some (K.kept self.old.keeper).pending ≡ true }
-        ensures changes { Changes (put_at space key.now value.now) (fuse_kept K.kept self.old)
+        ensures changes { Changes (put_at space key.now value.now) one_put (fuse_kept K.kept self.old)
             (fuse_kept K.kept self.new) result }
-        ensures fuses { Fuses (Changes (put_at space key.now value.now)) K.kept self.old self.new result }
+        ensures fuses { Fuses (Changes (put_at space key.now value.now) one_put) K.kept self.old self.new result }
     {
         if self.strikes() {
             return Err(KeepFault::Failed);
@@ -181,9 +182,9 @@ impl<K: Keeper> Keeper for Fuse<K> {
 
     fn del(&mut self, space: u8, key: &[u8]) -> Result<(), KeepFault>
         requires { is_some (K.kept self.old.keeper).pending ≡ true }
-        ensures changes { Changes (del_at space key.now) (fuse_kept K.kept self.old)
+        ensures changes { Changes (del_at space key.now) none_put (fuse_kept K.kept self.old)
             (fuse_kept K.kept self.new) result }
-        ensures fuses { Fuses (Changes (del_at space key.now)) K.kept self.old self.new result }
+        ensures fuses { Fuses (Changes (del_at space key.now) none_put) K.kept self.old self.new result }
     {
         if self.strikes() {
             return Err(KeepFault::Failed);

@@ -5,7 +5,7 @@ ghost use Rattle.std.specs.Prelude.{if◌then◌else◌};
 ghost use Rattle.std.specs.FinMap.{empty, entries};
 ghost use Rattle.std.specs.Option.{option_map};
 ghost use Rattle.slon_base.specs.Keeper.{Begins, Gets, GetsNext, Counts, Changes, Commits, RollsBack, put_at, del_at};
-ghost use Rattle.slon_base.specs.Keeper.{after, first};
+ghost use Rattle.slon_base.specs.Keeper.{after, first, one_put, none_put};
 ghost use Rattle.node_keeper.specs.Plan.{Counted, CountsCall, IsFrom, capped, left};
 ghost use Rattle.node_keeper.specs.MemKept.{IsSettled, IsTracked, torn, is_open, ended, ended_in};
 
@@ -44,6 +44,8 @@ pub struct MemKeeper {
     keep: bool,
     phase: Phase,
     doubts: u64,
+    // How many pairs were put.
+    puts: u64,
     // The space of each change of the transaction.
     touched: Vec<u8>,
     ghost full: { vec_len spaces ≡ 256 },
@@ -72,8 +74,16 @@ impl MemKeeper {
             keep,
             phase: Phase::Idle,
             doubts: 0,
+            puts: 0,
             touched: Vec::new(alloc),
         })
+    }
+
+    /// How many pairs were put, up to the last value of a `u64`.
+    pub fn puts(&self) -> u64
+        ensures { Some result ≡ (kept_of self.now).puts }
+    {
+        self.puts
     }
 
     // Counts a call, and says whether it has to fail. If so, what is pending is not told from then on.
@@ -81,6 +91,7 @@ impl MemKeeper {
         ensures counts { CountsCall self.old.plan self.new.plan result }
         ensures spaces { self.new.spaces.items ≡ self.old.spaces.items }
         ensures doubts { self.new.doubts ≡ self.old.doubts }
+        ensures puts { self.new.puts ≡ self.old.puts }
         ensures keep { self.new.keep ≡ self.old.keep }
         ensures phase { self.new.phase ≡ (if result then torn self.old.phase else self.old.phase) }
     {
@@ -111,6 +122,7 @@ impl MemKeeper {
         ensures plan { self.new.plan ≡ self.old.plan }
         ensures keep { self.new.keep ≡ self.old.keep }
         ensures doubts { self.new.doubts ≡ self.old.doubts }
+        ensures puts { self.new.puts ≡ self.old.puts }
     {
         end_touched(self.spaces.as_mut_slice(), self.touched.as_slice(), commits);
         self.touched.clear();
@@ -177,7 +189,8 @@ impl Keeper for MemKeeper {
 
     fn put(&mut self, space: u8, key: &[u8], value: &[u8]) -> Result<(), KeepFault>
         requires { is_some (kept_of self.old).pending ≡ true }
-        ensures changes { Changes (put_at space key.now value.now) (kept_of self.old) (kept_of self.new) result }
+        ensures changes { Changes (put_at space key.now value.now) one_put (kept_of self.old)
+            (kept_of self.new) result }
         ensures fails { fails_next self.old ≡ true → result ≡ Err KeepFault.Failed }
         ensures plan { Counted self.old.plan self.new.plan }
         ensures keep { self.new.keep ≡ self.old.keep }
@@ -186,13 +199,16 @@ impl Keeper for MemKeeper {
             return Err(KeepFault::Failed);
         }
         self.touched.push(space)?;
-        self.spaces[space as usize].put(self.alloc, key, value)?;
-        Ok(())
+        let put = self.spaces[space as usize].put(self.alloc, key, value);
+        if put.is_ok() {
+            self.puts = self.puts.saturating_add(1);
+        }
+        Ok(put?)
     }
 
     fn del(&mut self, space: u8, key: &[u8]) -> Result<(), KeepFault>
         requires { is_some (kept_of self.old).pending ≡ true }
-        ensures changes { Changes (del_at space key.now) (kept_of self.old) (kept_of self.new) result }
+        ensures changes { Changes (del_at space key.now) none_put (kept_of self.old) (kept_of self.new) result }
         ensures fails { fails_next self.old ≡ true → result ≡ Err KeepFault.Failed }
         ensures plan { Counted self.old.plan self.new.plan }
         ensures keep { self.new.keep ≡ self.old.keep }

@@ -18,7 +18,7 @@ use Rattle.store_rows.specs.Space.{IsSpace, AllOf}
 use Rattle.store_rows.specs.Steps.{Gives, IsOfSpace}
 use Rattle.store_rows.specs.declared.stop.Stop.{Stop}
 use Rattle.store_rows.proofs.Listing.{AllHave, listed, after_below}
-use Rattle.store_rows.proofs.Numbers.{numbers_ordered}
+use Rattle.slon_base.proofs.Numbers.{numbers_ordered}
 use Rattle.slon_model.specs.Maps.{Map, entry_at, ids}
 use Rattle.slon_model.specs.Snapshots.{Rising}
 use Rattle.log_switch.proofs.Numbered.{find_number}

@@ -1,4 +1,5 @@
 pub mod Acting
+pub mod Allowing
 pub mod Becoming
 pub mod Chaining
 pub mod Committing

@@ -1,6 +1,6 @@
 -- Rows of a log that are looked through for those that are on tables, with their actions.
 use Rattle.std.proofs.Common.{◌≡◌, ◌∙◌, ℕ, ◌≤◌, Bool, true, false, cond, List, [], ◌∷◌, ◌++◌, refl}
-use Rattle.std.proofs.Common.{sym, ap, subst, arith, map, filter, append_assoc}
+use Rattle.std.proofs.Common.{sym, ap, subst, arith, map, filter, append_assoc, length, length-append}
 use Rattle.std.specs.Prelude.{◌==◌, ◌&&◌}
 use Rattle.std.specs.List.{AllByRecursion, list_any}
 use Rattle.std.specs.Str.{bytes_eq}
@@ -97,6 +97,14 @@ pub can_added : {number : ℕ} {row : LogRow} (action : Action) {found new : Log
     new.actions ≡ found.actions ++ action ∷ [] → CanLogAll found.rows found.actions →
     CanLogAll new.rows new.actions
 can_added {number} {row} action {found} can is rows actions all = record {
+  same_number = omega (
+    arith,
+    ap (λ xs. length xs) actions,
+    length-append found.actions (action ∷ []),
+    all.same_number,
+    length-append found.rows ((number, row) ∷ []),
+    ap (λ rs. length rs) rows,
+  );
   rows_can = subst (AllByRecursion CanBeLogged) (sym rows)
       (all_appended CanBeLogged found.rows ((number, row) ∷ []) all.rows_can (can, tt));
   actions_can = subst (AllByRecursion (λ a. IsText a.table × CanApply (change_of a.change))) (sym actions)
@@ -204,6 +212,7 @@ stop_outside stop is = subst IsOutside (sym is) tt
 -- none is found yet
 pub none_can : {rows : List (ℕ × LogRow)} {actions : List Action} → rows ≡ [] → actions ≡ [] → CanLogAll rows actions
 none_can rows actions = record {
+  same_number = omega (arith, ap (λ xs. length xs) actions, ap (λ rs. length rs) rows);
   rows_can = subst (AllByRecursion CanBeLogged) (sym rows) tt;
   actions_can = subst (AllByRecursion (λ a. IsText a.table × CanApply (change_of a.change))) (sym actions) tt;
 }

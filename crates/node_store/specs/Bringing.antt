@@ -1,5 +1,5 @@
 -- What a node takes of a set with an event of another node, and what its store holds then.
-use Rattle.std.specs.Prelude.{◌≡◌, ℕ, ◌==◌, if◌then◌else◌, Bool, true, false, List}
+use Rattle.std.specs.Prelude.{◌≡◌, ℕ, ◌+◌, ◌*◌, ◌==◌, if◌then◌else◌, Bool, true, false, List}
 use Rattle.std.specs.Prelude.{[], ◌∷◌, Option, Some, None, Result, length, map, sum_by}
 use Rattle.std.specs.List.{AllByRecursion}
 use Rattle.slon_base.specs.Codec.{IsText}
@@ -11,7 +11,7 @@ use Rattle.slon_model.specs.declared.reply.Answer.TheVariants.{Done}
 use Rattle.slon_model.specs.declared.reply.Answered.{Answered}
 use Rattle.slon_model.specs.Names.{Named}
 use Rattle.slon_model.specs.Rows.{Rows}
-use Rattle.slon_model.specs.Events.{Event}
+use Rattle.slon_model.specs.Events.{Event, is_sync}
 use Rattle.slon_model.specs.Deeds.{Node, Deed, Brought, Applies, Logged, knowledge, nothing_brought, with_deeds}
 use Rattle.slon_model.specs.Following as rules
 use Rattle.slon_model.specs.Following.{onto, with_syncs}
@@ -89,8 +89,9 @@ pub record CanKeep (given : SetCopy) : Type 0 where
   pub view : CanView (seen_view given.view)
   pub tables : CanCopyAll given.tables
 
--- rows of a log and actions can be spelled
+-- rows of a log and actions can be spelled, and each row has one action
 pub record CanLogAll (rows : List (ℕ × LogRow)) (actions : List Action) : Type 0 where
+  pub same_number : length actions ≡ length rows
   pub rows_can : AllByRecursion CanBeLogged rows
   pub actions_can : AllByRecursion (λ a. IsText a.table × CanApply (change_of a.change)) actions
 
@@ -103,6 +104,32 @@ abbrev pub CanBring : Option declared.Brought → Type 0
 CanBring None = Unit {0}
 CanBring (Some (Copy given)) = CanKeep given
 CanBring (Some (Syncs given)) = AllByRecursion CanSync given
+
+-- ---- how many pairs are put
+
+-- what is taken of sets with an event, where that is no copy of a set
+abbrev pub deltas_of : Option declared.Brought → Option (List SetSync)
+deltas_of None = Some []
+deltas_of (Some (Copy given)) = None
+deltas_of (Some (Syncs given)) = Some given
+
+-- how many rows the deltas have
+abbrev pub rows_synced : List SetSync → ℕ
+rows_synced deltas = sum_by (λ d. length d.rows) deltas
+
+-- At most how many pairs a node puts as it applies a SYNC with these deltas: two for each row, which is logged and done
+-- to its table, four for each set, and six more.
+abbrev pub puts_allowed : List SetSync → ℕ
+puts_allowed deltas = 2 * rows_synced deltas + 4 * length deltas + 6
+
+-- how many of these it puts for the event itself and for what comes with it
+abbrev pub puts_taken : List SetSync → ℕ
+puts_taken deltas = 2 * rows_synced deltas + length deltas + 3
+
+-- The event is a SYNC, and these deltas come with it.
+pub record IsSyncWith (deltas : List SetSync) (event : Event) (brought : Option declared.Brought) : Type 0 where
+  pub sync : is_sync event.body ≡ true
+  pub brings : deltas_of brought ≡ Some deltas
 
 -- Rows with which tables can be filled: no open transaction wrote one of these, and the rows have their forms.
 pub record CanFill (p : Place) (rs : Named Rows) : Type 0 where

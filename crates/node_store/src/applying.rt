@@ -1,11 +1,13 @@
 // Events of other nodes that a database applies, as a node.
-ghost use Rattle.std.specs.Prelude.{◌≡◌, true, is_some};
+ghost use Rattle.std.specs.Prelude.{◌≡◌, List, true, is_some};
+ghost use Rattle.store_rows.specs.Spending.{PutsUpTo};
 ghost use Rattle.event_store.specs.Keeping.{KeepsViews};
 ghost use Rattle.event_store.specs.Seen.{seen_event};
 ghost use Rattle.app_store.specs.Base.{base_of};
 ghost use Rattle.app_store.specs.Serves.{answered, trouble};
 ghost use Rattle.node_store.specs.Acting.{Acts, joined};
-ghost use Rattle.node_store.specs.Bringing.{AppliesWith, CanBring};
+ghost use Rattle.node_store.specs.Bringing.{AppliesWith, CanBring, IsSyncWith, puts_allowed};
+ghost use Rattle.node_store.specs.declared.bringing.SetSync.{SetSync};
 
 use crate::bringing::Brought;
 use crate::writing::write_applied;
@@ -35,6 +37,10 @@ pub fn apply<K: Keeper>(
         (base_of K.kept database.new) }
     ensures applies { AppliesWith (seen_event event.now) brought (base_of K.kept database.old)
         (answered joined result) (base_of K.kept database.new) }
+    // As far as the store tells it, with a SYNC so few pairs are put, however it ends.
+    ensures puts { (deltas : List SetSync) → IsSyncWith deltas (seen_event event.now) brought →
+        PutsUpTo (puts_allowed deltas) (base_of K.kept database.old).kept.puts
+        (base_of K.kept database.new).kept.puts }
 {
     let alloc = database.alloc;
     let Some(own) = database.node_id() else {

@@ -1,11 +1,12 @@
 // What a node takes of sets with an event of another node.
-ghost use Rattle.std.specs.Prelude.{◌≡◌, List, Some, true, is_some, map, IfErr};
+ghost use Rattle.std.specs.Prelude.{◌≡◌, ◌+◌, ◌*◌, List, Some, true, is_some, length, map, IfErr};
 ghost use Rattle.std.specs.List.{AllByRecursion};
 ghost use Rattle.slon_base.specs.Keeper.{Store};
 ghost use Rattle.store_rows.specs.Rows.{IsId};
 ghost use Rattle.store_rows.specs.Space.{Becomes, IsPending};
+ghost use Rattle.store_rows.specs.Spending.{PutsUpTo};
 ghost use Rattle.store_rows.specs.Steps.{IsOutside, Safe};
-ghost use Rattle.slon_model.specs.Events.{Event as SeenEvent};
+ghost use Rattle.slon_model.specs.Events.{Event as SeenEvent, is_sync};
 ghost use Rattle.slon_model.specs.Deeds.{Brought as Rules, Logged, Node};
 ghost use Rattle.slon_model.specs.Following.{SetSync as RulesSync, with_sync};
 ghost use Rattle.slon_model.specs.Place.{Place, standing_rows};
@@ -14,7 +15,8 @@ ghost use Rattle.event_store.specs.Keeping.{KeepsViews};
 ghost use Rattle.event_store.specs.Seen.{seen_event};
 ghost use Rattle.node_change.specs.Done.{HasKept, HoldsKept, row_of};
 ghost use Rattle.node_store.specs.Bringing.{CanBring, CanKeep, CanSync, CanTake, HasAll, HasBrought, HasSet, HasSync};
-ghost use Rattle.node_store.specs.Bringing.{HasSynced, IsBrought, with_forwarded};
+ghost use Rattle.node_store.specs.Bringing.{HasSynced, IsBrought, IsSyncWith, puts_taken, with_forwarded};
+ghost use Rattle.node_store.specs.declared.bringing.SetSync.{SetSync as DeclaredSync};
 
 use change_apply::{apply_actions, replace_tables};
 use change_capture::{Action, LogRow};
@@ -93,6 +95,7 @@ fn log_forwarded<K: Keeper>(
     requires id { IsId origin }
     requires can { AllByRecursion CanBeLogged rows.now }
     ensures safe { Safe (K.kept keeper.old) (K.kept keeper.new) result }
+    ensures puts { PutsUpTo (length rows.now) (K.kept keeper.old).puts (K.kept keeper.new).puts }
     ensures only { IfErr result IsOutside }
     ensures logs { (n : Node) (e : SeenEvent) (b : Rules) (m : Store) (logs : List Logged) →
         (K.kept keeper.old).pending ≡ Some (Some m) → HoldsKept n e b m →
@@ -117,6 +120,7 @@ fn take_sync<K: Keeper>(
     requires id { IsId origin }
     requires can { CanSync sync }
     ensures safe { Safe (K.kept keeper.old) (K.kept keeper.new) result }
+    ensures puts { PutsUpTo (2 * length sync.rows + 1) (K.kept keeper.old).puts (K.kept keeper.new).puts }
     ensures takes { (n : Node) (e : SeenEvent) (p : Place) (m : Store) (b : Rules) (t : RulesSync) →
         IsPending (HasSynced n e p m b) (K.kept keeper.old) → HasSync origin t sync →
         Becomes (HasSynced n e p m (with_sync p t b)) (K.kept keeper.new) result }
@@ -146,6 +150,8 @@ fn take_syncs<K: Keeper>(
     requires keeps { KeepsViews event.now.body }
     requires can { AllByRecursion CanSync syncs }
     ensures safe { Safe (K.kept keeper.old) (K.kept keeper.new) result }
+    ensures puts { is_sync event.now.body ≡ true →
+        PutsUpTo (puts_taken syncs) (K.kept keeper.old).puts (K.kept keeper.new).puts }
     ensures takes { (n : Node) (m : Store) (p : Place) (b : Rules) → n.id ≡ own →
         (K.kept keeper.old).pending ≡ Some (Some m) → CanTake n (seen_event event.now) p m →
         HasAll (seen_event event.now).origin p b syncs →
@@ -171,6 +177,8 @@ pub(crate) fn take<K: Keeper>(
     requires keeps { KeepsViews event.now.body }
     requires can { CanBring brought }
     ensures safe { Safe (K.kept keeper.old) (K.kept keeper.new) result }
+    ensures puts { (deltas : List DeclaredSync) → IsSyncWith deltas (seen_event event.now) brought →
+        PutsUpTo (puts_taken deltas) (K.kept keeper.old).puts (K.kept keeper.new).puts }
     ensures takes { (n : Node) (m : Store) (p : Place) (b : Rules) → n.id ≡ own →
         (K.kept keeper.old).pending ≡ Some (Some m) → CanTake n (seen_event event.now) p m →
         IsBrought (seen_event event.now).origin p b brought →

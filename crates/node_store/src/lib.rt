@@ -32,5 +32,5 @@ pub use looking::{
 };
 pub use node_change::Side;
 pub use polling::news_among;
-pub use reached::{is_active, kept_view, progress_of};
+pub use reached::{is_active, is_waiting, kept_view, progress_of, receivers_of};
 pub use syncing::{is_same, is_synced};

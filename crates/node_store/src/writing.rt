@@ -8,6 +8,7 @@ ghost use Rattle.slon_model.specs.Sessions.{Running};
 ghost use Rattle.slon_base.specs.Keeper.{Store, sight};
 ghost use Rattle.node_rows.specs.Spellings.{CanBody};
 ghost use Rattle.store_rows.specs.Rows.{IsId};
+ghost use Rattle.store_rows.specs.Spending.{PutsUpTo};
 ghost use Rattle.store_rows.specs.Steps.{Safe, IsWithinLimit};
 ghost use Rattle.txn_core.specs.Snapshots.{seen_as};
 ghost use Rattle.node_rows.specs.declared.body.Body.TheVariants.{StoreNode};
@@ -16,7 +17,8 @@ ghost use Rattle.slon_model.specs.Maps.{entry_at};
 ghost use Rattle.slon_model.specs.Deeds.{Node, Hears, knowledge};
 ghost use Rattle.slon_model.specs.Deeds.{Brought as Rules};
 ghost use Rattle.slon_model.specs.Place.{Place, standing_rows};
-ghost use Rattle.node_store.specs.Bringing.{CanBring, CanTake, IsBrought, WritesBrought};
+ghost use Rattle.node_store.specs.Bringing.{CanBring, CanTake, IsBrought, IsSyncWith, WritesBrought, puts_allowed};
+ghost use Rattle.node_store.specs.declared.bringing.SetSync.{SetSync};
 ghost use Rattle.event_store.specs.Keeping.{KeepsViews};
 ghost use Rattle.event_store.specs.Seen.{seen_event};
 ghost use Rattle.event_store.specs.Spellings.{CanSnapshot};
@@ -258,6 +260,8 @@ pub(crate) fn write_applied<K: Keeper>(
     requires can { CanBring brought }
     requires room { stamp < 2 ^ 63 }
     ensures enters { Enters (K.kept keeper.old) (K.kept keeper.new) result }
+    ensures puts { (deltas : List SetSync) → IsSyncWith deltas (seen_event event.now) brought →
+        PutsUpTo (puts_allowed deltas) (K.kept keeper.old).puts (K.kept keeper.new).puts }
     ensures writes { (n : Node) (m : Store) (p : Place) (b : Rules) → n.id ≡ own →
         (K.kept keeper.old).held ≡ Some m → CanTake n (seen_event event.now) p m →
         IsBrought (seen_event event.now).origin p b brought →

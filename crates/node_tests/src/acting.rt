@@ -122,7 +122,9 @@ fn expect_all<K: Keeper>(alloc: Global, keeper: &mut K) -> Result<(), Fail>
 fn logged_rows_change_tables(rt: HostRuntime) -> Result<(), Fail> {
     let alloc = rt.alloc();
     let mut keeper = Fuse::new(MemKeeper::new(alloc, Vec::new(alloc), false)?);
-    expect_all(alloc, &mut keeper)
+    let done = expect_all(alloc, &mut keeper);
+    drop(keeper);
+    done
 }
 
 /// The table is copied from one store to the other, in the place of what the other one has of it.
@@ -159,29 +161,45 @@ fn expect_copied<F: Keeper, T: Keeper>(
 }
 
 /// The second store gets a copy of the table of the first one, and another one later.
+fn expect_both<F: Keeper, T: Keeper>(
+    alloc: Global,
+    first: &mut F,
+    second: &mut T,
+) -> Result<(), Fail>
+    requires first { is_some (F.kept first.old).pending ≡ false }
+    requires second { is_some (T.kept second.old).pending ≡ false }
+{
+    let early = [&LOGGED[0], &LOGGED[1]];
+    expect_copied(alloc, first, second, early, "p=5 q=6 ")?;
+    expect_copied(alloc, first, second, [&LOGGED[2], &LOGGED[4]], "p=7 ")
+}
+
+/// The same over a second store that is made for it.
 fn copy_twice<F: Keeper>(alloc: Global, first: &mut F) -> Result<(), Fail>
     requires { is_some (F.kept first.old).pending ≡ false }
 {
     let mut second = Fuse::new(MemKeeper::new(alloc, Vec::new(alloc), false)?);
-    let early = [&LOGGED[0], &LOGGED[1]];
-    expect_copied(alloc, first, &mut second, early, "p=5 q=6 ")?;
-    expect_copied(alloc, first, &mut second, [&LOGGED[2], &LOGGED[4]], "p=7 ")
+    let done = expect_both(alloc, first, &mut second);
+    drop(second);
+    done
 }
 
 #[test]
 fn tables_are_copied(rt: HostRuntime) -> Result<(), Fail> {
     let alloc = rt.alloc();
     let mut first = Fuse::new(MemKeeper::new(alloc, Vec::new(alloc), false)?);
-    copy_twice(alloc, &mut first)
+    let done = copy_twice(alloc, &mut first);
+    drop(first);
+    done
 }
 
-#[test]
-fn a_row_of_no_action_stops_it(rt: HostRuntime) -> Result<(), Fail> {
-    let alloc = rt.alloc();
-    let mut keeper = Fuse::new(MemKeeper::new(alloc, Vec::new(alloc), false)?);
+/// The row of no action is not applied.
+fn expect_refused<K: Keeper>(alloc: Global, keeper: &mut K) -> Result<(), Fail>
+    requires { is_some (K.kept keeper.old).pending ≡ false }
+{
     let rows = [(1, row_of(alloc, OF_NO_ACTION)?)];
     keeper.begin()?;
-    let stop = match apply_rows(alloc, &mut keeper, &rows) {
+    let stop = match apply_rows(alloc, keeper, &rows) {
         Ok(()) => None,
         Err(stop) => Some(stop),
     };
@@ -189,4 +207,13 @@ fn a_row_of_no_action_stops_it(rt: HostRuntime) -> Result<(), Fail> {
         matches!(stop, Some(Stop::BadRow { space: LOG })),
         "the row is refused",
     )
+}
+
+#[test]
+fn a_row_of_no_action_stops_it(rt: HostRuntime) -> Result<(), Fail> {
+    let alloc = rt.alloc();
+    let mut keeper = Fuse::new(MemKeeper::new(alloc, Vec::new(alloc), false)?);
+    let done = expect_refused(alloc, &mut keeper);
+    drop(keeper);
+    done
 }

@@ -188,7 +188,9 @@ fn join_and_take(
     require(joined.is_ok(), "the second node")?;
     hold_all(first, LOGGED)?;
     let event = sync(alloc)?;
-    take(alloc, first, second, &event, forwards)
+    let taken = take(alloc, first, second, &event, forwards);
+    drop(event);
+    taken
 }
 
 /// The same with a first node that is made for it.
@@ -198,7 +200,9 @@ fn take_of_a_first(
     forwards: bool,
 ) -> Result<(), Fail> {
     let mut first = create(alloc, 0, false)?;
-    join_and_take(alloc, &mut first, second, forwards)
+    let done = join_and_take(alloc, &mut first, second, forwards);
+    drop(first);
+    done
 }
 
 /// The store has these pairs.
@@ -233,16 +237,30 @@ fn expect_store(second: &mut Database<MemKeeper>, forwards: bool) -> Result<(), 
     }
 }
 
+/// Behind the SYNC the store of a second node holds what it is to hold.
+fn expect_taken(
+    alloc: Global,
+    second: &mut Database<MemKeeper>,
+    forwards: bool,
+) -> Result<(), Fail> {
+    take_of_a_first(alloc, second, forwards)?;
+    expect_store(second, forwards)
+}
+
+/// The same of a database that is made for it.
+fn take_at_a_second(alloc: Global, forwards: bool) -> Result<(), Fail> {
+    let mut second = create(alloc, 0, false)?;
+    let done = expect_taken(alloc, &mut second, forwards);
+    drop(second);
+    done
+}
+
 #[test]
 fn forwarders_log_what_they_take(rt: HostRuntime) -> Result<(), Fail> {
-    let mut second = create(rt.alloc(), 0, false)?;
-    take_of_a_first(rt.alloc(), &mut second, true)?;
-    expect_store(&mut second, true)
+    take_at_a_second(rt.alloc(), true)
 }
 
 #[test]
 fn others_log_nothing_of_it(rt: HostRuntime) -> Result<(), Fail> {
-    let mut second = create(rt.alloc(), 0, false)?;
-    take_of_a_first(rt.alloc(), &mut second, false)?;
-    expect_store(&mut second, false)
+    take_at_a_second(rt.alloc(), false)
 }

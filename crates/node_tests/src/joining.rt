@@ -2,8 +2,8 @@
 ghost use Rattle.std.specs.Prelude.{◌≡◌, true, is_some, OnOk};
 ghost use Rattle.store_rows.specs.Rows.{IsId};
 
-use crate::nodes::{configure, create, expect_lines, found, obey_line, rise, status};
-use app_store::{Database, Fuse};
+use crate::nodes::{configure, create, expect_lines, found, made, obey_line, rise, status};
+use app_store::Database;
 use node_keeper::MemKeeper;
 use node_store::{
     Fell, Joined, Reign, first_receiver, has_table, is_dropped, join, knows_node, knows_path,
@@ -78,13 +78,17 @@ fn join_and_crash(
 /// The same of a database that is made for it.
 fn join_a_second(alloc: Global, first: &mut Database<MemKeeper>) -> Result<(), Fail> {
     let mut second = create(alloc, 0, false)?;
-    join_and_crash(alloc, first, &mut second)
+    let done = join_and_crash(alloc, first, &mut second);
+    drop(second);
+    done
 }
 
 #[test]
 fn second_nodes_join(rt: HostRuntime) -> Result<(), Fail> {
     let mut first = create(rt.alloc(), 0, false)?;
-    join_a_second(rt.alloc(), &mut first)
+    let done = join_a_second(rt.alloc(), &mut first);
+    drop(first);
+    done
 }
 
 /// A database goes down and comes up again.
@@ -93,13 +97,6 @@ fn crash_and_rise(alloc: Global, database: &mut Database<MemKeeper>) -> Result<(
     expect("the crash", reply.as_str(), "ok")?;
     rise(database)?;
     Ok(())
-}
-
-/// A database over a store of which this call fails, or nothing where it was not made.
-fn made(alloc: Global, fails: u64, keep: bool) -> Result<Option<Database<MemKeeper>>, Fail> {
-    let store = MemKeeper::new(alloc, vec![in alloc; fails]?, keep)?;
-    let (database, made) = Database::create(alloc, Fuse::new(store));
-    Ok(made.is_ok().then_some(database))
 }
 
 /// Joins two databases whose stores may fail, and tells whether one commit was in doubt.
@@ -126,18 +123,22 @@ fn try_second(
     fails: u64,
     keep: bool,
 ) -> Result<bool, Fail> {
-    match made(alloc, fails, keep)? {
-        None => Ok(false),
-        Some(mut second) => try_join(alloc, first, &mut second, keep),
-    }
+    let Some(mut second) = made(alloc, fails, keep)? else {
+        return Ok(false);
+    };
+    let doubt = try_join(alloc, first, &mut second, keep);
+    drop(second);
+    doubt
 }
 
 /// The same where these calls fail.
 fn walk(alloc: Global, fails: [u64; 2], keep: bool) -> Result<bool, Fail> {
-    match made(alloc, fails[0], keep)? {
-        None => Ok(false),
-        Some(mut first) => try_second(alloc, &mut first, fails[1], keep),
-    }
+    let Some(mut first) = made(alloc, fails[0], keep)? else {
+        return Ok(false);
+    };
+    let doubt = try_second(alloc, &mut first, fails[1], keep);
+    drop(first);
+    doubt
 }
 
 /// What the two databases tell behind a join, where a commit in doubt is kept or not.
@@ -262,5 +263,7 @@ fn found_and_ask(alloc: Global, node: &mut Database<MemKeeper>) -> Result<(), Fa
 #[test]
 fn nodes_are_asked(rt: HostRuntime) -> Result<(), Fail> {
     let mut node = create(rt.alloc(), 0, false)?;
-    found_and_ask(rt.alloc(), &mut node)
+    let done = found_and_ask(rt.alloc(), &mut node);
+    drop(node);
+    done
 }

@@ -1,6 +1,7 @@
 // A node that applies an event and keeps, from then on, how far it is in a set.
 ghost use Rattle.std.specs.Prelude.{◌≡◌, is_some, true, false, OnOk, IfOk};
 ghost use Rattle.event_store.specs.Kept.{seen_view};
+ghost use Rattle.event_store.specs.Keeping.{KeepsViews};
 ghost use Rattle.event_store.specs.Spellings.{CanView};
 
 use crate::stored_nodes::{found_first, join_second};
@@ -22,16 +23,26 @@ const META: u8 = 1;
 
 const LOG_STATUS: &[u8] = &[6];
 
-/// The view that a row of another store is.
+/// The view that a row of another store is, which is put there.
+fn put_and_find<K: Keeper>(alloc: Global, keeper: &mut K) -> Result<View, Fail>
+    requires { is_some (K.kept keeper.old).pending ≡ false }
+    ensures { IfOk result (λ v. CanView (seen_view v)) }
+{
+    put_first(keeper, VIEW)?;
+    match find_view(alloc, keeper, 1)? {
+        None => Err(Fail::new("a view")),
+        Some(view) => Ok(view),
+    }
+}
+
+/// The same of a store that is made for it.
 fn some_view(alloc: Global) -> Result<View, Fail>
     ensures { IfOk result (λ v. CanView (seen_view v)) }
 {
     let mut keeper = Fuse::new(MemKeeper::new(alloc, Vec::new(alloc), false)?);
-    put_first(&mut keeper, VIEW)?;
-    match find_view(alloc, &mut keeper, 1)? {
-        None => Err(Fail::new("a view")),
-        Some(view) => Ok(view),
-    }
+    let view = put_and_find(alloc, &mut keeper);
+    drop(keeper);
+    view
 }
 
 /// The first log of this store is the active one.
@@ -45,7 +56,24 @@ fn put_log<K: Keeper>(keeper: &mut K) -> Result<(), Fail>
     Ok(())
 }
 
-/// The second node applies the first event of the first node, and keeps this of set 5 from then on.
+/// The second node applies this event, and keeps this of set 5 from then on.
+fn keep_with<K: Keeper>(
+    alloc: Global,
+    keeper: &mut K,
+    event: &Event,
+    view: &View,
+) -> Result<(), Fail>
+    requires closed { is_some (K.kept keeper.old).pending ≡ false }
+    requires can { CanView (seen_view view.now) }
+    requires event { KeepsViews event.now.body }
+{
+    keeper.begin()?;
+    apply_keeping(alloc, keeper, 2, event, 5, view)?;
+    keeper.commit()?;
+    Ok(())
+}
+
+/// The same with the first event of the first node.
 fn keep<K: Keeper>(alloc: Global, keeper: &mut K, view: &View) -> Result<(), Fail>
     requires closed { is_some (K.kept keeper.old).pending ≡ false }
     requires can { CanView (seen_view view.now) }
@@ -61,16 +89,17 @@ fn keep<K: Keeper>(alloc: Global, keeper: &mut K, view: &View) -> Result<(), Fai
         taken,
         body: Body::Sync,
     };
-    keeper.begin()?;
-    apply_keeping(alloc, keeper, 2, &event, 5, view)?;
-    keeper.commit()?;
-    Ok(())
+    let kept = keep_with(alloc, keeper, &event, view);
+    drop(event);
+    kept
 }
 
 /// The line that the second node tells of itself.
 fn told<K: Keeper>(alloc: Global, keeper: &mut K, wanted: &str) -> Result<(), Fail> {
     let reply = Reply::Accepted(tell(alloc, keeper, 2)?);
-    expect("the node", print_reply(alloc, &reply)?.as_str(), wanted)
+    let line = print_reply(alloc, &reply);
+    drop(reply);
+    expect("the node", line?.as_str(), wanted)
 }
 
 /// The node of this store keeps nothing but set 5.
@@ -105,14 +134,34 @@ fn keep_at_a_second<F: Keeper>(alloc: Global, first: &mut F, view: &View) -> Res
     requires { CanView (seen_view view.now) }
 {
     let mut second = Fuse::new(MemKeeper::new(alloc, Vec::new(alloc), false)?);
-    keep_one(alloc, first, &mut second, view)
+    let done = keep_one(alloc, first, &mut second, view);
+    drop(second);
+    done
+}
+
+/// The same with a first node in this store.
+fn found_and_keep<F: Keeper>(alloc: Global, first: &mut F, view: &View) -> Result<(), Fail>
+    requires closed { is_some (F.kept first.old).pending ≡ false }
+    requires can { CanView (seen_view view.now) }
+{
+    found_first(alloc, first)?;
+    keep_at_a_second(alloc, first, view)
+}
+
+/// The same with a first store that is made for it.
+fn keep_behind_a_first(alloc: Global, view: &View) -> Result<(), Fail>
+    requires { CanView (seen_view view.now) }
+{
+    let mut first = Fuse::new(MemKeeper::new(alloc, Vec::new(alloc), false)?);
+    let done = found_and_keep(alloc, &mut first, view);
+    drop(first);
+    done
 }
 
 #[test]
 fn a_set_is_kept_with_the_event(rt: HostRuntime) -> Result<(), Fail> {
-    let alloc = rt.alloc();
-    let view = some_view(alloc)?;
-    let mut first = Fuse::new(MemKeeper::new(alloc, Vec::new(alloc), false)?);
-    found_first(alloc, &mut first)?;
-    keep_at_a_second(alloc, &mut first, &view)
+    let view = some_view(rt.alloc())?;
+    let done = keep_behind_a_first(rt.alloc(), &view);
+    drop(view);
+    done
 }

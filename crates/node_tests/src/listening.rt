@@ -11,7 +11,7 @@ ghost use Rattle.event_store.specs.Telling.{IsOfOther};
 ghost use Rattle.node_store.specs.Acting.{own_id};
 
 use crate::joining::join_second;
-use crate::nodes::{create, emit, found};
+use crate::nodes::{create, expect_emitted, found};
 use app_store::Database;
 use event_store::{Event, Queue};
 use node_keeper::MemKeeper;
@@ -46,11 +46,9 @@ pub(crate) fn make_nodes(
         join_second(alloc, first, second)?.is_ok(),
         "the second node",
     )?;
-    let to_first = emit(second, &path(alloc, 1, 2)?)?;
-    require(to_first == Ok((1, false)), "a path from node 1")?;
-    let to_second = emit(first, &path(alloc, 2, 1)?)?;
-    require(to_second == Ok((2, false)), "a path from node 2")?;
-    require(emit(first, &Body::Sync)? == Ok((3, false)), "the SYNC")
+    expect_emitted(second, path(alloc, 1, 2)?, 1)?;
+    expect_emitted(first, path(alloc, 2, 1)?, 2)?;
+    expect_emitted(first, Body::Sync, 3)
 }
 
 /// What a node wants of a server.
@@ -152,18 +150,17 @@ pub(crate) fn poll(
 
 /// Node 2 polls node 1: what is lost comes again, and waits once.
 fn poll_first(
-    alloc: Global,
     first: &mut Database<MemKeeper>,
     second: &mut Database<MemKeeper>,
+    queue: &mut Queue,
 ) -> Result<(), Fail> {
-    let mut queue = Queue::new(alloc);
     for (events, are_lost, waiting) in [(2, true, 0), (2, false, 2), (0, false, 2)] {
         let brings = Brings {
             events,
             confirms: 0,
             are_lost,
         };
-        poll(second, 1, first, &mut queue, brings)?;
+        poll(second, 1, first, queue, brings)?;
         require(queue.len(1) == waiting, "events that wait")?;
     }
     Ok(())
@@ -171,18 +168,17 @@ fn poll_first(
 
 /// Node 1 polls node 2, which tells it also how far it is: once, as its event.
 fn poll_second(
-    alloc: Global,
     first: &mut Database<MemKeeper>,
     second: &mut Database<MemKeeper>,
+    queue: &mut Queue,
 ) -> Result<(), Fail> {
-    let mut queue = Queue::new(alloc);
     for (count, are_lost) in [(1, true), (1, false), (0, false)] {
         let brings = Brings {
             events: count,
             confirms: count,
             are_lost,
         };
-        poll(first, 2, second, &mut queue, brings)?;
+        poll(first, 2, second, queue, brings)?;
     }
     Ok(())
 }
@@ -216,8 +212,8 @@ fn poll_both(
     second: &mut Database<MemKeeper>,
 ) -> Result<(), Fail> {
     make_nodes(alloc, first, second)?;
-    poll_first(alloc, first, second)?;
-    poll_second(alloc, first, second)?;
+    poll_first(first, second, &mut Queue::new(alloc))?;
+    poll_second(first, second, &mut Queue::new(alloc))?;
     expect_none(alloc, second)?;
     expect_unknown(alloc, first)
 }
@@ -225,13 +221,17 @@ fn poll_both(
 /// The same of a database that is made for it.
 fn poll_a_second(alloc: Global, first: &mut Database<MemKeeper>) -> Result<(), Fail> {
     let mut second = create(alloc, 0, false)?;
-    poll_both(alloc, first, &mut second)
+    let done = poll_both(alloc, first, &mut second);
+    drop(second);
+    done
 }
 
 #[test]
 fn nodes_poll_one_another(rt: HostRuntime) -> Result<(), Fail> {
     let mut first = create(rt.alloc(), 0, false)?;
-    poll_a_second(rt.alloc(), &mut first)
+    let done = poll_a_second(rt.alloc(), &mut first);
+    drop(first);
+    done
 }
 
 /// An event of an origin.
@@ -292,5 +292,7 @@ fn fill(alloc: Global, queue: &mut Queue) -> Result<(), Fail> {
 #[test]
 fn events_wait(rt: HostRuntime) -> Result<(), Fail> {
     let mut queue = Queue::new(rt.alloc());
-    fill(rt.alloc(), &mut queue)
+    let done = fill(rt.alloc(), &mut queue);
+    drop(queue);
+    done
 }

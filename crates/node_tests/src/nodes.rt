@@ -10,17 +10,30 @@ use node_store::announce;
 use session_text::{print_reply, read_command};
 use slon_base::Text;
 use slon_model::{Answered, Reply};
-use std::alloc::Global;
+use std::alloc::{AllocError, Global};
 use std::array;
 use std::test::Fail;
 use test_words::{expect, require};
 
+/// The line of a reply, which is let go.
+fn printed(alloc: Global, reply: Reply) -> Result<Text, AllocError> {
+    let line = print_reply(alloc, &reply);
+    drop(reply);
+    line
+}
+
 /// What a line comes to: the reply, or that its commit is in doubt, or that it is refused.
-fn told(alloc: Global, answered: Result<Answered, DbFault>) -> Result<Text, Fail> {
+fn told(alloc: Global, answered: Result<Answered, DbFault>) -> Result<Text, AllocError> {
     match answered {
-        Ok(Answered::Sure(answer)) => Ok(print_reply(alloc, &Reply::Accepted(answer))?),
-        Ok(Answered::InDoubt(_)) => Ok(Text::from_str(alloc, "doubt")?),
-        Err(_) => Ok(Text::from_str(alloc, "no")?),
+        Ok(Answered::Sure(answer)) => printed(alloc, Reply::Accepted(answer)),
+        Ok(Answered::InDoubt(answer)) => {
+            drop(answer);
+            Text::from_str(alloc, "doubt")
+        }
+        Err(fault) => {
+            drop(fault);
+            Text::from_str(alloc, "no")
+        }
     }
 }
 
@@ -31,7 +44,11 @@ pub(crate) fn obey_line(
     line: &str,
 ) -> Result<Text, Fail> {
     match read_command(alloc, line.as_bytes(), 1)? {
-        Some(command) => told(alloc, database.obey(&command)),
+        Some(command) => {
+            let answered = database.obey(&command);
+            drop(command);
+            Ok(told(alloc, answered)?)
+        }
         None => Err(Fail::new(line)),
     }
 }
@@ -106,14 +123,24 @@ pub(crate) fn some_table(alloc: Global) -> Result<Body, Fail>
     })
 }
 
+/// The node emits an event with this number, and its commit stands. The body is let go.
+pub(crate) fn expect_emitted(
+    database: &mut Database<MemKeeper>,
+    body: Body,
+    number: u64,
+) -> Result<(), Fail>
+    requires { CanBody body × KeepsViews body }
+{
+    let emitted = emit(database, &body);
+    drop(body);
+    require(emitted? == Ok((number, false)), "an event")
+}
+
 /// The node emits the three events of its configuration, with the numbers from 1 on.
 pub(crate) fn configure(alloc: Global, database: &mut Database<MemKeeper>) -> Result<(), Fail> {
-    let node = emit(database, &second(alloc)?)?;
-    require(node == Ok((1, false)), "the second node")?;
-    let set = emit(database, &some_set(alloc)?)?;
-    require(set == Ok((2, false)), "the set")?;
-    let table = emit(database, &some_table(alloc)?)?;
-    require(table == Ok((3, false)), "the table of the set")
+    expect_emitted(database, second(alloc)?, 1)?;
+    expect_emitted(database, some_set(alloc)?, 2)?;
+    expect_emitted(database, some_table(alloc)?, 3)
 }
 
 /// A database over a store in memory, of which one call fails, and whether a commit that fails stands.
@@ -163,7 +190,9 @@ fn begin(alloc: Global, database: &mut Database<MemKeeper>) -> Result<(), Fail> 
 #[test]
 fn first_nodes_emit_events(rt: HostRuntime) -> Result<(), Fail> {
     let mut database = create(rt.alloc(), 0, false)?;
-    begin(rt.alloc(), &mut database)
+    let done = begin(rt.alloc(), &mut database);
+    drop(database);
+    done
 }
 
 /// The database comes up if it is down.
@@ -224,14 +253,16 @@ fn found_at_last(
     Ok(fate)
 }
 
-/// The node emits its first event, in a second try where the commit of the first one does not stand.
-fn emit_at_last(
+/// The node emits this first event, in a second try where the commit of the first one does not stand.
+fn emit_twice(
     alloc: Global,
     database: &mut Database<MemKeeper>,
+    body: &Body,
     keep: bool,
-) -> Result<Fate, Fail> {
-    let body = second(alloc)?;
-    let fate = fate_of(emit(database, &body)?.ok().map(|e| e.1));
+) -> Result<Fate, Fail>
+    requires { CanBody body.now × KeepsViews body.now }
+{
+    let fate = fate_of(emit(database, body)?.ok().map(|e| e.1));
     rise(database)?;
     if !stands(fate, keep) {
         expect(
@@ -239,22 +270,55 @@ fn emit_at_last(
             status(alloc, database)?.as_str(),
             "ok node 1 log 0 progress 1 0",
         )?;
-        require(emit(database, &body)? == Ok((1, false)), "the event again")?;
+        require(emit(database, body)? == Ok((1, false)), "the event again")?;
     }
+    Ok(fate)
+}
+
+/// The same of the event that stores the second node, of which the node then tells.
+fn emit_at_last(
+    alloc: Global,
+    database: &mut Database<MemKeeper>,
+    keep: bool,
+) -> Result<Fate, Fail> {
+    let body = second(alloc)?;
+    let emitted = emit_twice(alloc, database, &body, keep);
+    drop(body);
+    let fate = emitted?;
     let wanted = "ok node 1 log 0 progress 1 1 progress 2 0";
     expect("the nodes", status(alloc, database)?.as_str(), wanted)?;
     Ok(fate)
 }
 
+/// A database over a store of which this call fails, or nothing where it was not made.
+pub(crate) fn made(
+    alloc: Global,
+    fails: u64,
+    keep: bool,
+) -> Result<Option<Database<MemKeeper>>, Fail> {
+    let store = MemKeeper::new(alloc, vec![in alloc; fails]?, keep)?;
+    let (database, made) = Database::create(alloc, Fuse::new(store));
+    Ok(made.is_ok().then_some(database))
+}
+
+/// What came of both commits of this database.
+fn begin_at_last(
+    alloc: Global,
+    database: &mut Database<MemKeeper>,
+    keep: bool,
+) -> Result<(Fate, Fate), Fail> {
+    let founded = found_at_last(alloc, database, keep)?;
+    Ok((founded, emit_at_last(alloc, database, keep)?))
+}
+
 /// What came of both commits where this call of the store fails, or nothing where the database was not made.
 fn walk(alloc: Global, fails: u64, keep: bool) -> Result<Option<(Fate, Fate)>, Fail> {
-    let store = MemKeeper::new(alloc, vec![in alloc; fails]?, keep)?;
-    let (mut database, made) = Database::create(alloc, Fuse::new(store));
-    if made.is_err() {
+    let Some(mut database) = made(alloc, fails, keep)? else {
         return Ok(None);
-    }
-    let founded = found_at_last(alloc, &mut database, keep)?;
-    Ok(Some((founded, emit_at_last(alloc, &mut database, keep)?)))
+    };
+    let fates = begin_at_last(alloc, &mut database, keep);
+    drop(database);
+    Ok(Some(fates?))
 }
 
 /// How many of the first 400 calls, each of which fails in one run, leave each of the two commits in doubt.

@@ -189,7 +189,9 @@ fn expect_all(alloc: Global, database: &mut Database<MemKeeper>) -> Result<(), F
 #[test]
 fn logs_are_read_between_snapshots(rt: HostRuntime) -> Result<(), Fail> {
     let mut database = create(rt.alloc(), 0, false)?;
-    expect_all(rt.alloc(), &mut database)
+    let done = expect_all(rt.alloc(), &mut database);
+    drop(database);
+    done
 }
 
 /// Node 2 receives set 1 from node 1 and forwards it, and node 3 receives it and does not.
@@ -236,5 +238,7 @@ fn expect_forwarders(database: &mut Database<MemKeeper>) -> Result<(), Fail> {
 #[test]
 fn forwarders_are_known(rt: HostRuntime) -> Result<(), Fail> {
     let mut database = create(rt.alloc(), 0, false)?;
-    expect_forwarders(&mut database)
+    let done = expect_forwarders(&mut database);
+    drop(database);
+    done
 }

@@ -29,11 +29,34 @@ fn covers(alloc: Global, snapshot: &Snapshot, other: &str) -> Result<bool, Fail>
     Ok(snapshot.covers(&other))
 }
 
-/// The snapshot of this text prints as it, and covers the other one or not.
+/// The snapshot covers the other one or not.
+fn expect_covers(
+    alloc: Global,
+    snapshot: &Snapshot,
+    other: &str,
+    wanted: bool,
+) -> Result<(), Fail> {
+    require(covers(alloc, snapshot, other)? == wanted, other)
+}
+
+/// The snapshot prints as this text, and covers the other one or not.
+fn expect_both(
+    alloc: Global,
+    snapshot: &Snapshot,
+    text: &str,
+    other: &str,
+    wanted: bool,
+) -> Result<(), Fail> {
+    expect(text, snapshot.print(alloc)?.as_str(), text)?;
+    expect_covers(alloc, snapshot, other, wanted)
+}
+
+/// The same of the snapshot of this text.
 fn expect_pair(alloc: Global, text: &str, other: &str, wanted: bool) -> Result<(), Fail> {
     let snapshot = Snapshot::parse(alloc, text.as_bytes())?;
-    expect(text, snapshot.print(alloc)?.as_str(), text)?;
-    require(covers(alloc, &snapshot, other)? == wanted, text)
+    let done = expect_both(alloc, &snapshot, text, other, wanted);
+    drop(snapshot);
+    done
 }
 
 #[test]
@@ -102,7 +125,9 @@ fn made(alloc: Global, xmin: u64, xmax: u64, running: &[u64]) -> Result<Snapshot
 }
 
 /// The parts of a snapshot, and whether it covers the other one.
-const FORMS: &[(u64, u64, &[u64], &str, bool)] = &[
+type Form = (u64, u64, &'static [u64], &'static str, bool);
+
+const FORMS: &[Form] = &[
     (4, 7, &[6, 5, 4], "4:7:4,5,6", true),
     (4, 7, &[6, 5], "4:7:4,5,6", true),
     (4, 7, &[6, 2, 5], "4:6:4", false),
@@ -111,11 +136,19 @@ const FORMS: &[(u64, u64, &[u64], &str, bool)] = &[
     (4, 7, &[9, 9], "4:8:4,7", true),
 ];
 
+/// A snapshot of these parts covers the other one or not.
+fn expect_form(alloc: Global, form: &Form) -> Result<(), Fail> {
+    let (xmin, xmax, running, other, wanted) = form;
+    let snapshot = made(alloc, *xmin, *xmax, running)?;
+    let done = expect_covers(alloc, &snapshot, other, *wanted);
+    drop(snapshot);
+    done
+}
+
 #[test]
 fn snapshots_of_any_form_are_compared(rt: HostRuntime) -> Result<(), Fail> {
-    for (xmin, xmax, running, other, wanted) in FORMS {
-        let snapshot = made(rt.alloc(), *xmin, *xmax, running)?;
-        require(covers(rt.alloc(), &snapshot, other)? == *wanted, other)?;
+    for form in FORMS {
+        expect_form(rt.alloc(), form)?;
     }
     Ok(())
 }

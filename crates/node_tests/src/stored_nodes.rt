@@ -63,33 +63,74 @@ pub(crate) fn join_second<F: Keeper, T: Keeper>(
     Ok(())
 }
 
-/// The store holds the node of this id, and what it knows of the first one.
-fn expect_node<K: Keeper>(alloc: Global, keeper: &mut K, id: u32) -> Result<(), Fail> {
+/// The store holds the node of this id.
+fn expect_own<K: Keeper>(alloc: Global, keeper: &mut K, id: u32) -> Result<(), Fail> {
     let own = find_node(alloc, keeper)?;
-    require(own.id() == Some(id), "the node")?;
-    require(!has_path(alloc, keeper, 1, 2)?, "no path")?;
+    let is_own = own.id() == Some(id);
+    drop(own);
+    require(is_own, "the node")
+}
+
+/// The first node it knows is the first one.
+fn expect_known<K: Keeper>(alloc: Global, keeper: &mut K) -> Result<(), Fail> {
     let nodes = known(alloc, keeper)?;
-    require(nodes.as_slice().first() == Some(&1), "a known node")?;
+    let knows = nodes.as_slice().first() == Some(&1);
+    drop(nodes);
+    require(knows, "a known node")
+}
+
+/// It knows what the first node was stored with.
+fn expect_first<K: Keeper>(alloc: Global, keeper: &mut K) -> Result<(), Fail> {
     match find_node_row(alloc, keeper, 1)? {
         Some(row) => expect("the first node", row.comment.as_str(), "first"),
         None => Err(Fail::new("no first node")),
     }
 }
 
-/// A second node knows what the first one does.
+/// The store holds the node of this id, and what it knows of the first one.
+fn expect_node<K: Keeper>(alloc: Global, keeper: &mut K, id: u32) -> Result<(), Fail> {
+    expect_own(alloc, keeper, id)?;
+    require(!has_path(alloc, keeper, 1, 2)?, "no path")?;
+    expect_known(alloc, keeper)?;
+    expect_first(alloc, keeper)
+}
+
+/// A second node in this store knows what the first one does.
+fn expect_joined<F: Keeper, T: Keeper>(
+    alloc: Global,
+    first: &mut F,
+    second: &mut T,
+) -> Result<(), Fail>
+    requires { is_some (T.kept second.old).pending ≡ false }
+{
+    join_second(alloc, first, second)?;
+    expect_node(alloc, second, 2)
+}
+
+/// The same of a store that is made for it.
 fn expect_second<F: Keeper>(alloc: Global, first: &mut F) -> Result<(), Fail> {
     let mut second = Fuse::new(MemKeeper::new(alloc, Vec::new(alloc), false)?);
-    join_second(alloc, first, &mut second)?;
-    expect_node(alloc, &mut second, 2)
+    let done = expect_joined(alloc, first, &mut second);
+    drop(second);
+    done
+}
+
+/// The first node is stored, and a second one beside it.
+fn expect_both<F: Keeper>(alloc: Global, first: &mut F) -> Result<(), Fail>
+    requires { is_some (F.kept first.old).pending ≡ false }
+{
+    found_first(alloc, first)?;
+    expect_second(alloc, first)?;
+    expect_node(alloc, first, 1)
 }
 
 #[test]
 fn new_nodes_know_what_they_are_given(rt: HostRuntime) -> Result<(), Fail> {
     let alloc = rt.alloc();
     let mut first = Fuse::new(MemKeeper::new(alloc, Vec::new(alloc), false)?);
-    found_first(alloc, &mut first)?;
-    expect_second(alloc, &mut first)?;
-    expect_node(alloc, &mut first, 1)
+    let done = expect_both(alloc, &mut first);
+    drop(first);
+    done
 }
 
 /// The row of the log that these bytes are.
@@ -143,12 +184,8 @@ const BETWEEN: &[(u32, &str, &str, &str)] = &[
     (2, "7:7:", "7:9:7", ""),
 ];
 
-#[test]
-fn logged_rows_stand_between_snapshots(rt: HostRuntime) -> Result<(), Fail> {
-    let alloc = rt.alloc();
-    let mut keeper = Fuse::new(MemKeeper::new(alloc, Vec::new(alloc), false)?);
-    log_row(alloc, &mut keeper, 3, LOGGED[0].2)?;
-    log_row(alloc, &mut keeper, 5, LOGGED[1].2)?;
+/// The store has the bytes of both rows.
+fn expect_bytes<K: Keeper>(keeper: &mut K) -> Result<(), Fail> {
     for (_, key, bytes) in LOGGED {
         let stored = keeper.get(LOG, key)?;
         require(
@@ -156,9 +193,33 @@ fn logged_rows_stand_between_snapshots(rt: HostRuntime) -> Result<(), Fail> {
             "the bytes of a row",
         )?;
     }
+    Ok(())
+}
+
+/// The rows are found between the snapshots between which they stand.
+fn expect_between<K: Keeper>(alloc: Global, keeper: &mut K) -> Result<(), Fail> {
     for (table, old, new, wanted) in BETWEEN {
-        let numbers = numbers_between(alloc, &mut keeper, *table, old, new)?;
+        let numbers = numbers_between(alloc, keeper, *table, old, new)?;
         expect(new, numbers.as_str(), wanted)?;
     }
     Ok(())
+}
+
+/// Both rows are logged and read.
+fn expect_logged<K: Keeper>(alloc: Global, keeper: &mut K) -> Result<(), Fail>
+    requires { is_some (K.kept keeper.old).pending ≡ false }
+{
+    log_row(alloc, keeper, 3, LOGGED[0].2)?;
+    log_row(alloc, keeper, 5, LOGGED[1].2)?;
+    expect_bytes(keeper)?;
+    expect_between(alloc, keeper)
+}
+
+#[test]
+fn logged_rows_stand_between_snapshots(rt: HostRuntime) -> Result<(), Fail> {
+    let alloc = rt.alloc();
+    let mut keeper = Fuse::new(MemKeeper::new(alloc, Vec::new(alloc), false)?);
+    let done = expect_logged(alloc, &mut keeper);
+    drop(keeper);
+    done
 }

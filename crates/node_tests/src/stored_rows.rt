@@ -6,6 +6,7 @@ use slon_base::{Bytes, Many, Text};
 use std::alloc::Global;
 use std::test::Fail;
 use store_rows::{Stop, del_row, get_row, has_row, put_row, read_alone, scan_rows, spelling};
+use test_words::require;
 
 /// The value of each row here.
 type Value = (u64, bool);
@@ -37,13 +38,22 @@ fn lists<K: Keeper>(alloc: Global, keeper: &mut K) -> Result<bool, Stop> {
     Ok(rows.as_slice() == LISTED)
 }
 
+/// The two rows are stored and read.
+fn expect_stored<K: Keeper>(alloc: Global, keeper: &mut K) -> Result<(), Fail>
+    requires { is_some (K.kept keeper.old).pending ≡ false }
+{
+    fill(alloc, keeper)?;
+    require(finds(alloc, keeper)?, "the two rows")?;
+    require(lists(alloc, keeper)?, "the two rows in order")
+}
+
 #[test]
 fn rows_are_stored_and_read(rt: HostRuntime) -> Result<(), Fail> {
     let alloc = rt.alloc();
     let mut keeper = Fuse::new(MemKeeper::new(alloc, Vec::new(alloc), false)?);
-    fill(alloc, &mut keeper)?;
-    assert!(rt; finds(alloc, &mut keeper)? && lists(alloc, &mut keeper)?);
-    Ok(())
+    let done = expect_stored(alloc, &mut keeper);
+    drop(keeper);
+    done
 }
 
 /// How many texts are read of these bytes, in a row of the space 4.

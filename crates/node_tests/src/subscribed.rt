@@ -63,11 +63,25 @@ fn expect_one<K: Keeper>(alloc: Global, keeper: &mut K, wanted: Subscription) ->
     )
 }
 
-/// A store that has this row has this subscription.
+/// The store has this subscription once it has this row.
+fn expect_put<K: Keeper>(
+    alloc: Global,
+    keeper: &mut K,
+    row: &[u8],
+    wanted: Subscription,
+) -> Result<(), Fail>
+    requires { is_some (K.kept keeper.old).pending ≡ false }
+{
+    put_row(keeper, row)?;
+    expect_one(alloc, keeper, wanted)
+}
+
+/// The same of a store that is made for it.
 fn expect_row(alloc: Global, row: &[u8], wanted: Subscription) -> Result<(), Fail> {
     let mut keeper = Fuse::new(MemKeeper::new(alloc, Vec::new(alloc), false)?);
-    put_row(&mut keeper, row)?;
-    expect_one(alloc, &mut keeper, wanted)
+    let done = expect_put(alloc, &mut keeper, row, wanted);
+    drop(keeper);
+    done
 }
 
 #[test]
@@ -78,12 +92,12 @@ fn subscriptions_are_found(rt: HostRuntime) -> Result<(), Fail> {
     Ok(())
 }
 
-#[test]
-fn other_rows_of_subscriptions_are_not_read(rt: HostRuntime) -> Result<(), Fail> {
-    let alloc = rt.alloc();
-    let mut keeper = Fuse::new(MemKeeper::new(alloc, Vec::new(alloc), false)?);
-    put_row(&mut keeper, BAD)?;
-    let found = find_subscription(alloc, &mut keeper, 1, 2);
+/// The row that is in no form is refused.
+fn expect_refused<K: Keeper>(alloc: Global, keeper: &mut K) -> Result<(), Fail>
+    requires { is_some (K.kept keeper.old).pending ≡ false }
+{
+    put_row(keeper, BAD)?;
+    let found = find_subscription(alloc, keeper, 1, 2);
     require(
         matches!(
             found,
@@ -93,4 +107,13 @@ fn other_rows_of_subscriptions_are_not_read(rt: HostRuntime) -> Result<(), Fail>
         ),
         "a row that is in no form",
     )
+}
+
+#[test]
+fn other_rows_of_subscriptions_are_not_read(rt: HostRuntime) -> Result<(), Fail> {
+    let alloc = rt.alloc();
+    let mut keeper = Fuse::new(MemKeeper::new(alloc, Vec::new(alloc), false)?);
+    let done = expect_refused(alloc, &mut keeper);
+    drop(keeper);
+    done
 }

@@ -3,7 +3,9 @@ ghost use Rattle.std.specs.Prelude.{OnOk};
 ghost use Rattle.event_store.specs.Keeping.{KeepsViews};
 
 use crate::listening::{Brings, make_nodes, poll};
-use crate::nodes::{create, emit, expect_lines, obey_line, rise, some_set, some_table, status};
+use crate::nodes::{
+    create, expect_emitted, expect_lines, obey_line, rise, some_set, some_table, status,
+};
 use app_store::{Database, DbFault};
 use event_store::Queue;
 use node_keeper::MemKeeper;
@@ -50,10 +52,8 @@ fn make_events(
     queue: &mut Queue,
 ) -> Result<(), Fail> {
     make_nodes(alloc, first, second)?;
-    let set = emit(first, &some_set(alloc)?)?;
-    require(set == Ok((4, false)), "the set")?;
-    let table = emit(first, &some_table(alloc)?)?;
-    require(table == Ok((5, false)), "the table of the set")?;
+    expect_emitted(first, some_set(alloc)?, 4)?;
+    expect_emitted(first, some_table(alloc)?, 5)?;
     let brings = Brings {
         events: 4,
         confirms: 0,
@@ -79,30 +79,46 @@ const APPLIED: &[(&str, &str)] = &[
     ("rows a public.t", "ok rows 2 k=1 m=1"),
 ];
 
-/// Node 2 applies what node 1 emitted.
+/// Node 2 applies what node 1 emitted, which waits there.
+fn take_each(
+    alloc: Global,
+    first: &mut Database<MemKeeper>,
+    second: &mut Database<MemKeeper>,
+    queue: &mut Queue,
+) -> Result<(), Fail> {
+    make_events(alloc, first, second, queue)?;
+    for number in 2..6 {
+        require(take(second, queue, number)? == Ok(false), "an event")?;
+    }
+    expect_lines(alloc, second, APPLIED)
+}
+
+/// The same with a queue that is made for it.
 fn take_all(
     alloc: Global,
     first: &mut Database<MemKeeper>,
     second: &mut Database<MemKeeper>,
 ) -> Result<(), Fail> {
     let mut queue = Queue::new(alloc);
-    make_events(alloc, first, second, &mut queue)?;
-    for number in 2..6 {
-        require(take(second, &queue, number)? == Ok(false), "an event")?;
-    }
-    expect_lines(alloc, second, APPLIED)
+    let done = take_each(alloc, first, second, &mut queue);
+    drop(queue);
+    done
 }
 
 /// The same of a database that is made for it.
 fn take_at_a_second(alloc: Global, first: &mut Database<MemKeeper>) -> Result<(), Fail> {
     let mut second = create(alloc, 0, false)?;
-    take_all(alloc, first, &mut second)
+    let done = take_all(alloc, first, &mut second);
+    drop(second);
+    done
 }
 
 #[test]
 fn events_are_applied(rt: HostRuntime) -> Result<(), Fail> {
     let mut first = create(rt.alloc(), 0, false)?;
-    take_at_a_second(rt.alloc(), &mut first)
+    let done = take_at_a_second(rt.alloc(), &mut first);
+    drop(first);
+    done
 }
 
 /// The store of the node fails behind this number of calls.
@@ -139,7 +155,20 @@ fn take_one(
     Ok(taken == Ok(true))
 }
 
-/// The same behind what node 1 emitted for it.
+/// The same behind what node 1 emitted for it, which waits in this queue.
+fn make_and_take_one(
+    alloc: Global,
+    first: &mut Database<MemKeeper>,
+    second: &mut Database<MemKeeper>,
+    queue: &mut Queue,
+    calls: u32,
+    keep: bool,
+) -> Result<bool, Fail> {
+    make_events(alloc, first, second, queue)?;
+    take_one(alloc, second, queue, calls, keep)
+}
+
+/// The same with a queue that is made for it.
 fn make_and_take(
     alloc: Global,
     first: &mut Database<MemKeeper>,
@@ -148,8 +177,9 @@ fn make_and_take(
     keep: bool,
 ) -> Result<bool, Fail> {
     let mut queue = Queue::new(alloc);
-    make_events(alloc, first, second, &mut queue)?;
-    take_one(alloc, second, &queue, calls, keep)
+    let taken = make_and_take_one(alloc, first, second, &mut queue, calls, keep);
+    drop(queue);
+    taken
 }
 
 /// The same over a second node that is made for it.
@@ -160,13 +190,17 @@ fn walk_at_a_second(
     keep: bool,
 ) -> Result<bool, Fail> {
     let mut second = create(alloc, 0, false)?;
-    make_and_take(alloc, first, &mut second, calls, keep)
+    let done = make_and_take(alloc, first, &mut second, calls, keep);
+    drop(second);
+    done
 }
 
 /// The same over a first node that is made for it.
 fn walk(alloc: Global, calls: u32, keep: bool) -> Result<bool, Fail> {
     let mut first = create(alloc, 0, false)?;
-    walk_at_a_second(alloc, &mut first, calls, keep)
+    let done = walk_at_a_second(alloc, &mut first, calls, keep);
+    drop(first);
+    done
 }
 
 #[test]

@@ -2,9 +2,9 @@
 ghost use Rattle.std.specs.Prelude.{◌≡◌, is_some, false, OnOk};
 ghost use Rattle.store_rows.specs.Rows.{IsId};
 
-use event_store::{find_view, keep_view};
+use event_store::{View, find_view, keep_view};
 use node_keeper::{Fuse, Keeper, MemKeeper};
-use std::alloc::Global;
+use std::alloc::{AllocError, Global};
 use std::test::Fail;
 use store_rows::Stop;
 use test_words::{expect, require};
@@ -57,39 +57,74 @@ fn copy_first<K: Keeper>(alloc: Global, keeper: &mut K) -> Result<(), Fail>
     Ok(())
 }
 
-#[test]
-fn what_is_kept_of_sets_is_read(rt: HostRuntime) -> Result<(), Fail> {
-    let alloc = rt.alloc();
-    let mut keeper = Fuse::new(MemKeeper::new(alloc, Vec::new(alloc), false)?);
-    put_first(&mut keeper, VIEW)?;
-    copy_first(alloc, &mut keeper)?;
+/// The store has the bytes of the view for set 2.
+fn expect_bytes<K: Keeper>(keeper: &mut K) -> Result<(), Fail> {
     let stored = keeper.get(VIEWS, SECOND)?;
     require(
         stored.is_some_and(|b| b.as_slice() == VIEW),
         "the bytes of a row",
-    )?;
-    let mut line = String::new(alloc);
-    if let Some(view) = find_view(alloc, &mut keeper, 2)? {
-        write!(line, "{} {} {} ", view.era, view.origin, view.number)?;
-        write!(line, "{} {} ", view.seen.xmin, view.seen.xmax)?;
-        write!(
-            line,
-            "{} {} {}",
-            view.base_era, view.base.xmin, view.base.xmax
-        )?;
-    }
-    expect("set 2", line.as_str(), "3 4 5 7 9 2 6 6")?;
-    require(find_view(alloc, &mut keeper, 3)?.is_none(), "set 3")
+    )
 }
 
-/// A store that has this row for set 1 stops who reads it.
-fn expect_refused(alloc: Global, row: &[u8]) -> Result<(), Fail> {
+/// Tells a view.
+fn tell(alloc: Global, view: &View) -> Result<String, AllocError> {
+    let (seen, base) = (&view.seen, &view.base);
+    let mut line = String::new(alloc);
+    write!(line, "{} {} {} ", view.era, view.origin, view.number)?;
+    write!(line, "{} {} ", seen.xmin, seen.xmax)?;
+    write!(line, "{} {} {}", view.base_era, base.xmin, base.xmax)?;
+    Ok(line)
+}
+
+/// What is kept of set 2 is this.
+fn expect_kept<K: Keeper>(alloc: Global, keeper: &mut K, wanted: &str) -> Result<(), Fail> {
+    match find_view(alloc, keeper, 2)? {
+        None => Err(Fail::new("set 2")),
+        Some(view) => {
+            let line = tell(alloc, &view);
+            drop(view);
+            expect("set 2", line?.as_str(), wanted)
+        }
+    }
+}
+
+/// What is kept of set 1 is kept of set 2 too, and of no other one.
+fn expect_copied<K: Keeper>(alloc: Global, keeper: &mut K) -> Result<(), Fail>
+    requires { is_some (K.kept keeper.old).pending ≡ false }
+{
+    put_first(keeper, VIEW)?;
+    copy_first(alloc, keeper)?;
+    expect_bytes(keeper)?;
+    expect_kept(alloc, keeper, "3 4 5 7 9 2 6 6")?;
+    require(find_view(alloc, keeper, 3)?.is_none(), "set 3")
+}
+
+#[test]
+fn what_is_kept_of_sets_is_read(rt: HostRuntime) -> Result<(), Fail> {
+    let alloc = rt.alloc();
     let mut keeper = Fuse::new(MemKeeper::new(alloc, Vec::new(alloc), false)?);
-    put_first(&mut keeper, row)?;
-    match find_view(alloc, &mut keeper, 1) {
+    let done = expect_copied(alloc, &mut keeper);
+    drop(keeper);
+    done
+}
+
+/// The store stops who reads this row for set 1.
+fn expect_stop<K: Keeper>(alloc: Global, keeper: &mut K, row: &[u8]) -> Result<(), Fail>
+    requires { is_some (K.kept keeper.old).pending ≡ false }
+{
+    put_first(keeper, row)?;
+    match find_view(alloc, keeper, 1) {
         Err(Stop::BadRow { space: VIEWS }) => Ok(()),
         _ => Err(Fail::new("a row that is in no form")),
     }
+}
+
+/// The same of a store that is made for it.
+fn expect_refused(alloc: Global, row: &[u8]) -> Result<(), Fail> {
+    let mut keeper = Fuse::new(MemKeeper::new(alloc, Vec::new(alloc), false)?);
+    let done = expect_stop(alloc, &mut keeper, row);
+    drop(keeper);
+    done
 }
 
 #[test]

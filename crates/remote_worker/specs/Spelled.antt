@@ -94,6 +94,7 @@ CanLogRow-prop row a b = λ i. record {
 
 CanLogAll-prop : (rows : List (ℕ × LogRow)) (actions : List Action) → IsProp (CanLogAll rows actions)
 CanLogAll-prop rows actions a b = λ i. record {
+  same_number = Coded-set coded_ℕ _ _ a.same_number b.same_number i;
   rows_can = AllByRecursion-prop CanBeLogged (λ r. ×_prop le_prop (CanLogRow-prop r.1)) rows a.rows_can b.rows_can i;
   actions_can = AllByRecursion-prop (λ a. IsText a.table × CanApply (change_of a.change))
       (λ a. ×_prop (IsText-prop a.table) (CanApply-prop (change_of a.change))) actions a.actions_can b.actions_can i;

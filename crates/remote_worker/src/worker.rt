@@ -1,13 +1,17 @@
 // The states of the work of a node. Each is a value that holds what the next one needs.
-ghost use Rattle.std.specs.Prelude.{◌≡◌, true, is_some, IfOk, IfErr};
+ghost use Rattle.std.specs.Prelude.{◌≡◌, List, Some, true, is_some, IfOk, IfErr};
 ghost use Rattle.store_rows.specs.Rows.{IsId};
+ghost use Rattle.store_rows.specs.Spending.{PutsUpTo};
 ghost use Rattle.slon_model.specs.Deeds.{knowledge};
 ghost use Rattle.slon_model.specs.Sessions.{writer_of};
+ghost use Rattle.event_store.specs.Seen.{seen_event};
+ghost use Rattle.event_store.specs.declared.event.Event.{Event};
 ghost use Rattle.app_store.specs.Base.{base_of};
 ghost use Rattle.app_store.specs.Parts.{Looks, Remembers};
 ghost use Rattle.app_store.specs.Serves.{answered, halts, trouble};
 ghost use Rattle.node_store.specs.Acting.{Acts, joined, own_id};
-ghost use Rattle.node_store.specs.Bringing.{CanBring};
+ghost use Rattle.node_store.specs.Bringing.{CanBring, IsSyncWith, puts_allowed};
+ghost use Rattle.node_store.specs.declared.bringing.SetSync.{SetSync};
 ghost use Rattle.node_store.specs.Polling.{OfNode};
 ghost use Rattle.remote_worker.specs.Loading.{CanLoad, IsStill, names_loaded, rows_loaded};
 ghost use Rattle.remote_worker.specs.Working.{waits_as, Applies, DropsUnless, IsAble, IsReady, IsSameEvent};
@@ -271,6 +275,10 @@ impl Worker<Settled> {
             (base_of K.kept own.old) (answered joined result) (base_of K.kept own.new) }
         ensures queue { IfOk result (DropsUnless self.origin self.state.number queue.old queue.new) }
         ensures stays { IfErr result (λ fault. queue.new ≡ queue.old) }
+        // As far as the store tells it, with a SYNC so few pairs are put, however it ends.
+        ensures puts { (e : Event) (deltas : List SetSync) → waits_as self.origin self.state.number queue.old ≡ Some e →
+            IsSyncWith deltas (seen_event e) self.state.brought →
+            PutsUpTo (puts_allowed deltas) (base_of K.kept own.old).kept.puts (base_of K.kept own.new).kept.puts }
     {
         let Worker { origin, state, .. } = self;
         let Settled { number, brought } = state;

@@ -9,7 +9,7 @@ use Rattle.slonik_script.specs.declared.script.Command.TheVariants as order
 use Rattle.slon_model.specs.declared.reply.Refusal.{Refusal}
 use Rattle.slon_model.specs.declared.reply.Refusal.TheVariants as refused
 use Rattle.slon_model.specs.Names.{Named, find_named}
-use Rattle.slon_model.specs.Maps.{Map, entry_at}
+use Rattle.slon_model.specs.Maps.{Map, entry_at, pair_at}
 use Rattle.slon_model.specs.Spoken.{IsName, IsLine, IsOrder, AreNodeLines}
 use Rattle.node_rows.specs.declared.body.Body.TheVariants.{Sync, StoreNode, StorePath, DropPath, StoreSet}
 use Rattle.slon_model.specs.Config.{era_of, has_path}
@@ -24,7 +24,9 @@ use Rattle.slon_model.specs.Reaching.{receiver_with, best_of, emitting, found_ow
 use Rattle.slon_model.specs.Membership.{comment_of, already, first_node, stored_by, init_cluster, store_node}
 use Rattle.slon_model.specs.Membership.{is_dropped, store_path, drop_path, sync_node}
 use Rattle.slon_model.specs.Sets.{adding, create_set, NewTable, set_add_table}
-use Rattle.slon_model.specs.Subscribing.{NewFeed, subscribing, all_tell, feed_bodies, feed_checks, subscribe_set}
+use Rattle.slon_model.specs.Subscribing.{NewFeed, subscribing, all_tell, bodies_of, feed_checks, subscribe_set}
+use Rattle.slon_model.specs.Subscribing.{told_bodies}
+use Rattle.node_rows.specs.declared.rows.Subscription.{Subscription}
 use Rattle.slon_model.specs.Scripts.{first_word, ordered}
 use Rattle.slon_model.proofs.Names.{all_map, bytes_same}
 use Rattle.slon_laws.proofs.Owners.{OnSome, OfNode, owner_is}
@@ -263,6 +265,12 @@ table_gives origin t run w line runs =
     (receives, (when_tells _ _ line, (any_tells w runs.named, (when_tells _ _ tt, (when_tells _ _ line, (busy, tt))))))
     (emitting_reads s (adding s t ∷ []) named (line, tt)))
 
+-- the events of a subscription, new or not
+told_read : (f : NewFeed) (era : ℕ) (o : Option Subscription) →
+    AllByRecursion (λ m. BodyReads m.body) (all_tell (bodies_of era f o))
+told_read f era None = (tt, (tt, (tt, tt)))
+told_read f era (Some row) = (tt, (tt, tt))
+
 feed_gives : (f : NewFeed) (run : Running) (w : World) → Runs run w → Gives StatedReads (subscribe_set f run w)
 feed_gives f run w runs =
     bind_gives IsSeat StatedReads (owner run f.set_id w) _ (owner_gives run f.set_id w runs) (λ s named.
@@ -276,13 +284,14 @@ feed_gives f run w runs =
             when_tells _ _ tt,
             (
               when_tells _ _ tt,
-              (when_tells _ _ refl, tt),
+              (when_tells _ _ tt, (when_tells _ _ tt, (when_tells _ _ tt, tt))),
             ),
           ),
         ),
       ),
     )
-    (emitting_reads s (all_tell (feed_bodies (era_of f.set_id s.known.config) f)) named (tt, (tt, (tt, tt)))))
+    (emitting_reads s (all_tell (told_bodies f s.known.config)) named
+    (told_read f (era_of f.set_id s.known.config) (pair_at f.set_id f.receiver s.known.config.subscriptions))))
 
 sync_gives : (id : ℕ) (run : Running) (w : World) → Runs run w → Gives StatedReads (sync_node id run w)
 sync_gives id run w runs =

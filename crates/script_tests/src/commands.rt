@@ -2,14 +2,13 @@
 use session_text::{LineFault, read_command};
 use slon_base::{Text, TextList};
 use slon_model::{ColumnList, Command, Crash, Delivery};
-use std::alloc::Global;
+use std::alloc::{AllocError, Global};
 use std::test::Fail;
 use test_words::{expect, keeping};
 
 /// Adds a space and the word.
-fn push_word(line: &mut String, word: &Text) -> Result<(), Fail> {
-    write!(line, " {}", word.as_str())?;
-    Ok(())
+fn push_word(line: &mut String, word: &Text) -> Result<(), AllocError> {
+    write!(line, " {}", word.as_str())
 }
 
 /// The word that a command begins with.
@@ -42,7 +41,7 @@ fn verb(command: &Command) -> &'static str {
 }
 
 /// Adds each of these words.
-fn push_words(line: &mut String, words: &TextList) -> Result<(), Fail> {
+fn push_words(line: &mut String, words: &TextList) -> Result<(), AllocError> {
     for word in words.as_slice() {
         push_word(line, word)?;
     }
@@ -50,7 +49,7 @@ fn push_words(line: &mut String, words: &TextList) -> Result<(), Fail> {
 }
 
 /// Adds the columns and their values.
-fn push_columns(line: &mut String, columns: &ColumnList) -> Result<(), Fail> {
+fn push_columns(line: &mut String, columns: &ColumnList) -> Result<(), AllocError> {
     for (column, value) in columns.as_slice() {
         write!(line, " {column}={}", value.as_str())?;
     }
@@ -58,27 +57,27 @@ fn push_columns(line: &mut String, columns: &ColumnList) -> Result<(), Fail> {
 }
 
 /// Adds which calls fail.
-fn push_crash(line: &mut String, crash: &Crash) -> Result<(), Fail> {
+fn push_crash(line: &mut String, crash: &Crash) -> Result<(), AllocError> {
     match crash {
         Crash::Now => Ok(()),
-        Crash::After { calls, keep } => Ok(write!(line, " after {calls} {}", keeping(*keep))?),
-        Crash::AtCommit { keep } => Ok(write!(line, " commit {}", keeping(*keep))?),
+        Crash::After { calls, keep } => write!(line, " after {calls} {}", keeping(*keep)),
+        Crash::AtCommit { keep } => write!(line, " commit {}", keeping(*keep)),
     }
 }
 
 /// Adds what becomes of what a poll brings.
-fn push_delivery(line: &mut String, delivery: Delivery) -> Result<(), Fail> {
+fn push_delivery(line: &mut String, delivery: Delivery) -> Result<(), AllocError> {
     match delivery {
         Delivery::Once => Ok(()),
-        Delivery::Lost => Ok(line.push_str(" lost")?),
-        Delivery::Again => Ok(line.push_str(" again")?),
+        Delivery::Lost => line.push_str(" lost"),
+        Delivery::Again => line.push_str(" again"),
     }
 }
 
 /// Adds what a command says behind its names.
-fn push_rest(line: &mut String, command: &Command) -> Result<(), Fail> {
+fn push_rest(line: &mut String, command: &Command) -> Result<(), AllocError> {
     match command {
-        Command::Table { columns, .. } => Ok(write!(line, " {columns}")?),
+        Command::Table { columns, .. } => write!(line, " {columns}"),
         Command::Insert { values, .. } => push_words(line, values),
         Command::Update { key, columns, .. } => {
             push_word(line, key)?;
@@ -87,11 +86,18 @@ fn push_rest(line: &mut String, command: &Command) -> Result<(), Fail> {
         Command::Delete { key, .. } => push_word(line, key),
         Command::Crash { crash, .. } => push_crash(line, crash),
         Command::Start { node } | Command::Stop { node } | Command::Sync { node } => {
-            Ok(write!(line, " {node}")?)
+            write!(line, " {node}")
         }
-        Command::Cut { node, other } | Command::Join { node, other } => {
-            Ok(write!(line, " {node} {other}")?)
+        Command::Cut { node, other }
+        | Command::Join { node, other }
+        | Command::Fetch {
+            node,
+            origin: other,
         }
+        | Command::Work {
+            node,
+            origin: other,
+        } => write!(line, " {node} {other}"),
         Command::Listen {
             node,
             server,
@@ -100,14 +106,12 @@ fn push_rest(line: &mut String, command: &Command) -> Result<(), Fail> {
             write!(line, " {node} {server}")?;
             push_delivery(line, *delivery)
         }
-        Command::Fetch { node, origin } => Ok(write!(line, " {node} {origin}")?),
-        Command::Work { node, origin } => Ok(write!(line, " {node} {origin}")?),
         _ => Ok(()),
     }
 }
 
 /// Adds a word, if there is one.
-fn push_some(line: &mut String, word: Option<&Text>) -> Result<(), Fail> {
+fn push_some(line: &mut String, word: Option<&Text>) -> Result<(), AllocError> {
     match word {
         Some(word) => push_word(line, word),
         None => Ok(()),
@@ -115,7 +119,7 @@ fn push_some(line: &mut String, word: Option<&Text>) -> Result<(), Fail> {
 }
 
 /// Writes a command in its one spelling.
-fn spell(line: &mut String, command: &Command) -> Result<(), Fail> {
+fn spell(line: &mut String, command: &Command) -> Result<(), AllocError> {
     line.push_str(verb(command))?;
     push_some(line, command.name())?;
     push_some(line, command.transaction())?;
@@ -124,18 +128,20 @@ fn spell(line: &mut String, command: &Command) -> Result<(), Fail> {
 }
 
 /// Writes what a line says, in its one spelling; nothing, or that it is bad.
-fn tell(line: &mut String, read: &Result<Option<Command>, LineFault>) -> Result<(), Fail> {
+fn tell(line: &mut String, read: &Result<Option<Command>, LineFault>) -> Result<(), AllocError> {
     match read {
         Ok(Some(command)) => spell(line, command),
         Ok(None) => Ok(()),
-        Err(fault) => Ok(write!(line, "{fault}")?),
+        Err(fault) => write!(line, "{fault}"),
     }
 }
 
 /// Writes what the line of number 7 says.
-fn tell_line(seen: &mut String, alloc: Global, line: &[u8]) -> Result<(), Fail> {
+fn tell_line(seen: &mut String, alloc: Global, line: &[u8]) -> Result<(), AllocError> {
     let read = read_command(alloc, line, 7);
-    tell(seen, &read)
+    let told = tell(seen, &read);
+    drop(read);
+    told
 }
 
 /// The line of number 7, which is called so, says this.

@@ -85,7 +85,9 @@ fn tell_expanded(
     mut left: u64,
 ) -> Result<(), Fail> {
     let out = expand(alloc, script_of(alloc, script)?, files, &mut left);
-    tell_tokens(line, &out)
+    let told = tell_tokens(line, &out);
+    drop(out);
+    told
 }
 
 /// This comes out of a script.

@@ -3,23 +3,40 @@ use session_text::{print_line, print_reply};
 use slon_base::{Text, TextList};
 use slon_model::{Answer, EventKind, KeptList, ProgressList, Refusal, Reply, TableRows};
 use slonik_script::ScriptRefusal;
+use std::alloc::AllocError;
 use std::test::Fail;
 use test_words::{expect, require};
 
+/// A name.
+fn name(rt: &HostRuntime, name: &str) -> Result<Text, AllocError> {
+    Text::from_str(rt.alloc(), name)
+}
+
 /// A list of these texts.
-fn texts(rt: &HostRuntime, all: &[&str]) -> Result<TextList, Fail> {
+fn texts(rt: &HostRuntime, all: &[&str]) -> Result<TextList, AllocError> {
     let mut list = TextList::new(rt.alloc());
     for text in all {
-        list.push(Text::from_str(rt.alloc(), text)?)?;
+        list.push(name(rt, text)?)?;
     }
     Ok(list)
 }
 
+/// Adds a row of a key and its values.
+fn push_row(
+    rt: &HostRuntime,
+    rows: &mut TableRows,
+    key: &str,
+    values: &[&str],
+) -> Result<(), AllocError> {
+    let values = texts(rt, values)?;
+    rows.push(name(rt, key)?, values)
+}
+
 /// The reply of these rows, of a key and its values each.
-fn listed(rt: &HostRuntime, all: &[(&str, &[&str])]) -> Result<Reply, Fail> {
+fn listed(rt: &HostRuntime, all: &[(&str, &[&str])]) -> Result<Reply, AllocError> {
     let mut rows = TableRows::new(rt.alloc());
     for (key, values) in all {
-        rows.push(Text::from_str(rt.alloc(), key)?, texts(rt, values)?)?;
+        push_row(rt, &mut rows, key, values)?;
     }
     Ok(Reply::Accepted(Answer::Listed { rows }))
 }
@@ -32,19 +49,26 @@ fn expect_line(rt: &HostRuntime, reply: &Reply, line: &str) -> Result<(), Fail> 
     require(whole.as_str().strip_suffix('\n') == Some(line), line)
 }
 
+/// The same of a reply that is let go.
+fn expect_reply(rt: &HostRuntime, reply: Reply, line: &str) -> Result<(), Fail> {
+    let printed = expect_line(rt, &reply, line);
+    drop(reply);
+    printed
+}
+
 /// The same of a refusal.
 fn expect_refusal(rt: &HostRuntime, refusal: Refusal, line: &str) -> Result<(), Fail> {
-    expect_line(rt, &Reply::Refused(refusal), line)
+    expect_reply(rt, Reply::Refused(refusal), line)
 }
 
 /// The same of rows.
 fn expect_rows(rt: &HostRuntime, rows: &[(&str, &[&str])], line: &str) -> Result<(), Fail> {
-    expect_line(rt, &listed(rt, rows)?, line)
+    expect_reply(rt, listed(rt, rows)?, line)
 }
 
 /// The same of an answer.
 fn expect_answer(rt: &HostRuntime, answer: Answer, line: &str) -> Result<(), Fail> {
-    expect_line(rt, &Reply::Accepted(answer), line)
+    expect_reply(rt, Reply::Accepted(answer), line)
 }
 
 #[test]
@@ -88,16 +112,18 @@ const KINDS: &[(EventKind, &str)] = &[
     (EventKind::FailoverSet, "FAILOVER_SET"),
 ];
 
+/// An event of this kind is printed with this word.
+fn expect_applied(rt: &HostRuntime, kind: EventKind, word: &str) -> Result<(), Fail> {
+    let wanted = format!(in rt.alloc(); "ok {word} 7 rows 3")?;
+    let (number, rows) = (7, 3);
+    let applied = Answer::Applied { kind, number, rows };
+    expect_answer(rt, applied, wanted.as_str())
+}
+
 #[test]
 fn applied_events_are_printed(rt: HostRuntime) -> Result<(), Fail> {
     for (kind, word) in KINDS {
-        let applied = Answer::Applied {
-            kind: *kind,
-            number: 7,
-            rows: 3,
-        };
-        let wanted = format!(in rt.alloc(); "ok {word} 7 rows 3")?;
-        expect_answer(&rt, applied, wanted.as_str())?;
+        expect_applied(&rt, *kind, word)?;
     }
     Ok(())
 }
@@ -127,6 +153,7 @@ fn numbered(code: u32) -> Refusal {
         55 => Refusal::NotOrigin { set: 7 },
         56 => Refusal::SetLocked { set: 7 },
         57 => Refusal::BadWidth { columns: 7 },
+        59 => Refusal::Loop { set: 7 },
         60 => Refusal::Nothing,
         61 => Refusal::NotListed { server: 7 },
         62 => Refusal::NotKnown { node: 7 },
@@ -167,6 +194,7 @@ const NUMBERED: &[(u32, &str)] = &[
     (55, "no 55 notorigin 7"),
     (56, "no 56 setlocked 7"),
     (57, "no 57 badwidth 7"),
+    (59, "no 59 loop 7"),
     (60, "no 60 nothing"),
     (61, "no 61 notlisted 7"),
     (62, "no 62 notknown 7"),
@@ -192,26 +220,36 @@ fn refusals_are_printed(rt: HostRuntime) -> Result<(), Fail> {
     Ok(())
 }
 
-/// What `status` answers of a node that is in the streams of two and keeps progress of one set.
-fn status(rt: &HostRuntime) -> Result<Reply, Fail> {
+/// How far a node is that is in the streams of two.
+fn progress(rt: &HostRuntime) -> Result<ProgressList, AllocError> {
     let mut progress = ProgressList::new(rt.alloc());
     progress.push(1, 4)?;
     progress.push(2, 0)?;
+    Ok(progress)
+}
+
+/// The one set of which it keeps progress.
+fn kept(rt: &HostRuntime) -> Result<KeptList, AllocError> {
     let mut kept = KeptList::new(rt.alloc());
     kept.push(1, 2, name(rt, "3:5:3,4")?)?;
-    let answer = Answer::Status {
+    Ok(kept)
+}
+
+/// What `status` answers of it.
+fn status(rt: &HostRuntime) -> Result<Answer, AllocError> {
+    let progress = progress(rt)?;
+    Ok(Answer::Status {
         node: 2,
         log: 3,
         progress,
-        kept,
-    };
-    Ok(Reply::Accepted(answer))
+        kept: kept(rt)?,
+    })
 }
 
 #[test]
 fn status_is_printed(rt: HostRuntime) -> Result<(), Fail> {
     let line = "ok node 2 log 3 progress 1 4 progress 2 0 set 1 era 2 at 3:5:3,4";
-    expect_line(&rt, &status(&rt)?, line)
+    expect_answer(&rt, status(&rt)?, line)
 }
 
 /// Rows, and their line.
@@ -238,55 +276,20 @@ fn a_doubt_is_printed(rt: HostRuntime) -> Result<(), Fail> {
     let database = name(&rt, "a")?;
     let answer = Answer::Committed { actions: 1 };
     let reply = Reply::InDoubt { database, answer };
-    expect_line(&rt, &reply, "doubt a ok actions 1")
-}
-
-/// A name.
-fn name(rt: &HostRuntime, name: &str) -> Result<Text, Fail> {
-    Ok(Text::from_str(rt.alloc(), name)?)
-}
-
-#[test]
-fn names_of_databases_are_printed(rt: HostRuntime) -> Result<(), Fail> {
-    let database = name(&rt, "a")?;
-    expect_refusal(
-        &rt,
-        Refusal::Fault { database, count: 3 },
-        "no 10 fault a 3",
-    )?;
-    let database = name(&rt, "a")?;
-    expect_refusal(&rt, Refusal::NotEmpty { database }, "no 15 notempty a")?;
-    let database = name(&rt, "a")?;
-    expect_refusal(&rt, Refusal::Down { database }, "no 16 down a")?;
-    let database = name(&rt, "a")?;
-    expect_refusal(&rt, Refusal::NoDatabase { database }, "no 17 nodatabase a")?;
-    let database = name(&rt, "a")?;
-    expect_refusal(&rt, Refusal::IsUp { database }, "no 19 isup a")
-}
-
-#[test]
-fn names_of_tables_and_transactions_are_printed(rt: HostRuntime) -> Result<(), Fail> {
-    let table = name(&rt, "s.t")?;
-    expect_refusal(&rt, Refusal::TableExists { table }, "no 50 tableexists s.t")?;
-    let table = name(&rt, "s.t")?;
-    expect_refusal(&rt, Refusal::NoTable { table }, "no 52 notable s.t")?;
-    let name_used = name(&rt, "x")?;
-    expect_refusal(
-        &rt,
-        Refusal::NameUsed { name: name_used },
-        "no 51 nameused x",
-    )?;
-    let transaction = name(&rt, "x")?;
-    expect_refusal(
-        &rt,
-        Refusal::NoTransaction { transaction },
-        "no 53 notransaction x",
-    )
+    expect_reply(&rt, reply, "doubt a ok actions 1")
 }
 
 /// The refusal of this code, with this text.
 fn worded(code: u32, text: Text) -> Refusal {
     match code {
+        15 => Refusal::NotEmpty { database: text },
+        16 => Refusal::Down { database: text },
+        17 => Refusal::NoDatabase { database: text },
+        19 => Refusal::IsUp { database: text },
+        50 => Refusal::TableExists { table: text },
+        51 => Refusal::NameUsed { name: text },
+        52 => Refusal::NoTable { table: text },
+        53 => Refusal::NoTransaction { transaction: text },
         58 => Refusal::TableUsed { table: text },
         82 => Refusal::Script(ScriptRefusal::UnknownOption { word: text }),
         83 => Refusal::Script(ScriptRefusal::MissingOption { words: text }),
@@ -301,8 +304,51 @@ fn worded(code: u32, text: Text) -> Refusal {
     }
 }
 
-/// The codes of these refusals, their texts, and their lines.
-const WORDED: &[(u32, &str, &str)] = &[
+/// Codes of refusals, their texts, and their lines.
+type Worded = (u32, &'static str, &'static str);
+
+/// Each of the refusals prints as its line.
+fn expect_worded(rt: &HostRuntime, all: &[Worded]) -> Result<(), Fail> {
+    for (code, text, line) in all {
+        expect_refusal(rt, worded(*code, name(rt, text)?), line)?;
+    }
+    Ok(())
+}
+
+/// Refusals that name a database.
+const OF_DATABASES: &[Worded] = &[
+    (15, "a", "no 15 notempty a"),
+    (16, "a", "no 16 down a"),
+    (17, "a", "no 17 nodatabase a"),
+    (19, "a", "no 19 isup a"),
+];
+
+#[test]
+fn names_of_databases_are_printed(rt: HostRuntime) -> Result<(), Fail> {
+    let database = name(&rt, "a")?;
+    expect_refusal(
+        &rt,
+        Refusal::Fault { database, count: 3 },
+        "no 10 fault a 3",
+    )?;
+    expect_worded(&rt, OF_DATABASES)
+}
+
+/// Refusals that name a table, a transaction, or a name that is used.
+const OF_TABLES: &[Worded] = &[
+    (50, "s.t", "no 50 tableexists s.t"),
+    (52, "s.t", "no 52 notable s.t"),
+    (51, "x", "no 51 nameused x"),
+    (53, "x", "no 53 notransaction x"),
+];
+
+#[test]
+fn names_of_tables_and_transactions_are_printed(rt: HostRuntime) -> Result<(), Fail> {
+    expect_worded(&rt, OF_TABLES)
+}
+
+/// Refusals that name something else, or say a text.
+const WORDED: &[Worded] = &[
     (58, "s.t", "no 58 tableused s.t"),
     (82, "colour", "no 82 unknownoption colour"),
     (83, "event node", "no 83 missingoption event node"),
@@ -318,9 +364,7 @@ const WORDED: &[(u32, &str, &str)] = &[
 
 #[test]
 fn texts_are_printed(rt: HostRuntime) -> Result<(), Fail> {
-    for (code, text, line) in WORDED {
-        expect_refusal(&rt, worded(*code, name(&rt, text)?), line)?;
-    }
+    expect_worded(&rt, WORDED)?;
     let text = name(&rt, "two words")?;
     expect_answer(&rt, Answer::Echoed { text }, "ok echo two words")
 }

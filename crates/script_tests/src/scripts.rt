@@ -3,7 +3,7 @@ use crate::served::Served;
 use crate::telling::tell_fault;
 use slonik_parse::{Command, ParseFault, Script, Statement, parse, tokens};
 use std::test::Fail;
-use test_words::expect;
+use test_words::{expect, require};
 
 /// What most scripts here begin with: five tokens.
 const HEAD: &str = "cluster name = c;";
@@ -208,7 +208,9 @@ fn tell_text(
     left: &mut u64,
 ) -> Result<(), Fail> {
     let script = read(rt, text, reads, left);
-    tell(line, &script)
+    let told = tell(line, &script);
+    drop(script);
+    told
 }
 
 /// A text gives this.
@@ -297,17 +299,25 @@ fn files_are_read_within_bounds(rt: HostRuntime) -> Result<(), Fail> {
 const DEFINE: &str = "cluster name = c; define a sync; ";
 
 /// What a text begins with, what is repeated and how often, its end, and what it gives.
-const LONG_TEXTS: &[(&str, &str, u32, &str, &str)] = &[
+type LongText = (&'static str, &'static str, u32, &'static str, &'static str);
+
+const LONG_TEXTS: &[LongText] = &[
     (HEAD, "{", 8000, "", "81 6"),
     (DEFINE, "define a @a @a; ", 17, "", "ok 0"),
     (DEFINE, "define a @a @a; ", 17, "@a;", "96"),
 ];
 
+/// The long text gives what it is to give.
+fn expect_long(rt: &HostRuntime, long: &LongText) -> Result<(), Fail> {
+    let (front, part, times, end, wanted) = long;
+    let text = repeated(rt, front, part, *times, end)?;
+    expect_given(rt, text.as_str(), 0, &mut 0, wanted)
+}
+
 #[test]
 fn long_texts_are_read(rt: HostRuntime) -> Result<(), Fail> {
-    for (front, part, times, end, wanted) in LONG_TEXTS {
-        let text = repeated(&rt, front, part, *times, end)?;
-        expect_given(&rt, text.as_str(), 0, &mut 0, wanted)?;
+    for long in LONG_TEXTS {
+        expect_long(&rt, long)?;
     }
     Ok(())
 }
@@ -324,11 +334,18 @@ fn last_sync(script: &Script) -> Option<u32> {
 const LATER: &str = "cluster name = c; node 7 admin conninfo = 'a'; node 7 admin conninfo = 'b'; \
     sync (id = 1, id = 2);";
 
+/// The script has the later value of each thing.
+fn expect_later(script: &Script) -> Result<(), Fail> {
+    require(script.nodes.len() == 1, "one node")?;
+    let conninfo = script.nodes.conninfo(7).map(|text| text.as_str());
+    require(conninfo == Some("b"), "the later conninfo")?;
+    require(last_sync(script) == Some(2), "the later id")
+}
+
 #[test]
 fn later_values_count(rt: HostRuntime) -> Result<(), Fail> {
     let script = read(&rt, LATER, 0, &mut 0)?;
-    assert!(rt; script.nodes.len() == 1);
-    assert!(rt; script.nodes.conninfo(7).map(|text| text.as_str()) == Some("b"));
-    assert!(rt; last_sync(&script) == Some(2));
-    Ok(())
+    let done = expect_later(&script);
+    drop(script);
+    done
 }

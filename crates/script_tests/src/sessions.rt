@@ -7,6 +7,7 @@ use node_keeper::MemFiles;
 use session_reader::{ReadFault, SessionReader};
 use slon_base::{Bytes, Files, Text};
 use slon_model::{Command, Reading};
+use std::alloc::AllocError;
 use std::test::Fail;
 use test_words::expect;
 
@@ -61,7 +62,9 @@ fn tell_next<F: Files>(
     ensures { Stays (F.filed files.old) (F.filed files.new) }
 {
     let next = reader.next_command(rt.alloc(), files);
-    tell(seen, &next)
+    let goes_on = tell(seen, &next);
+    drop(next);
+    goes_on
 }
 
 /// The commands of the session that was entered, and how the reading ended.
@@ -78,16 +81,33 @@ fn commands_of<F: Files>(rt: &HostRuntime, files: &mut F) -> Result<String, Fail
     Ok(seen)
 }
 
-/// These files in memory, of which the calls with these numbers fail.
-fn files_of(rt: &HostRuntime, files: &[(&str, &str)], fails: u64) -> Result<MemFiles, Fail> {
-    let mut named = Vec::new(rt.alloc());
+/// A file with its name.
+fn file_of(rt: &HostRuntime, path: &str, text: &str) -> Result<(Text, Bytes), AllocError> {
+    let name = Text::from_str(rt.alloc(), path)?;
+    Ok((name, Bytes::from_slice(rt.alloc(), text.as_bytes())?))
+}
+
+/// Files with their names.
+fn named(rt: &HostRuntime, files: &[(&str, &str)]) -> Result<Vec<(Text, Bytes)>, AllocError> {
+    let mut all = Vec::new(rt.alloc());
     for (path, text) in files {
-        let name = Text::from_str(rt.alloc(), path)?;
-        named.push((name, Bytes::from_slice(rt.alloc(), text.as_bytes())?))?;
+        all.push(file_of(rt, path, text)?)?;
     }
-    let mut numbers = Vec::new(rt.alloc());
-    numbers.push(fails)?;
-    Ok(MemFiles::new(rt.alloc(), named, numbers))
+    Ok(all)
+}
+
+/// These files in memory, of which the call of this number fails.
+fn files_of(rt: &HostRuntime, files: &[(&str, &str)], fails: u64) -> Result<MemFiles, AllocError> {
+    let names = named(rt, files)?;
+    Ok(MemFiles::new(rt.alloc(), names, vec![in rt.alloc(); fails]?))
+}
+
+/// The commands of the session of this name.
+fn commands_at<F: Files>(rt: &HostRuntime, files: &mut F, name: &str) -> Result<String, Fail> {
+    if !files.enter(name.as_bytes())? {
+        return Err(Fail::new("there is no such file"));
+    }
+    commands_of(rt, files)
 }
 
 /// The first of these files is read as this.
@@ -101,10 +121,9 @@ fn expect_session(
         return Err(Fail::new("no session"));
     };
     let mut served = files_of(rt, files, fails)?;
-    if !served.enter(name.as_bytes())? {
-        return Err(Fail::new("there is no such file"));
-    }
-    let seen = commands_of(rt, &mut served)?;
+    let read = commands_at(rt, &mut served, name);
+    drop(served);
+    let seen = read?;
     expect(text, seen.as_str(), wanted)
 }
 

@@ -32,7 +32,9 @@ const TEXTS: &[(&[u8], &str)] = &[
 /// Writes what a text is cut into.
 fn tell_text(line: &mut String, alloc: Global, text: &[u8]) -> Result<(), Fail> {
     let read = tokens(alloc, text);
-    tell_tokens(line, &read)
+    let told = tell_tokens(line, &read);
+    drop(read);
+    told
 }
 
 /// A text is cut into these tokens.

@@ -15,7 +15,7 @@ use Rattle.slon_model.specs.declared.reply.Refusal.TheVariants.{AlreadyNode, NoN
 use Rattle.slon_model.specs.declared.reply.Refusal.TheVariants.{TableExists, NameUsed, NoTable, NoTransaction}
 use Rattle.slon_model.specs.declared.reply.Refusal.TheVariants.{Duplicate, NotOrigin, SetLocked, BadWidth, TableUsed}
 use Rattle.slon_model.specs.declared.reply.Refusal.TheVariants.{Busy, NoPath, SameNode, Script, ScriptUsed, NoScript}
-use Rattle.slon_model.specs.declared.reply.Refusal.TheVariants.{Nothing, NotListed, NotKnown, Off, Severed}
+use Rattle.slon_model.specs.declared.reply.Refusal.TheVariants.{Loop, Nothing, NotListed, NotKnown, Off, Severed}
 use Rattle.slon_model.specs.declared.reply.Refusal.TheVariants.{Behind, NotActive, NotForwarding, NotBuilt}
 use Rattle.slon_model.specs.Printed.{refusal_text}
 use Rattle.session_text.specs.Replies.{ScriptHasForm, RefusalHasForm}
@@ -60,7 +60,8 @@ readings =
     ∷ (codes "46", by_number HasReceivers) ∷ (codes "47", by_number NoSet) ∷ (codes "50", by_text TableExists)
     ∷ (codes "51", by_text NameUsed) ∷ (codes "52", by_text NoTable) ∷ (codes "53", by_text NoTransaction)
     ∷ (codes "54", λ _. Duplicate) ∷ (codes "55", by_number NotOrigin) ∷ (codes "56", by_number SetLocked)
-    ∷ (codes "57", by_number BadWidth) ∷ (codes "58", by_text TableUsed) ∷ (codes "60", λ _. Nothing)
+    ∷ (codes "57", by_number BadWidth) ∷ (codes "58", by_text TableUsed) ∷ (codes "59", by_number Loop)
+    ∷ (codes "60", λ _. Nothing)
     ∷ (codes "61", by_number NotListed) ∷ (codes "62", by_number NotKnown) ∷ (codes "63", behind_of)
     ∷ (codes "66", by_number Busy) ∷ (codes "67", by_number Off) ∷ (codes "68", severed_of)
     ∷ (codes "72", by_number NotActive) ∷ (codes "73", by_number NotForwarding)
@@ -221,6 +222,7 @@ refusal_back (NotOrigin set) h = numbered NotOrigin _ set (below_half set h) ref
 refusal_back (SetLocked set) h = numbered SetLocked _ set (below_half set h) refl refl refl
 refusal_back (BadWidth columns) h = numbered BadWidth _ columns h refl refl refl
 refusal_back (TableUsed table) h = worded TableUsed _ table h refl refl refl
+refusal_back (Loop set) h = numbered Loop _ set (below_half set h) refl refl refl
 refusal_back Nothing h = record { rest = _; words = refl; back = refl; line = refl }
 refusal_back (NotListed server) h = numbered NotListed _ server (below_half server h) refl refl refl
 refusal_back (NotKnown node) h = numbered NotKnown _ node (below_half node h) refl refl refl

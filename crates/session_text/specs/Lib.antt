@@ -3,3 +3,4 @@ pub mod Handing
 pub mod Joining
 pub mod Reading
 pub mod Replies
+pub mod Shapes

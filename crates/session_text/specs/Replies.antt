@@ -15,7 +15,7 @@ use Rattle.slon_model.specs.declared.reply.Refusal.TheVariants.{IdUsed, IsUp, To
 use Rattle.slon_model.specs.declared.reply.Refusal.TheVariants.{AlreadyNode, NoNode, NoConninfo, HasReceivers, NoSet}
 use Rattle.slon_model.specs.declared.reply.Refusal.TheVariants.{TableExists, NameUsed, NoTable, NoTransaction}
 use Rattle.slon_model.specs.declared.reply.Refusal.TheVariants.{NotOrigin, SetLocked, BadWidth, TableUsed, Busy, NoPath}
-use Rattle.slon_model.specs.declared.reply.Refusal.TheVariants.{Behind, NotActive, NotForwarding}
+use Rattle.slon_model.specs.declared.reply.Refusal.TheVariants.{Loop, Behind, NotActive, NotForwarding}
 use Rattle.slon_model.specs.declared.reply.Refusal.TheVariants.{NotListed, NotKnown, Off, Severed}
 use Rattle.slon_model.specs.declared.reply.Refusal.TheVariants.{SameNode, Script, ScriptUsed, NoScript, NotBuilt}
 use Rattle.slon_model.specs.declared.reply.Reply.{Reply}
@@ -72,6 +72,7 @@ RefusalFits (NoSet set) = set < 2 ^ 32
 RefusalFits (NotOrigin set) = set < 2 ^ 32
 RefusalFits (SetLocked set) = set < 2 ^ 32
 RefusalFits (BadWidth columns) = columns < 2 ^ 64
+RefusalFits (Loop set) = set < 2 ^ 32
 RefusalFits (NotListed server) = server < 2 ^ 32
 RefusalFits (NotKnown node) = node < 2 ^ 32
 RefusalFits (Busy xid) = xid < 2 ^ 64

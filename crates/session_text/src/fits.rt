@@ -126,9 +126,10 @@ fn refusal_fits(refusal: &Refusal)
         } => {
             let _numbers = (*provider, *progress, *number);
         }
-        Refusal::NoSet { set } | Refusal::NotOrigin { set } | Refusal::SetLocked { set } => {
-            id_fits(set)
-        }
+        Refusal::NoSet { set }
+        | Refusal::NotOrigin { set }
+        | Refusal::SetLocked { set }
+        | Refusal::Loop { set } => id_fits(set),
         Refusal::BadRow { space } | Refusal::TooBig { space } => space_fits(space),
         Refusal::Script(script) => script_fits(script),
         _ => {}

@@ -8,6 +8,7 @@ mod laws;
 mod line_reader;
 mod print;
 mod read;
+mod shapes;
 mod words;
 mod writes;
 

@@ -10,28 +10,9 @@ use Rattle.slon_base.specs.Codec.{number_bytes}
 use Rattle.slon_base.specs.Keeper.{key_cmp}
 use Rattle.slon_base.proofs.Spelled.{length-number_bytes}
 use Rattle.store_rows.specs.Rows.{IsId}
-use Rattle.store_rows.proofs.Numbers.{numbers_ordered}
+use Rattle.slon_base.proofs.Numbers.{behind_front, less_front, numbers_ordered}
 use Rattle.set_config.specs.Holds.{AreIds, pair_key}
 use Rattle.set_config.specs.Loaded.{IsPairBefore}
-
--- fronts of one length decide
-pub less_front : (u v x y : List ℕ) → length u ≡ length v → key_cmp u v ≡ Less → key_cmp (u ++ x) (v ++ y) ≡ Less
-less_front [] [] x y same less = absurd cc
-less_front [] (b ∷ v) x y same less = absurd (omega (arith, same))
-less_front (a ∷ u) [] x y same less = absurd (omega (arith, same))
-less_front (a ∷ u) (b ∷ v) x y same less =
-    elim (nat_cmp a b) as (λ o. ordering_then o (key_cmp u v) ≡ Less →
-    ordering_then o (key_cmp (u ++ x) (v ++ y)) ≡ Less) [
-      | Less ↦ λ is. refl
-      | Equal ↦ λ is. less_front u v x y (omega (arith, same)) is
-      | Greater ↦ λ is. is
-    ] less
-
--- what follows the same front decides
-pub same_front : (p x y : List ℕ) → key_cmp (p ++ x) (p ++ y) ≡ key_cmp x y
-same_front [] x y = refl
-same_front (a ∷ p) x y =
-    ap (λ o. ordering_then o (key_cmp (p ++ x) (p ++ y))) (tied_itself nat_cmp_total a) ∙ same_front p x y
 
 -- the keys of a lesser first id come before, and so does that of a lesser second id behind the same first one
 pub first_before : (i j : ℕ × ℕ) → i.0 < j.0 → IsId j.0 → key_cmp (pair_key i) (pair_key j) ≡ Less
@@ -41,7 +22,7 @@ first_before i j less id =
 
 pub second_before : (first a b : ℕ) → a < b → IsId b → key_cmp (pair_key (first, a)) (pair_key (first, b)) ≡ Less
 second_before first a b less id =
-    same_front (number_bytes first) (number_bytes a) (number_bytes b)
+    behind_front (number_bytes first) (number_bytes a) (number_bytes b)
     ∙ numbers_ordered a b less (omega (arith, id.1))
 
 -- ---- and the other way round
@@ -83,7 +64,7 @@ pair_before i j one two less = by (compared i.0 j.0)
     by (inr (inl same)) =
         inr (
           same,
-          id_before i.1 j.1 one.1 two.1 (sym (same_front (number_bytes j.0) (number_bytes i.1)
+          id_before i.1 j.1 one.1 two.1 (sym (behind_front (number_bytes j.0) (number_bytes i.1)
               (number_bytes j.1)) ∙ subst (λ k. key_cmp (pair_key (k, i.1)) (pair_key j) ≡ Less) same less),
         )
     by (inr (inr more)) = absurd (one_way (pair_key i) (pair_key j) less (first_before j i more one.0))

@@ -2,11 +2,13 @@
 ghost use Rattle.std.specs.Prelude.{◌≡◌, ◌<◌, ◌^◌, true, is_some};
 ghost use Rattle.slon_base.specs.Keeper.{Store};
 ghost use Rattle.store_rows.specs.Rows.{IsId};
+ghost use Rattle.store_rows.specs.Spending.{PutsUpTo};
 ghost use Rattle.store_rows.specs.Steps.{Safe};
 ghost use Rattle.store_rows.specs.Space.{IsPending, Becomes};
 ghost use Rattle.node_rows.specs.Reading.{IsFeeding};
 ghost use Rattle.node_rows.specs.Spellings.{CanBody};
 ghost use Rattle.slon_model.specs.Config.{Config, change_by};
+ghost use Rattle.slon_model.specs.Events.{is_sync};
 ghost use Rattle.set_config.specs.Holds.{Shows};
 
 use crate::handing::{drop_set, move_set, take_over};
@@ -81,6 +83,7 @@ pub fn change<K: Keeper>(
     requires origin { IsId origin }
     requires number { number < 2 ^ 63 }
     ensures safe { Safe (K.kept keeper.old) (K.kept keeper.new) result }
+    ensures puts { is_sync body.now ≡ true → PutsUpTo 0 (K.kept keeper.old).puts (K.kept keeper.new).puts }
     ensures turns { (base : Store) (c : Config) → IsPending (Shows base c) (K.kept keeper.old) →
         Becomes (Shows base (change_by origin number body.now c)) (K.kept keeper.new) result }
 {

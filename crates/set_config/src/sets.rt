@@ -1,14 +1,14 @@
 // The sets, and the tables of the sets.
 ghost use Rattle.std.specs.Prelude.{◌≡◌, ◌<◌, ◌^◌, ℕ, true, false, is_some, OnOk, IfOk, IfErr};
 ghost use Rattle.std.specs.Option.{option_map};
-ghost use Rattle.slon_base.specs.Keeper.{Store};
-ghost use Rattle.slon_base.specs.Codec.{IsText, AllAre};
+ghost use Rattle.slon_base.specs.Keeper.{Store, put_at};
+ghost use Rattle.slon_base.specs.Codec.{IsText, AllAre, number_bytes};
 ghost use Rattle.store_rows.specs.Rows.{IsId};
 ghost use Rattle.store_rows.specs.Steps.{Safe, Gives, IsOutside};
 ghost use Rattle.store_rows.specs.Space.{IsPending, Becomes, AllOf};
 ghost use Rattle.node_rows.specs.declared.rows.SetRow.{SetRow};
 ghost use Rattle.node_rows.specs.declared.rows.TableRow.{TableRow};
-ghost use Rattle.node_rows.specs.Spellings.{CanSet, CanTable};
+ghost use Rattle.node_rows.specs.Spellings.{CanSet, CanTable, table_bytes};
 ghost use Rattle.slon_model.specs.Maps.{entry_at, with_entry};
 ghost use Rattle.slon_model.specs.Config.{Config, changed_set, dropped_tables, set_row};
 ghost use Rattle.set_config.specs.Holds.{Shows};
@@ -206,7 +206,26 @@ fn dropped_table(alloc: Global, row: &TableRow) -> Result<TableRow, AllocError>
     })
 }
 
-/// The table of a row is dropped, if it is in the set.
+/// The table of a row is dropped.
+fn put_dropped<K: Keeper>(
+    alloc: Global,
+    keeper: &mut K,
+    table: u32,
+    row: &TableRow,
+) -> Result<(), Stop>
+    requires opened { is_some (K.kept keeper.old).pending ≡ true }
+    requires can { IsId table × CanTable row.now }
+    ensures safe { Safe (K.kept keeper.old) (K.kept keeper.new) result }
+    ensures only { IfErr result IsOutside }
+    ensures put { OnOk result ((K.kept keeper.new).pending ≡
+        option_map (option_map (put_at 7 (number_bytes table) (table_bytes (record row.now { live = false }))))
+        (K.kept keeper.old).pending) }
+{
+    let dropped = dropped_table(alloc, row)?;
+    put_row(alloc, keeper, TABLES, &table, &dropped)
+}
+
+/// The same, if the table is in the set.
 fn drop_table<K: Keeper>(
     alloc: Global,
     keeper: &mut K,
@@ -222,8 +241,7 @@ fn drop_table<K: Keeper>(
         option_map (option_map (drop_row set (table, row.now))) (K.kept keeper.old).pending) }
 {
     if row.set_id == set {
-        let row = dropped_table(alloc, row)?;
-        return put_row(alloc, keeper, TABLES, &table, &row);
+        return put_dropped(alloc, keeper, table, row);
     }
     Ok(())
 }

@@ -1,4 +1,5 @@
 pub mod Charging
 pub mod Entries
+pub mod Numbers
 pub mod Order
 pub mod Spelled

@@ -1,6 +1,7 @@
 -- What a store holds, and what each of its calls does.
-use Rattle.std.specs.Prelude.{◌≡◌, ◌⊎◌, ℕ, ◌≤◌, ◌==◌, if◌then◌else◌, Bool, true, false, List, [], ◌∷◌, Option, Some}
-use Rattle.std.specs.Prelude.{None, Result, Ok, Err, IfOk, OnOk, IsErrOf, unwrap_or, is_some, suc}
+use Rattle.std.specs.Prelude.{◌≡◌, ◌⊎◌, ℕ, ◌+◌, ◌-◌, ◌^◌, ◌≤◌, ◌==◌, if◌then◌else◌, Bool, true, false, List, []}
+use Rattle.std.specs.Prelude.{◌∷◌, Option, Some, None, Result, Ok, Err, IfOk, OnOk, OnErr, IsErrOf, unwrap_or, is_some}
+use Rattle.std.specs.Prelude.{suc, min}
 use Rattle.std.specs.Option.{option_map}
 use Rattle.std.specs.declared.cmp.Ordering.{Ordering}
 use Rattle.std.specs.Ordering.{nat_cmp, is_lt}
@@ -47,10 +48,20 @@ pub record Kept : Type 0 where
   pub told : Charge
   pub faults : ℕ
   pub doubts : ℕ
+  -- how many pairs were put, where that is told, up to the last value of a u64
+  pub puts : Option ℕ
 
 -- what reads see
 abbrev pub sight : Kept → Option Store
 sight k = unwrap_or k.pending k.held
+
+-- the count of pairs that were put, after one more
+abbrev pub one_put : Option ℕ → Option ℕ
+one_put puts = option_map (λ n. min (n + 1) (2 ^ 64 - 1)) puts
+
+-- and after none
+abbrev pub none_put : Option ℕ → Option ℕ
+none_put puts = puts
 
 -- the failures to come before the call, as the call left their bound
 abbrev pub one_more : {T : Type 0} → Result T KeepFault → Option ℕ → Option ℕ
@@ -86,6 +97,7 @@ pub record Reads {T : Type 0} (P : Store → T → Type 0) (old new : Kept) (res
   pub opened : is_some new.pending ≡ is_some old.pending
   pub held : new.held ≡ old.held
   pub doubts : new.doubts ≡ old.doubts
+  pub puts : new.puts ≡ old.puts
 
 abbrev pub Gets : ℕ → List ℕ → Kept → Kept → Result (Option (List ℕ)) KeepFault → Type 0
 Gets space key = Reads (λ m found. found ≡ get (m space) key)
@@ -106,13 +118,16 @@ first (e ∷ es) = Some e
 abbrev pub GetsNext : ℕ → List ℕ → Kept → Kept → Result (Option (List ℕ × List ℕ)) KeepFault → Type 0
 GetsNext space key = Reads (λ m found. found ≡ first (after key (entries (m space))))
 
--- a change of what is pending
-pub record Changes {T : Type 0} (change : Store → Store) (old new : Kept) (result : Result T KeepFault) : Type 0 where
+-- a change of what is pending, and of the count of pairs that were put, which a call that fails leaves
+pub record Changes {T : Type 0} (change : Store → Store) (count : Option ℕ → Option ℕ) (old new : Kept)
+    (result : Result T KeepFault) : Type 0 where
   pub cause : HasCause old new result
   pub ok : OnOk result (new.pending ≡ option_map (option_map change) old.pending)
   pub opened : is_some new.pending ≡ true
   pub held : new.held ≡ old.held
   pub doubts : new.doubts ≡ old.doubts
+  pub puts : OnOk result (new.puts ≡ count old.puts)
+  pub unput : OnErr result (new.puts ≡ old.puts)
 
 pub record Begins {T : Type 0} (old new : Kept) (result : Result T KeepFault) : Type 0 where
   pub cause : HasCause old new result
@@ -120,6 +135,7 @@ pub record Begins {T : Type 0} (old new : Kept) (result : Result T KeepFault) : 
   pub failed : is_failure result ≡ true → new.pending ≡ None
   pub held : new.held ≡ old.held
   pub doubts : new.doubts ≡ old.doubts
+  pub puts : new.puts ≡ old.puts
 
 pub record Commits {T : Type 0} (old new : Kept) (result : Result T KeepFault) : Type 0 where
   pub cause : HasCause old new result
@@ -131,6 +147,7 @@ pub record Commits {T : Type 0} (old new : Kept) (result : Result T KeepFault) :
   pub doubts : old.doubts ≤ new.doubts
   pub doubted : IsErrOf result Failed → Rose old.doubts new.doubts
   pub sure : is_doubt result ≡ false → new.doubts ≡ old.doubts
+  pub puts : new.puts ≡ old.puts
 
 -- nothing is pending afterwards, also where it fails
 pub record RollsBack {T : Type 0} (old new : Kept) (result : Result T KeepFault) : Type 0 where
@@ -138,3 +155,4 @@ pub record RollsBack {T : Type 0} (old new : Kept) (result : Result T KeepFault)
   pub closed : new.pending ≡ None
   pub held : new.held ≡ old.held
   pub doubts : new.doubts ≡ old.doubts
+  pub puts : new.puts ≡ old.puts

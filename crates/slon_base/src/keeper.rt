@@ -1,7 +1,7 @@
 // The store of one database, and the shelf that gives such stores.
 ghost use Rattle.std.specs.Prelude.{◌≡◌, true, false, is_some};
 ghost use Rattle.slon_base.specs.Keeper.{Kept, Begins, Gets, GetsNext, Counts, Changes, Commits, RollsBack, put_at};
-ghost use Rattle.slon_base.specs.Keeper.{del_at};
+ghost use Rattle.slon_base.specs.Keeper.{del_at, one_put, none_put};
 ghost use Rattle.std.specs.Option.{option_map};
 ghost use Rattle.slon_base.specs.Shelf.{Shelved, Gives};
 
@@ -33,12 +33,12 @@ pub trait Keeper: Drop {
     /// Puts a value at a key, in the place of the one that is there.
     fn put(&mut self, space: u8, key: &[u8], value: &[u8]) -> Result<(), KeepFault>
         requires { is_some (kept self.old).pending ≡ true }
-        ensures { Changes (put_at space key.now value.now) (kept self.old) (kept self.new) result };
+        ensures { Changes (put_at space key.now value.now) one_put (kept self.old) (kept self.new) result };
 
     /// Takes the pair of a key away, if it is there.
     fn del(&mut self, space: u8, key: &[u8]) -> Result<(), KeepFault>
         requires { is_some (kept self.old).pending ≡ true }
-        ensures { Changes (del_at space key.now) (kept self.old) (kept self.new) result };
+        ensures { Changes (del_at space key.now) none_put (kept self.old) (kept self.new) result };
 
     /// Makes what is pending held. Where it fails, it is held or not.
     fn commit(&mut self) -> Result<(), KeepFault>

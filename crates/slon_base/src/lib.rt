@@ -5,6 +5,7 @@ mod byte_map;
 mod bytes;
 mod charge;
 mod compact;
+mod compare;
 mod fault;
 mod few;
 mod files;

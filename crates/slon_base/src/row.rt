@@ -40,6 +40,15 @@ impl RowOut {
         }
     }
 
+    /// An empty row with room for this many bytes.
+    pub fn with_capacity(alloc: Global, capacity: usize) -> Result<RowOut, AllocError>
+        ensures { IfOk result (λ r. r ≡ []) }
+    {
+        Ok(RowOut {
+            inner: Vec::with_capacity(alloc, capacity)?,
+        })
+    }
+
     /// Adds one byte, or leaves the row as it was.
     pub fn byte(&mut self, byte: u8) -> Result<(), AllocError>
         ensures ok { OnOk result (self.new ≡ self.old ++ byte ∷ []) }
@@ -108,7 +117,7 @@ impl<'a> Model for RowIn<'a> {
     ghost view = { λ r. r.rest.now };
 }
 
-fn number_at(bytes: &[u8]) -> Option<(u64, &[u8])>
+pub(crate) fn number_at(bytes: &[u8]) -> Option<(u64, &[u8])>
     ensures found { IfSome result (λ r. (r.0 < 2 ^ 64) × (bytes.now ≡ number_bytes r.0 ++ r.1.now)) }
     ensures short { IfNone result (length bytes.now < 8) }
 {

@@ -13,7 +13,7 @@ use Rattle.slon_model.specs.declared.reply.Answer.TheVariants.{Done}
 use Rattle.slon_model.specs.Names.{Named, find_named, put_named}
 use Rattle.slon_model.specs.Rows.{Rows, member}
 use Rattle.slon_model.specs.Events.{Event}
-use Rattle.slon_model.specs.Config.{era_of, has_path, is_known}
+use Rattle.slon_model.specs.Config.{has_path, is_known}
 use Rattle.slon_model.specs.Deeds.{Node, Deed, Applies, Brought, Knowledge, Logged, brought_in, nothing_brought}
 use Rattle.slon_model.specs.Deeds.{with_deeds}
 use Rattle.slon_model.specs.Place.{Place, deed, is_running, node_id, standing_rows}
@@ -25,7 +25,7 @@ use Rattle.slon_model.specs.Reaching.{origin_of, owner, reach}
 use Rattle.slon_model.specs.Membership.{already, becoming, comment_of, first_id, first_node, first_of_cluster}
 use Rattle.slon_model.specs.Membership.{init_cluster, joining, store_node, stored_by, synced}
 use Rattle.slon_model.specs.Sets.{NewTable, adding}
-use Rattle.slon_model.specs.Subscribing.{all_tell, feed_bodies, subscribing}
+use Rattle.slon_model.specs.Subscribing.{all_tell, subscribing, told_bodies}
 use Rattle.slon_model.specs.Scripts.{ordered}
 use Rattle.node_rows.specs.declared.body.Body.TheVariants.{Sync, StoreNode, StorePath, DropPath, StoreSet}
 use Rattle.slon_model.specs.Turns.{at_node, is_cut, is_synced, on_turn, seat_at}
@@ -237,7 +237,7 @@ ordered_formed (order.SetAddTable set origin id name key comment) run w =
 ordered_formed (order.SubscribeSet set provider receiver forward) run w =
     any_bind (IsFormedStated w) (owner run set w) _
     (λ s. let f = subscribing set provider receiver forward in
-    let done = emitting_formed w s (all_tell (feed_bodies (era_of set s.known.config) f)) in
+    let done = emitting_formed w s (all_tell (told_bodies f s.known.config)) in
     search (kept_ok (IsFormedStated w), done))
 ordered_formed (order.Sync id) run w =
     any_bind (IsFormedStated w) (reach run id w) _ (λ s. emitting_formed w s (tells Sync ∷ []))

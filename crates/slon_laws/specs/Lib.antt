@@ -4,6 +4,7 @@ pub mod Keeps
 pub mod Keys
 pub mod Laws
 pub mod Lists
+pub mod Older
 pub mod Sound
 pub mod Spelled
 pub mod Turning

@@ -6,7 +6,7 @@ use Rattle.slon_model.specs.Rows.{Rows, Action}
 use Rattle.slon_model.specs.Events.{Event, is_sync}
 use Rattle.slon_model.specs.Config.{Config, change}
 use Rattle.slon_model.specs.Names.{Named}
-use Rattle.slon_model.specs.Views.{View, Views, views_emitted, with_views}
+use Rattle.slon_model.specs.Views.{View, Views, views_emitted, views_told, with_views}
 
 -- An action of the origin of an era on a table of its set, as a node logs it.
 pub record Logged : Type 0 where
@@ -86,7 +86,7 @@ learned own (Emits e) k =
 learned own (Applies e b) k =
     record k {
       config = change e k.config;
-      views = with_views b.views k.views;
+      views = with_views b.views (views_told own e.body k.config k.views);
       progress = with_entry e.origin e.number k.progress;
       news = noticed e k.news;
     }

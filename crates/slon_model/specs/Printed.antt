@@ -17,7 +17,7 @@ use Rattle.slon_model.specs.declared.reply.Refusal.TheVariants.{IdUsed, IsUp, To
 use Rattle.slon_model.specs.declared.reply.Refusal.TheVariants.{AlreadyNode, NoNode, NoConninfo, HasReceivers, NoSet}
 use Rattle.slon_model.specs.declared.reply.Refusal.TheVariants.{TableExists, NameUsed, NoTable, NoTransaction}
 use Rattle.slon_model.specs.declared.reply.Refusal.TheVariants.{Duplicate, NotOrigin, SetLocked, BadWidth, TableUsed}
-use Rattle.slon_model.specs.declared.reply.Refusal.TheVariants.{Nothing, NotListed, NotKnown, Busy, Off, Severed}
+use Rattle.slon_model.specs.declared.reply.Refusal.TheVariants.{Loop, Nothing, NotListed, NotKnown, Busy, Off, Severed}
 use Rattle.slon_model.specs.declared.reply.Refusal.TheVariants.{Behind, NotActive, NotForwarding, NoPath}
 use Rattle.slon_model.specs.declared.reply.Refusal.TheVariants.{SameNode, Script, ScriptUsed, NoScript}
 use Rattle.slon_model.specs.declared.reply.Refusal.TheVariants.{NotBuilt}
@@ -129,6 +129,7 @@ refusal_text (NotOrigin set) = codes "no 55 notorigin " ++ decimal set
 refusal_text (SetLocked set) = codes "no 56 setlocked " ++ decimal set
 refusal_text (BadWidth columns) = codes "no 57 badwidth " ++ decimal columns
 refusal_text (TableUsed table) = codes "no 58 tableused " ++ table
+refusal_text (Loop set) = codes "no 59 loop " ++ decimal set
 refusal_text Nothing = codes "no 60 nothing"
 refusal_text (NotListed server) = codes "no 61 notlisted " ++ decimal server
 refusal_text (NotKnown node) = codes "no 62 notknown " ++ decimal node

@@ -1,18 +1,19 @@
 -- Statements about receivers: SUBSCRIBE SET.
-use Rattle.std.specs.Prelude.{ℕ, ◌==◌, ◌&&◌, ◌||◌, not, nat_le, is_some, Bool, false, List, [], ◌∷◌, codes, Result}
-use Rattle.std.specs.Prelude.{Option, Some, None, unwrap_or}
+use Rattle.std.specs.Prelude.{ℕ, zero, suc, ◌==◌, ◌&&◌, ◌||◌, not, nat_le, is_some, Bool, false, List, [], ◌∷◌}
+use Rattle.std.specs.Prelude.{length, Option, Some, None, unwrap_or, Result}
+use Rattle.std.specs.List.{list_any}
 use Rattle.slon_model.specs.declared.reply.Refusal.{Refusal}
 use Rattle.slon_model.specs.declared.reply.Refusal.TheVariants as refused
-use Rattle.slon_model.specs.Maps.{pair_at}
+use Rattle.slon_model.specs.Maps.{Map, entry_at, pair_at}
 use Rattle.node_rows.specs.declared.body.Body.{Body}
 use Rattle.node_rows.specs.declared.body.Body.TheVariants.{Sync, SubscribeSet, EnableSubscription}
 use Rattle.node_rows.specs.declared.rows.Subscription.{Subscription}
-use Rattle.slon_model.specs.Config.{forwards, is_known, era_of}
+use Rattle.slon_model.specs.Config.{Config, forwards, is_known, era_of, receivers}
 use Rattle.slon_model.specs.Deeds.{told_of}
 use Rattle.slon_model.specs.Sessions.{World, Running, Seat, Stated, Emission, bind, when, checked, tells}
 use Rattle.slon_model.specs.Reaching.{owner, emitting}
 
--- A node that is to receive a set from another, and whether it is to forward it.
+-- A node that is to receive a set from another one, and whether it is to forward it.
 pub record NewFeed : Type 0 where
   pub set_id : ℕ
   pub provider : ℕ
@@ -36,12 +37,38 @@ is_active s set node = is_confirmed s node (pair_at set node s.known.config.subs
 abbrev pub is_relayed : Seat → NewFeed → Bool
 is_relayed s f = not (f.provider == s.node.id)
 
--- it is not built yet where the receiver subscribes to the set already
-abbrev pub is_unbuilt : Seat → NewFeed → Bool
-is_unbuilt s f = is_some (pair_at f.set_id f.receiver s.known.config.subscriptions)
+-- the receiver subscribes to the set, and has not confirmed the last event on its subscription
+abbrev pub is_waiting : Seat → NewFeed → Bool
+is_waiting s f =
+    is_some (pair_at f.set_id f.receiver s.known.config.subscriptions) && not (is_active s f.set_id f.receiver)
+
+-- some receiver of the set has it from this node
+abbrev pub provides : ℕ → ℕ → Config → Bool
+provides node set c = list_any (λ e. e.1.provider == node) (receivers set c)
+
+-- the receiver is not to forward the set, which another one has from it
+abbrev pub is_provider : Seat → NewFeed → Bool
+is_provider s f = not f.forward && provides f.receiver f.set_id s.known.config
+
+-- the provider of a subscription passes the test
+abbrev pub has_provider : (ℕ → Bool) → Option Subscription → Bool
+has_provider test None = false
+has_provider test (Some row) = test row.provider
+
+-- from a node one comes to the receiver by the providers of these subscriptions, in fewer than so many steps
+abbrev pub leads_to : ℕ → ℕ → Map Subscription → ℕ → Bool
+leads_to zero receiver rows node = false
+leads_to (suc n) receiver rows node =
+    node == receiver || has_provider (leads_to n receiver rows) (entry_at node rows)
+
+-- the provider has the set from the receiver, directly or by others
+abbrev pub is_below : Seat → NewFeed → Bool
+is_below s f =
+    let rows = receivers f.set_id s.known.config in leads_to (suc (length rows)) f.receiver rows f.provider
 
 -- 44 of the receiver, 44 of the provider; 78 the receiver is the origin or the provider; of a provider that is not the
--- origin 72 it is not active, 73 it does not forward the set; 98
+-- origin 72 it is not active, 73 it does not forward the set; 72 of a receiver that has not confirmed its subscription;
+-- 46 it is to stop forwarding while it provides; 59 the provider is below it
 abbrev pub feed_checks : Seat → NewFeed → List (Option Refusal)
 feed_checks s f =
     when (not (is_known f.receiver s.known.config)) (refused.NoNode f.receiver)
@@ -49,13 +76,28 @@ feed_checks s f =
     ∷ when (f.receiver == s.node.id || f.receiver == f.provider) (refused.SameNode f.receiver)
     ∷ when (is_relayed s f && not (is_active s f.set_id f.provider)) (refused.NotActive f.provider)
     ∷ when (is_relayed s f && not (forwards f.set_id f.provider s.known.config)) (refused.NotForwarding f.provider)
-    ∷ when (is_unbuilt s f) (refused.NotBuilt (codes "subscribe")) ∷ []
+    ∷ when (is_waiting s f) (refused.NotActive f.receiver)
+    ∷ when (is_provider s f) (refused.HasReceivers f.receiver)
+    ∷ when (is_below s f) (refused.Loop f.set_id) ∷ []
 
--- what the origin emits: a SYNC, the subscription, and the event at which the receiver copies the set
+-- what the origin emits of a new subscription: a SYNC, the subscription, and the event at which the receiver copies the
+-- set
 abbrev pub feed_bodies : ℕ → NewFeed → List Body
 feed_bodies era f =
     Sync ∷ SubscribeSet f.set_id f.provider f.receiver f.forward
     ∷ EnableSubscription f.set_id f.provider f.receiver f.forward era ∷ []
+
+-- of one that is there, which the receiver has copied
+abbrev pub changed_bodies : NewFeed → List Body
+changed_bodies f = Sync ∷ SubscribeSet f.set_id f.provider f.receiver f.forward ∷ []
+
+abbrev pub bodies_of : ℕ → NewFeed → Option Subscription → List Body
+bodies_of era f None = feed_bodies era f
+bodies_of era f (Some row) = changed_bodies f
+
+-- of that which the origin has
+abbrev pub told_bodies : NewFeed → Config → List Body
+told_bodies f c = bodies_of (era_of f.set_id c) f (pair_at f.set_id f.receiver c.subscriptions)
 
 abbrev pub all_tell : List Body → List Emission
 all_tell [] = []
@@ -63,8 +105,7 @@ all_tell (body ∷ more) = tells body ∷ all_tell more
 
 -- what the owner makes of it
 abbrev pub fed_at : NewFeed → Seat → Result Stated Refusal
-fed_at f s =
-    checked (feed_checks s f) (emitting s (all_tell (feed_bodies (era_of f.set_id s.known.config) f)))
+fed_at f s = checked (feed_checks s f) (emitting s (all_tell (told_bodies f s.known.config)))
 
 -- SUBSCRIBE SET: 47 nobody owns the set; and then the checks of its owner
 abbrev pub subscribe_set : NewFeed → Running → World → Result Stated Refusal

@@ -1,10 +1,11 @@
 -- How far a node is in a set that it subscribes to: the era and the snapshot that it keeps of it.
-use Rattle.std.specs.Prelude.{ℕ, pred, if◌then◌else◌, List, [], ◌∷◌}
+use Rattle.std.specs.Prelude.{ℕ, ◌==◌, ◌&&◌, pred, if◌then◌else◌, not, List, [], ◌∷◌, map}
 use Rattle.slon_model.specs.Maps.{Map, with_entry, without_entry}
 use Rattle.slon_model.specs.Snapshots.{Snapshot, covers}
 use Rattle.node_rows.specs.declared.body.Body.{Body}
-use Rattle.node_rows.specs.declared.body.Body.TheVariants.{MoveSet, FailoverSet}
+use Rattle.node_rows.specs.declared.body.Body.TheVariants.{SubscribeSet, MoveSet, FailoverSet}
 use Rattle.slon_model.specs.Events.{Event, Taken}
+use Rattle.slon_model.specs.Config.{Config, forwards}
 
 pub record View : Type 0 where
   pub era : ℕ
@@ -47,3 +48,17 @@ views_emitted e (MoveSet set old new era feeds) views =
     with_entry set (first_view (pred era) old (pred e.number) e.taken) views
 views_emitted e (FailoverSet failed limit sets) views = without_sets sets views
 views_emitted e others views = views
+
+-- the node logs from here on what it applies
+abbrev pub based : View → View
+based v = record v { base_era = v.era; base = v.seen }
+
+abbrev pub based_at : ℕ → Views → Views
+based_at set views = map (λ v. if v.0 == set then (v.0, based v.1) else v) views
+
+-- The views of the node of this id, which knows this, as an event of another one tells it how it receives a set: where
+-- it is to forward the set and did not before, it logs from there on.
+abbrev pub views_told : ℕ → Body → Config → Views → Views
+views_told own (SubscribeSet set provider receiver forward) c views =
+    if receiver == own && (forward && not (forwards set own c)) then based_at set views else views
+views_told own others c views = views

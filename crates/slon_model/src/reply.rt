@@ -229,7 +229,7 @@ pub enum Refusal {
     NoConninfo {
         node: u32,
     },
-    /// 46: this node receives the set, or receives from one that would not provide any more.
+    /// 46: this node receives the set; or another one receives the set from it, and it would not forward the set.
     HasReceivers {
         node: u32,
     },
@@ -270,6 +270,10 @@ pub enum Refusal {
     /// 58: some node knows a table of this name in a set.
     TableUsed {
         table: Text,
+    },
+    /// 59: the provider has this set from the receiver, directly or by way of others.
+    Loop {
+        set: u32,
     },
     /// 60: there is nothing to do.
     Nothing,

@@ -92,15 +92,27 @@ fn walk_all(
     require(replies.next().is_none(), "the last reply")
 }
 
-/// The output of the session with this order.
-fn written_by(alloc: Global, order: &str, fails: Fails) -> Result<MemSink, Fail> {
+/// The output of the session with this order, and how it ended.
+fn run_with(alloc: Global, order: &str, fails: Fails) -> Result<(Status, MemSink), Fail> {
     let session = failing(alloc, order)?;
-    let (is, out) = run(alloc, Some("s"), session.as_bytes(), fails)?;
-    require(is == Status::Done, order)?;
-    Ok(out)
+    run(alloc, session.as_bytes(), fails)
 }
 
-/// Whether a reply told that the call failed, where each reply of the session is one that may be given.
+/// Whether a reply in this output told that the call failed, where each reply is one that may be given.
+fn tells(
+    rt: &impl Abort,
+    alloc: Global,
+    order: &str,
+    out: &MemSink,
+    call: u64,
+    keep: bool,
+) -> Result<bool, Fail> {
+    let mut known = Known::new(call, keep);
+    walk_all(&mut known, rt, alloc, order, str::from_utf8(out.written())?)?;
+    Ok(known.told)
+}
+
+/// Whether a reply of the session with this order told that the call failed.
 fn is_told(
     rt: &impl Abort,
     alloc: Global,
@@ -109,10 +121,12 @@ fn is_told(
     call: u64,
     keep: bool,
 ) -> Result<bool, Fail> {
-    let out = written_by(alloc, order, fails)?;
-    let mut known = Known::new(call, keep);
-    walk_all(&mut known, rt, alloc, order, str::from_utf8(out.written())?)?;
-    Ok(known.told)
+    let (is, out) = run_with(alloc, order, fails)?;
+    let tells = tells(rt, alloc, order, &out, call, keep);
+    drop(out);
+    let told = tells?;
+    require(is == Status::Done, order)?;
+    Ok(told)
 }
 
 /// Whether the crash at this call is told, where a commit that fails stands or not.

@@ -5,6 +5,7 @@ use slon_base::Text;
 use slon_main::{Status, slon_main};
 use std::alloc::Global;
 use std::test::Fail;
+use test_words::{expect, require};
 
 /// The numbers of the calls that fail, or 0 where none does.
 #[derive(Clone, Copy)]
@@ -35,9 +36,9 @@ pub fn failing_at(store: u64, keep: bool) -> Fails {
     }
 }
 
-/// The files of a session `s` of these bytes.
-fn files_of(alloc: Global, session: &[u8], fails: u64) -> Result<MemFiles, Fail> {
-    let names = named(alloc, &[("s", session)])?;
+/// Files with these names and these bytes, of which one call may fail.
+fn files_of(alloc: Global, files: &[(&str, &[u8])], fails: u64) -> Result<MemFiles, Fail> {
+    let names = named(alloc, files)?;
     Ok(MemFiles::new(alloc, names, vec![in alloc; fails]?))
 }
 
@@ -56,31 +57,84 @@ fn words_of(alloc: Global, word: Option<&str>) -> Result<Vec<Text>, Fail> {
     Ok(words)
 }
 
-/// Runs the session `s` over these files.
-pub fn run_over(
+/// Runs the program, and tells how it ended.
+fn run_on(
     alloc: Global,
+    words: &[Text],
+    files: &mut MemFiles,
+    shelf: &mut MemShelf,
+    out: &mut MemSink,
+) -> Status {
+    let ended = slon_main(alloc, words, files, shelf, out);
+    let status = ended.status;
+    drop(ended);
+    status
+}
+
+/// Runs it over a shelf and an output that are made for it. A write that fails takes one byte.
+fn run_to_output(
+    alloc: Global,
+    words: &[Text],
+    files: &mut MemFiles,
+    fails: Fails,
+) -> Result<(Status, MemSink), Fail> {
+    let mut shelf = shelf_of(alloc, fails)?;
+    let mut out = MemSink::new(alloc, vec![in alloc; fails.out]?, 1);
+    let status = run_on(alloc, words, files, &mut shelf, &mut out);
+    drop(shelf);
+    Ok((status, out))
+}
+
+/// Runs the session of this word over these files.
+fn run_over(
+    alloc: Global,
+    word: Option<&str>,
     files: &[(&str, &[u8])],
     fails: Fails,
 ) -> Result<(Status, MemSink), Fail> {
-    let words = words_of(alloc, Some("s"))?;
-    let mut files = MemFiles::new(alloc, named(alloc, files)?, vec![in alloc; fails.files]?);
-    let mut shelf = shelf_of(alloc, fails)?;
-    let mut out = MemSink::new(alloc, vec![in alloc; fails.out]?, 1);
-    let ended = slon_main(alloc, words.as_slice(), &mut files, &mut shelf, &mut out);
-    Ok((ended.status, out))
+    let words = words_of(alloc, word)?;
+    let mut files = files_of(alloc, files, fails.files)?;
+    let ran = run_to_output(alloc, words.as_slice(), &mut files, fails);
+    drop((words, files));
+    ran
 }
 
-/// Runs the session of this word, where the files hold these bytes as `s`. A write that fails takes one byte.
-pub fn run(
+/// Runs the session of the file `s` of these bytes.
+pub fn run(alloc: Global, session: &[u8], fails: Fails) -> Result<(Status, MemSink), Fail> {
+    run_over(alloc, Some("s"), &[("s", session)], fails)
+}
+
+/// The output holds these bytes.
+fn expect_written(of: &str, out: &MemSink, written: &[u8]) -> Result<(), Fail> {
+    expect(of, str::from_utf8(out.written())?, str::from_utf8(written)?)
+}
+
+/// The session of this word over these files, which is called so, ends with this status and this output.
+pub fn expect_over(
+    alloc: Global,
+    of: &str,
+    word: Option<&str>,
+    files: &[(&str, &[u8])],
+    fails: Fails,
+    status: Status,
+    written: &[u8],
+) -> Result<(), Fail> {
+    let (is, out) = run_over(alloc, word, files, fails)?;
+    let seen = expect_written(of, &out, written);
+    drop(out);
+    seen?;
+    require(is == status, of)
+}
+
+/// The same of a session `s` of these bytes.
+pub fn expect_end(
     alloc: Global,
     word: Option<&str>,
     session: &[u8],
     fails: Fails,
-) -> Result<(Status, MemSink), Fail> {
-    let words = words_of(alloc, word)?;
-    let mut files = files_of(alloc, session, fails.files)?;
-    let mut shelf = shelf_of(alloc, fails)?;
-    let mut out = MemSink::new(alloc, vec![in alloc; fails.out]?, 1);
-    let ended = slon_main(alloc, words.as_slice(), &mut files, &mut shelf, &mut out);
-    Ok((ended.status, out))
+    status: Status,
+    written: &[u8],
+) -> Result<(), Fail> {
+    let of = str::from_utf8(session)?;
+    expect_over(alloc, of, word, &[("s", session)], fails, status, written)
 }

@@ -1,9 +1,8 @@
 // Whole sessions over files, stores and an output in memory.
-use crate::running::{Fails, NOTHING, failing_at, run};
+use crate::running::{Fails, NOTHING, expect_end, failing_at};
 use slon_main::Status;
 use std::alloc::Global;
 use std::test::Fail;
-use test_words::{expect, require};
 
 const FIRST_PATH: &[u8] =
     b"database a\ntable a public.t 2\nbegin a x\ninsert a x public.t k 1\ncommit a x\nrows a public.t\n";
@@ -182,25 +181,6 @@ type Session = (
     Status,
     &'static [u8],
 );
-
-/// The session of this word ends with this status and this output.
-fn expect_end(
-    alloc: Global,
-    word: Option<&str>,
-    session: &[u8],
-    fails: Fails,
-    status: Status,
-    written: &[u8],
-) -> Result<(), Fail> {
-    let (is, out) = run(alloc, word, session, fails)?;
-    let session = str::from_utf8(session)?;
-    expect(
-        session,
-        str::from_utf8(out.written())?,
-        str::from_utf8(written)?,
-    )?;
-    require(is == status, session)
-}
 
 /// The session of the file `s` is run to its end, with these replies.
 fn expect_done(alloc: Global, session: &[u8], fails: Fails, written: &[u8]) -> Result<(), Fail> {

@@ -176,21 +176,22 @@ fn made<K: Keeper>(keeper: &mut K) -> [Result<bool, KeepFault>; 3]
 }
 
 /// Which calls fail, whether a commit that fails stands, what becomes of three transactions, the pairs that are there
-/// then, and how many calls and how many commits failed.
+/// then, how many calls and how many commits failed, and how many pairs were put, also where nothing of them stands.
 const FAILING: &[(
     &[u64],
     bool,
     [Result<bool, KeepFault>; 3],
     &[Pair],
     (u64, u64),
+    u64,
 )] = &[
-    (&[], false, [MADE, MADE, MADE], A, (0, 0)),
-    (&[1, 4, 8], false, [FAILED, FAILED, FAILED], &[], (3, 0)),
-    (&[4, 9, 16], false, [FAILED, FAILED, FAILED], &[], (3, 0)),
-    (&[6, 12], true, [FAILED, FAILED, MADE], A, (2, 0)),
-    (&[1, 4, 12], false, [FAILED, FAILED, FAILED], &[], (3, 1)),
-    (&[1, 4, 12], true, [FAILED, FAILED, FAILED], A, (3, 1)),
-    (&[8], false, [FAILED, MADE, MADE], A, (1, 0)),
+    (&[], false, [MADE, MADE, MADE], A, (0, 0), 3),
+    (&[1, 4, 8], false, [FAILED, FAILED, FAILED], &[], (3, 0), 1),
+    (&[4, 9, 16], false, [FAILED, FAILED, FAILED], &[], (3, 0), 3),
+    (&[6, 12], true, [FAILED, FAILED, MADE], A, (2, 0), 3),
+    (&[1, 4, 12], false, [FAILED, FAILED, FAILED], &[], (3, 1), 1),
+    (&[1, 4, 12], true, [FAILED, FAILED, FAILED], A, (3, 1), 1),
+    (&[8], false, [FAILED, MADE, MADE], A, (1, 0), 3),
 ];
 
 /// Whether the store counted so many failures of calls and of commits, and holds just these pairs.
@@ -204,10 +205,11 @@ fn ends<K: Keeper>(keeper: &mut K, counts: (u64, u64), pairs: &[Pair]) -> Result
 #[test]
 fn fails_as_listed(rt: HostRuntime) -> Result<(), Fail> {
     let alloc = rt.alloc();
-    for (fails, keep, each, pairs, counts) in FAILING {
+    for (fails, keep, each, pairs, counts, puts) in FAILING {
         let mut keeper = MemKeeper::new(alloc, Vec::from_slice(alloc, fails)?, *keep)?;
         assert!(rt; made(&mut keeper) == *each, "{fails:?}");
         assert!(rt; ends(&mut keeper, *counts, pairs)?, "{fails:?}");
+        assert!(rt; keeper.puts() == *puts, "{fails:?}");
     }
     Ok(())
 }

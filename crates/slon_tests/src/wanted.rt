@@ -1,12 +1,9 @@
 // Sessions with the replies that are wanted, and sessions that end in one of several ways.
-use crate::running::{NOTHING, run};
+use crate::running::{NOTHING, expect_end};
 use slon_main::Status;
-use std::alloc::Global;
+use std::alloc::{AllocError, Global};
 use std::test::Fail;
-use test_words::{expect, require};
-
-/// A statement, or a line of the session, and its reply.
-pub type Step = (&'static str, &'static str);
+use test_words::require;
 
 /// A session and the replies that are wanted.
 #[derive(Drop)]
@@ -23,40 +20,65 @@ pub fn nothing_wanted(alloc: Global) -> Wanted {
     }
 }
 
+/// A statement, or a line of the session, and its reply behind ` => `.
+fn parts_of(step: &str) -> (&str, &str) {
+    step.split_once(" => ").unwrap_or((step, ""))
+}
+
 impl Wanted {
     /// Adds a line with its reply.
-    pub fn push(&mut self, line: &str, reply: &str) -> Result<(), Fail> {
+    pub fn push(&mut self, line: &str, reply: &str) -> Result<(), AllocError> {
         write!(self.session, "{line}\n")?;
-        write!(self.replies, "{reply}\n")?;
-        Ok(())
+        write!(self.replies, "{reply}\n")
     }
 
-    /// Adds lines with their replies.
-    pub fn push_all(&mut self, steps: &[Step]) -> Result<(), Fail> {
-        for (line, reply) in steps {
-            self.push(line, reply)?;
+    /// Adds a line with its reply, or a line that has none: a comment, or a line of a script.
+    fn push_step(&mut self, step: &str) -> Result<(), AllocError> {
+        match step.split_once(" => ") {
+            Some((line, reply)) => self.push(line, reply),
+            None => write!(self.session, "{step}\n"),
+        }
+    }
+
+    /// Adds such lines.
+    pub fn push_all(&mut self, steps: &str) -> Result<(), AllocError> {
+        for step in steps.lines() {
+            self.push_step(step)?;
         }
         Ok(())
     }
 
-    /// Adds a script over these nodes, which is run step by step.
-    pub fn push_script(&mut self, nodes: &str, steps: &[Step]) -> Result<(), Fail> {
-        write!(self.session, "slonik s <<\n{nodes}")?;
-        for (statement, _) in steps {
+    /// Adds the statements of a script.
+    fn push_statements(&mut self, steps: &str) -> Result<(), AllocError> {
+        for step in steps.lines() {
+            let (statement, _) = parts_of(step);
             write!(self.session, "{statement}\n")?;
         }
-        self.session.push_str(">>\n")?;
-        write!(self.replies, "ok statements {}\n", steps.len())?;
-        for (_, reply) in steps {
+        Ok(())
+    }
+
+    /// Adds a step of the script for each of its statements.
+    fn push_replies(&mut self, steps: &str) -> Result<(), AllocError> {
+        for step in steps.lines() {
+            let (_, reply) = parts_of(step);
             self.push("step s", reply)?;
         }
         Ok(())
     }
 
+    /// Adds a script over these nodes, which is run step by step.
+    pub fn push_script(&mut self, nodes: &str, steps: &str) -> Result<(), AllocError> {
+        write!(self.session, "slonik s <<\n{nodes}")?;
+        self.push_statements(steps)?;
+        self.session.push_str(">>\n")?;
+        write!(self.replies, "ok statements {}\n", steps.lines().count())?;
+        self.push_replies(steps)
+    }
+
     /// Adds a script of each of these statements.
-    pub fn push_each(&mut self, nodes: &str, steps: &[Step]) -> Result<(), Fail> {
-        for step in steps {
-            self.push_script(nodes, &[*step])?;
+    pub fn push_each(&mut self, nodes: &str, steps: &str) -> Result<(), AllocError> {
+        for step in steps.lines() {
+            self.push_script(nodes, step)?;
         }
         Ok(())
     }
@@ -64,39 +86,39 @@ impl Wanted {
 
 /// The session is run to its end, with these replies.
 pub fn expect_wanted(alloc: Global, wanted: &Wanted) -> Result<(), Fail> {
-    let (is, out) = run(alloc, Some("s"), wanted.session.as_bytes(), NOTHING)?;
-    let seen = str::from_utf8(out.written())?;
-    expect(wanted.session.as_str(), seen, wanted.replies.as_str())?;
-    require(is == Status::Done, "a session of scripts")
+    expect_end(
+        alloc,
+        Some("s"),
+        wanted.session.as_bytes(),
+        NOTHING,
+        Status::Done,
+        wanted.replies.as_bytes(),
+    )
 }
 
-/// A database crashes at this call of its store, and a commit that fails there stands or not.
-#[derive(Clone, Copy)]
-pub struct Crash {
-    pub database: &'static str,
-    pub calls: u32,
-    pub keep: bool,
+/// The session of these lines, and of more, is run to its end with their replies.
+pub fn expect_steps(alloc: Global, steps: &str, more: &str) -> Result<(), Fail> {
+    let mut wanted = nothing_wanted(alloc);
+    wanted.push_all(steps)?;
+    wanted.push_all(more)?;
+    expect_wanted(alloc, &wanted)
 }
 
 /// The last replies are these.
-fn ends_so(written: &str, wanted: &[&'static str]) -> bool {
-    let count = written.lines().count();
-    if count < wanted.len() {
-        return false;
+fn ends_so(written: &str, wanted: &str) -> bool {
+    match written.strip_suffix(wanted) {
+        Some(front) => front.is_empty() || front.ends_with('\n'),
+        None => false,
     }
-    let mut lines = written.lines().skip(count - wanted.len());
-    wanted.iter().all(|line| lines.next() == Some(line))
 }
 
-/// Whether the crash was told. The replies are those of one of the outcomes: it was not, it failed, or it is in doubt.
-pub fn is_among(written: &str, outcomes: [&[&'static str]; 3]) -> Result<bool, Fail> {
-    let [done, failed, doubted] = outcomes;
+/// Whether the crash was told. The last replies are those of one of the outcomes: it was not, it failed, or it is in
+/// doubt.
+pub fn is_among(written: &str, done: &str, failed: &str, doubted: &str) -> Result<bool, Fail> {
     if ends_so(written, done) {
         return Ok(false);
     }
-    require(
-        ends_so(written, failed) || ends_so(written, doubted),
-        written,
-    )?;
+    let told = ends_so(written, failed) || ends_so(written, doubted);
+    require(told, written)?;
     Ok(true)
 }

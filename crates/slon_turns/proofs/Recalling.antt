@@ -195,7 +195,8 @@ anew_planned {s} {taken} {old} a = record {
 
 pub anew_plans : {s : Post} {taken : Worker Taken} {old : Base × Held} {held : Held} {name : List ℕ}
     {cuts : List (ℕ × ℕ)} {mid : Base} (new : Base) (plan : Plan) → Anew s taken old held name cuts →
-    Ready s.place mid → IsAnew taken plan → PlansAnew taken cuts name mid plan new → Plans s old.1.queue plan (new, held)
+    Ready s.place mid → IsAnew taken plan → PlansAnew taken cuts name mid plan new →
+    Plans s old.1.queue plan (new, held)
 anew_plans {s} new (Told reply) a ready same (c, some, told) = λ find.
     link_told {plan = anew_planned a} (record { some = some; named = a.named; cut = a.cut })
     (told s.place s.node ready a.fits.is) (anew_holds a) find

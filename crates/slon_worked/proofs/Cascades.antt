@@ -19,18 +19,18 @@ use Rattle.slon_model.specs.declared.reply.Answer.TheVariants as answer
 use Rattle.slon_model.specs.declared.reply.EventKind.TheVariants as event
 use Rattle.slon_model.specs.declared.reply.Refusal.TheVariants as refused
 
-abbrev put_at_origin : ℕ → ℕ → List ℕ → List Worked → List Worked
+abbrev pub put_at_origin : ℕ → ℕ → List ℕ → List Worked → List Worked
 put_at_origin xid number key more =
     Asks (OnOne (codes "a") (ToOpen (codes "x")))
     ∷ Takes (codes "a") xid (codes "public.t") (Put key (codes "1" ∷ []))
     ∷ Asks (OnOne (codes "a") (ToCommit (codes "x"))) ∷ more
 
-abbrev put_replies : ℕ → ℕ → List Reply → List Reply
+abbrev pub put_replies : ℕ → ℕ → List Reply → List Reply
 put_replies xid number more =
     Accepted (answer.Opened xid) ∷ Accepted (answer.Acted number) ∷ Accepted (answer.Committed 1) ∷ more
 
 -- three nodes, of which the second one receives the set and forwards it; it has not told the origin so at first
-abbrev three : List Worked → List Worked
+abbrev pub three : List Worked → List Worked
 three more =
     begun
     (Asks (OnNew (codes "c"))
@@ -41,7 +41,7 @@ three more =
     (ran head_of_three (order.SubscribeSet 1 1 2 (Some true))
     (Asks (OnAll (ToStart 3)) ∷ more)))))
 
-abbrev three_replies : List Reply → List Reply
+abbrev pub three_replies : List Reply → List Reply
 three_replies more =
     begun_replies
     (done
@@ -50,11 +50,11 @@ three_replies more =
     (ran_replies (emitted 3 1) (ran_replies (emitted 3 2) (ran_replies (emitted 1 8) (done ∷ more)))))
 
 -- seven events come to the second node, the last of which has it copy the set
-abbrev seven_works : List Worked → List Worked
+abbrev pub seven_works : List Worked → List Worked
 seven_works more =
     work 2 1 ∷ work 2 1 ∷ work 2 1 ∷ work 2 1 ∷ work 2 1 ∷ work 2 1 ∷ work 2 1 ∷ more
 
-abbrev seven_replies : ℕ → List Reply → List Reply
+abbrev pub seven_replies : ℕ → List Reply → List Reply
 seven_replies rows more =
     applied event.StorePath 2
     ∷ applied event.StoreSet 3

@@ -1,6 +1,7 @@
 pub mod Bytes
 pub mod Capture
 pub mod Cascades
+pub mod Changes
 pub mod Copies
 pub mod Doubts
 pub mod Fetches

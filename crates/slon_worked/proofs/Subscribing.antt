@@ -50,8 +50,8 @@ expected =
     (heard 3 0
     ∷ Refused refused.Nothing
     ∷ each_refused
-    (refused.NotBuilt (codes "subscribe")
-    ∷ refused.NotBuilt (codes "subscribe")
+    (refused.NotActive 2
+    ∷ refused.NotActive 2
     ∷ refused.HasReceivers 2 ∷ [])
     (Refused refused.Nothing ∷ ran_replies (emitted 1 8) (heard 1 0 ∷ []))))
 
@@ -87,7 +87,7 @@ refusals : replies (start 16)
     ∷ ran_replies (emitted 1 5)
     (each_refused (refused.NotActive 3 ∷ refused.NotActive 2 ∷ [])
     (ran_replies (emitted 1 8)
-    (each_refused (refused.NotBuilt (codes "subscribe") ∷ refused.NotActive 3 ∷ [])
+    (each_refused (refused.NotActive 3 ∷ refused.NotActive 3 ∷ [])
     (ran_replies (emitted 1 11) []))))))
 refusals = refl
 

@@ -1,13 +1,14 @@
 -- SUBSCRIBE SET at the owner of the set.
-use Rattle.std.proofs.Common.{◌≡◌, ◌∙◌, ℕ, true, List, [], Option, Some, None, Result, Ok, Err, refl, sym}
+use Rattle.std.proofs.Common.{◌≡◌, ◌∙◌, ℕ, Bool, true, false, List, [], Option, Some, None, Result, Ok, Err, refl, sym}
 use Rattle.std.proofs.Common.{ap, set, subst}
-use Rattle.std.specs.Prelude.{is_err, unwrap_or, IfOk}
+use Rattle.std.specs.Prelude.{is_err, is_some, unwrap_or, IfOk}
 use Rattle.std.specs.Option.{option_map}
 use Rattle.std.proofs.lemmas.Bool.{false≢true, false_from_ne_true}
 use Rattle.slon_base.specs.Keeper.{Kept}
 use Rattle.slon_base.specs.declared.keeper.Keeper.{Ghosts}
 use Rattle.node_rows.specs.declared.body.Body.{Body}
 use Rattle.node_rows.specs.declared.rows.SetRow.{SetRow}
+use Rattle.node_rows.specs.declared.rows.Subscription.{Subscription}
 use Rattle.slon_model.specs.declared.fault.DbFault.{DbFault}
 use Rattle.slon_model.specs.declared.reply.Refusal.{Refusal}
 use Rattle.slon_model.specs.declared.reply.Refusal.TheVariants as refused
@@ -17,25 +18,26 @@ use Rattle.slon_model.specs.Names.{Named}
 use Rattle.slon_model.specs.Config.{era_of, set_row}
 use Rattle.slon_model.specs.Deeds.{Node, knowledge}
 use Rattle.slon_model.specs.Place.{Place}
-use Rattle.slon_model.specs.Reaching.{owner}
-use Rattle.slon_model.specs.Sessions.{Seat, Stated, bind}
-use Rattle.slon_model.specs.Subscribing.{NewFeed, all_tell, feed_bodies}
+use Rattle.slon_model.specs.Maps.{pair_at}
+use Rattle.slon_model.specs.Reaching.{emitting, owner}
+use Rattle.slon_model.specs.Sessions.{Seat, Stated, bind, seat}
+use Rattle.slon_model.specs.Subscribing.{NewFeed, all_tell, bodies_of, changed_bodies, feed_bodies}
 use Rattle.slon_model.specs.World.{refusal_of, halt_in}
 use Rattle.node_state.proofs.Learning.{plain_learns}
 use Rattle.node_store.specs.declared.looking.Reign.{Reign}
 use Rattle.node_store.specs.Acting.{LearnsAll}
-use Rattle.node_store.specs.Looking.{reign_of}
+use Rattle.node_store.specs.Looking.{OfConfig, reign_of}
 use Rattle.app_store.specs.Base.{Base, base_of}
 use Rattle.app_store.specs.Serves.{is_memory}
 use Rattle.slonik_exec.specs.declared.databases.Named.{Named as NamedDatabase}
 use Rattle.slonik_exec.specs.declared.owning.Owner.TheVariants.{At, Nobody, Stopped}
-use Rattle.slonik_exec.specs.Answering.{AtNode}
+use Rattle.slonik_exec.specs.Answering.{AtNode, ComesAt}
 use Rattle.slonik_exec.specs.Databases.{bases_of, named_base}
 use Rattle.slonik_exec.specs.Emitting.{EmitsAll}
 use Rattle.slonik_exec.specs.Executing.{Comes, Refuses, Executes}
 use Rattle.slonik_exec.specs.Owned.{Owns}
 use Rattle.slonik_exec.specs.Reached.{Addresses}
-use Rattle.slonik_exec.specs.Statements.{feed_said}
+use Rattle.slonik_exec.specs.Statements.{feed_said, told_said}
 use Rattle.slonik_exec.proofs.Leading.{SaysReign}
 use Rattle.slonik_exec.proofs.Lifting.{Worked}
 use Rattle.slonik_exec.proofs.Seating.{comes_worked, ready_mids}
@@ -66,6 +68,44 @@ feed_emitted {found = found} f look is emits p n ready node =
     ∙ era_row (set_row f.set_id (knowledge n).config) in
     emits p n (all_tell (feed_bodies era f)) (ready_still ready seen.1) node
     (sym (is ∙ ap (λ e. feed_bodies e f) same)) (feed_learns p n era f)
+
+-- whether the receiver has a row
+abbrev pub SaysRow : NewFeed → Place → Bool → Type 0
+SaysRow f = OfConfig (λ k found. found ≡ is_some (pair_at f.set_id f.receiver k.subscriptions))
+
+told_there : (era : ℕ) (f : NewFeed) (o : Option Subscription) → is_some o ≡ true →
+    bodies_of era f o ≡ changed_bodies f
+told_there era f None is = absurd (false≢true is)
+told_there era f (Some row) is = refl
+
+told_new : (era : ℕ) (f : NewFeed) (o : Option Subscription) → is_some o ≡ false →
+    bodies_of era f o ≡ feed_bodies era f
+told_new era f None is = refl
+told_new era f (Some row) is = absurd (false≢true (sym is))
+
+-- the row is there, and two events are emitted
+pub changed_emitted : {name : List ℕ} {bodies : List Body} {old mid new : Base} {reply : Reply} (f : NewFeed) →
+    Looked (SaysRow f) old (Ok true) mid → bodies ≡ changed_bodies f → EmitsAll name bodies mid reply new →
+    AtNode name (λ s. Ok (told_said f s)) old reply new
+changed_emitted {name} {new = new} {reply} f look is emits p n ready node =
+    let seen = look.looks p ready refl in
+    let era = era_of f.set_id (knowledge n).config in
+    let row = pair_at f.set_id f.receiver (knowledge n).config.subscriptions in
+    subst (λ bodies. ComesAt name p (Ok (emitting (seat name p n) (all_tell bodies))) reply new)
+    (sym (told_there era f row (sym (seen.0 n node))))
+    (emits p n (all_tell (changed_bodies f)) (ready_still ready seen.1) node (sym is)
+    (plain_learns n _ refl, (plain_learns _ _ refl, tt)))
+
+-- it is not, and three are
+pub new_emitted : {name : List ℕ} {old mid new : Base} {reply : Reply} (f : NewFeed) →
+    Looked (SaysRow f) old (Ok false) mid → AtNode name (λ s. Ok (feed_said f s)) mid reply new →
+    AtNode name (λ s. Ok (told_said f s)) old reply new
+new_emitted {name} {new = new} {reply} f look comes p n ready node =
+    let seen = look.looks p ready refl in
+    let era = era_of f.set_id (knowledge n).config in
+    let row = pair_at f.set_id f.receiver (knowledge n).config.subscriptions in
+    subst (λ bodies. ComesAt name p (Ok (emitting (seat name p n) (all_tell bodies))) reply new)
+    (sym (told_new era f row (sym (seen.0 n node)))) (comes p n (ready_still ready seen.1) node)
 
 -- the store stopped at a look before any work
 pub stopped_due : {E T : Type 0} {says : Place → T → Type 0} {fault : DbFault} {old new : Base} (name : List ℕ)

@@ -1,4 +1,5 @@
 pub mod Asking
+pub mod Chains
 pub mod Couples
 pub mod Distinct
 pub mod Downs

@@ -1,6 +1,6 @@
 -- What is due of statements at the node that they reached.
 use Rattle.std.specs.Prelude.{◌≡◌, ◌==◌, ℕ, not, is_some, is_none, true, false, List, [], ◌∷◌, Option, Some, None}
-use Rattle.std.specs.Prelude.{◌&&◌, codes, option_map, Result, Ok}
+use Rattle.std.specs.Prelude.{◌&&◌, option_map, Result, Ok}
 use Rattle.std.specs.List.{list_any}
 use Rattle.std.specs.Str.{bytes_eq}
 use Rattle.slon_model.specs.declared.reply.Answer.TheVariants.{Done}
@@ -18,7 +18,8 @@ use Rattle.slon_model.specs.Reaching.{emitting, known_somewhere, receiver_with}
 use Rattle.slon_model.specs.Sessions.{World, Running, Seat, Stated, seat, when, checked, tells, writer_of}
 use Rattle.slon_model.specs.Sets.{NewTable, adding}
 use Rattle.slon_model.specs.Subscribing as subscribing
-use Rattle.slon_model.specs.Subscribing.{all_tell, feed_bodies, is_active, is_relayed, is_unbuilt}
+use Rattle.slon_model.specs.Subscribing.{all_tell, feed_bodies, told_bodies, is_active, is_below, is_provider}
+use Rattle.slon_model.specs.Subscribing.{is_relayed, is_waiting}
 use Rattle.app_store.specs.Base.{Base}
 use Rattle.app_store.specs.Fits.{Ready}
 use Rattle.node_store.specs.Acting.{NewNode}
@@ -75,16 +76,27 @@ AddsTable name t old reply new =
 abbrev pub feed_as : NewFeed → subscribing.NewFeed
 feed_as f = record { set_id = f.set_id; provider = f.provider; receiver = f.receiver; forward = f.forward }
 
--- what is checked of the provider, and that the receiver does not subscribe yet
+-- what is checked of the receiver among the receivers of the set
+abbrev pub row_checks : Seat → subscribing.NewFeed → List (Option Refusal)
+row_checks s f =
+    when (is_waiting s f) (refused.NotActive f.receiver)
+    ∷ when (is_provider s f) (refused.HasReceivers f.receiver)
+    ∷ when (is_below s f) (refused.Loop f.set_id) ∷ []
+
+-- what is checked of the provider, and of the receiver
 abbrev pub source_checks : Seat → subscribing.NewFeed → List (Option Refusal)
 source_checks s f =
     when (is_relayed s f && not (is_active s f.set_id f.provider)) (refused.NotActive f.provider)
     ∷ when (is_relayed s f && not (forwards f.set_id f.provider s.known.config)) (refused.NotForwarding f.provider)
-    ∷ when (is_unbuilt s f) (refused.NotBuilt (codes "subscribe")) ∷ []
+    ∷ row_checks s f
 
--- what the owner of the set emits, in the era in which it knows the set
+-- what the owner of the set emits of a new subscription, in the era in which it knows the set
 abbrev pub feed_said : subscribing.NewFeed → Seat → Stated
 feed_said f s = emitting s (all_tell (feed_bodies (era_of f.set_id s.known.config) f))
+
+-- and of one that may be there
+abbrev pub told_said : subscribing.NewFeed → Seat → Stated
+told_said f s = emitting s (all_tell (told_bodies f s.known.config))
 
 -- ---- nodes
 

@@ -6,6 +6,7 @@ mod checks;
 mod command;
 mod databases;
 mod emitting;
+mod feeds;
 mod knowing;
 mod membership;
 mod owning;

@@ -73,8 +73,8 @@ pub read_failed : {T U : Type 0} {P : Store → T → Type 0} {old new : Kept} �
     Safe {T = U} old new (Err StopFailed)
 read_failed r = failed_safe r.cause r.held r.doubts r.opened
 
-pub change_failed : {T U : Type 0} {f : Store → Store} {old new : Kept} → is_some old.pending ≡ true →
-    Changes {T = T} f old new (Err Failed) → Safe {T = U} old new (Err StopFailed)
+pub change_failed : {T U : Type 0} {f : Store → Store} {count : Option ℕ → Option ℕ} {old new : Kept} →
+    is_some old.pending ≡ true → Changes {T = T} f count old new (Err Failed) → Safe {T = U} old new (Err StopFailed)
 change_failed was r = failed_safe r.cause r.held r.doubts (r.opened ∙ sym was)
 
 pub outside_within : (stop : Stop) → IsOutside stop → IsWithinLimit stop

@@ -1,6 +1,7 @@
 pub mod Causes
 pub mod Listing
-pub mod Numbers
+pub mod Outcomes
+pub mod Putting
 pub mod Reading
 pub mod Scanning
 pub mod Spaces

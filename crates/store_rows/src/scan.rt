@@ -3,6 +3,7 @@ ghost use Rattle.std.specs.Prelude.{◌≡◌, Some, List, OnOk, IfOk, IfErr, fa
 ghost use Rattle.std.specs.FinMap.{entries};
 ghost use Rattle.slon_base.specs.Keeper.{Store, sight, after};
 ghost use Rattle.slon_base.specs.Codec.{AllAre};
+ghost use Rattle.store_rows.specs.Spending.{PutsUpTo};
 ghost use Rattle.store_rows.specs.Steps.{Safe, IsWithinLimit, IsOfSpace, Gives, is_failed};
 ghost use Rattle.store_rows.specs.Scan.{key_of, ranged, spelled_rows};
 
@@ -55,6 +56,7 @@ pub fn scan_rows<K: Keeper, I: Spelled, X: Spelled>(
     from: &[u8],
 ) -> Result<Many<(I, X)>, Stop>
     ensures safe { Safe (K.kept keeper.old) (K.kept keeper.new) result }
+    ensures puts { PutsUpTo 0 (K.kept keeper.old).puts (K.kept keeper.new).puts }
     ensures same { OnOk result ((K.kept keeper.new).pending ≡ (K.kept keeper.old).pending) }
     ensures within { IfErr result IsWithinLimit }
     ensures space { IfErr result (IsOfSpace space) }

@@ -3,6 +3,7 @@ ghost use Rattle.std.specs.Prelude.{◌≡◌, Bool, true, false, is_some, Optio
 ghost use Rattle.std.specs.Option.{option_map};
 ghost use Rattle.std.specs.FinMap.{get};
 ghost use Rattle.slon_base.specs.Keeper.{Store, sight, put_at, del_at};
+ghost use Rattle.store_rows.specs.Spending.{PutsUpTo};
 ghost use Rattle.store_rows.specs.Steps.{Safe, IsOutside, IsWithinLimit, IsOfSpace, Gives, is_failed, is_stop_failed};
 ghost use Rattle.store_rows.specs.Space.{AllOf};
 
@@ -11,12 +12,15 @@ use crate::{Spelled, Stop};
 use slon_base::{Bytes, Keeper, RowFault, RowIn, RowOut};
 use std::alloc::{AllocError, Global};
 
+/// For how many bytes there is room before a value is spelled. Most keys and rows have fewer.
+const ROOM: usize = 128;
+
 /// Spells a value alone.
 pub fn spelling<X: Spelled>(alloc: Global, value: &X) -> Result<Bytes, AllocError>
     requires { X.Can value.now }
     ensures { IfOk result (λ b. b ≡ X.bytes value.now) }
 {
-    let mut out = RowOut::new(alloc);
+    let mut out = RowOut::with_capacity(alloc, ROOM)?;
     value.spell(&mut out)?;
     Ok(out.finish())
 }
@@ -65,6 +69,7 @@ pub fn put_row<K: Keeper, I: Spelled, X: Spelled>(
     requires key { I.Can key.now }
     requires value { X.Can value.now }
     ensures safe { Safe (K.kept keeper.old) (K.kept keeper.new) result }
+    ensures puts { PutsUpTo 1 (K.kept keeper.old).puts (K.kept keeper.new).puts }
     ensures put { OnOk result ((K.kept keeper.new).pending ≡ option_map (option_map (put_at space (I.bytes key.now)
         (X.bytes value.now))) (K.kept keeper.old).pending) }
     ensures only { IfErr result IsOutside }
@@ -84,6 +89,7 @@ pub fn del_row<K: Keeper, I: Spelled>(
     requires opened { is_some (K.kept keeper.old).pending ≡ true }
     requires key { I.Can key.now }
     ensures safe { Safe (K.kept keeper.old) (K.kept keeper.new) result }
+    ensures puts { PutsUpTo 0 (K.kept keeper.old).puts (K.kept keeper.new).puts }
     ensures put { OnOk result ((K.kept keeper.new).pending ≡ option_map (option_map (del_at space (I.bytes key.now)))
         (K.kept keeper.old).pending) }
     ensures only { IfErr result IsOutside }
@@ -102,6 +108,7 @@ pub fn get_row<K: Keeper, I: Spelled, X: Spelled>(
 ) -> Result<Option<X>, Stop>
     requires key { I.Can key.now }
     ensures safe { Safe (K.kept keeper.old) (K.kept keeper.new) result }
+    ensures puts { PutsUpTo 0 (K.kept keeper.old).puts (K.kept keeper.new).puts }
     ensures same { OnOk result ((K.kept keeper.new).pending ≡ (K.kept keeper.old).pending) }
     ensures within { IfErr result IsWithinLimit }
     ensures space { IfErr result (IsOfSpace space) }
@@ -130,6 +137,7 @@ pub fn has_row<K: Keeper, I: Spelled>(
 ) -> Result<bool, Stop>
     requires key { I.Can key.now }
     ensures safe { Safe (K.kept keeper.old) (K.kept keeper.new) result }
+    ensures puts { PutsUpTo 0 (K.kept keeper.old).puts (K.kept keeper.new).puts }
     ensures same { OnOk result ((K.kept keeper.new).pending ≡ (K.kept keeper.old).pending) }
     ensures only { IfErr result IsOutside }
     ensures gives { (m : Store) → sight (K.kept keeper.old) ≡ Some m → IfOk result

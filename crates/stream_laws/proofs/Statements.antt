@@ -8,12 +8,13 @@ use Rattle.std.proofs.lemmas.Bool.{false≢true, eqb-true}
 use Rattle.slonik_script.specs.declared.script.Command.{Command as Order}
 use Rattle.slonik_script.specs.declared.script.Command.TheVariants as order
 use Rattle.node_rows.specs.declared.rows.SetRow.{SetRow}
+use Rattle.node_rows.specs.declared.rows.Subscription.{Subscription}
 use Rattle.node_rows.specs.declared.body.Body.{Body}
 use Rattle.node_rows.specs.declared.body.Body.TheVariants.{Sync, StorePath, DropPath, StoreSet}
 use Rattle.slon_model.specs.declared.reply.Refusal.{Refusal}
 use Rattle.slon_model.specs.declared.reply.Refusal.TheVariants as refused
 use Rattle.slon_model.specs.Names.{find_named}
-use Rattle.slon_model.specs.Maps.{entry_at}
+use Rattle.slon_model.specs.Maps.{entry_at, pair_at}
 use Rattle.slon_model.specs.Config.{Config, live_set, leads_row, is_origin, era_of}
 use Rattle.slon_model.specs.Deeds.{Node, knowledge, stream}
 use Rattle.slon_model.specs.Place.{node_id}
@@ -23,7 +24,7 @@ use Rattle.slon_model.specs.Membership.{drop_path}
 use Rattle.slon_model.specs.Reaching.{database_of_line, reach, down_among, any_down, known_somewhere, origin_of}
 use Rattle.slon_model.specs.Reaching.{owner, emitting, receiver_with}
 use Rattle.slon_model.specs.Sets.{NewTable, adding, create_set, set_add_table}
-use Rattle.slon_model.specs.Subscribing.{NewFeed, subscribing, feed_bodies, all_tell, subscribe_set}
+use Rattle.slon_model.specs.Subscribing.{NewFeed, subscribing, bodies_of, told_bodies, all_tell, subscribe_set}
 use Rattle.slon_model.specs.Scripts.{ordered}
 use Rattle.slon_model.proofs.Names.{bytes_same}
 use Rattle.stream_laws.specs.Nodes.{IsAmong, Nodes, nodes_in}
@@ -96,11 +97,16 @@ no_path_stated server client run w regular =
     (λ s is. let done = free_stated w regular s is.0 (tells (DropPath server client) ∷ []) (refl, tt) in
     search (kept_ok (IsStated w), done))
 
+feeds_free : (era : ℕ) (f : NewFeed) (o : Option Subscription) → AreFree (all_tell (bodies_of era f o))
+feeds_free era f None = (refl, (refl, (refl, tt)))
+feeds_free era f (Some row) = (refl, (refl, tt))
+
 feed_stated : (f : NewFeed) (run : Running) (w : World) → IsRegular w → OnOk (IsStated w) (subscribe_set f run w)
 feed_stated f run w regular =
     bind_ok (IsSeat w.places) (IsStated w) (owner run f.set_id w) _ (owner_ok run f.set_id w regular.once)
-    (λ s is. let bodies = all_tell (feed_bodies (era_of f.set_id s.known.config) f) in
-    let done = free_stated w regular s is bodies (refl, (refl, (refl, tt))) in
+    (λ s is. let had = pair_at f.set_id f.receiver s.known.config.subscriptions in
+    let done = free_stated w regular s is (all_tell (told_bodies f s.known.config))
+    (feeds_free (era_of f.set_id s.known.config) f had) in
     search (kept_ok (IsStated w), done))
 
 -- ---- sets

@@ -10,7 +10,7 @@ use Rattle.slon_model.specs.Place.{Place, deed}
 use Rattle.slon_model.specs.Sessions.{World, Commit, Seat, Emission}
 use Rattle.slon_model.specs.Reaching.{commit_of, receiver_with}
 use Rattle.slon_model.specs.Membership.{becoming}
-use Rattle.slon_model.specs.Subscribing.{NewFeed, all_tell, feed_bodies}
+use Rattle.slon_model.specs.Subscribing.{NewFeed, all_tell, changed_bodies, feed_bodies}
 use Rattle.slon_model.specs.Working.{Carried}
 use Rattle.slon_laws.proofs.Fillable.{AreUnwritten}
 use Rattle.stream_laws.specs.Nodes.{nodes_in}
@@ -35,10 +35,12 @@ pub record MayFeed (s : Seat) (f : NewFeed) : Type 0 where
   pub leads : is_origin s.node.id f.set_id (knowledge s.node).config ≡ true
   pub new : pair_at f.set_id f.receiver (knowledge s.node).config.subscriptions ≡ None
 
--- one event, or those of a subscription
+-- one event, or those of a new subscription, or of one that is there
 pub data AreAllowed (s : Seat) (ms : List Emission) : Type 0 where
   IsOne : (m : Emission) → ms ≡ m ∷ [] → IsAllowed s m.body → AreAllowed s ms
   AreFeeds : (era : ℕ) (f : NewFeed) → ms ≡ all_tell (feed_bodies era f) → MayFeed s f → AreAllowed s ms
+  AreChanges : (f : NewFeed) → ms ≡ all_tell (changed_bodies f) →
+      is_origin s.node.id f.set_id (knowledge s.node).config ≡ true → AreAllowed s ms
 
 -- A node emits events.
 pub record Tells (w : World) (c : Commit) (p : Place) : Type 0 where

@@ -60,7 +60,7 @@ allowed_leads s others may set feed = absurd (false≢true feed)
 feed_leads : (s : Seat) (n : Node) (body : Body) → IsOfFeed s n body → (set : ℕ) → feeds set body ≡ true →
     is_origin s.node.id set (knowledge s.node).config ≡ true
 feed_leads s n (SubscribeSet id provider receiver forward) is set feed =
-    subst (λ i. is_origin s.node.id i (knowledge s.node).config ≡ true) (eqb-true id set feed) is.0
+    subst (λ i. is_origin s.node.id i (knowledge s.node).config ≡ true) (eqb-true id set feed) is
 feed_leads s n (EnableSubscription id provider receiver forward era) is set feed =
     subst (λ i. is_origin s.node.id i (knowledge s.node).config ≡ true) (eqb-true id set feed) is.0
 feed_leads s n others is set feed = absurd (false≢true feed)

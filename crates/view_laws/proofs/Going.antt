@@ -2,10 +2,10 @@
 use Rattle.std.proofs.Common.{◌≡◌, ◌≢◌, ◌⊎◌, inl, inr, ℕ, Bool, true, false, cond, [], ◌∷◌, Some, refl}
 use Rattle.std.proofs.Common.{sym, ap, subst, ◌∙◌}
 use Rattle.std.specs.List.{AllByRecursion}
-use Rattle.slon_model.specs.Maps.{entry_at}
+use Rattle.slon_model.specs.Maps.{Map, entry_at}
 use Rattle.slon_model.specs.Snapshots.{Covers, covers}
 use Rattle.slon_model.specs.Events.{Event}
-use Rattle.slon_model.specs.Views.{View, view_after, with_views}
+use Rattle.slon_model.specs.Views.{View, view_after, views_told, with_views}
 use Rattle.slon_model.specs.Deeds.{Node, Brought, Hears as HearsOf, Knowledge, knowledge, nothing_brought}
 use Rattle.slon_model.specs.Deeds.{view_of, with_deeds}
 use Rattle.slon_model.specs.Moves.{with_commit}
@@ -30,6 +30,7 @@ use Rattle.view_laws.proofs.Living.{HasNode, NodeGoes, deed_of, event_of}
 use Rattle.view_laws.proofs.Living.{node_passes}
 use Rattle.view_laws.proofs.Rising.{found_in, stands_found, there_in}
 use Rattle.view_laws.proofs.Seen.{is_older, same_views, syncs_seen}
+use Rattle.view_laws.proofs.Turned.{IsLike, IsToldAs, there_told, told_like}
 use Rattle.view_laws.proofs.Unfed.{says_emitted}
 use Rattle.view_laws.proofs.Walking.{passing_later}
 use Rattle.view_laws.proofs.Unmoved.{unviewed}
@@ -105,13 +106,25 @@ goes_same set before n m same on = record {
 pub takes_on : (t : Past) (x : Carried) (origin : ℕ) → IsTaken t origin x → (set : ℕ) (before : View) →
     GoesOn set before x.seat.node → GoesOn set before (with_deeds (taking x).deeds x.seat.node)
 takes_on t x origin is set before on =
-    by (found_in set there.0 x.brought.views (knowledge x.seat.node).views there.1)
+    by (found_in set there.0 x.brought.views views there.1)
   where
-    there : (y : View) × (entry_at set (with_views x.brought.views (knowledge x.seat.node).views) ≡ Some y)
-    there = there_in set on.view x.brought.views (knowledge x.seat.node).views on.found
+    k : Knowledge
+    k = knowledge x.seat.node
+
+    views : Map View
+    views = views_told x.seat.node.id x.event.body k.config k.views
+
+    told : (y : View) × (entry_at set views ≡ Some y) × IsToldAs x.seat.node.id set x.event.body k.config on.view y
+    told = there_told x.seat.node.id set x.event.body k.config k.views on.view on.found
+
+    like : IsLike on.view told.0
+    like = told_like x.seat.node.id set x.event.body k.config on.view told.0 told.2
+
+    there : (y : View) × (entry_at set (with_views x.brought.views views) ≡ Some y)
+    there = there_in set told.0 x.brought.views views told.1
 
     by : IsAmong (set, there.0) x.brought.views
-        ⊎ ((entry_at set (knowledge x.seat.node).views ≡ Some there.0)
+        ⊎ ((entry_at set views ≡ Some there.0)
         × AllByRecursion (λ v. v.0 ≢ set) x.brought.views) →
         GoesOn set before (with_deeds (taking x).deeds x.seat.node)
     by (inl among) =
@@ -126,13 +139,14 @@ takes_on t x origin is set before on =
           covers = λ y sees. goes.2 y (on.covers y sees);
         }
     by (inr kept) =
-        let one = one_found on.view there.0 (sym on.found ∙ kept.0) in
+        let one = one_found told.0 there.0 (sym told.1 ∙ kept.0) in
         record {
           view = there.0;
           found = there.1;
-          origin = ap (λ (v : View). v.origin) (sym one) ∙ on.origin;
-          era = ap (λ (v : View). v.era) (sym one) ∙ on.era;
-          covers = subst (λ (v : View). Covers v.seen before.seen) one on.covers;
+          origin = ap (λ (v : View). v.origin) (sym one) ∙ like.origin ∙ on.origin;
+          era = ap (λ (v : View). v.era) (sym one) ∙ like.era ∙ on.era;
+          covers = subst (λ (v : View). Covers v.seen before.seen) one
+              (subst (λ k. Covers k before.seen) (sym like.seen) on.covers);
         }
 
 goes_on : (t : Past) (set : ℕ) (before : View) → NodeGoes t (GoesOn set before)

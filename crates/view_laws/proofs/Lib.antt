@@ -2,6 +2,7 @@ pub mod Agreeing
 pub mod Brought
 pub mod Claiming
 pub mod Copied
+pub mod Divided
 pub mod Doing
 pub mod Emitted
 pub mod FedBy
@@ -20,6 +21,7 @@ pub mod Steps
 pub mod Tables
 pub mod Taken
 pub mod Told
+pub mod Turned
 pub mod Unfed
 pub mod Unmoved
 pub mod Viewed

@@ -24,7 +24,7 @@ use Rattle.stream_laws.proofs.Steps.{Logs, prepared_node, done_logs}
 use Rattle.view_laws.proofs.Doing.{IsTaken}
 use Rattle.view_laws.specs.Known.{IsFed, subscribes}
 use Rattle.view_laws.specs.Past.{Past, PastUpTo, WasBefore, WasUpTo}
-use Rattle.view_laws.proofs.Doing.{IsAllowed, AreAllowed, IsOne, AreFeeds, taking, KnowsFrom}
+use Rattle.view_laws.proofs.Doing.{IsAllowed, AreAllowed, IsOne, AreChanges, AreFeeds, taking, KnowsFrom}
 use Rattle.view_laws.proofs.Doing.{Does, DoesTell, DoesTake, DoesHear, DoesBecome}
 use Rattle.view_laws.proofs.Feeds.{some_put}
 use Rattle.view_laws.proofs.Walking.{Passes, LivesOn}
@@ -35,22 +35,24 @@ event_of s number body = record { origin = s.node.id; number = number; taken = t
 abbrev pub deed_of : Seat → ℕ → Emission → Deed
 deed_of s number m = deed s.place m.rows [] (Emits (event_of s number m.body))
 
--- The last one of these events is that by which the receiver subscribes to the set.
-pub record HasSubscribed (set receiver : ℕ) (es : List Event) : Type 0 where
+-- The node at its seat, which did not have the subscription of the receiver, has emitted a SYNC, and then the event by
+-- which the receiver subscribes to the set.
+pub record HasSubscribed (set receiver : ℕ) (s : Seat) (n : Node) : Type 0 where
   pub event : Event
-  pub earlier : List Event
-  pub all : es ≡ event ∷ earlier
+  pub sync : Event
+  pub all : stream n ≡ event ∷ sync ∷ stream s.node
   pub subscribes : subscribes set receiver event.body ≡ true
+  pub body : sync.body ≡ Sync
+  pub new : pair_at set receiver (knowledge s.node).config.subscriptions ≡ None
 
 -- An event of a subscription to a set of which the node at its seat is the origin, which is this one by now.
 abbrev pub IsOfFeed : Seat → Node → Body → Type 0
 IsOfFeed s n Sync = Unit {0}
 IsOfFeed s n (SubscribeSet set provider receiver forward) =
-    (is_origin s.node.id set (knowledge s.node).config ≡ true)
-    × (pair_at set receiver (knowledge n).config.subscriptions ≡ None)
+    is_origin s.node.id set (knowledge s.node).config ≡ true
 IsOfFeed s n (EnableSubscription set provider receiver forward era) =
     (is_origin s.node.id set (knowledge s.node).config ≡ true)
-    × IsFed set (knowledge n).config × HasSubscribed set receiver (stream n)
+    × IsFed set (knowledge n).config × HasSubscribed set receiver s n
 IsOfFeed s n others = ⊥
 
 -- The node at its seat, as it is by now in a commit, may emit it.
@@ -114,14 +116,16 @@ tells_lives T s tell ms (AreFeeds era f same may) was =
       some_put f.set_id f.set_id f.receiver _ (knowledge one).config.subscriptions (inr refl),
       record {
         event = event_of s (next_event s + 1) first;
-        earlier = stream one;
+        sync = event_of s (next_event s) Sync;
         all = refl;
         subscribes =
             and_from (f.set_id == f.set_id) (f.receiver == f.receiver) (eq-eqb f.set_id f.set_id refl)
             (eq-eqb f.receiver f.receiver refl);
+        body = refl;
+        new = may.new;
       },
     ))
-    (tell (next_event s + 1) (tells first) one (inr (may.leads, may.new))
+    (tell (next_event s + 1) (tells first) one (inr may.leads)
     (tell (next_event s) (tells Sync) s.node (inr tt) was)))
   where
     first : Body
@@ -135,6 +139,11 @@ tells_lives T s tell ms (AreFeeds era f same may) was =
 
     two : Node
     two = with_deeds (deed_of s (next_event s + 1) (tells first) ∷ []) one
+tells_lives T s tell ms (AreChanges f same leads) was =
+    subst (λ ms. T (with_deeds (emissions s (next_event s) ms) s.node)) (sym same)
+    (tell (next_event s + 1) (tells (SubscribeSet f.set_id f.provider f.receiver f.forward))
+    (with_deeds (deed_of s (next_event s) (tells Sync) ∷ []) s.node) (inr leads)
+    (tell (next_event s) (tells Sync) s.node (inr tt) was))
 
 commits_live : {J : (World → Type 0) → Node → Type 0} → NodeLives J → (t : Past) → KnewAll J t → (c : Commit)
     (p : Place) → Does t c p → OfNode J (WasUpTo t) p → OfNode J (WasUpTo t) (committing c p)

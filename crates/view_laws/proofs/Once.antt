@@ -1,4 +1,4 @@
--- A receiver subscribes to a set once, and is told once to copy it.
+-- A receiver is told once to copy a set, and a subscription that was there stays.
 use Rattle.std.proofs.Common.{◌≡◌, ◌⊎◌, inl, inr, ℕ, Bool, true, false, cond, List, [], ◌∷◌, Option, Some, None, refl}
 use Rattle.std.proofs.Common.{sym, ap, subst, ◌∙◌, is_some}
 use Rattle.std.specs.Prelude.{◌==◌, ◌&&◌, ◌||◌, unwrap_or}
@@ -13,12 +13,13 @@ use Rattle.slon_model.specs.Maps.{Map2, entry_at, pair_at, row_at, with_entry, w
 use Rattle.slon_model.specs.Events.{Event}
 use Rattle.slon_model.specs.Config.{Config, change_by, enabled}
 use Rattle.slon_model.specs.Deeds.{Node, knowledge, stream}
-use Rattle.slon_model.specs.Sessions.{Seat, World}
+use Rattle.slon_model.specs.Sessions.{Seat}
 use Rattle.slon_model.proofs.Names.{all_map}
 use Rattle.stream_laws.specs.Nodes.{IsAmong, nodes_in, IsEvent}
 use Rattle.stream_laws.specs.Making.{is_emitted}
 use Rattle.stream_laws.proofs.Lists.{all_among, entry-with}
-use Rattle.view_laws.specs.Known.{AreOnce, HasFeed, IsFedOnce, IsOnce, enables, feeds, is_on_feed, subscribes}
+use Rattle.view_laws.specs.Known.{AreOnce, HasFeed, HasFeeds, IsFedOnce, IsOnce, enables, feeds, is_on_feed, subscribes}
+use Rattle.stream_laws.proofs.Seats.{seat_node}
 use Rattle.view_laws.specs.Past.{Past, WasUpTo}
 use Rattle.view_laws.proofs.Living.{HasSubscribed, IsOfFeed, NodeLives, knew, node_lives}
 use Rattle.view_laws.proofs.Unfed.{is_single, may_emitted, says_emitted, says_single}
@@ -81,15 +82,6 @@ subscribes_only set receiver others is other any = absurd (false≢true is)
 off_feed : (set receiver : ℕ) (body : Body) → is_on_feed set receiver body ≡ false → enables set receiver body ≡ false
 off_feed set receiver body off = (or_parts (subscribes set receiver body) (enables set receiver body) off).1
 
--- no event before one by which a receiver subscribes is on its subscription
-none_before : (set receiver : ℕ) (earlier : List Event) (body : Body) → subscribes set receiver body ≡ true →
-    IsOnce earlier body → AllByRecursion (λ f. is_on_feed set receiver f.body ≡ false) earlier
-none_before set receiver earlier (SubscribeSet id provider node forward) is once =
-    let same = both_same id set node receiver is in
-    subst (λ i. AllByRecursion (λ f. is_on_feed i receiver f.body ≡ false) earlier) same.0
-    (subst (λ r. AllByRecursion (λ f. is_on_feed id r f.body ≡ false) earlier) same.1 once)
-none_before set receiver earlier others is once = absurd (false≢true is)
-
 -- none is before one by which it is told to copy the set
 none_enabled : (set receiver : ℕ) (earlier : List Event) (body : Body) → enables set receiver body ≡ true →
     IsOnce earlier body → AllByRecursion (λ f. enables set receiver f.body ≡ false) earlier
@@ -101,32 +93,10 @@ none_enabled set receiver earlier others is once = absurd (false≢true is)
 
 -- ---- what a node emits
 
-abbrev HasFeeds : Node → List Event → Type 0
-HasFeeds n es =
+abbrev HasEach : Node → List Event → Type 0
+HasEach n es =
     AllByRecursion (λ f. (set receiver : ℕ) → is_on_feed set receiver f.body ≡ true →
     HasFeed set receiver (knowledge n).config) es
-
-feed_once : (Was : World → Type 0) (s : Seat) (n : Node) (body : Body) →
-    IsOfFeed s n body ⊎ (is_single body ≡ true) → IsFedOnce Was n → IsOnce (stream n) body
-feed_once Was s n (SubscribeSet set provider receiver forward) (inl feed) was =
-    all_map (λ f. (id node : ℕ) → is_on_feed id node f.body ≡ true → HasFeed id node (knowledge n).config)
-    (λ f. is_on_feed set receiver f.body ≡ false)
-    (λ f has. false_from_ne_true _ (λ on. true≢false (sym (has set receiver on) ∙ ap is_some feed.1))) (stream n)
-    was.has
-feed_once Was s n (EnableSubscription set provider receiver forward era) (inl feed) was =
-    subst (AllByRecursion (λ f. enables set receiver f.body ≡ false)) (sym h.all) (
-      subscribes_only set receiver h.event.body h.subscribes set receiver,
-      all_map (λ f. is_on_feed set receiver f.body ≡ false) (λ f. enables set receiver f.body ≡ false)
-          (λ f off. off_feed set receiver f.body off) h.earlier
-          (none_before set receiver h.earlier h.event.body h.subscribes (subst AreOnce h.all was.once).0),
-    )
-  where
-    h : HasSubscribed set receiver (stream n)
-    h = feed.2
-feed_once Was s n (SubscribeSet set provider receiver forward) (inr single) was = absurd (false≢true single)
-feed_once Was s n (EnableSubscription set provider receiver forward era) (inr single) was =
-    absurd (false≢true single)
-feed_once Was s n others may was = tt
 
 put_there : (set receiver id node : ℕ) (row : Subscription) (m : Map2 Subscription) →
     (id == set && node == receiver) ≡ true → is_some (pair_at set receiver (with_pair id node row m)) ≡ true
@@ -146,14 +116,14 @@ enabled_there set receiver id node number m had on =
     (subst (λ r. is_some (pair_at id r m) ≡ true) same.1 had))
 
 -- the subscription of a receiver that subscribed just before
-subscribed_has : (id node : ℕ) (n : Node) → HasSubscribed id node (stream n) → HasFeeds n (stream n) →
+subscribed_has : (id node : ℕ) (s : Seat) (n : Node) → HasSubscribed id node s n → HasEach n (stream n) →
     HasFeed id node (knowledge n).config
-subscribed_has id node n h was =
-    (subst (HasFeeds n) h.all was).0 id node (ap (λ b. b || enables id node h.event.body) h.subscribes)
+subscribed_has id node s n h was =
+    (subst (HasEach n) h.all was).0 id node (ap (λ b. b || enables id node h.event.body) h.subscribes)
 
 -- who is on a subscription has it
 feed_there : (s : Seat) (n : Node) (number : ℕ) (body : Body) → IsOfFeed s n body ⊎ (is_single body ≡ true) →
-    HasFeeds n (stream n) → (set receiver : ℕ) → is_on_feed set receiver body ≡ true →
+    HasEach n (stream n) → (set receiver : ℕ) → is_on_feed set receiver body ≡ true →
     HasFeed set receiver (change_by s.node.id number body (knowledge n).config)
 feed_there s n number (SubscribeSet id provider node forward) says was = λ set receiver on.
     put_there set receiver id node _ (knowledge n).config.subscriptions (left (id == set && node == receiver) on)
@@ -162,13 +132,13 @@ feed_there s n number (SubscribeSet id provider node forward) says was = λ set 
     left true is = refl
     left false is = is
 feed_there s n number (EnableSubscription id provider node forward era) (inl feed) was = λ set receiver on.
-    enabled_there set receiver id node number (knowledge n).config.subscriptions (subscribed_has id node n feed.2 was)
-    on
+    enabled_there set receiver id node number (knowledge n).config.subscriptions
+    (subscribed_has id node s n feed.2 was) on
 feed_there s n number (EnableSubscription id provider node forward era) (inr single) was = absurd (false≢true single)
 feed_there s n number others says was = λ set receiver on. absurd (false≢true on)
 
 still_has : (origin number : ℕ) (body : Body) (n : Node) → is_emitted body ≡ true → (es : List Event) →
-    HasFeeds n es → AllByRecursion (λ f. (set receiver : ℕ) → is_on_feed set receiver f.body ≡ true →
+    HasEach n es → AllByRecursion (λ f. (set receiver : ℕ) → is_on_feed set receiver f.body ≡ true →
     HasFeed set receiver (change_by origin number body (knowledge n).config)) es
 still_has origin number body n may es has =
     all_map (λ f. (set receiver : ℕ) → is_on_feed set receiver f.body ≡ true →
@@ -178,27 +148,60 @@ still_has origin number body n may es has =
     (λ f is set receiver on. feed_stays set receiver origin number body (knowledge n).config may
     (is set receiver on)) es has
 
+feeds_there : NodeLives HasFeeds
+feeds_there = record {
+  later = λ t n was. was;
+  logs = λ t n p xid was. was;
+  tells = λ t s is number m n says was. (
+    feed_there s n number m.body (says_single s n m says) was,
+    still_has s.node.id number m.body n (says_emitted s n m says) (stream n) was,
+  );
+  takes = λ t knew x origin is was.
+      still_has x.event.origin x.event.number x.event.body x.seat.node
+      (may_emitted x.event.origin x.event.body (knowledge x.seat.node).config is.work.may) (stream x.seat.node) was;
+  hears = λ t s confirms was. was;
+  becomes = λ t knew n deeds views knows.
+      subst (λ ds. HasFeeds (WasUpTo t) (record n { deeds = ds })) (sym deeds) tt;
+}
+
+-- ---- a receiver is told once to copy a set
+
+-- who has no subscription of a receiver has emitted no event on it
+none_emitted : (n : Node) (set receiver : ℕ) → HasEach n (stream n) →
+    pair_at set receiver (knowledge n).config.subscriptions ≡ None →
+    AllByRecursion (λ f. enables set receiver f.body ≡ false) (stream n)
+none_emitted n set receiver has new =
+    all_map (λ f. (id node : ℕ) → is_on_feed id node f.body ≡ true → HasFeed id node (knowledge n).config)
+    (λ f. enables set receiver f.body ≡ false)
+    (λ f is. off_feed set receiver f.body
+    (false_from_ne_true _ (λ on. true≢false (sym (is set receiver on) ∙ ap is_some new)))) (stream n) has
+
+feed_once : (s : Seat) (n : Node) (body : Body) → IsOfFeed s n body ⊎ (is_single body ≡ true) →
+    HasEach s.node (stream s.node) → IsOnce (stream n) body
+feed_once s n (EnableSubscription set provider receiver forward era) (inl feed) has =
+    subst (AllByRecursion (λ f. enables set receiver f.body ≡ false)) (sym h.all) (
+      subscribes_only set receiver h.event.body h.subscribes set receiver,
+      (ap (enables set receiver) h.body, none_emitted s.node set receiver has h.new),
+    )
+  where
+    h : HasSubscribed set receiver s n
+    h = feed.2
+feed_once s n (EnableSubscription set provider receiver forward era) (inr single) has = absurd (false≢true single)
+feed_once s n others may has = tt
+
 feeds_once : NodeLives IsFedOnce
 feeds_once = record {
-  later = λ t n was. record { once = was.once; has = was.has };
-  logs = λ t n p xid was. record { once = was.once; has = was.has };
-  tells = λ t s is number m n says was. record {
-    once = (feed_once (WasUpTo t) s n m.body (says_single s n m says) was, was.once);
-    has = (
-      feed_there s n number m.body (says_single s n m says) was.has,
-      still_has s.node.id number m.body n (says_emitted s n m says) (stream n) was.has,
-    );
-  };
-  takes = λ t knew x origin is was. record {
-    once = was.once;
-    has =
-        still_has x.event.origin x.event.number x.event.body x.seat.node
-        (may_emitted x.event.origin x.event.body (knowledge x.seat.node).config is.work.may) (stream x.seat.node)
-        was.has;
-  };
-  hears = λ t s confirms was. record { once = was.once; has = was.has };
+  later = λ t n was. was;
+  logs = λ t n p xid was. was;
+  tells = λ t s is number m n says was. (
+    feed_once s n m.body (says_single s n m says)
+        (knew HasFeeds t (lives_in (node_lives feeds_there) t) s.name s.node (seat_node t.world.places s is)),
+    was,
+  );
+  takes = λ t knew x origin is was. was;
+  hears = λ t s confirms was. was;
   becomes = λ t knew n deeds views knows.
-      subst (λ ds. IsFedOnce (WasUpTo t) (record n { deeds = ds })) (sym deeds) (record { once = tt; has = tt });
+      subst (λ ds. IsFedOnce (WasUpTo t) (record n { deeds = ds })) (sym deeds) tt;
 }
 
 -- ---- every session
@@ -223,4 +226,4 @@ pub one_copied : (t : Past) (a b : Event) (is : IsEvent (nodes_in t.world.places
     (set receiver : ℕ) → (enables set receiver a.body ≡ true) × (enables set receiver b.body ≡ true) → a ≡ b
 one_copied t a b is among set receiver =
     one_enabled set receiver (stream is.node) a b
-    (knew IsFedOnce t (lives_in (node_lives feeds_once) t) is.name is.node is.is).once (among, is.among)
+    (knew IsFedOnce t (lives_in (node_lives feeds_once) t) is.name is.node is.is) (among, is.among)

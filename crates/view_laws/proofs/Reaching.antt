@@ -5,7 +5,7 @@ use Rattle.std.specs.Prelude.{◌==◌, ◌+◌, ◌&&◌}
 use Rattle.std.specs.List.{AllByRecursion}
 use Rattle.std.proofs.lemmas.Bool.{true≢false, eq-eqb, and_from, cases_lt, eqb-true, false_from_ne_true}
 use Rattle.slon_model.specs.Names.{find_named}
-use Rattle.slon_model.specs.Maps.{entry_at, number_at}
+use Rattle.slon_model.specs.Maps.{Map, entry_at, number_at}
 use Rattle.slon_model.specs.Snapshots.{Covers, covers}
 use Rattle.slon_model.specs.Events.{Event, is_sync}
 use Rattle.slon_model.specs.Deeds.{Node, Brought, Knowledge, knowledge, nothing_brought, progress, stream}
@@ -13,7 +13,7 @@ use Rattle.slon_model.specs.Deeds.{view_of, with_deeds}
 use Rattle.slon_model.specs.Following.{SetSync, kept_from}
 use Rattle.slon_model.specs.Place.{taken}
 use Rattle.slon_model.specs.Sessions.{World, Seat}
-use Rattle.slon_model.specs.Views.{View, view_after}
+use Rattle.slon_model.specs.Views.{View, based, view_after, views_told}
 use Rattle.slon_model.specs.Working.{Carried, receives_from}
 use Rattle.slon_model.proofs.Names.{all_map}
 use Rattle.slon_laws.proofs.Later.{HoldsOf}
@@ -38,6 +38,7 @@ use Rattle.view_laws.proofs.Moments.{node_now, now_stays, one_name, passes_cover
 use Rattle.view_laws.proofs.Rising.{found_in, found_stands, stands_found}
 use Rattle.view_laws.proofs.Seen.{same_views, syncs_seen}
 use Rattle.image_laws.proofs.Staying.{Stays}
+use Rattle.view_laws.proofs.Turned.{IsBased, IsSame, IsToldAs, found_told}
 use Rattle.view_laws.proofs.Unfed.{says_emitted}
 use Rattle.view_laws.proofs.Walking.{lives_in}
 use Rattle.view_laws.proofs.Unmoved.{event_before, none_kept, since, view_then}
@@ -279,7 +280,7 @@ copy_sees {s} {e} {b} t k knew f among before = by (copy_source u.world k.at.sea
 takes_reach : (t : Past) → KnewAll AllReach t → (x : Carried) (origin : ℕ) → IsTaken t origin x →
     AllReach (WasUpTo t) x.seat.node → AllReach (WasUpTo t) (with_deeds (taking x).deeds x.seat.node)
 takes_reach t knew x origin is was set v found =
-    by is.brings (found_in set v x.brought.views (knowledge n).views found)
+    by is.brings (found_in set v x.brought.views views found)
   where
     n : Node
     n = x.seat.node
@@ -311,9 +312,12 @@ takes_reach t knew x origin is was set v found =
         has : HasApplied n.id n.given.progress (knowledge n).progress (applied_events n)
         has = ((regular_now t).nodes.each x.seat.name n own).applied
 
-    old : (view_of set (knowledge n) ≡ Some v) × AllByRecursion (λ u. u.0 ≢ set) x.brought.views →
+    views : Map View
+    views = views_told n.id x.event.body (knowledge n).config (knowledge n).views
+
+    kept_on : (v : View) → (view_of set (knowledge n) ≡ Some v) × AllByRecursion (λ u. u.0 ≢ set) x.brought.views →
         Reaches (WasUpTo t) now v
-    old kept =
+    kept_on v kept =
         let r = was set v kept.0 in
         record {
           enabled = r.enabled;
@@ -330,6 +334,27 @@ takes_reach t knew x origin is was set v found =
           ];
         }
 
+    based_reaches : (v : View) → Reaches (WasUpTo t) now v → Reaches (WasUpTo t) now (based v)
+    based_reaches v r = record {
+      enabled = r.enabled;
+      among = r.among;
+      from = r.from;
+      own = r.own;
+      earlier = r.earlier;
+      later = r.later;
+    }
+
+    told : (u : View) → IsToldAs n.id set x.event.body (knowledge n).config u v → Reaches (WasUpTo t) now u →
+        Reaches (WasUpTo t) now v
+    told u (IsSame same) r = subst (Reaches (WasUpTo t) now) (sym same) r
+    told u (IsBased same turns) r = subst (Reaches (WasUpTo t) now) (sym same) (based_reaches u r)
+
+    old : (entry_at set views ≡ Some v) × AllByRecursion (λ u. u.0 ≢ set) x.brought.views →
+        Reaches (WasUpTo t) now v
+    old kept =
+        let of = found_told n.id set x.event.body (knowledge n).config (knowledge n).views v kept.0 in
+        told of.0 of.2 (kept_on of.0 (of.1, kept.1))
+
     copied : (k : IsCopied t x.seat x.event x.brought) → Reaches (WasUpTo t) now (copied_view k.copy)
     copied k = record {
       enabled = x.event;
@@ -344,7 +369,7 @@ takes_reach t knew x origin is was set v found =
     }
 
     by : IsBrought t x.seat x.event x.brought → IsAmong (set, v) x.brought.views
-        ⊎ ((view_of set (knowledge n) ≡ Some v) × AllByRecursion (λ u. u.0 ≢ set) x.brought.views) →
+        ⊎ ((entry_at set views ≡ Some v) × AllByRecursion (λ u. u.0 ≢ set) x.brought.views) →
         Reaches (WasUpTo t) now v
     by any (inr kept) = old kept
     by (Nothing s) (inl new) = absurd (subst (λ (b : Brought). IsAmong (set, v) b.views) s.none new)
@@ -357,7 +382,7 @@ takes_reach t knew x origin is was set v found =
         first (inl same) = subst (λ (u : ℕ × View). Reaches (WasUpTo t) now u.1) (sym same) (copied k)
         first (inr never) = absurd never
     by (Brings y) (inl new) =
-        let of = all_among P (set, v) x.brought.views views new in
+        let of = all_among P (set, v) x.brought.views brought new in
         let here = stands_found set of.0 (knowledge n).views (rising_now t x.seat.name n own) of.1 in
         subst (Reaches (WasUpTo t) now) (sym of.3) (after of.0 here (sym of.2))
       where
@@ -365,8 +390,8 @@ takes_reach t knew x origin is was set v found =
         P u = (y : View) × IsAmong (u.0, y) (knowledge n).views × (y.origin ≡ x.event.origin)
             × (u.1 ≡ view_after x.event y)
 
-        views : AllByRecursion P x.brought.views
-        views =
+        brought : AllByRecursion P x.brought.views
+        brought =
             subst (λ (b : Brought). AllByRecursion P b.views) (sym y.is)
             (syncs_seen P x.seat.place y.syncs nothing_brought
             (all_map (IsKept x.seat.known x.event) (λ (s : SetSync). P (s.set_id, s.view))

@@ -6,9 +6,10 @@ use Rattle.std.proofs.lemmas.Bool.{false≢true, true≢false}
 use Rattle.node_rows.specs.declared.body.Body.{Body}
 use Rattle.node_rows.specs.declared.body.Body.TheVariants.{MoveSet, FailoverSet}
 use Rattle.slon_model.specs.Maps.{Map}
-use Rattle.slon_model.specs.Snapshots.{Covers, covers}
+use Rattle.slon_model.specs.Snapshots.{Covers, Snapshot, covers}
 use Rattle.slon_model.specs.Events.{Event}
-use Rattle.slon_model.specs.Views.{View, view_after, views_emitted, with_views}
+use Rattle.slon_model.specs.Views.{View, based, view_after, views_emitted, views_told, with_views}
+use Rattle.view_laws.proofs.Turned.{all_told}
 use Rattle.slon_model.specs.Deeds.{Node, Brought, Hears as HearsOf, Knowledge, knowledge, nothing_brought, view_of}
 use Rattle.slon_model.specs.Deeds.{stream, with_deeds}
 use Rattle.slon_model.specs.Moves.{with_commit}
@@ -220,10 +221,10 @@ stays_streaming a q b stays is e among =
     subst (λ n. IsAmong e (stream n)) (one_found stays.node b (sym stays.is ∙ is))
     (subst (IsAmong e) (sym stays.all) (among_behind e stays.more (stream a) among))
 
--- a view whose snapshot covers that of a SYNC
-abbrev pub same_seen : (Was : World → Type 0) (n : Node) (set : ℕ) (v : View) (number : ℕ) → IsSeen Was n set v →
-    IsSeen Was n set (record v { number = number })
-same_seen Was n set v number is =
+-- a view with another number and another base
+abbrev seen_with : (Was : World → Type 0) (n : Node) (set : ℕ) (v : View) (number : ℕ) (base : ℕ × Snapshot) →
+    IsSeen Was n set v → IsSeen Was n set (record v { number = number; base_era = base.0; base = base.1 })
+seen_with Was n set v number base is =
     record {
       moment = is.moment;
       own = is.own;
@@ -239,6 +240,16 @@ same_seen Was n set v number is =
       feeds = is.feeds;
       before = is.before;
     }
+
+-- a view of a set that the node begins to forward
+abbrev pub based_seen : (Was : World → Type 0) (n : Node) (set : ℕ) (v : View) → IsSeen Was n set v →
+    IsSeen Was n set (based v)
+based_seen Was n set v is = seen_with Was n set v v.number (v.era, v.seen) is
+
+-- a view whose snapshot covers that of a SYNC
+abbrev pub same_seen : (Was : World → Type 0) (n : Node) (set : ℕ) (v : View) (number : ℕ) → IsSeen Was n set v →
+    IsSeen Was n set (record v { number = number })
+same_seen Was n set v number is = seen_with Was n set v number (v.base_era, v.base) is
 
 -- one whose snapshot is older
 abbrev pub newer_seen : (Was : World → Type 0) (n : Node) (set : ℕ) (v : View) (e : Event)
@@ -377,10 +388,14 @@ views_seen = record {
       (all_seen (WasUpTo t) n (with_deeds (deed_of s number m ∷ []) n) refl (λ e among. among) (knowledge n).views was);
   takes = λ t knew x origin is was.
       let m : Node = with_deeds (taking x).deeds x.seat.node in
-      views_with (λ v. IsSeen (WasUpTo t) m v.0 v.1) x.brought.views (knowledge x.seat.node).views
+      let k = knowledge x.seat.node in
+      views_with (λ v. IsSeen (WasUpTo t) m v.0 v.1) x.brought.views
+      (views_told x.seat.node.id x.event.body k.config k.views)
       (brought_seen t knew x origin is
       (record { node = m; id = refl; applied = inl refl; more = λ e among. inr among }) was is.brings)
-      (all_seen (WasUpTo t) x.seat.node m refl (λ e among. inr among) (knowledge x.seat.node).views was);
+      (all_told (λ v. IsSeen (WasUpTo t) m v.0 v.1) x.seat.node.id x.event.body k.config k.views
+      (λ v seen. based_seen (WasUpTo t) m v.0 v.1 seen)
+      (all_seen (WasUpTo t) x.seat.node m refl (λ e among. inr among) k.views was));
   hears = λ t s confirms was.
       all_seen (WasUpTo t) s.node (with_deeds (deed s.place [] [] (HearsOf confirms) ∷ []) s.node) refl
       (λ e among. among) (knowledge s.node).views was;

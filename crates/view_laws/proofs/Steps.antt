@@ -1,12 +1,12 @@
 -- What the commits of every statement and every turn do.
 use Rattle.std.proofs.Common.{◌≡◌, ℕ, true, List, [], ◌∷◌, Option, Some, None, Result}
 use Rattle.std.proofs.Common.{refl, sym, ap, subst, ◌∙◌}
-use Rattle.std.specs.Prelude.{option_map, codes}
-use Rattle.slon_lemmas.proofs.Tests.{none_of}
+use Rattle.std.specs.Prelude.{option_map}
 use Rattle.slonik_script.specs.declared.script.Command.{Command as Order}
 use Rattle.slonik_script.specs.declared.script.Command.TheVariants as order
 use Rattle.node_rows.specs.declared.body.Body.{Body}
 use Rattle.node_rows.specs.declared.body.Body.TheVariants.{Sync, StoreNode, StorePath, DropPath, StoreSet}
+use Rattle.node_rows.specs.declared.rows.Subscription.{Subscription}
 use Rattle.slon_model.specs.declared.command.Delivery.{Delivery}
 use Rattle.slon_model.specs.declared.command.Delivery.TheVariants.{Lost}
 use Rattle.slon_model.specs.declared.reply.Refusal.{Refusal}
@@ -14,7 +14,7 @@ use Rattle.slon_model.specs.declared.reply.Refusal.TheVariants as refused
 use Rattle.slon_model.specs.Names.{find_named}
 use Rattle.slon_model.specs.Config.{era_of, is_origin}
 use Rattle.slon_model.specs.Tasks.{Act}
-use Rattle.slon_model.specs.Deeds.{Node, Brought, Knowledge, with_deeds}
+use Rattle.slon_model.specs.Deeds.{Node, Brought, Knowledge, knowledge, with_deeds}
 use Rattle.slon_model.specs.Sessions.{World, Running, Commit, Stated, Seat, Emission, bind, tells, committing}
 use Rattle.slon_model.specs.Sessions.{stood_at}
 use Rattle.slon_model.specs.Maps.{pair_at}
@@ -23,7 +23,7 @@ use Rattle.slon_model.specs.Membership.{drop_path, becoming, first_of_cluster, j
 use Rattle.slon_model.specs.Reaching.{database_of_line, reach, down_among, receiver_with}
 use Rattle.slon_model.specs.Reaching.{origin_of, owner, commit_of, emitting}
 use Rattle.slon_model.specs.Sets.{NewTable, adding, create_set, set_add_table}
-use Rattle.slon_model.specs.Subscribing.{NewFeed, subscribing, feed_checks, feed_bodies, all_tell}
+use Rattle.slon_model.specs.Subscribing.{NewFeed, subscribing, feed_checks, bodies_of, told_bodies, all_tell}
 use Rattle.slon_model.specs.Subscribing.{subscribe_set}
 use Rattle.slon_model.specs.Scripts.{ordered}
 use Rattle.slon_model.specs.Turns.{on_turn, sync_turn}
@@ -38,7 +38,7 @@ use Rattle.slon_laws.proofs.Results.{any_ok}
 use Rattle.stream_laws.specs.Nodes.{node_in}
 use Rattle.stream_laws.proofs.Commits.{Newcomer, other_name}
 use Rattle.stream_laws.proofs.Seats.{OnOk, ok_then, IsSeat, IsFound, IsReached, IsLeading, bind_ok, checked_ok, kept_ok}
-use Rattle.stream_laws.proofs.Seats.{all_none, when_none, turn_ok, origin_ok, already_none, line_ok}
+use Rattle.stream_laws.proofs.Seats.{all_none, turn_ok, origin_ok, already_none, line_ok}
 use Rattle.stream_laws.proofs.Seats.{reach_ok, no_nodes, seat_node}
 use Rattle.stream_laws.proofs.Statements.{create_checks, table_checks}
 use Rattle.stream_laws.proofs.Waiting.{IsPoll, polled_ok}
@@ -48,8 +48,8 @@ use Rattle.view_laws.specs.Past.{Past}
 use Rattle.view_laws.proofs.Claiming.{IsClaiming, owner_claiming}
 use Rattle.view_laws.proofs.Brought.{brought_is, there_on}
 use Rattle.view_laws.proofs.Reached.{regular_now}
-use Rattle.view_laws.proofs.Doing.{IsAllowed, AreAllowed, IsOne, AreFeeds, taking, KnowsNone, KnowsGiven, IsStep}
-use Rattle.view_laws.proofs.Doing.{IsTaken}
+use Rattle.view_laws.proofs.Doing.{IsAllowed, AreAllowed, IsOne, AreChanges, AreFeeds, taking, KnowsNone, KnowsGiven}
+use Rattle.view_laws.proofs.Doing.{IsStep, IsTaken}
 use Rattle.view_laws.proofs.Doing.{DoesTell, DoesTake, DoesHear, DoesBecome}
 
 abbrev AreSteps : Past → List Commit → Type 0
@@ -200,18 +200,23 @@ no_path_step server client run t =
     reached t client run _
     (λ s is. let done = tells_step t s (DropPath server client) is.0 refl in search (kept_ok (IsStated t), done))
 
+-- the events of a subscription, by what the origin has of it
+feed_allowed : (s : Seat) (f : NewFeed) (era : ℕ) → is_origin s.node.id f.set_id (knowledge s.node).config ≡ true →
+    (o : Option Subscription) → pair_at f.set_id f.receiver (knowledge s.node).config.subscriptions ≡ o →
+    AreAllowed s (all_tell (bodies_of era f o))
+feed_allowed s f era leads None new = AreFeeds era f refl (record { leads = leads; new = new })
+feed_allowed s f era leads (Some row) had = AreChanges f refl leads
+
 feed_step : (f : NewFeed) (run : Running) (t : Past) → OnOk (IsStated t) (subscribe_set f run t.world)
 feed_step f run t =
     bind_ok (IsClaiming f.set_id t.world) (IsStated t) (owner run f.set_id t.world) _
     (owner_claiming run f.set_id t.world (regular_now t).once)
-    (λ s is. let era = era_of f.set_id s.known.config in
-    checked_ok (IsStated t) (feed_checks s f) (emitting s (all_tell (feed_bodies era f)))
-    (λ none. emits_step t s (all_tell (feed_bodies era f)) is.0 (AreFeeds era f refl (record {
-      leads = subst (λ (k : Knowledge). is_origin s.node.id f.set_id k.config ≡ true) is.0.known is.1;
-      new = subst (λ (k : Knowledge). pair_at f.set_id f.receiver k.config.subscriptions ≡ None) is.0.known
-          (none_of _ (when_none _ (refused.NotBuilt (codes "subscribe"))
-          (all_none (feed_checks s f) none).1.1.1.1.1.0));
-    }))))
+    (λ s is. checked_ok (IsStated t) (feed_checks s f) (emitting s (all_tell (told_bodies f s.known.config)))
+    (λ none. emits_step t s (all_tell (told_bodies f s.known.config)) is.0
+    (subst (λ (k : Knowledge). AreAllowed s (all_tell (told_bodies f k.config))) (sym is.0.known)
+    (feed_allowed s f (era_of f.set_id (knowledge s.node).config)
+    (subst (λ (k : Knowledge). is_origin s.node.id f.set_id k.config ≡ true) is.0.known is.1)
+    (pair_at f.set_id f.receiver (knowledge s.node).config.subscriptions) refl))))
 
 ordered_step : (t : Past) → (o : Order) (run : Running) → OnOk (IsStated t) (ordered o run t.world)
 ordered_step t (order.InitCluster id comment) run = init_step id comment run t

@@ -10,7 +10,7 @@ use Rattle.std.proofs.lemmas.Bool.{and_from, eq-eqb}
 use Rattle.slon_model.specs.Names.{find_named}
 use Rattle.slon_model.specs.Maps.{Map, entry_at, number_at, with_entry}
 use Rattle.slon_model.specs.Events.{Event}
-use Rattle.slon_model.specs.Views.{View, with_views}
+use Rattle.slon_model.specs.Views.{View, views_told, with_views}
 use Rattle.slon_model.specs.Deeds.{Node, Brought, Knowledge, knowledge, nothing_brought, progress, stream}
 use Rattle.slon_model.specs.Deeds.{view_of, with_deeds}
 use Rattle.slon_model.specs.Following.{SetSync, kept_from, with_sync, with_syncs}
@@ -31,7 +31,7 @@ use Rattle.stream_laws.proofs.Streams.{among_earlier, number_within, one_node}
 use Rattle.stream_laws.proofs.Works.{IsWork}
 use Rattle.image_laws.proofs.Logging.{among_filtered, filtered_among}
 use Rattle.image_laws.proofs.Staying.{Stays}
-use Rattle.view_laws.specs.Known.{IsSeen, enables}
+use Rattle.view_laws.specs.Known.{IsSeen, enables, feeds}
 use Rattle.view_laws.specs.Past.{Past, WasUpTo}
 use Rattle.view_laws.proofs.Brought.{Finding, IsBrought, IsCopied, IsKept, IsPart, IsSynced, Nothing, Copies, Brings}
 use Rattle.view_laws.proofs.Brought.{Whole, Standing, was_then, taken_each, taken_back, same_id}
@@ -40,6 +40,7 @@ use Rattle.view_laws.proofs.Living.{HasNode, NodeGoes, event_of, node_passes}
 use Rattle.view_laws.proofs.Reached.{Reached, now_stays, past_of, reached_up_to, regular_now, event_now}
 use Rattle.view_laws.proofs.Rising.{found_in, found_stands, stands_found}
 use Rattle.view_laws.proofs.Seen.{same_views, syncs_seen}
+use Rattle.view_laws.proofs.Turned.{Turns, filter_told, found_told, told_like, turns_feeds}
 use Rattle.view_laws.proofs.Unfed.{says_emitted}
 use Rattle.view_laws.proofs.Viewed.{rising_now, seen_now}
 use Rattle.view_laws.proofs.Walking.{passing_later}
@@ -145,6 +146,31 @@ pub record Waits (origin : ℕ) (n m : Node) : Type 0 where
   pub still : length (of_origin origin (applied_events m)) ≡ length (of_origin origin (applied_events n)) →
       kept_from origin (knowledge m) ≡ kept_from origin (knowledge n)
 
+-- a view of a set to which nodes subscribe by an event is of the origin of the event
+pub fed_from : (t : Past) (x : Carried) (by : ℕ) → IsTaken t by x → (set : ℕ) (v : View) →
+    view_of set (knowledge x.seat.node) ≡ Some v → feeds set x.event.body ≡ true → v.origin ≡ x.event.origin
+fed_from t x by is set v found feed =
+    seen_leads t n set v (seen_now t x.seat.name n (seat_node t.world.places x.seat is.work.seat) set v found) (record {
+      name = y.name;
+      node = y.node;
+      is = y.is;
+      leads = feeder_leads t x.event y set feed;
+    }) ∙ y.own
+  where
+    n : Node
+    n = x.seat.node
+
+    y : IsEvent (nodes_in t.world.places) x.event
+    y = is.work.event
+
+-- so is one whose set the node begins to forward
+pub turned_from : (t : Past) (x : Carried) (by : ℕ) → IsTaken t by x → (set : ℕ) (v : View) →
+    view_of set (knowledge x.seat.node) ≡ Some v →
+    Turns x.seat.node.id set x.event.body (knowledge x.seat.node).config → v.origin ≡ x.event.origin
+turned_from t x by is set v found turns =
+    fed_from t x by is set v found
+    (turns_feeds x.seat.node.id set x.event.body (knowledge x.seat.node).config turns)
+
 waits_takes : (t : Past) (origin : ℕ) (n : Node) (x : Carried) (by : ℕ) → IsTaken t by x → Waits origin n x.seat.node →
     Waits origin n (with_deeds (taking x).deeds x.seat.node)
 waits_takes t origin n x by is w = record {
@@ -153,6 +179,9 @@ waits_takes t origin n x by is w = record {
   still = (cases (x.event.origin == origin) refl).1;
 }
   where
+    own : ℕ
+    own = x.seat.node.id
+
     k : Knowledge
     k = knowledge x.seat.node
 
@@ -165,13 +194,22 @@ waits_takes t origin n x by is w = record {
     beside : (x.event.origin == origin) ≡ false →
         kept_from origin (knowledge (with_deeds (taking x).deeds x.seat.node)) ≡ kept_from origin k
     beside other =
-        filter_beside origin x.brought.views k.views
+        filter_beside origin x.brought.views (views_told own x.event.body k.config k.views)
         (all_map (IsFrom x.seat x.event) (λ y. ((y.1.origin == origin) ≡ false)
-        × ((v : View) → entry_at y.0 k.views ≡ Some v → (v.origin == origin) ≡ false))
+        × ((v : View) → entry_at y.0 (views_told own x.event.body k.config k.views) ≡ Some v →
+        (v.origin == origin) ≡ false))
         (λ y is. (
           ap (λ o. o == origin) is.own ∙ other,
-          λ v found. ap (λ o. o == origin) (is.old v found) ∙ other,
+          λ v found.
+              let of = found_told own y.0 x.event.body k.config k.views v found in
+              let like = told_like own y.0 x.event.body k.config of.0 v of.2 in
+              ap (λ o. o == origin) (like.origin ∙ is.old of.0 of.1) ∙ other,
         )) x.brought.views from)
+        ∙ filter_told origin own x.event.body k.config k.views
+        (among_all (λ e. Turns own e.0 x.event.body k.config → (e.1.origin == origin) ≡ false) k.views
+        (λ e among turns. ap (λ o. o == origin) (turned_from t x by is e.0 e.1
+        (stands_found e.0 e.1 k.views
+        (rising_now t x.seat.name x.seat.node (seat_node t.world.places x.seat is.work.seat)) among) turns) ∙ other))
 
     cases : (b : Bool) → (x.event.origin == origin) ≡ b →
         (length (of_origin origin (applied_events n)) ≤ length (cond b (x.event ∷ applied) applied))

@@ -1,6 +1,6 @@
 -- What is known of the views that a node of a session keeps.
 use Rattle.std.proofs.Common.{◌≡◌, ℕ, List, Some, sym, subst}
-use Rattle.slon_model.specs.Views.{View}
+use Rattle.slon_model.specs.Views.{View, views_told}
 use Rattle.slon_model.specs.Deeds.{Node, knowledge, view_of}
 use Rattle.slon_model.specs.Sessions.{World}
 use Rattle.stream_laws.specs.Nodes.{nodes_in}
@@ -10,6 +10,7 @@ use Rattle.view_laws.specs.Past.{Past, WasBefore, WasUpTo}
 use Rattle.view_laws.proofs.Living.{NodeLives, event_of, knew, node_lives}
 use Rattle.view_laws.proofs.Rising.{found_stands, views_rising}
 use Rattle.view_laws.proofs.Seen.{same_views, seen_later, views_seen}
+use Rattle.view_laws.proofs.Turned.{rising_told}
 use Rattle.view_laws.proofs.Unfed.{says_emitted}
 use Rattle.view_laws.proofs.Walking.{lives_in}
 
@@ -25,7 +26,10 @@ views_rise = record {
   tells = λ t s is number m n says was.
       subst AreRising
       (sym (same_views (event_of s number m.body) m.body (knowledge n).views (says_emitted s n m says))) was;
-  takes = λ t knew x origin is was. views_rising x.brought.views (knowledge x.seat.node).views was;
+  takes = λ t knew x origin is was.
+      let k = knowledge x.seat.node in
+      views_rising x.brought.views (views_told x.seat.node.id x.event.body k.config k.views)
+      (rising_told x.seat.node.id x.event.body k.config k.views was);
   hears = λ t s confirms was. was;
   becomes = λ t knew n deeds views knows.
       subst (λ ds. ViewsRise (WasUpTo t) (record n { deeds = ds })) (sym deeds) (subst AreRising (sym views) tt);

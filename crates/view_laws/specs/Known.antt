@@ -57,7 +57,7 @@ pub record IsUnfedBefore (Was : World → Type 0) (n : Node) : Type 0 where
   pub unfed : AreUnfed (stream n)
   pub fed : AllByRecursion (λ f. (set : ℕ) → feeds set f.body ≡ true → IsFed set (knowledge n).config) (stream n)
 
--- ---- a receiver subscribes once
+-- ---- a receiver copies a set once
 
 -- the receiver subscribes to the set by an event of this body
 abbrev pub subscribes : ℕ → ℕ → Body → Bool
@@ -72,10 +72,8 @@ enables set node others = false
 abbrev pub is_on_feed : ℕ → ℕ → Body → Bool
 is_on_feed set node body = subscribes set node body || enables set node body
 
--- no event before the one by which a receiver subscribes is on its subscription, and it is to copy the set once
+-- no event before the one by which a receiver is to copy a set tells it so
 abbrev pub IsOnce : List Event → Body → Type 0
-IsOnce earlier (SubscribeSet set provider receiver forward) =
-    AllByRecursion (λ f. is_on_feed set receiver f.body ≡ false) earlier
 IsOnce earlier (EnableSubscription set provider receiver forward era) =
     AllByRecursion (λ f. enables set receiver f.body ≡ false) earlier
 IsOnce earlier others = Unit {0}
@@ -88,11 +86,15 @@ AreOnce (e ∷ es) = IsOnce es e.body × AreOnce es
 abbrev pub HasFeed : ℕ → ℕ → Config → Type 0
 HasFeed set receiver c = is_some (pair_at set receiver c.subscriptions) ≡ true
 
--- So it is of the stream of a node, which has each subscription of which an event of it is.
-pub record IsFedOnce (Was : World → Type 0) (n : Node) : Type 0 where
-  pub once : AreOnce (stream n)
-  pub has : AllByRecursion (λ f. (set receiver : ℕ) → is_on_feed set receiver f.body ≡ true →
-      HasFeed set receiver (knowledge n).config) (stream n)
+-- so it is of the stream of a node
+abbrev pub IsFedOnce : (World → Type 0) → Node → Type 0
+IsFedOnce Was n = AreOnce (stream n)
+
+-- A node has each subscription of which an event of its stream is.
+abbrev pub HasFeeds : (World → Type 0) → Node → Type 0
+HasFeeds Was n =
+    AllByRecursion (λ f. (set receiver : ℕ) → is_on_feed set receiver f.body ≡ true →
+    HasFeed set receiver (knowledge n).config) (stream n)
 
 -- ---- the events by which tables are known
 

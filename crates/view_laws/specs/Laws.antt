@@ -1,16 +1,30 @@
 -- The laws of what nodes that subscribe know of sets, in every session that a legal history leads to.
-use Rattle.std.specs.Prelude.{◌≡◌, ◌↔◌, ℕ, true, List, Some}
+use Rattle.std.specs.Prelude.{◌≡◌, ◌↔◌, ℕ, suc, true, List, Some}
 use Rattle.slon_model.specs.Names.{find_named}
-use Rattle.slon_model.specs.Snapshots.{Covers}
+use Rattle.slon_model.specs.Snapshots.{Covers, sees}
 use Rattle.slon_model.specs.Events.{Event, is_sync}
 use Rattle.slon_model.specs.Config.{names_of}
 use Rattle.slon_model.specs.Views.{View}
 use Rattle.slon_model.specs.Deeds.{Node, knowledge, view_of}
 use Rattle.slon_model.specs.Place.{Place}
+use Rattle.slon_model.specs.Rows.{Action}
 use Rattle.slon_model.specs.World.{World, start, Happening, Leads}
-use Rattle.stream_laws.specs.Nodes.{IsAmong}
+use Rattle.slon_laws.specs.Older.{IsOlder}
+use Rattle.stream_laws.specs.Nodes.{IsAmong, IsEvent, nodes_in}
 use Rattle.stream_laws.specs.Applied.{applied_events}
 use Rattle.image_laws.specs.Facts.{IsHeldBy}
+
+-- ---- what was drawn before an event
+
+-- All actions that were drawn at the origin of an event up to one that the event's snapshot sees are of transactions
+-- that had begun before the event was emitted.
+abbrev pub AreDivided : World → Type 0
+AreDivided w =
+    (e : Event) (is : IsEvent (nodes_in w.places) e) (p : Place) → find_named is.name w.places ≡ Some p →
+    (a : Action) → IsAmong a p.actions → sees e.taken a.xid ≡ true → IsOlder (suc a.number) e.taken.xmax p
+
+abbrev pub EventsDivide : Type 0
+EventsDivide = (limit : ℕ) (history : List Happening) (w : World) → Leads (start limit) history w → AreDivided w
 
 -- ---- views
 

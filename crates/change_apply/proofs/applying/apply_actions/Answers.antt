@@ -1,9 +1,10 @@
-use Rattle.std.proofs.Common.{◌≡◌, Some, List, ℕ, refl, rules, subst, sym, ◌∙◌}
+use Rattle.std.proofs.Common.{◌≡◌, Some, List, ℕ, ap, arith, length, refl, rules, subst, sym, ◌∙◌}
 use Rattle.std.specs.Vec.Iter.{into_iter_items}
 use Rattle.std.proofs.lemmas.List.{nil_from_length}
 use Rattle.std.proofs.lemmas.Result.{err_from_is_err_and}
 use Rattle.slon_base.specs.Keeper.{Store}
 use Rattle.store_rows.specs.Space.{IsPending}
+use Rattle.store_rows.proofs.Putting.{LeavesRoom, none_more, room_end, room_first, room_on}
 use Rattle.store_rows.proofs.Spaces.{hands_stop}
 use Rattle.slon_model.specs.Rows.{Rows}
 use Rattle.change_apply.specs.Applied.{CanApplyAll, HoldsRows, OthersStay}
@@ -22,7 +23,10 @@ loop-action-init g c =
     λ tables p. subst (λ rs. IsPending (IsToDo rs all tables) old) (sym items) (all_to_do p) in
     let on : (m : Store) → old.pending ≡ Some (Some m) → IsPending (OthersStay m) old =
     λ m is. record { store = m; is = is; has = λ space other. refl } in
-    search (rules, can, plays, on)
+    let left = length (into_iter_items c.into_iter-action-iterator.result) in
+    let puts : LeavesRoom left (length all) old.puts old.puts =
+    room_first 0 left (length all) (none_more refl) (omega (arith, ap (λ xs. length xs) items)) in
+    search (rules, can, plays, on, puts)
 
 pub returns-in_err-apply_action-clause-applies : goal.returns-in_err-apply_action-clause-applies
 returns-in_err-apply_action-clause-applies g c tables p =
@@ -56,7 +60,25 @@ loop-action-preserved g c =
     c.in_ok-apply_action.ensures.applies in
     let on : (m : Store) → old.pending ≡ Some (Some m) → IsPending (OthersStay m) new =
     λ m is. others_on (before.on m is) c.in_ok-apply_action.ensures.changed in
-    search (rules, can, plays, on)
+    let left = length (into_iter_items c.loop-action.action-iterator) in
+    let more = length (into_iter_items c.next.new.self) in
+    let puts : LeavesRoom more (length all) old.puts new.puts =
+    room_on 1 left more (length all) before.puts c.in_ok-apply_action.ensures.puts
+    (omega (arith, ap (λ xs. length xs) step)) in
+    search (rules, can, plays, on, puts)
+
+pub returns-in_err-apply_action-clause-puts : goal.returns-in_err-apply_action-clause-puts
+returns-in_err-apply_action-clause-puts g c =
+    let all = length c.args.actions in
+    let left = length (into_iter_items c.loop-action.action-iterator) in
+    let more = length (into_iter_items c.next.new.self) in
+    room_end more all (room_on 1 left more all c.loop-action.invariant.puts c.in_err-apply_action.ensures.puts
+    (omega (arith, ap (λ xs. length xs) c.in-Some.ensures.steps.0)))
+
+pub returns-clause-puts : goal.returns-clause-puts
+returns-clause-puts g c =
+    room_end (length (into_iter_items c.loop-action.action-iterator)) (length c.args.actions)
+    c.loop-action.invariant.puts
 
 pub returns-clause-applies : goal.returns-clause-applies
 returns-clause-applies g c tables p =

@@ -4,6 +4,7 @@ use Rattle.slon_base.specs.Charges.{KeepsTold}
 use Rattle.slon_base.specs.Keeper.{Store}
 use Rattle.store_rows.specs.Space.{IsPending}
 use Rattle.store_rows.specs.Spending.{Stays, Rests}
+use Rattle.store_rows.proofs.Putting.{LeavesRoom}
 use Rattle.slon_model.specs.Rows.{Rows}
 use Rattle.change_apply.specs.Applied.{CanApplyAll, HoldsRows, OthersStay}
 use Rattle.change_apply.proofs.Logged.{IsToDo}
@@ -15,6 +16,7 @@ invariant-loop-action g l =
     let now = g.K.Keeper.kept l.keeper in
     record {
       still : Stays old.can_fail now.can_fail;
+      puts : LeavesRoom (length (into_iter_items l.action-iterator)) (length l.fn.actions) old.puts now.puts;
       rests : Rests old.faults now.faults;
       told : KeepsTold old.told now.told;
       later : old.faults ≤ now.faults;

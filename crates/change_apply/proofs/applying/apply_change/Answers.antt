@@ -1,8 +1,9 @@
-use Rattle.std.proofs.Common.{◌∙◌, List, ℕ, sym, ap}
+use Rattle.std.proofs.Common.{◌∙◌, List, ℕ, sym, ap, arith}
 use Rattle.std.proofs.lemmas.Result.{err_from_is_err_and}
 use Rattle.std.specs.Prelude.{option_map}
 use Rattle.slon_base.specs.Codec.{list_bytes}
 use Rattle.slon_base.specs.Keeper.{put_at, del_at}
+use Rattle.store_rows.proofs.Putting.{puts_on, puts_within}
 use Rattle.store_rows.proofs.Spaces.{becomes, sees, hands_stop, pending_same, pending_as}
 use Rattle.slon_model.specs.Rows.{updated}
 use Rattle.change_capture.specs.Actions.{change_of}
@@ -101,3 +102,19 @@ returns-clause-applies g c tables p =
     c.del_row.result c.del_row.ensures.put c.del_row.ensures.only p
     (λ m held. remove_holds m (ap change_of c.in-Remove.is)
     (record { text = c.requires.table; can = c.requires.words; held = held }))
+
+pub returns-in_err-get_row-in-Set-clause-puts : goal.returns-in_err-get_row-in-Set-clause-puts
+returns-in_err-get_row-in-Set-clause-puts g c = puts_within 0 1 c.in_err-get_row-in-Set.ensures.puts (omega arith)
+
+pub returns-in-None-clause-puts : goal.returns-in-None-clause-puts
+returns-in-None-clause-puts g c = puts_within 0 1 c.in_ok-get_row-in-Set.ensures.puts (omega arith)
+
+pub returns-in_err-row-in-Some-clause-puts : goal.returns-in_err-row-in-Some-clause-puts
+returns-in_err-row-in-Some-clause-puts g c = puts_within 0 1 c.in_ok-get_row-in-Set.ensures.puts (omega arith)
+
+pub returns-in-Set-clause-puts : goal.returns-in-Set-clause-puts
+returns-in-Set-clause-puts g c =
+    puts_on 0 1 1 c.in_ok-get_row-in-Set.ensures.puts c.put_row-in-Some.ensures.puts (omega arith)
+
+pub returns-clause-puts : goal.returns-clause-puts
+returns-clause-puts g c = puts_within 0 1 c.del_row.ensures.puts (omega arith)

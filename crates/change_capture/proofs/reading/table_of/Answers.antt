@@ -1,4 +1,4 @@
-use Rattle.std.proofs.Common.{◌∷◌, ◌++◌, sym, ap, subst, ◌∙◌}
+use Rattle.std.proofs.Common.{◌∷◌, [], ◌++◌, sym, ap, subst, ◌∙◌, append_assoc}
 use Rattle.slon_model.specs.Forms.{is_part}
 use Rattle.change_capture.specs.Reading.{HasParts}
 use Rattle.change_capture.proofs.Parts.{has_parts}
@@ -8,9 +8,11 @@ pub returns : goal.returns
 returns c =
     let front = c.args.namespace.now in
     let back = c.args.name.now in
-    let text =
-    c.from_string.ensures ∙ c.in_ok-format.ensures.ok
-    ∙ (λ i. c.as_str-namespace.ensures.value i ++ 46 ∷ c.as_str-name.ensures.value i) in
+    let begun = c.in_ok-push_str.ensures.bytes
+    ∙ (λ i. c.in_ok-text.ensures.bytes i ++ c.as_str.ensures.value i) in
+    let dotted = c.in_ok-push_str-2.ensures.bytes ∙ ap (λ s. s ++ 46 ∷ []) begun in
+    let text = c.from_string.ensures ∙ c.in_ok-push_str-3.ensures.bytes
+    ∙ (λ i. dotted i ++ c.as_str-2.ensures.value i) ∙ append_assoc front (46 ∷ []) back in
     subst (HasParts front back) (sym text)
     (has_parts front back (ap is_part (sym c.as_slice.ensures.value) ∙ sym c.if-not-is_part.ensures)
     (ap is_part (sym c.as_slice-else-not-is_part.ensures.value) ∙ sym c.if-not-is_part-2.ensures))

@@ -1,5 +1,6 @@
-use Rattle.std.proofs.Common.{◌∷◌, sym, ◌∙◌, subst}
+use Rattle.std.proofs.Common.{◌∷◌, refl, sym, ◌∙◌, subst}
 use Rattle.slon_base.specs.Keeper.{put_at}
+use Rattle.store_rows.proofs.Putting.{one_at_most}
 use Rattle.store_rows.proofs.Spaces.{becomes}
 use Rattle.event_store.specs.Holds.{ShowsStreams}
 use Rattle.event_store.specs.Seen.{event_by}
@@ -19,3 +20,9 @@ returns-clause-turns g c base s p =
     c.put_pair.ensures.only p
     (λ m shows. subst (ShowsStreams base (record s { events = e ∷ s.events }))
     (λ k. put_at 10 (key k) (value k) m) (with_event e m can shows))
+
+pub returns-in_err-key-clause-puts : goal.returns-in_err-key-clause-puts
+returns-in_err-key-clause-puts g c = one_at_most refl
+
+pub returns-in_err-value-clause-puts : goal.returns-in_err-value-clause-puts
+returns-in_err-value-clause-puts g c = one_at_most refl

@@ -1,6 +1,7 @@
-use Rattle.std.proofs.Common.{sym}
+use Rattle.std.proofs.Common.{refl, sym}
 use Rattle.slon_base.specs.Codec.{number_bytes}
 use Rattle.slon_base.specs.Keeper.{put_at}
+use Rattle.store_rows.proofs.Putting.{one_at_most}
 use Rattle.store_rows.proofs.Spaces.{becomes}
 use Rattle.event_store.proofs.Holding.{with_news}
 use Rattle.event_store.proofs.writing.put_news.Goals as goal
@@ -14,3 +15,6 @@ returns-clause-turns g c base s p =
     (becomes _ (put_at 13 (number_bytes c.args.origin) (number_bytes c.args.number)) _ c.put_row.result
     c.put_row.ensures.put c.put_row.ensures.only p
     (λ m. with_news c.args.origin c.args.number m c.requires.can.0 c.requires.can.1))
+
+pub returns-then-is_sync-clause-puts : goal.returns-then-is_sync-clause-puts
+returns-then-is_sync-clause-puts g c = one_at_most refl

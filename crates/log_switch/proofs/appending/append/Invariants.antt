@@ -1,8 +1,9 @@
-use Rattle.std.proofs.Common.{◌≡◌, ◌≤◌, ◌<◌, ◌^◌, true, is_some, drop}
+use Rattle.std.proofs.Common.{◌≡◌, ◌≤◌, ◌<◌, ◌-◌, ◌^◌, true, is_some, drop, length}
 use Rattle.std.specs.List.{AllByRecursion}
 use Rattle.std.specs.Option.{option_map}
 use Rattle.slon_base.specs.Charges.{KeepsTold}
 use Rattle.store_rows.specs.Spending.{Stays, Rests}
+use Rattle.store_rows.proofs.Putting.{LeavesRoom}
 use Rattle.change_capture.specs.Spellings.{CanLogRow}
 use Rattle.log_switch.specs.Holds.{put_logs}
 use Rattle.log_switch.proofs.appending.append.Given as goal
@@ -13,6 +14,7 @@ invariant-loop-number g l =
     let now = g.K.Keeper.kept l.keeper in
     record {
       still : Stays old.can_fail now.can_fail;
+      puts : LeavesRoom (length l.rows - l.number-index) (length l.rows) old.puts now.puts;
       rests : Rests old.faults now.faults;
       told : KeepsTold old.told now.told;
       later : old.faults ≤ now.faults;

@@ -6,7 +6,7 @@ use Rattle.slon_base.specs.Keeper.{after, first}
 use Rattle.store_rows.specs.Steps.{Gives}
 use Rattle.store_rows.proofs.Scanning.{comes, none_comes}
 use Rattle.node_state.proofs.Listing.{ranged_all}
-use Rattle.node_change.proofs.Receivers.{no_receiver, next_is, receiver_is, keys_read}
+use Rattle.node_change.proofs.ReceiverRows.{no_receiver, next_is, receiver_is, keys_read}
 use Rattle.node_change.proofs.lookup.first_receiver.Goals as goal
 
 pub returns-in-None-clause-says : goal.returns-in-None-clause-says

@@ -1,10 +1,12 @@
 use Rattle.std.proofs.Common.{◌∙◌, ◌+◌, Err, refl, sym, ap, arith}
 use Rattle.std.proofs.lemmas.Result.{err_from_is_err_and}
 use Rattle.node_keeper.specs.Fused.{fuse_kept}
+use Rattle.store_rows.proofs.Putting.{none_more, puts_on, puts_within}
 use Rattle.event_store.specs.Seen.{seen_event}
 use Rattle.slon_model.specs.Deeds.{Applies}
 use Rattle.node_store.specs.Acting.{Stood, Wavered, Broke, Burst, does}
 use Rattle.app_store.specs.Base.{base_of, memory_of}
+use Rattle.node_store.specs.Bringing.{puts_allowed}
 use Rattle.node_store.proofs.Acting.{never_memory}
 use Rattle.node_store.proofs.Emitted.{own_is, held_node, felled_fits}
 use Rattle.node_store.proofs.Several.{stamp_beyond, within_limit}
@@ -114,3 +116,33 @@ pub returns-in_err-learn-in-Done-clause-applies : goal.returns-in_err-learn-in-D
 returns-in_err-learn-in-Done-clause-applies g c p n ready is memory takes learns b brought fills name =
     absurd (never_memory _ c.from_residual.result
     (err_from_is_err_and c.from_residual.result c.from_residual.ensures.1) memory)
+
+pub returns-then-database-ge-STORED_LIMIT-clause-puts : goal.returns-then-database-ge-STORED_LIMIT-clause-puts
+returns-then-database-ge-STORED_LIMIT-clause-puts g c deltas comes =
+    puts_within 0 (puts_allowed deltas) (none_more refl) (omega arith)
+
+pub returns-in_ok-learn-in-Done-clause-puts : goal.returns-in_ok-learn-in-Done-clause-puts
+returns-in_ok-learn-in-Done-clause-puts g c deltas comes =
+    puts_on (puts_allowed deltas) 0 (puts_allowed deltas) (c.in-Ok.ensures.puts deltas comes)
+    c.in-Ok-finish.ensures.ends.puts (omega arith)
+
+pub returns-in_err-learn-in-Done-clause-puts : goal.returns-in_err-learn-in-Done-clause-puts
+returns-in_err-learn-in-Done-clause-puts g c deltas comes =
+    puts_on (puts_allowed deltas) 0 (puts_allowed deltas) (c.in-Ok.ensures.puts deltas comes)
+    c.in-Ok-finish.ensures.ends.puts (omega arith)
+
+pub returns-in-InDoubt-clause-puts : goal.returns-in-InDoubt-clause-puts
+returns-in-InDoubt-clause-puts g c deltas comes =
+    puts_on (puts_allowed deltas) 0 (puts_allowed deltas) (c.in-Ok.ensures.puts deltas comes)
+    c.in-Ok-finish.ensures.ends.puts (omega arith)
+
+pub returns-in-Err-finish-clause-puts : goal.returns-in-Err-finish-clause-puts
+returns-in-Err-finish-clause-puts g c deltas comes =
+    puts_on (puts_allowed deltas) 0 (puts_allowed deltas) (c.in-Ok.ensures.puts deltas comes)
+    c.in-Err-finish.ensures.ends.puts (omega arith)
+
+pub returns-in-Err-clause-puts : goal.returns-in-Err-clause-puts
+returns-in-Err-clause-puts g c deltas comes = c.in-Err.ensures.puts deltas comes
+
+pub returns-in_default-clause-puts : goal.returns-in_default-clause-puts
+returns-in_default-clause-puts g c deltas comes = puts_within 0 (puts_allowed deltas) (none_more refl) (omega arith)

@@ -1,4 +1,5 @@
-use Rattle.std.proofs.Common.{◌∙◌, refl}
+use Rattle.std.proofs.Common.{◌∙◌, ◌+◌, ◌*◌, ap, arith, length, refl}
+use Rattle.store_rows.proofs.Putting.{puts_on, puts_within}
 use Rattle.slon_model.specs.Place.{standing_rows}
 use Rattle.event_store.specs.Kept.{seen_view}
 use Rattle.change_apply.specs.Copied.{with_tables}
@@ -25,3 +26,21 @@ returns-clause-takes g c n e p m b t before sync =
             before.has.rows;
       }),
     )
+
+pub returns-in_err-keep_set-clause-puts : goal.returns-in_err-keep_set-clause-puts
+returns-in_err-keep_set-clause-puts g c =
+    puts_within 1 (2 * length c.args.sync.rows + 1) c.in_err-keep_set.ensures.puts (omega arith)
+
+pub returns-in_err-log_forwarded-clause-puts : goal.returns-in_err-log_forwarded-clause-puts
+returns-in_err-log_forwarded-clause-puts g c =
+    puts_on 1 (length c.as_slice.result.now) (2 * length c.args.sync.rows + 1) c.in_ok-keep_set.ensures.puts
+    c.in_err-log_forwarded.ensures.puts (omega (arith, ap (λ rs. length rs) c.as_slice.ensures.value))
+
+pub returns-clause-puts : goal.returns-clause-puts
+returns-clause-puts g c =
+    let given = c.args.sync in
+    let logged = length c.as_slice.result.now in
+    puts_on (1 + logged) (length given.actions) (2 * length given.rows + 1)
+    (puts_on 1 logged (1 + logged) c.in_ok-keep_set.ensures.puts c.in_ok-log_forwarded.ensures.puts (omega arith))
+    c.apply_actions.ensures.puts
+    (omega (arith, ap (λ rs. length rs) c.as_slice.ensures.value, c.requires.can.logged.same_number))

@@ -1,15 +1,17 @@
-use Rattle.std.proofs.Common.{◌≡◌, ◌∙◌, Some, rules, subst, sym}
+use Rattle.std.proofs.Common.{◌≡◌, ◌∙◌, Some, ap, arith, refl, rules, subst, sym}
 use Rattle.std.specs.List.{AllByRecursion}
 use Rattle.std.specs.Vec.Iter.{into_iter_items}
 use Rattle.std.proofs.lemmas.List.{nil_from_length}
 use Rattle.std.proofs.lemmas.Result.{err_from_is_err_and}
 use Rattle.slon_base.specs.Keeper.{Store}
 use Rattle.store_rows.specs.Space.{IsPending}
+use Rattle.store_rows.proofs.Putting.{puts_within, room_end, room_first}
 use Rattle.store_rows.proofs.Spaces.{hands_stop}
 use Rattle.slon_model.specs.Deeds.{Brought, Node}
 use Rattle.slon_model.specs.Place.{Place}
 use Rattle.event_store.specs.Seen.{seen_event}
-use Rattle.node_store.specs.Bringing.{CanSync, CanTake, HasAll}
+use Rattle.node_store.specs.Bringing.{CanSync, CanTake, HasAll, puts_taken}
+use Rattle.node_store.proofs.Allowing.{one_taken, puts_left}
 use Rattle.node_store.proofs.Following.{IsTaking, all_taking, first_taking, none_taking, one_taking}
 use Rattle.node_store.proofs.bringing.take_syncs.Goals as goal
 
@@ -26,7 +28,22 @@ loop-sync-init g c =
     λ n m p b own is can all. all_taking (into_iter_items c.into_iter-sync-iterator.result)
     (subst (HasAll e.origin p b) (sym items) all) can
     (c.in_ok-apply.ensures.turns n m own is can.held can.takes can.home) in
-    search (rules, can, takes)
+    let left = puts_left (into_iter_items c.into_iter-sync-iterator.result) in
+    let total = puts_taken c.args.syncs in
+    let safe = c.in_ok-apply.ensures.safe in
+    record {
+      still = λ n most. safe.still n most;
+      puts = λ sync. room_first 3 left total (c.in_ok-apply.ensures.puts sync) (omega (arith, ap puts_left items));
+      rests = λ n up. safe.quiet refl n up;
+      told = λ told from. safe.told told from;
+      later = safe.later;
+      held = safe.held;
+      doubts = safe.doubts;
+      opened = safe.opened ∙ c.requires.opened;
+      counted = search (rules);
+      can = can;
+      takes = takes;
+    }
 
 pub take_sync-requires-clause-can : goal.take_sync-requires-clause-can
 take_sync-requires-clause-can g c =
@@ -58,7 +75,36 @@ loop-sync-preserved g c =
     λ n m p b own is can all. one_taking
     (subst (λ rs. IsPending (IsTaking n e p m b rs) mid) step (before.takes n m p b own is can all))
     (λ now t q sync. c.in_ok-take_sync.ensures.takes n e p m now t q sync) in
-    search (rules, can, takes)
+    let safe = c.in_ok-take_sync.ensures.safe in
+    record {
+      still = λ n most. safe.still n (before.still n most);
+      puts = λ sync. one_taken (puts_taken c.args.syncs) step (before.puts sync) c.in_ok-take_sync.ensures.puts;
+      rests = λ n up. safe.quiet refl n (before.rests n up);
+      told = λ told from. safe.told told (before.told told from);
+      later = omega (arith, before.later, safe.later);
+      held = safe.held ∙ before.held;
+      doubts = safe.doubts ∙ before.doubts;
+      opened = safe.opened ∙ before.opened;
+      counted = search (rules);
+      can = can;
+      takes = takes;
+    }
+
+pub returns-in_err-apply-clause-puts : goal.returns-in_err-apply-clause-puts
+returns-in_err-apply-clause-puts g c sync =
+    puts_within 3 (puts_taken c.args.syncs) (c.in_err-apply.ensures.puts sync) (omega arith)
+
+pub returns-in_err-take_sync-clause-puts : goal.returns-in_err-take_sync-clause-puts
+returns-in_err-take_sync-clause-puts g c sync =
+    let more = puts_left (into_iter_items c.next.new.self) in
+    let total = puts_taken c.args.syncs in
+    room_end more total (one_taken total c.in-Some.ensures.steps.0 (c.loop-sync.invariant.puts sync)
+    c.in_err-take_sync.ensures.puts)
+
+pub returns-clause-puts : goal.returns-clause-puts
+returns-clause-puts g c sync =
+    room_end (puts_left (into_iter_items c.loop-sync.sync-iterator)) (puts_taken c.args.syncs)
+    (c.loop-sync.invariant.puts sync)
 
 pub returns-clause-takes : goal.returns-clause-takes
 returns-clause-takes g c n m p b own is can all =

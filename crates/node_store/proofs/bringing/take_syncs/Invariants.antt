@@ -5,10 +5,13 @@ use Rattle.slon_base.specs.Charges.{KeepsTold}
 use Rattle.slon_base.specs.Keeper.{Store}
 use Rattle.store_rows.specs.Space.{IsPending}
 use Rattle.store_rows.specs.Spending.{Stays, Rests}
+use Rattle.store_rows.proofs.Putting.{LeavesRoom}
 use Rattle.slon_model.specs.Deeds.{Brought, Node}
+use Rattle.slon_model.specs.Events.{is_sync}
 use Rattle.slon_model.specs.Place.{Place}
 use Rattle.event_store.specs.Seen.{seen_event}
-use Rattle.node_store.specs.Bringing.{CanSync, CanTake, HasAll}
+use Rattle.node_store.specs.Bringing.{CanSync, CanTake, HasAll, puts_taken}
+use Rattle.node_store.proofs.Allowing.{puts_left}
 use Rattle.node_store.proofs.Following.{IsTaking}
 use Rattle.node_store.proofs.bringing.take_syncs.Given as goal
 
@@ -19,6 +22,8 @@ invariant-loop-sync g l =
     let e = seen_event l.event in
     record {
       still : Stays old.can_fail now.can_fail;
+      puts : is_sync l.event.body ≡ true →
+          LeavesRoom (puts_left (into_iter_items l.sync-iterator)) (puts_taken l.fn.syncs) old.puts now.puts;
       rests : Rests old.faults now.faults;
       told : KeepsTold old.told now.told;
       later : old.faults ≤ now.faults;

@@ -1,6 +1,6 @@
 use Rattle.std.proofs.Common.{◌∙◌}
 use Rattle.std.proofs.lemmas.Result.{err_from_is_err_and}
-use Rattle.store_rows.proofs.Spaces.{looked_none, looked_on, sight_same}
+use Rattle.store_rows.proofs.Spaces.{handed_safe, looked_none, looked_on, safe_on, sight_same}
 use Rattle.set_config.proofs.Holding.{gives_stop}
 use Rattle.set_config.proofs.loading.read_rows.Goals as goal
 
@@ -78,3 +78,14 @@ returns-clause-gives g c m rows seen are =
       subscriptions = subscriptions k;
       fences = fences k;
     }
+
+pub returns-in_err-fences-clause-safe : goal.returns-in_err-fences-clause-safe
+returns-in_err-fences-clause-safe g c =
+    let l = looked_on looked_none c.in_ok-nodes.ensures.safe c.in_ok-nodes.ensures.same in
+    let l = looked_on l c.in_ok-paths.ensures.safe c.in_ok-paths.ensures.same in
+    let l = looked_on l c.in_ok-sets.ensures.safe c.in_ok-sets.ensures.same in
+    let l = looked_on l c.in_ok-tables.ensures.safe c.in_ok-tables.ensures.same in
+    let l = looked_on l c.in_ok-subscriptions.ensures.safe c.in_ok-subscriptions.ensures.same in
+    handed_safe _ _ c.from_residual-in_err-fences.result
+    (err_from_is_err_and c.from_residual-in_err-fences.result c.from_residual-in_err-fences.ensures.1)
+    (safe_on l c.in_err-fences.ensures.safe)

@@ -42,7 +42,8 @@ returns-in-Err-clause-applies g c =
     let new = base_of kept c.commit.new.own in
     let held = record c.args.held.now { queue = c.commit.new.queue } in
     told_if (λ reply. AppliesAt c.args.own.now.name w (old, c.args.held.now) reply (new, held))
-    c.told.result c.in-Err.fault (refusal_of (words_at c.args.own.now.name) c.in-Err.fault) c.told.ensures.reply c.told.ensures.memory
+    c.told.result c.in-Err.fault (refusal_of (words_at c.args.own.now.name) c.in-Err.fault) c.told.ensures.reply
+    c.told.ensures.memory
     (λ reply told full. applies_at {w = w} (record {
       settled = c.in_ok-settled.settled;
       settles = c.in_ok-settled.ensures.is;

@@ -1,14 +1,14 @@
 use Rattle.std.proofs.Common.{◌∙◌, ◌++◌, ◌&&◌, not, List, [], ◌∷◌, Option, Some, None}
-use Rattle.std.specs.Prelude.{codes, IfOk}
+use Rattle.std.specs.Prelude.{IfOk}
 use Rattle.slon_model.specs.declared.reply.Refusal.{Refusal}
 use Rattle.slon_model.specs.declared.reply.Refusal.TheVariants as refused
 use Rattle.slon_model.specs.Config.{forwards}
 use Rattle.slon_model.specs.Sessions.{Seat, when}
-use Rattle.slon_model.specs.Subscribing.{NewFeed, is_active, is_relayed, is_unbuilt}
+use Rattle.slon_model.specs.Subscribing.{NewFeed, is_active, is_relayed}
 use Rattle.node_state.proofs.Formed.{if_ok}
 use Rattle.app_store.specs.Base.{base_of}
 use Rattle.slonik_exec.specs.Answering.{Checks, AtSeat}
-use Rattle.slonik_exec.specs.Statements.{feed_as, source_checks}
+use Rattle.slonik_exec.specs.Statements.{feed_as, row_checks, source_checks}
 use Rattle.slonik_exec.proofs.Works.{Checked, checked_as, checked_at, checked_if, ended, chained}
 use Rattle.slonik_exec.proofs.subscribing.check_source.Goals as goal
 
@@ -19,8 +19,8 @@ abbrev Forwarding : NewFeed → Seat → List (Option Refusal)
 Forwarding f s =
     when (is_relayed s f && not (forwards f.set_id f.provider s.known.config)) (refused.NotForwarding f.provider) ∷ []
 
-abbrev Built : NewFeed → Seat → List (Option Refusal)
-Built f s = when (is_unbuilt s f) (refused.NotBuilt (codes "subscribe")) ∷ []
+abbrev Row : NewFeed → Seat → List (Option Refusal)
+Row f s = row_checks s f
 
 pub returns-in-Some-clause-refuses : goal.returns-in-Some-clause-refuses
 returns-in-Some-clause-refuses g c =
@@ -31,7 +31,7 @@ returns-in-Some-clause-refuses g c =
       checks = c.in_ok-reply.ensures.checks;
       refuses = c.in_ok-reply.ensures.refuses;
     }) in
-    (ended (λ s. Forwarding f s ++ Built f s) first).refuses
+    (ended (λ s. Forwarding f s ++ Row f s) first).refuses
 
 pub returns-in-Some-2-clause-refuses : goal.returns-in-Some-2-clause-refuses
 returns-in-Some-2-clause-refuses g c =
@@ -47,7 +47,7 @@ returns-in-Some-2-clause-refuses g c =
       checks = c.in_ok-reply-2.ensures.checks;
       refuses = c.in_ok-reply-2.ensures.refuses;
     })) in
-    (ended (Built f) (chained (Some c.in-Some-2.reply) first second)).refuses
+    (ended (Row f) (chained (Some c.in-Some-2.reply) first second)).refuses
 
 pub returns : goal.returns
 returns g c =
@@ -55,7 +55,7 @@ returns g c =
     let name = c.args.seat.now.name in
     let old = base_of g.K.Keeper.kept c.args.seat.now.database in
     let mid = base_of g.K.Keeper.kept c.check_forwarding.new.seat.database in
-    let new = base_of g.K.Keeper.kept c.check_built.new.seat.database in
+    let new = base_of g.K.Keeper.kept c.check_row.new.seat.database in
     let first : Checked name (Active f) old None _
     = checked_as c.in_default.is (record {
       checks = c.in_ok-reply.ensures.checks;
@@ -67,17 +67,17 @@ returns g c =
       refuses = c.in_ok-reply-2.ensures.refuses;
     })) in
     let same = c.in_ok-reply-2.ensures.name ∙ c.in_ok-reply.ensures.name in
-    let last = checked_if c.check_forwarding.new.seat.name (Built f) mid new c.check_built.result
-    c.check_built.ensures.checks c.check_built.ensures.refuses in
-    let all : IfOk c.check_built.result (λ found. Checked name (λ s. source_checks s f) old found new)
-    = if_ok (λ found. Checked c.check_forwarding.new.seat.name (Built f) mid found new)
-    (λ found. Checked name (λ s. source_checks s f) old found new) c.check_built.result
+    let last = checked_if c.check_forwarding.new.seat.name (Row f) mid new c.check_row.result
+    c.check_row.ensures.checks c.check_row.ensures.refuses in
+    let all : IfOk c.check_row.result (λ found. Checked name (λ s. source_checks s f) old found new)
+    = if_ok (λ found. Checked c.check_forwarding.new.seat.name (Row f) mid found new)
+    (λ found. Checked name (λ s. source_checks s f) old found new) c.check_row.result
     (λ found done. chained found (chained None first second) (checked_at same done)) last in
     record {
       checks = if_ok (λ found. Checked name (λ s. source_checks s f) old found new)
-          (λ found. Checks name old found new) c.check_built.result (λ found done. done.checks) all;
+          (λ found. Checks name old found new) c.check_row.result (λ found done. done.checks) all;
       refuses = if_ok (λ found. Checked name (λ s. source_checks s f) old found new)
-          (λ found. AtSeat name (λ s. source_checks s f) old found new) c.check_built.result
+          (λ found. AtSeat name (λ s. source_checks s f) old found new) c.check_row.result
           (λ found done. done.refuses) all;
-      name = c.check_built.ensures.name ∙ same;
+      name = c.check_row.ensures.name ∙ same;
     }

@@ -5,6 +5,7 @@ use Rattle.std.specs.FinMap.{entries, len-entries}
 use Rattle.std.proofs.lemmas.List.{drop_at}
 use Rattle.std.proofs.lemmas.Result.{err_from_is_err_and}
 use Rattle.slon_base.proofs.Order.{prefixed}
+use Rattle.store_rows.proofs.Putting.{puts_on}
 use Rattle.store_rows.proofs.Spaces.{looked_on, looked_none, safe_on, sight_same, handed_safe}
 use Rattle.store_rows.specs.Scan.{key_of}
 use Rattle.store_rows.proofs.Reading.{all_snoc}
@@ -16,6 +17,7 @@ pub loop-init : goal.loop-init
 loop-init g c =
     record {
       looked = looked_on looked_none c.in_ok-limit.ensures.safe c.in_ok-limit.ensures.same;
+      puts = c.in_ok-limit.ensures.puts;
       can = rw (c.new-found.ensures) tt;
       scanned = λ m rows seen can is. rw (c.new-found.ensures) (none_ahead rows can is);
       gone = λ m seen. rw (c.new-found.ensures) none_gone;
@@ -81,6 +83,7 @@ loop-preserved g c =
     let at_is = sym (ap (λ o. key_of o c.args.from.now) c.in-Some.is) in
     record {
       looked = looked_on i.looked c.in_ok-last.ensures.safe c.in_ok-last.ensures.same;
+      puts = puts_on 0 0 0 i.puts c.in_ok-last.ensures.puts (omega arith);
       can = rw c.in_ok-push-in-Ok.ensures.ok
           (all_snoc (λ e. g.I.Spelled.Can e.0 × g.X.Spelled.Can e.1) c.loop.found c.in-Ok.row i.can
           c.in-Ok.ensures.can);
@@ -121,3 +124,20 @@ returns-clause-found g c m seen =
       c.in_ok-limit.ensures.gives m seen,
       len-entries (m c.args.space),
     ))
+
+pub returns-in_err-last-clause-puts : goal.returns-in_err-last-clause-puts
+returns-in_err-last-clause-puts g c = puts_on 0 0 0 c.loop.invariant.puts c.in_err-last.ensures.puts (omega arith)
+
+pub returns-in-None-clause-puts : goal.returns-in-None-clause-puts
+returns-in-None-clause-puts g c = puts_on 0 0 0 c.loop.invariant.puts c.in_ok-last.ensures.puts (omega arith)
+
+pub returns-then-not-starts_with-clause-puts : goal.returns-then-not-starts_with-clause-puts
+returns-then-not-starts_with-clause-puts g c =
+    puts_on 0 0 0 c.loop.invariant.puts c.in_ok-last.ensures.puts (omega arith)
+
+pub returns-in_err-push-in-Ok-clause-puts : goal.returns-in_err-push-in-Ok-clause-puts
+returns-in_err-push-in-Ok-clause-puts g c =
+    puts_on 0 0 0 c.loop.invariant.puts c.in_ok-last.ensures.puts (omega arith)
+
+pub returns-in-Err-clause-puts : goal.returns-in-Err-clause-puts
+returns-in-Err-clause-puts g c = puts_on 0 0 0 c.loop.invariant.puts c.in_ok-last.ensures.puts (omega arith)

@@ -18,6 +18,7 @@ returns-clause-told c =
       told = Off;
       faults = plan.faults i;
       doubts = 0;
+      puts = Some 0;
     }
 
 pub invariant_of-result : goal.invariant_of-result

@@ -1,12 +1,13 @@
-use Rattle.std.proofs.Common.{◌≡◌, ◌∙◌, Some, Ok, sym, subst}
+use Rattle.std.proofs.Common.{◌≡◌, ◌∙◌, Option, Some, Ok, arith, refl, sym, subst}
 use Rattle.std.proofs.lemmas.Result.{err_from_is_err_and}
+use Rattle.store_rows.proofs.Putting.{none_more, puts_within}
 use Rattle.event_store.specs.declared.event.Event.{Event}
 use Rattle.event_store.specs.Keeping.{KeepsViews}
 use Rattle.event_store.specs.Seen.{seen_event}
 use Rattle.app_store.specs.Base.{base_of}
 use Rattle.app_store.specs.Serves.{answered}
 use Rattle.node_store.specs.Acting.{joined}
-use Rattle.node_store.specs.Bringing.{AppliesWith}
+use Rattle.node_store.specs.Bringing.{AppliesWith, IsSyncWith, puts_allowed}
 use Rattle.remote_worker.proofs.Abilities.{applied_found, handed_on}
 use Rattle.remote_worker.proofs.worker.Worker+Settled.commit.Goals as goal
 
@@ -43,3 +44,26 @@ returns-clause-applies g c =
     applied_found c.args.self.state.brought (sym c.in-Some.ensures)
     (subst (λ d. AppliesWith event c.args.self.state.brought old (Ok (joined d)) new) c.if-branch.false
     c.in_ok-apply.ensures.applies)
+
+-- the event that waits is the one that is applied
+one_waits : {e found : Event} {o : Option Event} → o ≡ Some e → Some found ≡ o → found ≡ e
+one_waits {e} {found} is same = let both : Some found ≡ Some e = same ∙ is in cc
+
+pub returns-in_err-apply-clause-puts : goal.returns-in_err-apply-clause-puts
+returns-in_err-apply-clause-puts g c e deltas is comes =
+    c.in_err-apply.ensures.puts deltas (subst (λ x. IsSyncWith deltas (seen_event x) c.args.self.state.brought)
+    (sym (one_waits is c.in-Some.ensures)) comes)
+
+pub returns-then-branch-clause-puts : goal.returns-then-branch-clause-puts
+returns-then-branch-clause-puts g c e deltas is comes =
+    c.in_ok-apply.ensures.puts deltas (subst (λ x. IsSyncWith deltas (seen_event x) c.args.self.state.brought)
+    (sym (one_waits is c.in-Some.ensures)) comes)
+
+pub returns-clause-puts : goal.returns-clause-puts
+returns-clause-puts g c e deltas is comes =
+    c.in_ok-apply.ensures.puts deltas (subst (λ x. IsSyncWith deltas (seen_event x) c.args.self.state.brought)
+    (sym (one_waits is c.in-Some.ensures)) comes)
+
+pub returns-in_default-clause-puts : goal.returns-in_default-clause-puts
+returns-in_default-clause-puts g c e deltas is comes =
+    puts_within 0 (puts_allowed deltas) (none_more refl) (omega arith)

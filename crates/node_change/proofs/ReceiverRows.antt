@@ -18,14 +18,14 @@ use Rattle.slon_base.proofs.Spelled.{length-number_bytes}
 use Rattle.store_rows.specs.Rows.{IsId}
 use Rattle.store_rows.specs.Space.{IsSpace}
 use Rattle.store_rows.specs.declared.stop.Stop.{Stop}
-use Rattle.store_rows.proofs.Numbers.{numbers_ordered}
+use Rattle.slon_base.proofs.Numbers.{less_front, numbers_ordered}
 use Rattle.store_rows.proofs.Scanning.{Comes}
 use Rattle.node_rows.specs.declared.rows.Subscription.{Subscription}
 use Rattle.node_rows.specs.Spellings.{subscription_bytes, CanSubscription}
 use Rattle.slon_model.specs.Maps.{Map, Map2, ids, entry_at, row_at, pair_at}
 use Rattle.set_config.specs.Holds.{AreIds, pair_key}
 use Rattle.set_config.proofs.Entries.{not_eq}
-use Rattle.set_config.proofs.Ordering.{less_front, first_before, second_before}
+use Rattle.set_config.proofs.Ordering.{first_before, second_before}
 use Rattle.event_store.specs.Formed.{Lacks, Reads}
 use Rattle.event_store.specs.Ordered.{IsOrdered, AreOrdered}
 use Rattle.node_state.proofs.Formed.{reads_as}

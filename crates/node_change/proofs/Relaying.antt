@@ -1,0 +1,42 @@
+-- What a node keeps of a set that it is told to forward.
+use Rattle.std.proofs.Common.{◌≡◌, ℕ, Bool, true, false, cond, Option, Some, None, refl}
+use Rattle.std.specs.Prelude.{◌==◌, ◌&&◌, not}
+use Rattle.slon_base.specs.Keeper.{Store}
+use Rattle.node_rows.specs.declared.body.Body.{Body}
+use Rattle.node_rows.specs.declared.body.Body.TheVariants.{Sync, SubscribeSet}
+use Rattle.slon_model.specs.Config.{Config, forwards}
+use Rattle.slon_model.specs.Views.{Views, based_at, views_told}
+use Rattle.event_store.specs.Holds.{ShowsStreams}
+use Rattle.event_store.specs.Streams.{Streams}
+use Rattle.node_change.specs.Forwarding.{forwarded_set}
+
+-- the views of the node, which is told to forward this set
+abbrev pub views_by : ℕ → Config → Views → Option ℕ → Views
+views_by own c views None = views
+views_by own c views (Some set) = cond (not (forwards set own c)) (based_at set views) views
+
+pub told_by : (own : ℕ) (body : Body) (c : Config) (views : Views) →
+    views_told own body c views ≡ views_by own c views (forwarded_set own body)
+told_by own Sync c views = refl
+told_by own (SubscribeSet set provider receiver forward) c views = by (receiver == own) forward
+  where
+    by : (is_own on : Bool) → cond (is_own && (on && not (forwards set own c))) (based_at set views) views
+        ≡ views_by own c views (cond (is_own && on) (Some set) None)
+    by false on = refl
+    by true false = refl
+    by true true = refl
+told_by own others c views = refl
+
+-- views that are as they were
+pub same_views : {base : Store} {s : Streams} {m : Store} → ShowsStreams base s m →
+    ShowsStreams base (record s { views = s.views }) m
+same_views shows = record {
+  streams = record {
+    views = shows.streams.views;
+    events = shows.streams.events;
+    confirmations = shows.streams.confirmations;
+    cleaned = shows.streams.cleaned;
+    news = shows.streams.news;
+  };
+  others = shows.others;
+}
