@@ -140,6 +140,8 @@ ordered_give w regular live (order.SetAddTable set origin id name key comment) r
     bind_all (origin_of run origin set w) _ (λ s. search (kept_ok Gives, emits_give s))
 ordered_give w regular live (order.SubscribeSet set provider receiver forward) run =
     bind_all (owner run set w) _ (λ s. search (kept_ok Gives, emits_give s))
+ordered_give w regular live (order.UnsubscribeSet set receiver) run =
+    bind_all (owner run set w) _ (λ s. search (kept_ok Gives, emits_give s))
 ordered_give w regular live (order.Sync id) run = bind_all (reach run id w) _ (λ s. (tt, tt))
 ordered_give w regular live others run = tt
 

@@ -1,5 +1,5 @@
 -- A store that shows what a node has of the streams, with one row changed.
-use Rattle.std.proofs.Common.{◌≡◌, ℕ, true, false, cond, List, ◌∷◌, Option, Some, refl, sym, ap, ◌∙◌, subst}
+use Rattle.std.proofs.Common.{◌≡◌, ℕ, true, false, cond, List, ◌∷◌, Option, Some, None, refl, sym, ap, ◌∙◌, subst}
 use Rattle.std.proofs.Common.{arith, eq-eqb}
 use Rattle.std.specs.Prelude.{◌==◌, ◌&&◌}
 use Rattle.std.proofs.lemmas.Bool.{false≢true, and_parts, false_from_ne_true}
@@ -10,12 +10,12 @@ use Rattle.slon_base.proofs.Spelled.{number_front, number_bytes-same}
 use Rattle.store_rows.specs.Rows.{IsId}
 use Rattle.store_rows.specs.Space.{IsSpace, written}
 use Rattle.store_rows.proofs.Spaces.{Turns, altered}
-use Rattle.slon_model.specs.Maps.{entry_at, with_entry, pair_at}
+use Rattle.slon_model.specs.Maps.{entry_at, with_entry, without_entry, pair_at}
 use Rattle.slon_model.specs.Events.{Event}
-use Rattle.slon_model.specs.Views.{View}
+use Rattle.slon_model.specs.Views.{View, Views}
 use Rattle.set_config.specs.Holds.{AreIds, pair_key}
-use Rattle.set_config.proofs.Entries.{pair_unique, not_eq, entry-with}
-use Rattle.set_config.proofs.Holding.{puts, write_in}
+use Rattle.set_config.proofs.Entries.{alters_one, entry-with, entry-without, id_unique, not_eq, pair_unique}
+use Rattle.set_config.proofs.Holding.{IdTurns, puts, write_in}
 use Rattle.event_store.specs.Streams.{Streams, event_at, confirmed_at}
 use Rattle.event_store.specs.Spellings.{IsStored, IsNumbered, event_bytes, CanEvent, view_bytes, CanView}
 use Rattle.event_store.specs.Holds.{HoldsStreams, ShowsStreams, is_stream}
@@ -151,4 +151,21 @@ with_view {s = s} set v m one can shows = record {
       shows.streams.confirmations shows.streams.cleaned shows.streams.news;
   others = λ space other. elsewhere 9 (Some (view_bytes v)) (number_bytes set) m refl space other
       ∙ shows.others space other;
+}
+
+-- nothing is kept of a set
+drops_view : (set : ℕ) (views : Views) → IsId set → IdTurns CanView views (without_entry set views) set None
+drops_view set views one = record {
+  unique = id_unique;
+  one = one;
+  can = tt;
+  alters = alters_one set None views _ (λ q. entry-without q set views);
+}
+
+pub without_view : {base : Store} {s : Streams} (set : ℕ) (m : Store) → IsId set → ShowsStreams base s m →
+    ShowsStreams base (record s { views = without_entry set s.views }) (write_in 9 None (number_bytes set) m)
+without_view {s = s} set m one shows = record {
+  streams = whole (altered (drops_view set s.views one) shows.streams.views) shows.streams.events
+      shows.streams.confirmations shows.streams.cleaned shows.streams.news;
+  others = λ space other. elsewhere 9 None (number_bytes set) m refl space other ∙ shows.others space other;
 }

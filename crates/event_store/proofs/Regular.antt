@@ -8,13 +8,14 @@ use Rattle.slon_base.specs.Codec.{AllAre}
 use Rattle.store_rows.specs.Rows.{IsId}
 use Rattle.slon_model.specs.Events.{Event}
 use Rattle.slon_model.specs.Maps.{Map, Map2, entry_at, number_at, row_at, pair_at, with_entry, with_pair}
+use Rattle.slon_model.specs.Maps.{without_entry}
 use Rattle.slon_model.specs.Deeds.{Doing, Node, Emits, Applies, Commits, Hears, raised, heard, knowledge, held}
 use Rattle.slon_model.specs.Deeds.{with_deeds, noticed, told_to, told_progress}
 use Rattle.slon_model.specs.Config.{Config, forwards}
 use Rattle.slon_model.specs.Views.{View, Views, based, based_at, views_emitted, views_told}
 use Rattle.slon_model.specs.Views.{with_views}
 use Rattle.node_rows.specs.declared.body.Body.{Body}
-use Rattle.node_rows.specs.declared.body.Body.TheVariants.{Sync, SubscribeSet}
+use Rattle.node_rows.specs.declared.body.Body.TheVariants.{Sync, SubscribeSet, UnsubscribeSet}
 use Rattle.event_store.proofs.Deeds.{kept_views}
 use Rattle.set_config.specs.Holds.{AreIds}
 use Rattle.set_config.proofs.Entries.{entry-with}
@@ -25,7 +26,7 @@ use Rattle.event_store.specs.Ordered.{IsOrdered, AreOrdered}
 use Rattle.event_store.specs.Regular.{AreFalling, IsRegular}
 use Rattle.event_store.specs.Streams.{Streams, streams_of, given}
 use Rattle.event_store.proofs.NewNodes.{pair_told}
-use Rattle.event_store.proofs.Ordered.{ordered_with, with_one, ordered_mapped, ordered_filtered}
+use Rattle.event_store.proofs.Ordered.{ordered_with, with_one, ordered_mapped, ordered_filtered, ordered_without}
 use Rattle.event_store.proofs.Rising.{told_other}
 
 -- ---- an event more
@@ -168,6 +169,11 @@ told_views_ordered own (SubscribeSet set provider receiver forward) c views orde
     elim (receiver == own && (forward && not (forwards set own c))) as
     (λ b. IsOrdered (cond b (based_at set views) views)) [
       | true ↦ based_ordered set views ordered
+      | false ↦ ordered
+    ]
+told_views_ordered own (UnsubscribeSet set receiver) c views ordered =
+    elim (receiver == own) as (λ b. IsOrdered (cond b (without_entry set views) views)) [
+      | true ↦ ordered_without set views ordered
       | false ↦ ordered
     ]
 told_views_ordered own others c views ordered = ordered

@@ -26,4 +26,4 @@ pub use reading::{after, after_is_all};
 pub use streams::{emit, find_event, progress, store};
 pub use syncs::last_sync;
 pub use telling::{Confirmation, confirm_all, confirmations, news};
-pub use view::{View, base_view, find_view, keep_view};
+pub use view::{View, base_view, drop_view, find_view, keep_view};

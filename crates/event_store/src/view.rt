@@ -8,7 +8,7 @@ ghost use Rattle.store_rows.specs.Rows.{IsId};
 ghost use Rattle.store_rows.specs.Spending.{PutsUpTo};
 ghost use Rattle.store_rows.specs.Steps.{Safe, IsOutside, IsWithinLimit, IsOfSpace, Gives};
 ghost use Rattle.store_rows.specs.Space.{IsPending, Becomes, AllOf};
-ghost use Rattle.slon_model.specs.Maps.{entry_at, with_entry};
+ghost use Rattle.slon_model.specs.Maps.{entry_at, with_entry, without_entry};
 ghost use Rattle.slon_model.specs.Views.{based, based_at};
 ghost use Rattle.event_store.specs.Formed.{Lacks, Reads};
 ghost use Rattle.event_store.specs.Holds.{HoldsStreams, ShowsStreams};
@@ -20,7 +20,7 @@ use crate::layout::VIEWS;
 use crate::snapshot::{read_snapshot, spell_snapshot};
 use slon_base::{Keeper, RowFault, RowIn, RowOut};
 use std::alloc::{AllocError, Global};
-use store_rows::{Spelled, Stop, get_row, put_row};
+use store_rows::{Spelled, Stop, del_row, get_row, put_row};
 use txn_core::Snapshot;
 
 /// What a node keeps of a set that it subscribes to: up to where it has applied what the origin of the set logged.
@@ -156,4 +156,21 @@ pub fn base_view<K: Keeper>(alloc: Global, keeper: &mut K, set: u32) -> Result<(
             keep_view(alloc, keeper, set, &now)
         }
     }
+}
+
+/// The node keeps nothing of a set from then on, in what is pending.
+///
+/// # Errors
+///
+/// What stopped the store, and `NoMemory`.
+pub fn drop_view<K: Keeper>(alloc: Global, keeper: &mut K, set: u32) -> Result<(), Stop>
+    requires opened { is_some (K.kept keeper.old).pending ≡ true }
+    requires set { IsId set }
+    ensures safe { Safe (K.kept keeper.old) (K.kept keeper.new) result }
+    ensures puts { PutsUpTo 0 (K.kept keeper.old).puts (K.kept keeper.new).puts }
+    ensures only { IfErr result IsOutside }
+    ensures turns { (base : Store) (s : Streams) → IsPending (ShowsStreams base s) (K.kept keeper.old) →
+        Becomes (ShowsStreams base (record s { views = without_entry set s.views })) (K.kept keeper.new) result }
+{
+    del_row(alloc, keeper, VIEWS, &set)
 }

@@ -1,6 +1,6 @@
 -- Each table that a node keeps was filled with what it held at the origin, and nothing has come on it since.
-use Rattle.std.proofs.Common.{◌≡◌, ◌≢◌, inl, inr, ℕ, ◌<◌, Bool, true, false, cond, List, Option, Some, []}
-use Rattle.std.proofs.Common.{None, refl, sym, ap, subst, ◌∙◌, map, unwrap_or}
+use Rattle.std.proofs.Common.{◌≡◌, ◌≢◌, inl, ℕ, ◌<◌, ◌≤◌, Bool, true, false, cond, List, Option, Some, []}
+use Rattle.std.proofs.Common.{arith, None, refl, sym, ap, subst, ◌∙◌, map, unwrap_or}
 use Rattle.std.specs.Prelude.{◌==◌}
 use Rattle.std.specs.Str.{bytes_eq}
 use Rattle.std.specs.List.{AllByRecursion}
@@ -14,7 +14,7 @@ use Rattle.slon_model.specs.Snapshots.{covers}
 use Rattle.slon_model.specs.Events.{Event}
 use Rattle.slon_model.specs.Config.{Config, change_by, is_table_of, names_of, tables_of, is_origin}
 use Rattle.slon_model.specs.Deeds.{Node, Brought, Knowledge, knowledge, nothing_brought}
-use Rattle.slon_model.specs.Deeds.{view_of, with_deeds}
+use Rattle.slon_model.specs.Deeds.{progress, view_of, with_deeds}
 use Rattle.slon_model.specs.Following.{content, kept_from, set_sync, with_syncs, tables_taken}
 use Rattle.slon_model.specs.Logs.{logged}
 use Rattle.slon_model.specs.Place.{Filling, Place, filling_of, standing_rows}
@@ -26,7 +26,6 @@ use Rattle.slon_model.proofs.Names.{all_map, bytes_same, all_found}
 use Rattle.slon_laws.specs.Sound.{Sound}
 use Rattle.slon_laws.proofs.Later.{HoldsOf}
 use Rattle.stream_laws.specs.Nodes.{IsAmong, nodes_in, node_in, IsEvent}
-use Rattle.stream_laws.specs.Applied.{applied_events}
 use Rattle.stream_laws.proofs.Copies.{Leading}
 use Rattle.stream_laws.proofs.Lists.{all_mapped, all_passed, among_all}
 use Rattle.stream_laws.proofs.Seats.{seat_node, IsSeat}
@@ -37,7 +36,7 @@ use Rattle.image_laws.specs.Facts.{IsHeldBy}
 use Rattle.view_laws.proofs.Doing.{IsTaken, taking}
 use Rattle.view_laws.specs.Contents.{actions_on}
 use Rattle.follow_laws.specs.Filled.{AreFilled, IsFilled}
-use Rattle.view_laws.specs.Known.{IsEmitted}
+use Rattle.view_laws.specs.Known.{IsEmitted, IsSeen, leaves}
 use Rattle.view_laws.specs.Past.{Past, WasBefore, WasUpTo, PastUpTo}
 use Rattle.follow_laws.proofs.Contents.{AreBefore, content_syncs, covered_none, filled_stands, filling_by, synced}
 use Rattle.follow_laws.proofs.Contents.{filling_filled, rows_found, rows_none}
@@ -46,16 +45,18 @@ use Rattle.view_laws.proofs.Emitted.{emitted_in, moment_of}
 use Rattle.follow_laws.proofs.Kept.{filled_later}
 use Rattle.view_laws.proofs.Moments.{now_stays, passes_covers, sound_now, event_now}
 use Rattle.view_laws.proofs.Numbered.{among_map}
-use Rattle.view_laws.proofs.Seen.{is_older, newer_seen, same_seen, seen_more, Copier, seen_from, source_of}
+use Rattle.view_laws.proofs.Seen.{Copier, copied_since, is_older, newer_seen, same_seen, seen_from, seen_taken}
+use Rattle.view_laws.proofs.Seen.{source_of}
 use Rattle.follow_laws.proofs.Tabled.{table_then, tables_stay_known}
 use Rattle.view_laws.proofs.Unmoved.{since, syncs_are, view_then}
 use Rattle.view_laws.proofs.Viewed.{seen_now}
 use Rattle.follow_laws.proofs.Synced.{Reading, Syncing, held_at, same_rows, sync_leads, sync_of, synced_of}
 use Rattle.follow_laws.proofs.Synced.{synced_table}
-use Rattle.view_laws.proofs.Tables.{KnownTable, entry_told, held_then, one_table, table_of}
+use Rattle.view_laws.proofs.Tables.{KnownTable, entry_told, held_then, known_within, one_table, table_of}
+use Rattle.view_laws.proofs.Tables.{table_origin}
 use Rattle.view_laws.proofs.Copied.{CopySource, FromForwarder, FromOrigin, copy_asks, enables_feeds, feeder_is}
 use Rattle.view_laws.proofs.Copied.{feeder_leads}
-use Rattle.view_laws.proofs.Copied.{stays_leading}
+use Rattle.view_laws.proofs.Copied.{seen_leads, stays_leading}
 use Rattle.view_laws.proofs.Agreeing.{known_there, table_known}
 use Rattle.slon_laws.specs.Worlds.{AllPlaces}
 use Rattle.std.proofs.lemmas.Simd.{map-map}
@@ -128,11 +129,6 @@ rows_then t k table before =
     by None = sym (filled_stands p table before)
     by (Some rows) = refl
 
--- the node behind the event applied no less
-more_then : (t : Past) (k : Taking t) (e : Event) → IsAmong e (applied_events k.carried.seat.node) →
-    IsAmong e (applied_events (node_then k))
-more_then t k e among = inr among
-
 -- a table that the node kept before
 pub was_filled : (t : Past) (k : Taking t) (e : ℕ × TableRow) →
     IsAmong e (knowledge k.carried.seat.node).config.tables →
@@ -142,16 +138,16 @@ was_filled t k e among v found =
     filled_later t k.carried.seat.place k.carried.seat.node e.1.set_id v e.1.name
     (k.filled k.carried.seat.node k.is.work.seat.node e among v found)
 
--- where the content is as before
+-- where the content is as before, and the node keeps the set
 pub still_filled : (t : Past) (k : Taking t) (e : ℕ × TableRow) →
     IsAmong e (knowledge k.carried.seat.node).config.tables →
     (v : View) → view_of e.1.set_id (knowledge k.carried.seat.node) ≡ Some v →
-    content k.carried.seat.place k.carried.brought.rows e.1.name ≡ standing_rows k.carried.seat.place e.1.name →
-    FilledThen k e v
-still_filled t k e among v found same =
+    (content k.carried.seat.place k.carried.brought.rows e.1.name ≡ standing_rows k.carried.seat.place e.1.name)
+    × (leaves e.1.set_id k.carried.seat.node.id k.carried.event.body ≡ false) → FilledThen k e v
+still_filled t k e among v found (same, stays) =
     let f = was_filled t k e among v found in
     record {
-      seen = seen_more (WasUpTo t) k.carried.seat.node (node_then k) refl (more_then t k) e.1.set_id v f.seen;
+      seen = seen_taken t k.carried e.1.set_id v stays f.seen;
       rows =
           rows_then t k e.1.name f.before ∙ same ∙ filled_stands k.carried.seat.place e.1.name f.before ∙ f.rows;
       before = before_then t k e.1.name f.before;
@@ -296,11 +292,36 @@ provider_filled t k c e v found =
       among = table_was t k c e;
     }
 
+    y : IsEvent (nodes_in u.world.places) k.carried.event
+    y = c.at.work.event
+
+    -- the provider is no less far in the stream of the origin than the node
+    origin : (table_of u known).event.origin ≡ k.carried.event.origin
+    origin =
+        let seen = seen_now u p.name p.node at set v found in
+        table_origin u (table_of u known) p.node v (subst (λ i. IsSeen (WasUpTo u) p.node i v) (sym e.same) seen)
+        ∙ seen_leads u p.node set v seen (record {
+          name = y.name;
+          node = y.node;
+          is = y.is;
+          leads =
+              feeder_leads u k.carried.event y set (enables_feeds set c.at.seat.node.id k.carried.event.body
+              (copy_asks u.world c.at.seat k.carried.event c.found c.copy));
+        }) ∙ y.own
+
+    within : (table_of u known).event.number ≤ progress (table_of u known).event.origin (knowledge c.at.seat.node) →
+        (table_of u known).event.number ≤ progress (table_of u known).event.origin (knowledge p.node)
+    within less =
+        let next = c.at.work.next in
+        let far = c.copy.reached.1 in
+        let here = ap (λ i. progress i (knowledge c.at.seat.node)) origin in
+        let there = ap (λ i. progress i (knowledge p.node)) origin in
+        omega (arith, less, next, far, here, there)
+
     named : IsAmong e.entry.1.name (names_of set (knowledge p.node).config)
     named =
         subst (λ i. IsAmong e.entry.1.name (names_of i (knowledge p.node).config)) e.same
-        (known_there u known p.name p.node at v
-        (seen_now u p.name p.node at e.entry.1.set_id v (ap (λ i. view_of i (knowledge p.node)) e.same ∙ found)))
+        (known_there u known p.name p.node at (within (known_within u known)))
 
     there : (f : ℕ × TableRow) × IsAmong f (knowledge p.node).config.tables × (f.1.set_id ≡ set)
         × (e.entry.1.name ≡ f.1.name)
@@ -319,6 +340,7 @@ copier_of t k c e =
       node = node_then k;
       id = refl;
       applied = inl refl;
+      since = copied_since t k.carried k.origin k.is c;
     }
 
 -- a table of the set that is copied
@@ -519,6 +541,9 @@ sync_filled t k y e among v found from = by (covers v.seen event.taken) refl
       leads = emitted.leads;
     }
 
+    stays : leaves e.1.set_id k.carried.seat.node.id event.body ≡ false
+    stays = ap (leaves e.1.set_id k.carried.seat.node.id) y.follows.body
+
     actions : List Action
     actions = actions_on e.1.name (sync_of z (e.1.set_id, v)).rows
 
@@ -551,7 +576,7 @@ sync_filled t k y e among v found from = by (covers v.seen event.taken) refl
         FilledThen k e (record v { number = event.number; seen = cond b v.seen event.taken })
     by true covered = record {
       seen = same_seen (WasUpTo t) (node_then k) e.1.set_id v event.number
-          (seen_more (WasUpTo t) k.carried.seat.node (node_then k) refl (more_then t k) e.1.set_id v was.seen);
+          (seen_taken t k.carried e.1.set_id v stays was.seen);
       rows =
           now ∙ ap (λ ls. applied (actions_on e.1.name ls) (standing_rows was.seen.moment.place e.1.name))
           (covered_none event.origin _ v.seen event.taken (logged y.at.work.event.node)
@@ -562,8 +587,7 @@ sync_filled t k y e among v found from = by (covers v.seen event.taken) refl
         let later = is_older t k.carried.seat.node e.1.set_id v event (emitted_now, sym from) was.seen differ in
         record {
           seen = newer_seen (WasUpTo t) (node_then k) e.1.set_id v event (emitted_now, sym from)
-              (seen_more (WasUpTo t) k.carried.seat.node (node_then k) refl (more_then t k) e.1.set_id v was.seen)
-              later;
+              (seen_taken t k.carried e.1.set_id v stays was.seen) later;
           rows =
               now ∙ ap (applied actions) same
               ∙ sync_leads then z from emitted

@@ -46,8 +46,8 @@ use Rattle.follow_laws.proofs.Kept.{same_filled, takes_known, tells_ahead}
 use Rattle.view_laws.proofs.Moments.{NodeAt, now_stays}
 use Rattle.follow_laws.proofs.Opened.{open_move}
 use Rattle.view_laws.proofs.Rising.{found_in, stands_found}
-use Rattle.view_laws.proofs.Seen.{based_seen, seen_more, syncs_seen}
-use Rattle.view_laws.proofs.Turned.{IsBased, IsSame, IsToldAs, found_told}
+use Rattle.view_laws.proofs.Seen.{based_seen, seen_same, syncs_seen}
+use Rattle.view_laws.proofs.Turned.{IsBased, IsSame, IsToldAs, found_stays, found_told}
 use Rattle.view_laws.proofs.Tables.{Today, held_today, held_then, moment_today}
 use Rattle.follow_laws.proofs.Synced.{image_then, synced_nothing}
 use Rattle.view_laws.proofs.Agreeing.{table_known}
@@ -101,7 +101,10 @@ takes_filled t k e among v found =
         ≡ standing_rows k.carried.seat.place e.1.name → Filled v
     still old same =
         let of = found_told n.id e.1.set_id event.body (knowledge n).config (knowledge n).views v old.0 in
-        as_told of.0 of.2 (still_filled t k e (known_before t k e of.0 of.1 among) of.0 of.1 same)
+        as_told of.0 of.2 (still_filled t k e (known_before t k e of.0 of.1 among) of.0 of.1 (
+          same,
+          found_stays n.id e.1.set_id event.body (knowledge n).config (knowledge n).views v old.0,
+        ))
 
     by : IsBrought t k.carried.seat event k.carried.brought →
         IsAmong (e.1.set_id, v) k.carried.brought.views ⊎ Kept →
@@ -177,7 +180,7 @@ done_filled t task p here was m at e among v found = by (done_logs move p)
 
     -- the node of before
     from : (n : Node) → p.node ≡ Some n → (o : Node) → (o.id ≡ n.id) × ((knowledge o ≡ knowledge n)
-        × ((f : Event) → IsAmong f (applied_events n) → IsAmong f (applied_events o))) → m ≡ o →
+        × (applied_events o ≡ applied_events n)) → m ≡ o →
         IsFilled (WasUpTo t) (done move p) m e.1.set_id v e.1.name
     from n is o same one =
         let there = subst (λ (j : Knowledge). IsAmong e j.config.tables) (ap knowledge one ∙ same.1.0) among in
@@ -185,8 +188,8 @@ done_filled t task p here was m at e among v found = by (done_logs move p)
         let f = filled_later t p n e.1.set_id v e.1.name (was n is e there v view) in
         let name = here n is in
         record {
-          seen = seen_more (WasUpTo t) n m (ap (λ (x : Node). x.id) one ∙ same.0)
-              (λ g in_n. subst (λ x. IsAmong g (applied_events x)) (sym one) (same.1.1 g in_n)) e.1.set_id v f.seen;
+          seen = seen_same (WasUpTo t) n m (ap (λ (x : Node). x.id) one ∙ same.0) (ap applied_events one ∙ same.1.1)
+              e.1.set_id v f.seen;
           rows = ap (λ fillings. (filling_of e.1.name fillings).rows) (done_fillings move p) ∙ f.rows;
           before =
               subst (λ fillings. AreBefore e.1.name (filling_of e.1.name fillings).first (done move p).actions)
@@ -205,10 +208,10 @@ done_filled t task p here was m at e among v found = by (done_logs move p)
         IsFilled (WasUpTo t) (done move p) m e.1.set_id v e.1.name
     made xid None is none = absurd cc
     made xid (Some n) is some =
-        from n is (with_commit xid p n) (refl, (refl, λ f in_n. in_n)) (sym (one_found (with_commit xid p n) m some))
+        from n is (with_commit xid p n) (refl, (refl, refl)) (sym (one_found (with_commit xid p n) m some))
 
     by : Logs p (done move p).node → IsFilled (WasUpTo t) (done move p) m e.1.set_id v e.1.name
-    by (inl same) = from m (sym same ∙ at) m (refl, (refl, λ f in_n. in_n)) refl
+    by (inl same) = from m (sym same ∙ at) m (refl, (refl, refl)) refl
     by (inr (xid, log)) = made xid p.node refl (sym log ∙ at)
 
 -- ---- a commit
@@ -263,8 +266,7 @@ tells_filled t c p d was m at e among v found = by (a.tables e there)
               (emissions_bring d.seat (next_event d.seat) d.emits);
           actions = refl;
           id = ap (λ (x : Node). x.id) one ∙ a.id;
-          more = λ f in_n. subst (λ x. IsAmong f (applied_events x)) (sym one)
-              (subst (IsAmong f) (sym a.applied) in_n);
+          applied = ap applied_events one ∙ a.applied;
         }) e.1.set_id v e.1.name (filled_later t p n e.1.set_id v e.1.name (was n here e known v view))
 
     by : IsAmong e (knowledge n).config.tables ⊎ (is_origin n.id e.1.set_id (knowledge n).config ≡ true) →
@@ -313,7 +315,7 @@ hears_filled t c p d was m at e among v found =
       fillings = ap (λ (k : Commit). filled_by p k.deeds p.fillings) d.commit;
       actions = refl;
       id = ap (λ (x : Node). x.id) one;
-      more = λ f in_n. subst (λ x. IsAmong f (applied_events x)) (sym one) in_n;
+      applied = ap applied_events one;
     }) e.1.set_id v e.1.name (filled_later t p n e.1.set_id v e.1.name (was n here e
     (subst (λ x. IsAmong e (knowledge x).config.tables) one among) v
     (ap (λ x. view_of e.1.set_id (knowledge x)) (sym one) ∙ found)))
@@ -366,7 +368,7 @@ alike_filled Was p q same was n is e among v found =
       fillings = same.1.0;
       actions = same.1.1;
       id = refl;
-      more = λ f in_n. in_n;
+      applied = refl;
     }) e.1.set_id v e.1.name
     (was n (sym same.0 ∙ is) e among v found)
 

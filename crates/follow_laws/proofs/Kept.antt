@@ -3,16 +3,15 @@ use Rattle.std.proofs.Common.{◌≡◌, ◌⊎◌, inl, inr, ℕ, Bool, true, f
 use Rattle.std.proofs.Common.{ap, subst, ◌∙◌, arith, is_some}
 use Rattle.std.specs.Prelude.{◌==◌, ◌&&◌, nat_lt}
 use Rattle.std.specs.Str.{bytes_eq}
-use Rattle.std.proofs.lemmas.Bool.{false≢true, false_from_ne_true}
+use Rattle.std.proofs.lemmas.Bool.{eq-eqb, false≢true, false_from_ne_true}
 use Rattle.node_rows.specs.declared.body.Body.{Body}
 use Rattle.node_rows.specs.declared.body.Body.TheVariants.{SetAddTable, DropSet, MoveSet, FailoverSet}
 use Rattle.node_rows.specs.declared.rows.TableRow.{TableRow}
 use Rattle.slon_model.specs.declared.fault.DbFault.TheVariants.{NotOrigin, SetLocked}
 use Rattle.slon_model.specs.Maps.{Map, with_entry}
-use Rattle.slon_model.specs.Events.{Event}
 use Rattle.slon_model.specs.Config.{Config, change_by, is_locked, is_origin, set_of}
 use Rattle.slon_model.specs.Deciding.{closed_at, closed_set}
-use Rattle.slon_model.specs.Deeds.{Node, knowledge, view_of, with_deeds}
+use Rattle.slon_model.specs.Deeds.{Node, knowledge, progress, view_of, with_deeds}
 use Rattle.slon_model.specs.Moves.{Move, Founds, Writes, done}
 use Rattle.slon_model.specs.Place.{Place, filling_of}
 use Rattle.slon_model.specs.Sessions.{World, Seat, Emission, emissions, next_event}
@@ -27,7 +26,7 @@ use Rattle.stream_laws.proofs.Copies.{one_leader}
 use Rattle.stream_laws.proofs.Seats.{seat_node}
 use Rattle.image_laws.proofs.Since.{first_fillings, first_same, prepared_fillings, prepared_same}
 use Rattle.view_laws.proofs.Doing.{IsTaken, AreAllowed, IsAllowed}
-use Rattle.view_laws.specs.Known.{IsSeen}
+use Rattle.view_laws.specs.Known.{IsSeen, adds as adds_to}
 use Rattle.follow_laws.specs.Filled.{IsFilled}
 use Rattle.view_laws.specs.Past.{Past, WasBefore, WasUpTo}
 use Rattle.follow_laws.proofs.Contents.{AreBefore}
@@ -35,11 +34,11 @@ use Rattle.view_laws.proofs.Viewed.{seen_now}
 use Rattle.view_laws.proofs.Living.{IsOfFeed, Says, deed_of, event_of, tells_lives}
 use Rattle.view_laws.proofs.Moments.{now_stays, regular_now}
 use Rattle.follow_laws.proofs.Opened.{IsOpenMove}
-use Rattle.view_laws.proofs.Seen.{same_views, seen_later, seen_more}
+use Rattle.view_laws.proofs.Seen.{same_views, seen_later, seen_same}
 use Rattle.image_laws.proofs.Staying.{Stays}
-use Rattle.view_laws.proofs.Tables.{KnownTable, found_in_set}
-use Rattle.view_laws.proofs.Unfed.{may_emitted, says_emitted}
-use Rattle.view_laws.proofs.Within.{came_within}
+use Rattle.view_laws.proofs.Tables.{KnownTable, Table, found_in_set, table_origin}
+use Rattle.view_laws.proofs.Saying.{may_emitted, says_emitted}
+use Rattle.view_laws.proofs.Standing.{Viewer, added_within}
 use Rattle.view_laws.proofs.Copied.{stays_leading}
 
 -- ---- the same fillings
@@ -49,7 +48,7 @@ pub filled_later : (t : Past) (p : Place) (n : Node) (set : ℕ) (v : View) (tab
 filled_later t p n set v table f =
     record { seen = seen_later t n set v f.seen; rows = f.rows; before = f.before }
 
--- A database that is filled as before, and whose node applied no less.
+-- A database that is filled as before, and whose node applied the same.
 pub record Alike : Type 0 where
   pub before : Place
   pub behind : Place
@@ -58,12 +57,12 @@ pub record Alike : Type 0 where
   pub fillings : behind.fillings ≡ before.fillings
   pub actions : behind.actions ≡ before.actions
   pub id : later.id ≡ node.id
-  pub more : (e : Event) → IsAmong e (applied_events node) → IsAmong e (applied_events later)
+  pub applied : applied_events later ≡ applied_events node
 
 pub same_filled : (Was : World → Type 0) (a : Alike) (set : ℕ) (v : View) (table : List ℕ) →
     IsFilled Was a.before a.node set v table → IsFilled Was a.behind a.later set v table
 same_filled Was a set v table f = record {
-  seen = seen_more Was a.node a.later a.id a.more set v f.seen;
+  seen = seen_same Was a.node a.later a.id a.applied set v f.seen;
   rows = ap (λ fillings. (filling_of table fillings).rows) a.fillings ∙ f.rows;
   before =
       subst (λ fillings. AreBefore table (filling_of table fillings).first a.behind.actions) (sym a.fillings)
@@ -213,16 +212,33 @@ takes_known t x origin is e v found among =
     own : nodes_in t.world.places x.seat.name ≡ Some n
     own = seat_node t.world.places x.seat is.work.seat
 
+    viewer : Viewer t
+    viewer = record {
+      name = x.seat.name;
+      node = n;
+      is = own;
+      set_id = e.1.set_id;
+      view = v;
+      seen = seen_now t x.seat.name n own e.1.set_id v found;
+    }
+
+    -- the origin would have told the node before to give the set up
     never : x.event.body ≡ SetAddTable e.1.set_id e.0 e.1.name e.1.comment → ⊥
-    never adds =
-        let within = came_within t x.seat.name n own (record {
+    never body =
+        let table : Table t = record {
           event = x.event;
           is = is.work.event;
           set_id = e.1.set_id;
           id = e.0;
           name = e.1.name;
           comment = e.1.comment;
-          body = adds;
-        }) v (seen_now t x.seat.name n own e.1.set_id v found) in
+          body = body;
+        } in
+        let from = table_origin t table n v viewer.seen in
         let next = is.work.next in
-        omega (arith, within, next)
+        let at = ap (λ i. progress i (knowledge n)) from in
+        elim (added_within t viewer x.event is.work.event
+        (from, ap (adds_to e.1.set_id) body ∙ eq-eqb e.1.set_id e.1.set_id refl)) [
+          | inl before ↦ omega (arith, before, next, at)
+          | inr behind ↦ omega (arith, behind, next, at)
+        ]

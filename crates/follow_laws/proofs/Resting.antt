@@ -166,7 +166,11 @@ tables_stay limit history later w v leads leads_on name p q found found_later n 
         (ap (λ x. set_of table (knowledge x).config) (sym one) ∙ stays.2.members table set set_then)
 
     goes : GoesOn set view m
-    goes = views_go_on limit history later w v leads leads_on name p q found found_later n m is_n is_m set view kept
+    goes = elim (views_go_on limit history later w v leads leads_on name p q found found_later n m is_n is_m set view
+        kept) [
+          | inl on ↦ on
+          | inr left ↦ absurd (left.new (subst (IsAmong left.event) same left.applied))
+        ]
 
     rows : standing_rows q table ≡ (filling_of table q.fillings).rows
     rows =

@@ -4,6 +4,7 @@ use Rattle.slon_model.specs.World.{World, Happening, Leads, start}
 use Rattle.stream_laws.proofs.Laws.{events_are_applied_once}
 use Rattle.follow_laws.proofs.Earlier.{sets_were_so}
 use Rattle.view_laws.proofs.Going.{views_go_on}
+use Rattle.view_laws.proofs.Viewed.{views_begin}
 use Rattle.follow_laws.proofs.Holding.{tables_follow}
 use Rattle.follow_laws.specs.Subscribed.{Subscribed}
 
@@ -16,5 +17,6 @@ subscribed limit history w leads = record {
   views = λ earlier later u parts begins goes_on k q found m at.
       views_go_on limit earlier later u w begins goes_on k.name k.place q k.found found k.node m k.at at k.set_id k.view
       k.keeps;
+  begins = λ k. views_begin limit history w leads k.name k.place k.found k.node k.at k.set_id k.view k.keeps;
   events = events_are_applied_once limit history w leads;
 }

@@ -9,7 +9,7 @@ use Rattle.node_rows.specs.declared.rows.TableRow.{TableRow}
 use Rattle.slon_model.specs.Names.{find_named}
 use Rattle.slon_model.specs.Maps.{Map}
 use Rattle.slon_model.specs.Rows.{Action, Rows}
-use Rattle.slon_model.specs.Snapshots.{Snapshot, Covers}
+use Rattle.slon_model.specs.Snapshots.{Covers}
 use Rattle.slon_model.specs.Config.{Config, era_of, is_origin, is_table_of, tables_of}
 use Rattle.slon_model.specs.Deeds.{Knowledge, Logged, knowledge, view_of}
 use Rattle.slon_model.specs.Eras.{image_in}

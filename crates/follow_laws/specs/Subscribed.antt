@@ -1,5 +1,5 @@
 -- What holds of the nodes that keep sets in the session that a history led to.
-use Rattle.std.specs.Prelude.{◌≡◌, ◌++◌, ℕ, List, Some}
+use Rattle.std.specs.Prelude.{◌≡◌, ◌⊎◌, ◌++◌, ℕ, List, Some}
 use Rattle.slon_model.specs.Names.{find_named}
 use Rattle.slon_model.specs.Config.{names_of}
 use Rattle.slon_model.specs.Views.{View}
@@ -8,7 +8,7 @@ use Rattle.slon_model.specs.Place.{Place}
 use Rattle.slon_model.specs.World.{World, Happening, Leads, start}
 use Rattle.stream_laws.specs.Nodes.{IsAmong}
 use Rattle.stream_laws.specs.Laws.{AreApplied}
-use Rattle.view_laws.specs.Laws.{GoesOn}
+use Rattle.view_laws.specs.Laws.{GaveUp, GoesOn, IsCopiedBy}
 use Rattle.follow_laws.specs.Laws.{HoldsAsSeen, WasSo}
 
 -- A node of a session that keeps a set: its database, and how far it is in the set.
@@ -29,9 +29,13 @@ pub record Subscribed (limit : ℕ) (history : List Happening) (w : World) : Typ
       HoldsAsSeen w k.place k.node k.set_id k.view table
   -- all tables of the set stood so at the origin, at one moment of the history
   pub sets : (k : Keeping w) → WasSo limit history w k.place k.node k.set_id k.view
-  -- who kept a set in an earlier session of the history keeps it, and its snapshot has not gone back
+  -- who kept a set in an earlier session of the history keeps it, and its snapshot has not gone back, unless the node
+  -- has applied since then that it gives the set up
   pub views : (earlier later : List Happening) (u : World) → later ++ earlier ≡ history →
       Leads (start limit) earlier u → Leads u later w → (k : Keeping u) (q : Place) →
-      find_named k.name w.places ≡ Some q → (m : Node) → q.node ≡ Some m → GoesOn k.set_id k.view m
+      find_named k.name w.places ≡ Some q → (m : Node) → q.node ≡ Some m →
+      GoesOn k.set_id k.view m ⊎ GaveUp k.set_id k.view k.node m
+  -- it copied the set, and has not given it up since
+  pub begins : (k : Keeping w) → IsCopiedBy k.set_id k.node k.view
   -- each event of another node was applied once, in the order of its stream
   pub events : AreApplied w

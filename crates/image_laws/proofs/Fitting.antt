@@ -18,7 +18,7 @@ use Rattle.node_rows.specs.declared.rows.Subscription.{Subscription}
 use Rattle.node_rows.specs.declared.rows.TableRow.{TableRow}
 use Rattle.node_rows.specs.declared.body.Body.{Body}
 use Rattle.node_rows.specs.declared.body.Body.TheVariants.{Sync, StoreNode, StorePath, DropPath, StoreSet, DropSet}
-use Rattle.node_rows.specs.declared.body.Body.TheVariants.{SetAddTable, MoveSet, FailoverSet}
+use Rattle.node_rows.specs.declared.body.Body.TheVariants.{SetAddTable, UnsubscribeSet, MoveSet, FailoverSet}
 use Rattle.slon_model.specs.Names.{Named, find_named}
 use Rattle.slon_model.specs.Maps.{entry_at, pair_at}
 use Rattle.slon_model.specs.Events.{Event}
@@ -34,6 +34,7 @@ use Rattle.slon_model.specs.Reaching.{database_of_line, reach, down_among, any_d
 use Rattle.slon_model.specs.Reaching.{commit_of, emitting}
 use Rattle.slon_model.specs.Sets.{NewTable, adding, create_set, set_add_table}
 use Rattle.slon_model.specs.Subscribing.{NewFeed, subscribing, bodies_of, told_bodies, all_tell, subscribe_set}
+use Rattle.slon_model.specs.Subscribing.{unsubscribe_set}
 use Rattle.slon_model.specs.Scripts.{ordered}
 use Rattle.slon_model.specs.Turns.{on_turn, sync_turn}
 use Rattle.slon_model.specs.Polls.{Poll, polled, stated_by, hearing}
@@ -403,6 +404,13 @@ feed_fit f run w r =
     (feed_is_quiet (era_of f.set_id s.known.config) f had) in
     search (kept_ok (IsStated w), fit))
 
+leave_fit : (set receiver : ℕ) (run : Running) (w : World) → Ready w →
+    OnOk (IsStated w) (unsubscribe_set set receiver run w)
+leave_fit set receiver run w r =
+    bind_ok (IsSeat w.places) (IsStated w) (owner run set w) _ (owner_ok run set w r.regular.once)
+    (λ s is. let fit = quiet_fit w s (UnsubscribeSet set receiver ∷ []) is (λ origin number c. (refl, refl), tt) in
+    search (kept_ok (IsStated w), fit))
+
 ordered_fit : (w : World) → Ready w → (o : Order) (run : Running) → OnOk (IsStated w) (ordered o run w)
 ordered_fit w r (order.InitCluster id comment) run = init_fit id comment run w
 ordered_fit w r (order.StoreNode id event_node comment) run = store_fit id event_node comment run w r
@@ -413,6 +421,7 @@ ordered_fit w r (order.SetAddTable set origin id name key comment) run =
     table_fit origin (record { set_id = set; id = id; name = name; comment = comment_of comment }) run w
 ordered_fit w r (order.SubscribeSet set provider receiver forward) run =
     feed_fit (subscribing set provider receiver forward) run w r
+ordered_fit w r (order.UnsubscribeSet set receiver) run = leave_fit set receiver run w r
 ordered_fit w r (order.Sync id) run =
     reached w id run _ (λ s is. quiet_fit w s (Sync ∷ []) is.0 sync_is_quiet)
 ordered_fit w r others run = tt

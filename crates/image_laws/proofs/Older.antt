@@ -1,6 +1,6 @@
 -- That the actions up to a number are of earlier transactions stays so.
-use Rattle.std.proofs.Common.{◌≡◌, ℕ, suc, ◌<◌, ◌≤◌, true, false, inl, inr, Some, List, [], ◌∷◌, ◌++◌, refl, sym}
-use Rattle.std.proofs.Common.{ap, subst, ◌∙◌, arith}
+use Rattle.std.proofs.Common.{◌≡◌, ℕ, suc, ◌<◌, ◌≤◌, true, false, inl, inr, Some, List, [], ◌∷◌, ◌++◌, sym}
+use Rattle.std.proofs.Common.{subst, ◌∙◌, arith}
 use Rattle.std.specs.List.{AllByRecursion}
 use Rattle.std.proofs.lemmas.Bool.{false≢true}
 use Rattle.slon_model.specs.Names.{find_named}
@@ -10,7 +10,7 @@ use Rattle.slon_model.specs.Tasks.{Task}
 use Rattle.slon_model.specs.Place.{Place, taken}
 use Rattle.slon_model.specs.Moves.{Move, Founds, Writes, prepared, done}
 use Rattle.slon_model.specs.World.{World, Happening, Leads}
-use Rattle.slon_model.proofs.Names.{all_found, all_map, one_found}
+use Rattle.slon_model.proofs.Names.{all_map, one_found}
 use Rattle.slon_laws.specs.Older.{AreOlder, IsOlder}
 use Rattle.slon_laws.specs.Sound.{Sound}
 use Rattle.slon_laws.specs.Allowed.{MayMove}
@@ -18,11 +18,11 @@ use Rattle.slon_laws.specs.Worlds.{AllPlaces}
 use Rattle.slon_laws.specs.Turning.{IsWithin}
 use Rattle.slon_laws.specs.Keeps.{Keeps}
 use Rattle.slon_laws.proofs.Covering.{Outlasts, outlasts_itself, keeps_outlasting}
-use Rattle.slon_laws.proofs.Later.{KeptBySteps, HoldsOf, holds_later}
+use Rattle.slon_laws.proofs.Later.{KeptBySteps, holds_later}
 use Rattle.slon_laws.proofs.Lists.{all_among}
 use Rattle.slon_laws.proofs.Worlds.{sound_world}
 use Rattle.stream_laws.specs.Nodes.{IsAmong}
-use Rattle.image_laws.specs.Laws.{WasTaken, SnapshotsDivide, OlderStay}
+use Rattle.image_laws.specs.Laws.{SnapshotsDivide, OlderStay}
 use Rattle.image_laws.proofs.Deltas.{taken_since}
 use Rattle.image_laws.proofs.Since.{first_same, prepared_same}
 
@@ -93,8 +93,8 @@ older_now p s number reached = record {
 }
 
 -- an action that it sees was there
-seen_there : (k : Snapshot) (a : Action) (more old : List Action) → AllByRecursion (λ b. sees k b.xid ≡ false) more →
-    IsAmong a (more ++ old) → sees k a.xid ≡ true → IsAmong a old
+pub seen_there : (k : Snapshot) (a : Action) (more old : List Action) →
+    AllByRecursion (λ b. sees k b.xid ≡ false) more → IsAmong a (more ++ old) → sees k a.xid ≡ true → IsAmong a old
 seen_there k a [] old unseen among seen = among
 seen_there k a (b ∷ more) old unseen among seen = elim among [
   | inl is ↦ absurd (false≢true (sym unseen.0 ∙ subst (λ c. sees k c.xid ≡ true) is seen))

@@ -1,32 +1,32 @@
 -- A node applies an event of the stream of a net: the node of the net does too.
 use Rattle.std.proofs.Common.{◌≡◌, ◌≢◌, ◌⊎◌, inl, inr, ℕ, ◌≤◌, Bool, true, false, cond, List, ◌∷◌, not, suc}
 use Rattle.std.proofs.Common.{length, Option, Some, None, refl, sym, ap, subst, ◌∙◌, arith, unwrap_or}
-use Rattle.std.specs.Prelude.{◌+◌, ◌==◌, max, option_map, ◌&&◌, ◌||◌}
+use Rattle.std.specs.Prelude.{◌+◌, ◌==◌, max, option_map, ◌&&◌}
 use Rattle.std.specs.Str.{bytes_eq}
-use Rattle.std.proofs.lemmas.Bool.{eqb-true, eq-eqb, true≢false, false≢true, le-ltb, lt-ltb, cases_eq, cases_lt}
+use Rattle.std.proofs.lemmas.Bool.{eqb-true, eq-eqb, true≢false, le-ltb, lt-ltb, cases_eq, cases_lt}
 use Rattle.node_rows.specs.declared.rows.Subscription.{Subscription}
 use Rattle.node_rows.specs.declared.body.Body.{Body}
-use Rattle.node_rows.specs.declared.body.Body.TheVariants.{Sync, SubscribeSet, EnableSubscription}
+use Rattle.node_rows.specs.declared.body.Body.TheVariants.{Sync, SubscribeSet, EnableSubscription, UnsubscribeSet}
 use Rattle.net_laws.specs.Updates.{set_at}
-use Rattle.net_laws.specs.Subscriptions.{Subscribe, Enable, Unrelated, Subscription as Row}
+use Rattle.net_laws.specs.Subscriptions.{Event as Said, Subscribe, Enable, Unsubscribe, Unrelated}
+use Rattle.net_laws.specs.Subscriptions.{Subscription as Row}
 use Rattle.net_laws.specs.Subscriptions.{last_moment, row, up_to}
-use Rattle.net_laws.specs.Net.{Applies as AppliesStep, Copies as CopiesTurn, Here, IsIn, IsQuiet, Logs, More}
+use Rattle.net_laws.specs.Net.{Applies as AppliesStep, Copies as CopiesTurn, Here, IsIn, IsStale, Logs, More}
+use Rattle.net_laws.specs.Net.{Skips}
 use Rattle.net_laws.specs.Net.{Net}
 use Rattle.net_laws.specs.Net.{Node as NetNode, Passes, Syncs as SyncsTurn, Turn, configured, copied, heard, passed}
 use Rattle.net_laws.specs.Net.{stretch}
-use Rattle.net_laws.specs.Net.{Turns as TurnsTurn, synced, turned_by}
+use Rattle.net_laws.specs.Net.{synced}
 use Rattle.net_laws.proofs.Laws.{view_has_row}
 use Rattle.net_laws.proofs.Prefixes.{length_up_to}
 use Rattle.net_laws.proofs.Updates.{set_here, set_other}
-use Rattle.slon_model.specs.Maps.{entry_at, number_at, with_entry, pair_at}
-use Rattle.slon_model.specs.Config.{forwards}
+use Rattle.slon_model.specs.Maps.{number_at, with_entry, pair_at}
 use Rattle.slon_model.specs.Snapshots.{Snapshot, covers, sees}
 use Rattle.slon_model.specs.Events.{Event, is_sync}
-use Rattle.slon_model.specs.Deeds.{Brought, Logged, Node, knowledge, stream, view_of, Knowledge, progress}
-use Rattle.slon_model.specs.Deeds.{nothing_brought}
+use Rattle.slon_model.specs.Deeds.{Logged, Node, knowledge, stream, view_of, Knowledge, progress}
 use Rattle.slon_model.specs.Logs.{logged}
 use Rattle.slon_model.specs.Sessions.{Seat}
-use Rattle.slon_model.specs.Views.{View, based, later_of, view_after, views_told, with_views}
+use Rattle.slon_model.specs.Views.{View, later_of, view_after}
 use Rattle.slon_model.specs.Working.{Copying, ToCopy, errand_in, receives_from, ToFollow}
 use Rattle.slon_model.proofs.Names.{bytes_itself, one_found}
 use Rattle.stream_laws.specs.Nodes.{IsAmong, nodes_in, IsEvent}
@@ -36,31 +36,32 @@ use Rattle.image_laws.proofs.Logging.{among_left, among_right}
 use Rattle.image_laws.proofs.Orders.{order_in, order_is}
 use Rattle.image_laws.proofs.Ticking.{counts_tell}
 use Rattle.view_laws.specs.Past.{Past}
-use Rattle.view_laws.specs.Known.{enables as enables_of, feeds}
-use Rattle.view_laws.proofs.Brought.{Brings, Copies, IsBrought, IsCopied, IsSynced, Nothing, same_id, copied_view}
-use Rattle.view_laws.proofs.Copied.{copy_asks}
-use Rattle.view_laws.proofs.Turned.{Turns, own_told}
+use Rattle.view_laws.proofs.Brought.{IsCopied, IsSynced, same_id, copied_view}
 use Rattle.view_laws.proofs.Emitted.{emitted_in}
 use Rattle.view_laws.proofs.Moments.{covers_passes, passes_covers, regular_now}
 use Rattle.view_laws.proofs.Reaching.{own_covered}
-use Rattle.view_laws.proofs.Unfed.{may_emitted}
-use Rattle.view_laws.proofs.Unmoved.{fed_from, since, view_then}
+use Rattle.view_laws.proofs.Saying.{may_emitted}
+use Rattle.view_laws.proofs.Unmoved.{since, view_then}
 use Rattle.net_relation.specs.Reading.{moment_of, read, said, said_by, unfed, plain}
 use Rattle.net_relation.specs.Matching.{IsEntry, IsKept, IsWhole, MatchesNode, HasRow}
 use Rattle.net_relation.proofs.Beside.{Before, worker, worker_at, worker_before}
+use Rattle.net_relation.proofs.Coming.{IsLeader, source_leads}
+use Rattle.net_relation.proofs.Readied.{IsReady, ready_before, ready_or_not}
 use Rattle.net_relation.proofs.Coming.{Coming, FindingOf, Source, comes, configured_is, event_among, event_of}
 use Rattle.net_relation.proofs.Coming.{heard_bounded, heard_of, is_at, node_of, reached_is, row_then, source_then}
 use Rattle.net_relation.proofs.Entries.{Forwarding, entry_logged}
-use Rattle.net_relation.proofs.Leading.{copy_comes}
+use Rattle.net_relation.proofs.Leading.{IsAsked, copy_comes}
 use Rattle.net_relation.proofs.Relating.{FitsNode, NodeLater, frame, netted_sound, node_behind}
 use Rattle.net_relation.proofs.Rows.{row_changed}
-use Rattle.net_relation.proofs.Views.{Copied, Followed, Keeps, Turned as TurnedView, ViewTaken, behind, view_taken}
+use Rattle.net_relation.proofs.Views.{behind}
 use Rattle.net_relation.proofs.Coming.{copy_ordered, origin_then}
 use Rattle.net_relation.proofs.Giving.{gives_the_same}
 use Rattle.net_relation.specs.Laws.{Keeper}
 use Rattle.slon_model.specs.Following.{SetSync, set_sync}
 use Rattle.stream_laws.proofs.Copies.{IsTakenOf}
 use Rattle.stream_laws.proofs.Seats.{seat_node}
+use Rattle.stream_laws.proofs.Streams.{number_within}
+use Rattle.std.proofs.lemmas.List.{length-map, map-append}
 
 -- ---- the later one of two snapshots
 
@@ -88,17 +89,17 @@ later_taken order now a b one two = by (covers a b)
 -- ---- what the node becomes
 
 -- The node of the net behind its turn: one event further, with what the node makes of the view, the base and the log.
-record Turned (set : ℕ) (t : Past) (c : Coming set t) : Type 0 where
-  node : NetNode
-  turn : Turn c.work.netted.net (worker c.work).id (said set (event_of c)) node
-  far : node.progress ≡ (node_of c).progress + 1
-  view : node.view ≡ moment_of c.work.leader.id (view_of set (knowledge (behind c.work.carried)))
-  kept : (v : View) → view_of set (knowledge (behind c.work.carried)) ≡ Some v → v.origin ≡ c.work.leader.id →
+pub record Turned (set : ℕ) (t : Past) (c : Coming set t) : Type 0 where
+  pub node : NetNode
+  pub turn : Turn c.work.netted.net (worker c.work).id (said set (event_of c)) node
+  pub far : node.progress ≡ (node_of c).progress + 1
+  pub view : node.view ≡ moment_of c.work.leader.id (view_of set (knowledge (behind c.work.carried)))
+  pub kept : (v : View) → view_of set (knowledge (behind c.work.carried)) ≡ Some v → v.origin ≡ c.work.leader.id →
       IsKept (order_in c.work.ended) (length c.work.ended) v node
-  logs : (l : Logged) (moment : ℕ) →
+  pub logs : (l : Logged) (moment : ℕ) →
       IsEntry set (order_in c.work.ended) c.work.leader l moment → Logs node.log moment →
       IsAmong l (logged (behind c.work.carried))
-  whole : IsWhole node
+  pub whole : IsWhole node
 
 turned_matches : (set : ℕ) (t : Past) (c : Coming set t) (k : Turned set t c) →
     MatchesNode set (order_in c.work.ended) (length c.work.ended) c.work.leader (behind c.work.carried) k.node
@@ -134,7 +135,7 @@ turned_matches set t c k = record {
         (node_behind c.work.netted o.id) in
         omega (arith, at, far)
 
-turned_later : (set : ℕ) (t : Past) (c : Coming set t) → Turned set t c →
+pub turned_later : (set : ℕ) (t : Past) (c : Coming set t) → Turned set t c →
     NodeLater c.work.netted c.work.carried.seat.name (behind c.work.carried)
 turned_later set t c k = record {
   nodes = set_at o.id k.node n.nodes;
@@ -164,16 +165,16 @@ turned_later set t c k = record {
 
 -- ---- a SYNC that is followed
 
-moment_own : (origin : ℕ) (v : View) → v.origin ≡ origin → moment_of origin (Some v) ≡ Some (count_of v.seen)
+pub moment_own : (origin : ℕ) (v : View) → v.origin ≡ origin → moment_of origin (Some v) ≡ Some (count_of v.seen)
 moment_own origin v own = ap (λ b. cond b (Some (count_of v.seen)) None) (eq-eqb v.origin origin own)
 
 -- A SYNC of the origin of the set, and the view that the node keeps.
-record Syncing (set : ℕ) (t : Past) (c : Coming set t) : Type 0 where
-  synced : IsSynced t c.work.carried.seat (event_of c) c.work.carried.brought
-  view : View
-  found : view_of set (knowledge (worker c.work)) ≡ Some view
-  own : view.origin ≡ (event_of c).origin
-  now : view_of set (knowledge (behind c.work.carried)) ≡ Some (view_after (event_of c) view)
+pub record Syncing (set : ℕ) (t : Past) (c : Coming set t) : Type 0 where
+  pub synced : IsSynced t c.work.carried.seat (event_of c) c.work.carried.brought
+  pub view : View
+  pub found : view_of set (knowledge (worker c.work)) ≡ Some view
+  pub own : view.origin ≡ (event_of c).origin
+  pub now : view_of set (knowledge (behind c.work.carried)) ≡ Some (view_after (event_of c) view)
 
 sync_taken : (set : ℕ) (t : Past) (c : Coming set t) →
     IsTaken (order_in c.work.ended) (length c.work.ended) (event_of c).taken
@@ -303,7 +304,7 @@ sync_logs {set} {t} c s u r l moment e inside =
         (sync_taken set t c).sees l.action.xid ∙ ap (λ o. is_ended o (count_of (event_of c).taken)) e.ended
         ∙ lt-ltb moment (count_of (event_of c).taken) inside.to
 
-sync_turned : (set : ℕ) (t : Past) (c : Coming set t) → Syncing set t c → Turned set t c
+pub sync_turned : (set : ℕ) (t : Past) (c : Coming set t) → Syncing set t c → Turned set t c
 sync_turned set t c s = record {
   node = synced m v u.0.forward (node_of c);
   turn = SyncsTurn m v u.0 (ap (said_by set (event_of c).taken) s.synced.follows.body) viewed u.1.0 refl;
@@ -398,12 +399,12 @@ asked_body own receives origin Sync k asked = by (receives && not (origin == own
 asked_body own receives origin others k asked = absurd cc
 
 -- The set is copied.
-record CopyMade (set : ℕ) (t : Past) (c : Coming set t) : Type 0 where
-  made : IsCopied t c.work.carried.seat (event_of c) c.work.carried.brought
-  same : made.copy.copying.set_id ≡ set
-  now : view_of set (knowledge (behind c.work.carried)) ≡ Some (copied_view made.copy)
+pub record CopyMade (set : ℕ) (t : Past) (c : Coming set t) : Type 0 where
+  pub made : IsCopied t c.work.carried.seat (event_of c) c.work.carried.brought
+  pub same : made.copy.copying.set_id ≡ set
+  pub now : view_of set (knowledge (behind c.work.carried)) ≡ Some (copied_view made.copy)
 
-copy_turned : (set : ℕ) (t : Past) (c : Coming set t) → CopyMade set t c → Turned set t c
+pub copy_turned : (set : ℕ) (t : Past) (c : Coming set t) → CopyMade set t c → Turned set t c
 copy_turned set t c s = record {
   node = copied v (node_of c);
   turn = CopiesTurn v u.0 enables (configured_same ∙ u.1.0)
@@ -461,40 +462,46 @@ copy_turned set t c s = record {
 -- ---- any other event
 
 -- the event is of no subscription of the node itself to the set
-abbrev IsOfOthers : ℕ → ℕ → Body → Type 0
+abbrev pub IsOfOthers : ℕ → ℕ → Body → Type 0
 IsOfOthers set own (SubscribeSet id provider receiver forward) = id ≡ set → receiver ≡ own → ⊥
+IsOfOthers set own (UnsubscribeSet id receiver) = id ≡ set → receiver ≡ own → ⊥
 IsOfOthers set own others = Unit {0}
 
--- it says how the node itself receives the set
-abbrev IsOwn : ℕ → ℕ → Body → Type 0
-IsOwn set own body = (provider : ℕ) × (forward : Bool) × (body ≡ SubscribeSet set provider own forward)
+-- It says how the node itself receives the set, or that it is to give the set up; or neither.
+pub data Concerns (set own : ℕ) (body : Body) : Type 0 where
+  TellsHow : (provider : ℕ) (forward : Bool) → body ≡ SubscribeSet set provider own forward → Concerns set own body
+  TellsEnd : body ≡ UnsubscribeSet set own → Concerns set own body
+  TellsOthers : IsOfOthers set own body → Concerns set own body
 
-own_or_not : (set own : ℕ) (body : Body) → IsOwn set own body ⊎ IsOfOthers set own body
-own_or_not set own (SubscribeSet id provider receiver forward) = by (cases_eq id set) (cases_eq receiver own)
+pub concerned : (set own : ℕ) (body : Body) → Concerns set own body
+concerned set own (SubscribeSet id provider receiver forward) = by (cases_eq id set) (cases_eq receiver own)
   where
     by : (id ≡ set) ⊎ (id ≢ set) → (receiver ≡ own) ⊎ (receiver ≢ own) →
-        IsOwn set own (SubscribeSet id provider receiver forward)
-        ⊎ IsOfOthers set own (SubscribeSet id provider receiver forward)
-    by (inl same) (inl at) = inl (
-      provider,
-      forward,
-      ap (λ i. SubscribeSet i provider receiver forward) same ∙ ap (λ r. SubscribeSet set provider r forward) at,
-    )
-    by (inr other) at = inr (λ same here. other same)
-    by (inl same) (inr other) = inr (λ id here. other here)
-own_or_not set own others = inr tt
+        Concerns set own (SubscribeSet id provider receiver forward)
+    by (inl same) (inl at) =
+        TellsHow provider forward
+        (ap (λ i. SubscribeSet i provider receiver forward) same ∙ ap (λ r. SubscribeSet set provider r forward) at)
+    by (inr other) at = TellsOthers (λ same here. other same)
+    by (inl same) (inr other) = TellsOthers (λ id here. other here)
+concerned set own (UnsubscribeSet id receiver) = by (cases_eq id set) (cases_eq receiver own)
+  where
+    by : (id ≡ set) ⊎ (id ≢ set) → (receiver ≡ own) ⊎ (receiver ≢ own) → Concerns set own (UnsubscribeSet id receiver)
+    by (inl same) (inl at) = TellsEnd (ap (λ i. UnsubscribeSet i receiver) same ∙ ap (λ r. UnsubscribeSet set r) at)
+    by (inr other) at = TellsOthers (λ same here. other same)
+    by (inl same) (inr other) = TellsOthers (λ id here. other here)
+concerned set own others = TellsOthers tt
 
 -- The view stays, as no SYNC was followed and no set was copied.
-record Passing (set : ℕ) (t : Past) (c : Coming set t) : Type 0 where
-  same : view_of set (knowledge (behind c.work.carried)) ≡ view_of set (knowledge (worker c.work))
-  sync : (v : View) → view_of set (knowledge (worker c.work)) ≡ Some v → is_sync (event_of c).body ≡ true →
+pub record Passing (set : ℕ) (t : Past) (c : Coming set t) : Type 0 where
+  pub same : view_of set (knowledge (behind c.work.carried)) ≡ view_of set (knowledge (worker c.work))
+  pub sync : (v : View) → view_of set (knowledge (worker c.work)) ≡ Some v → is_sync (event_of c).body ≡ true →
       (event_of c).origin ≡ v.origin → ⊥
-  copy : (k : IsCopied t c.work.carried.seat (event_of c) c.work.carried.brought) → k.copy.copying.set_id ≡ set → ⊥
-  others : IsOfOthers set (worker c.work).id (event_of c).body
+  pub copy : (k : IsCopied t c.work.carried.seat (event_of c) c.work.carried.brought) → k.copy.copying.set_id ≡ set → ⊥
+  pub others : IsOfOthers set (worker c.work).id (event_of c).body
 
-pass_quiet : (set : ℕ) (t : Past) (c : Coming set t) → Passing set t c → (body : Body) → (event_of c).body ≡ body →
-    IsQuiet (worker c.work).id (node_of c).view (said_by set (event_of c).taken body)
-pass_quiet set t c s Sync is = (worker_before c.work).view ∙ by (view_of set (knowledge (worker c.work))) refl
+no_sync : (set : ℕ) (t : Past) (c : Coming set t) → Passing set t c → (event_of c).body ≡ Sync →
+    (node_of c).view ≡ None
+no_sync set t c s is = (worker_before c.work).view ∙ by (view_of set (knowledge (worker c.work))) refl
   where
     at : (v : View) → view_of set (knowledge (worker c.work)) ≡ Some v → (b : Bool) →
         (v.origin == c.work.leader.id) ≡ b → cond b (Some (count_of v.seen)) None ≡ None
@@ -505,34 +512,92 @@ pass_quiet set t c s Sync is = (worker_before c.work).view ∙ by (view_of set (
     by : (o : Option View) → view_of set (knowledge (worker c.work)) ≡ o → moment_of c.work.leader.id o ≡ None
     by None none = refl
     by (Some v) found = at v found (v.origin == c.work.leader.id) refl
-pass_quiet set t c s (SubscribeSet id provider receiver forward) is = by (id == set) refl
+
+-- by all that the origin has emitted the node subscribes since this event; so it did as it found what there is for it
+asked_then : (set : ℕ) (t : Past) (c : Coming set t) (a : FindingOf c) →
+    IsReady (worker c.work).id (read set (stream c.work.leader)) (event_of c).number →
+    IsReady (worker c.work).id (read set (stream a.work.event.node)) (event_of c).number
+asked_then set t c a ready =
+    ready_before (worker c.work).id (event_of c).number (read set lead.more) (read set (stream y.node))
+    (let within = (number_within y.node.id (stream y.node) (event_of c)
+    ((regular_now a.to).nodes.each y.name y.node y.is).emitted y.among).1 in
+    let long = length-map (stream y.node) (said set) in
+    omega (arith, within, long))
+    (subst (λ z. IsReady (worker c.work).id z (event_of c).number)
+    (ap (read set) lead.all ∙ map-append (said set) lead.more (stream y.node)) ready)
   where
-    by : (b : Bool) → (id == set) ≡ b →
-        IsQuiet (worker c.work).id (node_of c).view (cond b (Subscribe receiver provider forward) Unrelated)
-    by true same = λ at. absurd (subst (IsOfOthers set (worker c.work).id) is s.others (eqb-true id set same) at)
-    by false other = tt
-pass_quiet set t c s (EnableSubscription id provider receiver forward era) is = by (id == set) refl
+    y : IsEvent (nodes_in a.to.world.places) (event_of c)
+    y = a.work.event
+
+    lead : IsLeader c a (origin_then c a)
+    lead = source_leads set t c a (origin_then c a)
+
+-- the node is to copy the set, and nothing came of that: its subscription is gone at the origin
+copy_skipped : (set : ℕ) (t : Past) (c : Coming set t) → Passing set t c →
+    IsAsked t c.work.carried set →
+    IsReady (worker c.work).id (read set (stream c.work.leader)) (event_of c).number
+    ⊎ (IsReady (worker c.work).id (read set (stream c.work.leader)) (event_of c).number → ⊥) →
+    IsStale c.work.netted.net (worker c.work).id
+copy_skipped set t c s asked (inl ready) =
+    let comes = copy_comes t c.work.carried c.work.origin c.work.is set asked
+    (λ a. ((source_then set t c a (origin_then c a)).finds, asked_then set t c a ready)) in
+    absurd (s.copy comes.0 comes.1)
+copy_skipped set t c s asked (inr gone) = λ u has ready made.
+    gone (
+      u,
+      sym (ap (λ b. row b (worker c.work).id c.work.netted.net.stream) c.work.netted.origin.start
+          ∙ ap (row unfed (worker c.work).id) c.work.netted.origin.stream) ∙ has,
+      ready,
+      (let at = reached_is set t c in omega (arith, made, at)),
+    )
+
+pass_turn : (set : ℕ) (t : Past) (c : Coming set t) → Passing set t c →
+    Turn c.work.netted.net (worker c.work).id (said set (event_of c)) (passed (node_of c))
+pass_turn set t c s = by (event_of c).body refl
   where
     o : Node
     o = worker c.work
 
-    by : (b : Bool) → (id == set) ≡ b → IsQuiet o.id (node_of c).view (cond b (Enable receiver) Unrelated)
-    by true same = λ at.
-        let comes = copy_comes t c.work.carried c.work.origin c.work.is set (record {
-          provider = provider;
-          forward = forward;
-          era = era;
-          body = is ∙ ap (λ i. EnableSubscription i provider receiver forward era) (eqb-true id set same)
-              ∙ ap (λ r. EnableSubscription set provider r forward era) at;
-        }) (λ f. (source_then set t c f (origin_then c f)).finds) in
-        s.copy comes.0 comes.1
-    by false other = tt
-pass_quiet set t c s others is = tt
+    Turns : Said → Type 0
+    Turns e = Turn c.work.netted.net o.id e (passed (node_of c))
 
-pass_turned : (set : ℕ) (t : Past) (c : Coming set t) → Passing set t c → Turned set t c
+    others : (body : Body) → (event_of c).body ≡ body → IsOfOthers set o.id body
+    others body is = subst (IsOfOthers set o.id) is s.others
+
+    by : (body : Body) → (event_of c).body ≡ body → Turns (said_by set (event_of c).taken body)
+    by Sync is = Passes (inl (no_sync set t c s is)) refl
+    by (SubscribeSet id provider receiver forward) is = at (id == set) refl
+      where
+        at : (b : Bool) → (id == set) ≡ b → Turns (cond b (Subscribe receiver provider forward) Unrelated)
+        at true same =
+            Passes (inl (λ own. absurd (others (SubscribeSet id provider receiver forward) is
+            (eqb-true id set same) own))) refl
+        at false other = Passes (inl tt) refl
+    by (UnsubscribeSet id receiver) is = at (id == set) refl
+      where
+        at : (b : Bool) → (id == set) ≡ b → Turns (cond b (Unsubscribe receiver) Unrelated)
+        at true same = Passes (inl (others (UnsubscribeSet id receiver) is (eqb-true id set same))) refl
+        at false other = Passes (inl tt) refl
+    by (EnableSubscription id provider receiver forward era) is = at (id == set) refl (cases_eq receiver o.id)
+      where
+        at : (b : Bool) → (id == set) ≡ b → (receiver ≡ o.id) ⊎ (receiver ≢ o.id) →
+            Turns (cond b (Enable receiver) Unrelated)
+        at true same (inl own) =
+            Skips (ap Enable own) (inr (copy_skipped set t c s (record {
+              provider = provider;
+              forward = forward;
+              era = era;
+              body = is ∙ ap (λ i. EnableSubscription i provider receiver forward era) (eqb-true id set same)
+                  ∙ ap (λ r. EnableSubscription set provider r forward era) own;
+            }) (ready_or_not o.id (read set (stream c.work.leader)) (event_of c).number))) refl
+        at true same (inr other) = Passes (inl other) refl
+        at false other any = Passes (inl tt) refl
+    by others is = Passes (inl tt) refl
+
+pub pass_turned : (set : ℕ) (t : Past) (c : Coming set t) → Passing set t c → Turned set t c
 pass_turned set t c s = record {
   node = passed (node_of c);
-  turn = Passes (inl (pass_quiet set t c s (event_of c).body refl)) refl;
+  turn = pass_turn set t c s;
   far = refl;
   view = old.view ∙ ap (moment_of c.work.leader.id) (sym s.same);
   kept = λ v found own.
@@ -544,170 +609,3 @@ pass_turned set t c s = record {
   where
     old : Before c.work
     old = worker_before c.work
-
--- ---- the node's own subscription
-
--- The event says how the node receives the set.
-record Telling (set : ℕ) (t : Past) (c : Coming set t) : Type 0 where
-  provider : ℕ
-  forward : Bool
-  body : (event_of c).body ≡ SubscribeSet set provider (worker c.work).id forward
-
--- nothing comes with it
-telling_none : (set : ℕ) (t : Past) (c : Coming set t) → Telling set t c →
-    c.work.carried.brought ≡ nothing_brought
-telling_none set t c k = by c.work.is.brings
-  where
-    own : Body
-    own = SubscribeSet set k.provider (worker c.work).id k.forward
-
-    by : IsBrought t c.work.carried.seat (event_of c) c.work.carried.brought →
-        c.work.carried.brought ≡ nothing_brought
-    by (Nothing n) = n.none
-    by (Copies y) =
-        let enables = copy_asks y.at.to.world y.at.seat (event_of c) y.found y.copy in
-        absurd (false≢true (ap (enables_of y.copy.copying.set_id y.at.seat.node.id) (sym k.body) ∙ enables))
-    by (Brings y) =
-        let never : own ≡ Sync = sym k.body ∙ y.follows.body in absurd cc
-
--- begins to forward, by what it is told and what it knew
-abbrev begins : (set : ℕ) (t : Past) (c : Coming set t) → Telling set t c → Bool
-begins set t c k = k.forward && not (forwards set (worker c.work).id (knowledge (worker c.work)).config)
-
--- its view behind the event
-telling_view : (set : ℕ) (t : Past) (c : Coming set t) (k : Telling set t c) →
-    view_of set (knowledge (behind c.work.carried))
-    ≡ option_map (λ v. cond (begins set t c k) (based v) v) (view_of set (knowledge (worker c.work)))
-telling_view set t c k =
-    ap (λ (b : Brought). entry_at set (with_views b.views
-    (views_told o.id (event_of c).body (knowledge o).config (knowledge o).views))) (telling_none set t c k)
-    ∙ ap (λ body. entry_at set (views_told o.id body (knowledge o).config (knowledge o).views)) k.body
-    ∙ own_told o.id set k.provider k.forward (knowledge o).config (knowledge o).views
-  where
-    o : Node
-    o = worker c.work
-
-telling_says : (set : ℕ) (t : Past) (c : Coming set t) (k : Telling set t c) →
-    said set (event_of c) ≡ Subscribe (worker c.work).id k.provider k.forward
-telling_says set t c k =
-    ap (said_by set (event_of c).taken) k.body
-    ∙ ap (λ b. cond b (Subscribe (worker c.work).id k.provider k.forward) Unrelated) (eq-eqb set set refl)
-
--- it keeps no view of the set
-telling_quiet : (set : ℕ) (t : Past) (c : Coming set t) → Telling set t c →
-    view_of set (knowledge (worker c.work)) ≡ None → Turned set t c
-telling_quiet set t c k none = record {
-  node = passed (node_of c);
-  turn = Passes (inl (subst (IsQuiet o.id (node_of c).view) (sym (telling_says set t c k))
-      (λ at. old.view ∙ ap (moment_of c.work.leader.id) none))) refl;
-  far = refl;
-  view = old.view ∙ ap (moment_of c.work.leader.id) (none ∙ sym behind_none);
-  kept = λ v found own. let never : None ≡ Some v = sym behind_none ∙ found in absurd cc;
-  logs = λ l moment e logs.
-      among_right l c.work.carried.brought.logs (logged o) (old.logs l moment e logs);
-  whole = record { keeps = old.whole.keeps; bars = old.whole.bars; has = old.whole.has };
-}
-  where
-    o : Node
-    o = worker c.work
-
-    old : Before c.work
-    old = worker_before c.work
-
-    behind_none : view_of set (knowledge (behind c.work.carried)) ≡ None
-    behind_none = telling_view set t c k ∙ ap (option_map (λ v. cond (begins set t c k) (based v) v)) none
-
--- it keeps this one
-telling_turned : (set : ℕ) (t : Past) (c : Coming set t) → Telling set t c → (v : View) →
-    view_of set (knowledge (worker c.work)) ≡ Some v → Turned set t c
-telling_turned set t c k v found = record {
-  node = turned_by m (u.0.forward || not k.forward) (node_of c);
-  turn = TurnsTurn k.provider m k.forward u.0 (telling_says set t c k) viewed u.1.0 refl;
-  far = refl;
-  view = viewed ∙ sym (ap (moment_of c.work.leader.id) there ∙ seen_as (begins set t c k)
-      ∙ moment_own c.work.leader.id v own);
-  kept = λ w has of.
-      subst (λ (w : View). IsKept (order_in c.work.ended) (length c.work.ended) w
-      (turned_by m (u.0.forward || not k.forward) (node_of c)))
-      (one_found (cond (begins set t c k) (based v) v) w (sym there ∙ has))
-      (subst (λ b. IsKept (order_in c.work.ended) (length c.work.ended) (cond (k.forward && not b) (based v) v)
-      (turned_by m (u.0.forward || not k.forward) (node_of c))) (sym forward) (kept_as u.0.forward k.forward));
-  logs = λ l moment e logs.
-      among_right l c.work.carried.brought.logs (logged o) (old.logs l moment e logs);
-  whole = record { keeps = old.whole.keeps; bars = old.whole.bars; has = old.whole.has };
-}
-  where
-    o : Node
-    o = worker c.work
-
-    old : Before c.work
-    old = worker_before c.work
-
-    m : ℕ
-    m = count_of v.seen
-
-    own : v.origin ≡ c.work.leader.id
-    own =
-        fed_from t c.work.carried c.work.origin c.work.is set v found
-        (ap (feeds set) k.body ∙ eq-eqb set set refl) ∙ c.own
-
-    kept : IsKept (order_in c.work.ended) (length c.work.ended) v (node_of c)
-    kept = old.kept v found own
-
-    viewed : (node_of c).view ≡ Some m
-    viewed = old.view ∙ ap (moment_of c.work.leader.id) found ∙ moment_own c.work.leader.id v own
-
-    there : view_of set (knowledge (behind c.work.carried)) ≡ Some (cond (begins set t c k) (based v) v)
-    there = telling_view set t c k ∙ ap (option_map (λ v. cond (begins set t c k) (based v) v)) found
-
-    seen_as : (b : Bool) → moment_of c.work.leader.id (Some (cond b (based v) v))
-        ≡ moment_of c.work.leader.id (Some v)
-    seen_as true = refl
-    seen_as false = refl
-
-    u : (u : Row) × ((configured c.work.netted.net o.id o.id ≡ Some u) × (u.ready ≡ true))
-    u = view_has_row c.work.netted.net (netted_sound c.work.netted) o.id m viewed
-
-    forward : forwards set o.id (knowledge o).config ≡ u.0.forward
-    forward =
-        ap (λ q. unwrap_or (option_map (λ (s : Subscription). s.forward) q) false)
-        (old.row u.0 (sym (configured_is set t c o.id) ∙ u.1.0))
-
-    -- the base of the net is that of the view, whether the node forwarded and is to forward or not
-    kept_as : (was now : Bool) →
-        IsKept (order_in c.work.ended) (length c.work.ended) (cond (now && not was) (based v) v)
-        (turned_by m (was || not now) (node_of c))
-    kept_as true true = record { base = kept.base; seen = kept.seen; began = kept.began }
-    kept_as true false = record { base = kept.base; seen = kept.seen; began = kept.began }
-    kept_as false true = record { base = refl; seen = kept.seen; began = kept.seen }
-    kept_as false false = record { base = kept.base; seen = kept.seen; began = kept.began }
-
-telling_later : (set : ℕ) (t : Past) (c : Coming set t) → Telling set t c → Turned set t c
-telling_later set t c k = by (view_of set (knowledge (worker c.work))) refl
-  where
-    by : (o : Option View) → view_of set (knowledge (worker c.work)) ≡ o → Turned set t c
-    by None none = telling_quiet set t c k none
-    by (Some v) found = telling_turned set t c k v found
-
--- ---- every event of the stream
-
-pub coming_later : (set : ℕ) (t : Past) (c : Coming set t) →
-    NodeLater c.work.netted c.work.carried.seat.name (behind c.work.carried)
-coming_later set t c = turned_later set t c (elim (own_or_not set (worker c.work).id (event_of c).body) [
-  | inl own ↦ telling_later set t c (record { provider = own.0; forward = own.1; body = own.2 })
-  | inr others ↦ by others (view_taken t c.work.carried c.work.origin c.work.is set)
-])
-  where
-    -- nor does it begin to forward the set then
-    no_turn : (body : Body) → IsOfOthers set (worker c.work).id body →
-        Turns (worker c.work).id set body (knowledge (worker c.work)).config → ⊥
-    no_turn (SubscribeSet id provider receiver forward) others turns = others turns.0 turns.1
-    no_turn others of turns = absurd turns
-
-    by : IsOfOthers set (worker c.work).id (event_of c).body → ViewTaken t c.work.carried set → Turned set t c
-    by others (Keeps same sync copy) =
-        pass_turned set t c (record { same = same; sync = sync; copy = copy; others = others })
-    by others (TurnedView v found turns now) = absurd (no_turn (event_of c).body others turns)
-    by others (Copied k same now) = copy_turned set t c (record { made = k; same = same; now = now })
-    by others (Followed y v found own now) =
-        sync_turned set t c (record { synced = y; view = v; found = found; own = own; now = now })

@@ -5,9 +5,9 @@ use Rattle.std.specs.Prelude.{◌==◌}
 use Rattle.std.specs.List.{AllByRecursion}
 use Rattle.std.proofs.lemmas.Bool.{eq-eqb, eqb-true, false≢true}
 use Rattle.node_rows.specs.declared.body.Body.{Body}
-use Rattle.node_rows.specs.declared.body.Body.TheVariants.{SubscribeSet, EnableSubscription}
+use Rattle.node_rows.specs.declared.body.Body.TheVariants.{SubscribeSet, EnableSubscription, UnsubscribeSet}
 use Rattle.net_laws.specs.Updates.{set_at}
-use Rattle.net_laws.specs.Subscriptions.{Subscribe, Enable, Unrelated, row, up_to}
+use Rattle.net_laws.specs.Subscriptions.{Subscribe, Enable, Unsubscribe, Unrelated, row, up_to}
 use Rattle.net_laws.specs.Net.{Leads, Net, Node as NetNode}
 use Rattle.net_laws.proofs.Updates.{set_here, set_other}
 use Rattle.slon_model.specs.Snapshots.{Snapshot}
@@ -147,6 +147,11 @@ feed_spares set r x k (EnableSubscription id provider receiver forward era) is n
   where
     by : (b : Bool) → Spares r (cond b (Enable receiver) Unrelated)
     by true = λ same. none (subst (λ i. IsKnown i (knowledge x).config) same is.0.1)
+    by false = tt
+feed_spares set r x k (UnsubscribeSet id receiver) is none = by (id == set)
+  where
+    by : (b : Bool) → Spares r (cond b (Unsubscribe receiver) Unrelated)
+    by true = λ same. none (subst (λ i. IsKnown i (knowledge x).config) same is.1)
     by false = tt
 feed_spares set r x k others is none = tt
 

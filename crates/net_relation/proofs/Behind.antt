@@ -12,7 +12,7 @@ use Rattle.slon_model.specs.World.{Happening, Leads, start}
 use Rattle.view_laws.specs.Past.{Past, past, IsBefore, WasBefore, WasUpTo}
 use Rattle.view_laws.proofs.Doing.{Hears, Takes, taking}
 use Rattle.view_laws.proofs.Living.{does_node}
-use Rattle.net_relation.proofs.Links.{Alone, Beginning, Changes, Feeds, MayTell, Telling}
+use Rattle.net_relation.proofs.Links.{Alone, Beginning, Changes, Feeds, Leaves, MayTell, Telling}
 use Rattle.net_relation.proofs.Stepping.{Gone, Looks, look, step_goes}
 
 -- ---- the node behind a commit
@@ -51,6 +51,8 @@ told_logs s ms (Alone m same plain) =
 told_logs s ms (Feeds f same can new) =
     ap (λ ms. logged (with_deeds (commit_of s ms).deeds s.node)) same
 told_logs s ms (Changes f same can had) =
+    ap (λ ms. logged (with_deeds (commit_of s ms).deeds s.node)) same
+told_logs s ms (Leaves set receiver same can) =
     ap (λ ms. logged (with_deeds (commit_of s ms).deeds s.node)) same
 
 -- ---- histories

@@ -3,9 +3,9 @@ use Rattle.std.proofs.Common.{◌≡◌, ◌≢◌, ℕ, Bool, true, false, cond
 use Rattle.std.proofs.Common.{sym, ap, subst, ◌∙◌}
 use Rattle.std.specs.Prelude.{◌+◌, ◌==◌}
 use Rattle.std.specs.List.{AllByRecursion}
-use Rattle.std.proofs.lemmas.Bool.{eqb-true, false_from_ne_true}
+use Rattle.std.proofs.lemmas.Bool.{eqb-true, false≢true, false_from_ne_true}
 use Rattle.node_rows.specs.declared.body.Body.{Body}
-use Rattle.node_rows.specs.declared.body.Body.TheVariants.{SubscribeSet, EnableSubscription}
+use Rattle.node_rows.specs.declared.body.Body.TheVariants.{SubscribeSet, EnableSubscription, UnsubscribeSet}
 use Rattle.net_laws.specs.Subscriptions.{Event as Said, Subscribe, Enable, Unsubscribe, DropSet, Unrelated}
 use Rattle.net_laws.specs.Subscriptions.{Subscription as Row}
 use Rattle.net_laws.specs.Subscriptions.{changed, enabled, last_moment, row, up_to}
@@ -31,7 +31,7 @@ use Rattle.view_laws.specs.Laws.{GoesOn}
 use Rattle.view_laws.specs.Past.{Moment, Past, WasUpTo}
 use Rattle.view_laws.proofs.Doing.{IsTaken}
 use Rattle.view_laws.proofs.Going.{takes_on}
-use Rattle.view_laws.proofs.Unfed.{may_emitted}
+use Rattle.view_laws.proofs.Saying.{may_emitted}
 use Rattle.net_relation.specs.Reading.{moment_of, read, said, said_by, unfed}
 use Rattle.net_relation.specs.Matching.{IsKept, MatchesNode}
 use Rattle.net_relation.proofs.Earlier.{WasThen}
@@ -40,9 +40,11 @@ use Rattle.net_relation.proofs.Leading.{Known, feeds_at, one_storer}
 use Rattle.net_relation.proofs.Nets.{all_up_to}
 use Rattle.net_relation.proofs.Relating.{Netted}
 use Rattle.net_relation.proofs.Rows.{IsBeside, row_beside}
-use Rattle.net_relation.proofs.Views.{Copied, Followed, Keeps, Turned, ViewTaken, behind, view_taken}
-use Rattle.view_laws.proofs.Unmoved.{turned_from}
+use Rattle.net_relation.proofs.Views.{Copied, Followed, Keeps, Left, Turned, ViewTaken, behind, view_taken}
+use Rattle.view_laws.proofs.Unmoved.{left_from, turned_from}
+use Rattle.view_laws.specs.Known.{enables, leaves}
 use Rattle.view_laws.proofs.Brought.{copied_view}
+use Rattle.view_laws.proofs.Copied.{copy_asks}
 
 -- ---- a node at work
 
@@ -132,6 +134,11 @@ said_by_feed set own all c k (EnableSubscription id provider receiver forward er
     by : (b : Bool) → SaysOf (HasStored set all) (cond b (Enable receiver) Unrelated)
     by true = tt
     by false = tt
+said_by_feed set own all c k (UnsubscribeSet id receiver) is = by (id == set)
+  where
+    by : (b : Bool) → SaysOf (HasStored set all) (cond b (Unsubscribe receiver) Unrelated)
+    by true = tt
+    by false = tt
 said_by_feed set own all c k others is = tt
 
 -- who has a subscription by what it heard, has it of the node that stored the set
@@ -152,6 +159,7 @@ stored_beside : (set r own : ℕ) (es : List Event) (c : Config) (body : Body) �
 stored_beside set r own es c (SubscribeSet id p n f) is none = λ same at. none (subst (λ i. HasStored i es) same is.0)
 stored_beside set r own es c (EnableSubscription id p n f era) is none =
     λ same at. none (subst (λ i. HasStored i es) same is.0.0)
+stored_beside set r own es c (UnsubscribeSet id n) is none = λ same at. none (subst (λ i. HasStored i es) same is.0)
 stored_beside set r own es c others is none = tt
 
 -- so a subscription of another stream stays
@@ -174,12 +182,21 @@ moment_other origin v apart =
     ap (λ b. cond b (Some (count_of v.seen)) None)
     (false_from_ne_true (v.origin == origin) (λ same. apart (eqb-true v.origin origin same)))
 
+-- who is to copy a set by an event does not give one up by it
+copy_stays : (set id node own : ℕ) (body : Body) → enables id node body ≡ true → leaves set own body ≡ false
+copy_stays set id node own (EnableSubscription other provider receiver forward era) is = refl
+copy_stays set id node own others is = absurd (false≢true is)
+
 same_moment : {set : ℕ} {t : Past} (w : Work set t) → w.carried.event.origin ≢ w.leader.id →
     ViewTaken t w.carried set →
     moment_of w.leader.id (view_of set (knowledge (behind w.carried)))
     ≡ moment_of w.leader.id (view_of set (knowledge (worker w)))
 same_moment w apart (Keeps same sync copy) = ap (moment_of w.leader.id) same
 same_moment w apart (Turned v found turns now) = ap (moment_of w.leader.id) now ∙ sym (ap (moment_of w.leader.id) found)
+same_moment {set} {t} w apart (Left v found left now) =
+    ap (moment_of w.leader.id) now
+    ∙ sym (ap (moment_of w.leader.id) found
+    ∙ moment_other w.leader.id v (λ own. apart (sym (left_from t w.carried w.origin w.is set v found left) ∙ own)))
 same_moment {set} {t} w apart (Copied k same now) =
     ap (moment_of w.leader.id) now
     ∙ moment_other w.leader.id first apart
@@ -192,9 +209,17 @@ same_moment {set} {t} w apart (Copied k same now) =
     by None none = refl
     by (Some v) is =
         moment_other w.leader.id v (λ own.
+        let same : GoesOn set v (worker w) = record {
+          view = v;
+          found = is;
+          origin = refl;
+          era = refl;
+          covers = λ i sees. sees;
+        } in
         let on : GoesOn set v (behind w.carried) =
         takes_on t w.carried w.origin w.is set v
-        (record { view = v; found = is; origin = refl; era = refl; covers = λ i sees. sees }) in
+        (copy_stays set k.copy.copying.set_id k.at.seat.node.id (worker w).id w.carried.event.body
+        (copy_asks k.at.to.world k.at.seat w.carried.event k.found k.copy)) same in
         let one = one_found first on.view (sym now ∙ on.found) in
         apart (ap (λ (v : View). v.origin) one ∙ on.origin ∙ own))
 same_moment w apart (Followed f v is own now) =
@@ -211,6 +236,7 @@ same_kept w apart (Keeps same sync copy) v found own = (worker_before w).kept v 
 same_kept {set} {t} w apart (Turned u had turns now) v found own =
     absurd (apart (sym (turned_from t w.carried w.origin w.is set u had turns)
     ∙ ap (λ (v : View). v.origin) (one_found (based u) v (sym now ∙ found)) ∙ own))
+same_kept w apart (Left u had left now) v found own = let never : None ≡ Some v = sym now ∙ found in absurd cc
 same_kept {set} {t} w apart (Copied k same now) v found own =
     absurd (apart (ap (λ (v : View). v.origin) (one_found (copied_view k.copy) v (sym now ∙ found)) ∙ own))
 same_kept w apart (Followed f u is of now) v found own =

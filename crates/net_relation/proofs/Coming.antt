@@ -5,8 +5,9 @@ use Rattle.std.specs.Prelude.{◌+◌, ◌==◌}
 use Rattle.std.proofs.lemmas.Bool.{cases_lt}
 use Rattle.std.proofs.lemmas.List.{length-map, map-append}
 use Rattle.node_rows.specs.declared.body.Body.{Body}
-use Rattle.node_rows.specs.declared.body.Body.TheVariants.{Sync, SubscribeSet, EnableSubscription}
-use Rattle.net_laws.specs.Subscriptions.{Event as Said, Subscribe, Enable, Unrelated, Subscription as Row, last_moment}
+use Rattle.node_rows.specs.declared.body.Body.TheVariants.{Sync, SubscribeSet, EnableSubscription, UnsubscribeSet}
+use Rattle.net_laws.specs.Subscriptions.{Event as Said, Subscribe, Enable, Unsubscribe, Unrelated}
+use Rattle.net_laws.specs.Subscriptions.{Subscription as Row, last_moment}
 use Rattle.net_laws.specs.Subscriptions.{moment_with, row, up_to}
 use Rattle.net_laws.specs.Net.{IsNext, Node as NetNode, configured, heard}
 use Rattle.net_laws.proofs.Prefixes.{up_to_all, up_to_new, up_to_old}
@@ -35,9 +36,9 @@ use Rattle.net_relation.proofs.Nets.{said_next, up_to_behind}
 use Rattle.view_laws.specs.Known.{IsSeen}
 use Rattle.view_laws.proofs.Viewed.{seen_now}
 use Rattle.view_laws.proofs.Reaching.{copy_covers}
-use Rattle.view_laws.proofs.Unmoved.{event_before}
+use Rattle.view_laws.proofs.Applied.{event_before}
 use Rattle.net_relation.proofs.Views.{behind}
-use Rattle.view_laws.proofs.Seen.{Copier, seen_from, source_of}
+use Rattle.view_laws.proofs.Seen.{Copier, copied_since, seen_from, source_of}
 use Rattle.net_relation.proofs.Providing.{event_seat, event_seat_is}
 
 -- ---- moments of what was heard
@@ -54,6 +55,11 @@ said_bounded set v k (SubscribeSet id provider receiver forward) m most = by (id
 said_bounded set v k (EnableSubscription id provider receiver forward era) m most = by (id == set)
   where
     by : (b : Bool) → moment_with (cond b (Enable receiver) Unrelated) m ≤ v
+    by true = most.1
+    by false = most.1
+said_bounded set v k (UnsubscribeSet id receiver) m most = by (id == set)
+  where
+    by : (b : Bool) → moment_with (cond b (Unsubscribe receiver) Unrelated) m ≤ v
     by true = most.1
     by false = most.1
 said_bounded set v k others m most = most.1
@@ -241,6 +247,7 @@ copy_ordered set t c k =
       node = behind c.work.carried;
       id = refl;
       applied = inl refl;
+      since = copied_since t c.work.carried c.work.origin c.work.is k;
     }
 
     seen : IsSeen (WasUpTo t) (behind c.work.carried) k.copy.copying.set_id (copied_view k.copy)

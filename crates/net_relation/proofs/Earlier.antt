@@ -13,6 +13,7 @@ use Rattle.image_laws.proofs.Orders.{AreApart, order_in}
 use Rattle.net_relation.specs.Reading.{read, unfed}
 use Rattle.net_relation.specs.Matching.{HasRow}
 use Rattle.net_relation.proofs.Moments.{taken_more}
+use Rattle.net_relation.proofs.Readied.{IsReady}
 use Rattle.net_relation.specs.Laws.{IsAhead, Keeper, Provider}
 use Rattle.slon_model.specs.Views.{View}
 use Rattle.slon_model.specs.Events.{Event}
@@ -33,7 +34,7 @@ ProvidersHave set u x =
     IsAhead set x k.view.seen e.taken l → IsAmong l (logged p.node)
 
 -- A node of the session is to apply next an event of x by which it copies a set from another node than x, which has
--- applied it.
+-- applied it. By all that x has emitted the node subscribes to the set since that event.
 pub record IsAsking (u : World) (set : ℕ) (x : Node) : Type 0 where
   pub name : List ℕ
   pub node : Node
@@ -45,6 +46,7 @@ pub record IsAsking (u : World) (set : ℕ) (x : Node) : Type 0 where
   pub era : ℕ
   pub body : event.body ≡ EnableSubscription set provider node.id forward era
   pub next : event.number ≡ suc (progress x.id (knowledge node))
+  pub ready : IsReady node.id (read set (stream x)) event.number
   pub giver_name : List ℕ
   pub giver : Node
   pub at : nodes_in u.places giver_name ≡ Some giver

@@ -5,9 +5,9 @@ use Rattle.std.specs.Prelude.{◌+◌, ◌==◌, max}
 use Rattle.std.proofs.lemmas.Bool.{eqb-true, eq-eqb, false≢true, true≢false}
 use Rattle.std.proofs.lemmas.List.{length-map}
 use Rattle.node_rows.specs.declared.body.Body.{Body}
-use Rattle.node_rows.specs.declared.body.Body.TheVariants.{Sync, SubscribeSet, EnableSubscription}
+use Rattle.node_rows.specs.declared.body.Body.TheVariants.{Sync, SubscribeSet, EnableSubscription, UnsubscribeSet}
 use Rattle.net_laws.specs.Subscriptions.{Event as Said, Sync as Syncs, Subscribe, Enable, Unrelated}
-use Rattle.net_laws.specs.Subscriptions.{Subscription as Row, is_over, last_moment}
+use Rattle.net_laws.specs.Subscriptions.{Subscription as Row, Unsubscribe, is_over, last_moment}
 use Rattle.net_laws.specs.Subscriptions.{row, subscribed}
 use Rattle.net_laws.specs.Net.{Emits as EmitsStep, Here, MayEmit, More, Net, Node as NetNode, emitted, owned, IsReady}
 use Rattle.net_laws.specs.Net.{ProvidesNone}
@@ -33,7 +33,7 @@ use Rattle.view_laws.proofs.Rising.{found_stands}
 use Rattle.view_laws.proofs.Seen.{same_views}
 use Rattle.net_relation.specs.Reading.{moment_of, plain, read, said, said_by, unfed}
 use Rattle.net_relation.proofs.Feeding.{plain_emitted}
-use Rattle.net_relation.proofs.Links.{Alone, CanFeed, Changes, Feeds, MayTell, is_plain}
+use Rattle.net_relation.proofs.Links.{Alone, CanFeed, CanLeave, Changes, Feeds, Leaves, MayTell, is_plain}
 use Rattle.net_relation.proofs.Moments.{taken_now}
 use Rattle.net_relation.proofs.Nets.{stays_on}
 use Rattle.net_relation.proofs.Relating.{FitsNode, Frame, Netted, netted_sound, origin_later}
@@ -109,6 +109,7 @@ plain_may : (set : ℕ) (n : Net) (k : Snapshot) (body : Body) → is_plain body
 plain_may set n k Sync plain now = now
 plain_may set n k (SubscribeSet id provider receiver forward) plain now = absurd (false≢true plain)
 plain_may set n k (EnableSubscription id provider receiver forward era) plain now = absurd (false≢true plain)
+plain_may set n k (UnsubscribeSet id receiver) plain now = absurd (false≢true plain)
 plain_may set n k others plain now = tt
 
 abbrev emit_plain : {set : ℕ} {ended : List ℕ} {all : Nodes} {p : Place} {y : Node} (e : Emitting set ended all p y)
@@ -282,6 +283,20 @@ enable_may {set} {p = p} {y} e f new number n era = by (f.set_id == set) refl
             ∙ no_row e.netted f new (eqb-true f.set_id set same)
     by false other = tt
 
+-- the end of a subscription
+leave_may : {set : ℕ} {ended : List ℕ} {all : Nodes} {p : Place} {y : Node} (e : Emitting set ended all p y)
+    (id receiver : ℕ) → CanLeave y id receiver →
+    MayEmit e.netted.net (said_by set (taken p) (UnsubscribeSet id receiver))
+leave_may {set} {y = y} e id receiver can = by (id == set) refl
+  where
+    by : (b : Bool) → (id == set) ≡ b → MayEmit e.netted.net (cond b (Unsubscribe receiver) Unrelated)
+    by true same = (
+      ap is_over e.netted.origin.stream ∙ stays_on set (stream y),
+      provides_none e.netted receiver
+          (subst (λ i. is_provided receiver i (knowledge y).config ≡ false) (eqb-true id set same) can.provides),
+    )
+    by false other = tt
+
 -- ---- what a node emits at once
 
 -- a SYNC
@@ -381,6 +396,11 @@ told_net {set} {ended} {all} s ms (Changes f same can had) ready number sound cl
     subst (λ ms. Netted set ended all s.place (with_deeds (commit_of s ms).deeds s.node)) (sym same)
     (emit_change (record { netted = n; sound = sound; clock = clock; number = next_event s; is = number }) f can
     (ready f can))
+told_net {set} {ended} {all} s ms (Leaves id receiver same can) ready number sound clock n =
+    let e : Emitting set ended all s.place s.node =
+    record { netted = n; sound = sound; clock = clock; number = next_event s; is = number } in
+    subst (λ ms. Netted set ended all s.place (with_deeds (commit_of s ms).deeds s.node)) (sym same)
+    (emit_one e (tells (UnsubscribeSet id receiver)) refl (leave_may e id receiver can))
 
 pub next_number : (t : Past) (s : Seat) → IsSeat t.world.places s → next_event s ≡ length (stream s.node) + 1
 next_number t s is =
@@ -417,19 +437,20 @@ tell_beside f p o number m node is old = record {
 plain_beside : (set r : ℕ) (body : Body) → is_plain body ≡ true → IsBeside set r body
 plain_beside set r (SubscribeSet id provider receiver forward) plain = absurd (false≢true plain)
 plain_beside set r (EnableSubscription id provider receiver forward era) plain = absurd (false≢true plain)
+plain_beside set r (UnsubscribeSet id receiver) plain = absurd (false≢true plain)
 plain_beside set r others plain = tt
 
 pub told_matches : (f : Frame) (s : Seat) (ms : List Emission) (node : NetNode) → MayTell s.node ms →
-    s.node.id ≢ f.leader.id → FitsNode f s.node node →
-    FitsNode f (with_deeds (commit_of s ms).deeds s.node) node
-told_matches f s ms node (Alone m same plain) apart old =
+    ((set receiver : ℕ) → CanLeave s.node set receiver → receiver ≢ s.node.id) → s.node.id ≢ f.leader.id →
+    FitsNode f s.node node → FitsNode f (with_deeds (commit_of s ms).deeds s.node) node
+told_matches f s ms node (Alone m same plain) leave apart old =
     subst (λ ms. FitsNode f (with_deeds (commit_of s ms).deeds s.node) node) (sym same)
     (tell_beside f s.place s.node (next_event s) m node (record {
       apart = apart;
       emitted = plain_emitted m.body plain;
       beside = plain_beside f.set_id s.node.id m.body plain;
     }) old)
-told_matches f s ms node (Feeds k same can new) apart old =
+told_matches f s ms node (Feeds k same can new) leave apart old =
     subst (λ ms. FitsNode f (with_deeds (commit_of s ms).deeds s.node) node) (sym same)
     (tell_beside f s.place two (next_event s + 1 + 1)
     (tells (EnableSubscription k.set_id k.provider k.receiver k.forward (era_of k.set_id (knowledge s.node).config)))
@@ -444,10 +465,14 @@ told_matches f s ms node (Feeds k same can new) apart old =
 
     two : Node
     two = telling s.place one (next_event s + 1) (tells (SubscribeSet k.set_id k.provider k.receiver k.forward))
-told_matches f s ms node (Changes k same can had) apart old =
+told_matches f s ms node (Changes k same can had) leave apart old =
     subst (λ ms. FitsNode f (with_deeds (commit_of s ms).deeds s.node) node) (sym same)
     (tell_beside f s.place (telling s.place s.node (next_event s) (tells Sync)) (next_event s + 1)
     (tells (SubscribeSet k.set_id k.provider k.receiver k.forward)) node
     (record { apart = apart; emitted = refl; beside = λ id is. can.apart is })
     (tell_beside f s.place s.node (next_event s) (tells Sync) node
     (record { apart = apart; emitted = refl; beside = tt }) old))
+told_matches f s ms node (Leaves set receiver same can) leave apart old =
+    subst (λ ms. FitsNode f (with_deeds (commit_of s ms).deeds s.node) node) (sym same)
+    (tell_beside f s.place s.node (next_event s) (tells (UnsubscribeSet set receiver)) node
+    (record { apart = apart; emitted = refl; beside = λ id is. leave set receiver can is }) old)

@@ -1,6 +1,6 @@
 -- What a node that forwards a set logs with a SYNC: all that the origin logged on the set between the two snapshots.
 use Rattle.std.proofs.Common.{◌≡◌, inl, inr, ℕ, Bool, true, false, cond, List, [], ◌∷◌, Some, refl, sym, ap, subst, ◌≢◌}
-use Rattle.std.proofs.Common.{◌∙◌, arith}
+use Rattle.std.proofs.Common.{◌∙◌, ◌<◌, suc, arith}
 use Rattle.std.specs.Prelude.{◌==◌, ◌&&◌, filter, map}
 use Rattle.std.specs.Str.{bytes_eq}
 use Rattle.std.proofs.lemmas.Bool.{eq-eqb, false_from_ne_true}
@@ -8,7 +8,8 @@ use Rattle.node_rows.specs.declared.rows.TableRow.{TableRow}
 use Rattle.slon_model.specs.Snapshots.{sees}
 use Rattle.slon_model.specs.Events.{Event}
 use Rattle.slon_model.specs.Config.{era_of, forwards, is_origin, names_of, set_of}
-use Rattle.slon_model.specs.Deeds.{Brought, Logged, Node, knowledge, nothing_brought, stream, view_of, Knowledge}
+use Rattle.slon_model.specs.Deeds.{Brought, Logged, Node, knowledge, nothing_brought, progress, stream, view_of}
+use Rattle.slon_model.specs.Deeds.{Knowledge}
 use Rattle.slon_model.specs.Following.{SetSync, delta, is_new, is_on_one, kept_from, numbered, onto, set_sync}
 use Rattle.slon_model.specs.Following.{tables_taken, with_sync, with_syncs}
 use Rattle.slon_model.specs.Logs.{logged}
@@ -18,7 +19,7 @@ use Rattle.slon_model.specs.Views.{View}
 use Rattle.slon_model.specs.Working.{Carried}
 use Rattle.slon_model.proofs.Names.{bytes_itself, bytes_same}
 use Rattle.slon_laws.proofs.Later.{HoldsOf}
-use Rattle.stream_laws.specs.Nodes.{IsAmong, nodes_in, node_in}
+use Rattle.stream_laws.specs.Nodes.{IsAmong, IsEvent, nodes_in, node_in}
 use Rattle.stream_laws.specs.Facts.{Facts}
 use Rattle.stream_laws.specs.Laws.{AreMadeOnce, IsProper}
 use Rattle.stream_laws.specs.Making.{HasStored, OfName, has_mark, tells_of}
@@ -31,9 +32,12 @@ use Rattle.stream_laws.proofs.Streams.{number_within, one_node}
 use Rattle.image_laws.specs.Facts.{IsHeldBy}
 use Rattle.image_laws.proofs.Logging.{among_filtered, filtered_among}
 use Rattle.view_laws.specs.Contents.{actions_on}
-use Rattle.view_laws.specs.Known.{IsLoggedAs, IsSeen}
+use Rattle.view_laws.specs.Known.{IsLoggedAs, IsSeen, leaves}
 use Rattle.view_laws.specs.Past.{Past, WasBefore, WasUpTo}
-use Rattle.view_laws.proofs.Agreeing.{table_known, tables_agree}
+use Rattle.view_laws.proofs.Agreeing.{table_known, table_or_left}
+use Rattle.view_laws.proofs.Lasting.{Between}
+use Rattle.view_laws.proofs.Late.{late_unseen}
+use Rattle.view_laws.proofs.Standing.{Viewer, left_behind, viewer_event}
 use Rattle.view_laws.proofs.Brought.{IsSynced, taken_at}
 use Rattle.view_laws.proofs.Doing.{IsTaken}
 use Rattle.view_laws.proofs.Viewed.{seen_now}
@@ -42,6 +46,7 @@ use Rattle.view_laws.proofs.Numbered.{IsNumbered, are_numbered, mapped_among}
 use Rattle.view_laws.proofs.Rising.{found_stands}
 use Rattle.image_laws.proofs.Staying.{Stays}
 use Rattle.view_laws.proofs.Tables.{KnownTable, Table, found_in_set, logged_table, one_table, table_of, told_now}
+use Rattle.view_laws.proofs.Tables.{table_origin}
 use Rattle.view_laws.proofs.Taken.{Follows, delta_read}
 use Rattle.view_laws.proofs.Unmoved.{syncs_are}
 use Rattle.net_relation.proofs.Leading.{one_storer}
@@ -80,7 +85,7 @@ logs_new here (s ∷ ts) b t (inr later) forwards l row = logs_new here ts (with
 
 -- ---- a SYNC that is followed
 
--- A node that keeps a set finds what there is for a SYNC of its origin, which is as at this seat.
+-- A node that keeps a set finds what there is for its next event, a SYNC of the origin, which is as at this seat.
 pub record Keeping (t : Past) (s : Seat) (ev : Event) (set : ℕ) : Type 0 where
   pub seat : IsSeat t.world.places s
   pub source : Seat
@@ -90,6 +95,8 @@ pub record Keeping (t : Past) (s : Seat) (ev : Event) (set : ℕ) : Type 0 where
   pub view : View
   pub found : view_of set (knowledge s.node) ≡ Some view
   pub own : view.origin ≡ ev.origin
+  pub event : IsEvent (nodes_in t.world.places) ev
+  pub next : ev.number ≡ suc (progress ev.origin (knowledge s.node))
 
 -- the origin of the set
 abbrev leader : {t : Past} {s : Seat} {ev : Event} {set : ℕ} → Keeping t s ev set → Node
@@ -135,14 +142,21 @@ entry_table t s ev set f l among =
     (all_among (IsLoggedAs (WasBefore t) (leader f)) l (logged (leader f))
     (told_now t f.source.name (leader f) (leader_is t s ev set f)).logs among)
 
--- the origin knows it as one of the set
-entry_held : (t : Past) (s : Seat) (ev : Event) (set : ℕ) (f : Keeping t s ev set) (l : Logged) → IsNewEntry f l →
-    IsHeldBy (leader f).id (knowledge (leader f)).config set l.action.table
-entry_held t s ev set f l i = (
-  ap (λ name. set_of name (knowledge y).config) named ∙ found_in_set t known
-      ∙ ap Some (sym (one_table t table (table_of t known) named).0 ∙ i.of),
-  leader_leads t s ev set f,
-)
+-- The origin has emitted the event by which the table came into the set, and knows it.
+record EntryKnown (t : Past) (set : ℕ) (y : Node) (l : Logged) : Type 0 where
+  known : KnownTable t
+  at : known.node ≡ y
+  named : l.action.table ≡ known.entry.1.name
+  of : known.entry.1.set_id ≡ set
+
+entry_known : (t : Past) (s : Seat) (ev : Event) (set : ℕ) (f : Keeping t s ev set) (l : Logged) → IsNewEntry f l →
+    EntryKnown t set (leader f) l
+entry_known t s ev set f l i = record {
+  known = known;
+  at = refl;
+  named = named;
+  of = sym (one_table t table (table_of t known) named).0 ∙ i.of;
+}
   where
     y : Node
     y = leader f
@@ -211,6 +225,84 @@ entry_held t s ev set f l i = (
     named : l.action.table ≡ entry.0.1.name
     named = bytes_same l.action.table entry.0.1.name entry.2
 
+-- so the table is in the set there
+entry_held : (t : Past) (s : Seat) (ev : Event) (set : ℕ) (f : Keeping t s ev set) (l : Logged) → IsNewEntry f l →
+    IsHeldBy (leader f).id (knowledge (leader f)).config set l.action.table
+entry_held t s ev set f l i =
+    let k = entry_known t s ev set f l i in (
+      ap (set_of l.action.table) (ap (λ (n : Node). (knowledge n).config) (sym k.at))
+          ∙ ap (λ name. set_of name (knowledge k.known.node).config) k.named ∙ found_in_set t k.known ∙ ap Some k.of,
+      leader_leads t s ev set f,
+    )
+
+-- A node that keeps the set knows the table of the entry: as that came into the set the node was not told yet to give
+-- it up, since the SYNC came before that, and sees the entry.
+entry_named : (t : Past) (s : Seat) (ev : Event) (set : ℕ) (f : Keeping t s ev set) (l : Logged) → IsNewEntry f l →
+    IsAmong l.action.table (names_of set (knowledge s.node).config)
+entry_named t s ev set f l i = elim (table_or_left t k.known viewer (sym k.of)) [
+  | inl known ↦
+      subst (λ name. IsAmong name (names_of set (knowledge s.node).config)) (sym k.named)
+      (subst (λ i. IsAmong k.known.entry.1.name (names_of i (knowledge s.node).config)) k.of known)
+  | inr left ↦ absurd (late_unseen t (record {
+    at = record {
+      name = f.source.name;
+      place = f.source.place;
+      found = f.is.found;
+      node = y;
+      at = f.is.node;
+    };
+    table = table;
+    there = there;
+    held =
+        subst (λ i. IsHeldBy y.id (knowledge y).config i k.known.entry.1.name) (sym k.of)
+        (subst (IsHeldBy y.id (knowledge y).config set) k.named (entry_held t s ev set f l i));
+    entry = l;
+    among = i.among;
+    on = k.named;
+  }) ev (subst (λ (n : Node). IsAmong ev (stream n)) (one_node (nodes_in t.world.places) (regular_now t).nodes
+      f.event.name f.source.name f.event.node y f.event.is (leader_is t s ev set f, f.event.own ∙ sym f.led))
+      f.event.among) (before left) i.seen)
+]
+  where
+    y : Node
+    y = leader f
+
+    k : EntryKnown t set y l
+    k = entry_known t s ev set f l i
+
+    own : nodes_in t.world.places s.name ≡ Some s.node
+    own = seat_node t.world.places s f.seat
+
+    viewer : Viewer t
+    viewer = record {
+      name = s.name;
+      node = s.node;
+      is = own;
+      set_id = set;
+      view = f.view;
+      seen = seen_now t s.name s.node own set f.view f.found;
+    }
+
+    table : Table t
+    table = table_of t k.known
+
+    from : table.event.origin ≡ f.view.origin
+    from = table_origin t table s.node f.view (subst (λ i. IsSeen (WasUpTo t) s.node i f.view) (sym k.of) viewer.seen)
+
+    there : IsAmong table.event (stream y)
+    there =
+        subst (λ (n : Node). IsAmong table.event (stream n)) (one_node (nodes_in t.world.places) (regular_now t).nodes
+        table.is.name f.source.name table.is.node y table.is.is
+        (leader_is t s ev set f, table.is.own ∙ from ∙ f.own ∙ sym f.led)) table.is.among
+
+    before : Between (leaves set s.node.id) (stream (viewer_event t viewer).node) viewer.seen.enabled table.event →
+        ev.number < table.event.number
+    before b =
+        let behind = left_behind t viewer table.event b in
+        let next = f.next in
+        let at = ap (λ i. progress i (knowledge s.node)) f.own in
+        omega (arith, behind, next, at)
+
 -- the node knows it too, as a table to which it takes rows
 entry_follows : (t : Past) (s : Seat) (ev : Event) (set : ℕ) (f : Keeping t s ev set) (l : Logged) → IsNewEntry f l →
     (w : Follows t) × (w.table.node ≡ s.node) × (w.node ≡ leader f) × (w.table.entry.1.set_id ≡ set)
@@ -252,11 +344,7 @@ entry_follows t s ev set f l i = (
 )
   where
     among : IsAmong l.action.table (names_of set (knowledge s.node).config)
-    among =
-        (tables_agree t.limit t.history t.world t.leads s.name f.source.name s.place
-        f.source.place f.seat.found f.is.found s.node (leader f) f.seat.node
-        f.is.node set f.view f.found (f.led ∙ sym f.own) l.action.table).0
-        (entry_held t s ev set f l i)
+    among = entry_named t s ev set f l i
 
     there : (r : ℕ × TableRow) × IsAmong r (knowledge s.node).config.tables × (r.1.set_id ≡ set)
         × (l.action.table ≡ r.1.name)
@@ -375,6 +463,8 @@ keeping f =
       view = f.view;
       found = f.found;
       own = f.own;
+      event = f.synced.at.work.event;
+      next = f.synced.at.work.next;
     }
 
 -- it logs such an entry

@@ -2,14 +2,14 @@
 -- receiver, which is another node, and the set is in its first era.
 use Rattle.std.proofs.Common.{◌≡◌, ◌≢◌, inl, inr, ℕ, Bool, true, false, cond, List, [], ◌∷◌, Option, Some, None, refl}
 use Rattle.std.proofs.Common.{sym, ap, subst, ◌∙◌, length, suc}
-use Rattle.std.specs.Prelude.{◌+◌, option_map, unwrap_or, ◌==◌}
+use Rattle.std.specs.Prelude.{◌+◌, ◌&&◌, ◌||◌, option_map, unwrap_or, ◌==◌}
 use Rattle.std.specs.List.{AllByRecursion}
 use Rattle.std.proofs.lemmas.Bool.{false≢true, eq-eqb, eqb-true}
 use Rattle.node_rows.specs.declared.rows.SetRow.{SetRow}
 use Rattle.node_rows.specs.declared.body.Body.{Body}
 use Rattle.node_rows.specs.declared.body.Body.TheVariants.{Sync, StoreSet, SubscribeSet, EnableSubscription, DropSet}
 use Rattle.node_rows.specs.declared.body.Body.TheVariants.{MoveSet}
-use Rattle.node_rows.specs.declared.body.Body.TheVariants.{FailoverSet, StoreNode}
+use Rattle.node_rows.specs.declared.body.Body.TheVariants.{FailoverSet, StoreNode, UnsubscribeSet}
 use Rattle.slon_model.specs.Maps.{entry_at}
 use Rattle.slon_model.specs.Events.{Event}
 use Rattle.slon_model.specs.Config.{Config, change, change_by, era_of, is_origin, leads_row, live_set}
@@ -22,23 +22,27 @@ use Rattle.slon_model.proofs.Names.{all_map, one_found}
 use Rattle.stream_laws.specs.Nodes.{IsKnown, nodes_in}
 use Rattle.stream_laws.specs.Making.{HasStored, is_emitted}
 use Rattle.stream_laws.proofs.Emits.{known_changed}
-use Rattle.stream_laws.proofs.Lists.{all_entry, all_with}
+use Rattle.stream_laws.proofs.Lists.{all_among, all_entry, all_with}
 use Rattle.stream_laws.proofs.Seats.{IsSeat, seat_node}
 use Rattle.stream_laws.proofs.Statements.{has_stored}
 use Rattle.view_laws.specs.Past.{Past}
+use Rattle.view_laws.specs.Known.{is_on_feed}
+use Rattle.view_laws.proofs.Lasting.{both_same}
 use Rattle.view_laws.proofs.Living.{event_of}
 use Rattle.view_laws.proofs.Moments.{regular_now}
-use Rattle.view_laws.proofs.Unfed.{may_emitted}
+use Rattle.view_laws.proofs.Saying.{may_emitted}
 use Rattle.net_relation.proofs.Behind.{begun_node, heard_node, holds_now, taken_node, told_node}
-use Rattle.net_relation.proofs.Links.{Alone, Begins, Changes, Feeds, HearsSome, Linked, MayTell, TakesOne, Tells}
+use Rattle.net_relation.proofs.Links.{Alone, Begins, CanLeave, Changes, Feeds, HearsSome, Leaves, Linked, MayTell}
+use Rattle.net_relation.proofs.Links.{TakesOne, Tells, leaving}
 use Rattle.net_relation.proofs.Links.{changing, giver, feeding}
-use Rattle.net_relation.proofs.Rowed.{AreRowed, IsRowed, has_row}
+use Rattle.net_relation.proofs.Rowed.{AreRowed, IsRowed, has_row, tells_of}
 use Rattle.net_relation.proofs.Links.{is_plain, joined, joins, stores}
 use Rattle.net_relation.proofs.Places.{NodeWent}
 use Rattle.net_relation.proofs.Stepping.{Does, Goes, Gone, Here, IsPut, Joins, Looks, Makes, Shuts, Stays, There}
 use Rattle.net_relation.proofs.Stepping.{is_put, look}
 use Rattle.net_relation.proofs.Stepping.{with_look}
-use Rattle.net_laws.specs.Subscriptions.{Event as Said, Subscribe, Enable, Unrelated, Subscription as Row}
+use Rattle.net_laws.specs.Subscriptions.{Event as Said, Subscribe, Enable, Unsubscribe, Unrelated}
+use Rattle.net_laws.specs.Subscriptions.{Subscription as Row}
 use Rattle.net_laws.specs.Subscriptions.{enabled, last_moment, readied, row, subscribed}
 use Rattle.slon_model.specs.Snapshots.{Snapshot}
 use Rattle.slon_model.specs.Subscribing.{NewFeed}
@@ -53,6 +57,7 @@ FeedOf own es c set receiver = HasStored set es × IsKnown receiver c × (receiv
 abbrev pub IsFeed : ℕ → List Event → Config → Body → Type 0
 IsFeed own es c (SubscribeSet set provider receiver forward) = FeedOf own es c set receiver
 IsFeed own es c (EnableSubscription set provider receiver forward era) = FeedOf own es c set receiver × (era ≡ 1)
+IsFeed own es c (UnsubscribeSet set receiver) = FeedOf own es c set receiver
 IsFeed own es c others = Unit {0}
 
 -- all events are such, and each set is in its first era
@@ -91,6 +96,8 @@ still_feed own e es c (EnableSubscription set provider receiver forward era) is 
   (still_stored set e es is.0.0, known_changed receiver e.origin e.number e.body c is.0.1, is.0.2),
   is.1,
 )
+still_feed own e es c (UnsubscribeSet set receiver) is =
+    (still_stored set e es is.0, known_changed receiver e.origin e.number e.body c is.1, is.2)
 still_feed own e es c others is = tt
 
 still_known : (own : ℕ) (e : Event) (es : List Event) (c : Config) (body : Body) → IsFeed own es c body →
@@ -99,6 +106,8 @@ still_known own e es c (SubscribeSet set provider receiver forward) is =
     (is.0, known_changed receiver e.origin e.number e.body c is.1, is.2)
 still_known own e es c (EnableSubscription set provider receiver forward era) is =
     ((is.0.0, known_changed receiver e.origin e.number e.body c is.0.1, is.0.2), is.1)
+still_known own e es c (UnsubscribeSet set receiver) is =
+    (is.0, known_changed receiver e.origin e.number e.body c is.1, is.2)
 still_known own e es c others is = tt
 
 eras_changed : (origin number : ℕ) (body : Body) (c : Config) → is_emitted body ≡ true →
@@ -138,11 +147,13 @@ feeds_applied own e es c may old = record {
 pub plain_emitted : (body : Body) → is_plain body ≡ true → is_emitted body ≡ true
 plain_emitted (SubscribeSet set provider receiver forward) is = refl
 plain_emitted (EnableSubscription set provider receiver forward era) is = refl
+plain_emitted (UnsubscribeSet set receiver) is = refl
 plain_emitted others is = is
 
 plain_feed : (own : ℕ) (es : List Event) (c : Config) (body : Body) → is_plain body ≡ true → IsFeed own es c body
 plain_feed own es c (SubscribeSet set provider receiver forward) is = absurd (false≢true is)
 plain_feed own es c (EnableSubscription set provider receiver forward era) is = absurd (false≢true is)
+plain_feed own es c (UnsubscribeSet set receiver) is = absurd (false≢true is)
 plain_feed own es c others is = tt
 
 -- the era of a set that has an origin
@@ -189,6 +200,7 @@ plain_row : (set : ℕ) (k : Snapshot) (body : Body) → is_plain body ≡ true 
     row unfed r (said_by set k body ∷ z) ≡ row unfed r z
 plain_row set k (SubscribeSet id provider receiver forward) is r z = absurd (false≢true is)
 plain_row set k (EnableSubscription id provider receiver forward era) is r z = absurd (false≢true is)
+plain_row set k (UnsubscribeSet id receiver) is r z = absurd (false≢true is)
 plain_row set k Sync is r z = refl
 plain_row set k others is r z = refl
 
@@ -228,6 +240,17 @@ ready_changed true f z old had r was u is = by (r == f.receiver) refl is
         ∙ ap (λ o. (made o).ready) here ∙ was old here
     by false other is = was u is
 
+-- where a receiver gives the set up, the others were ready
+ready_left : (b : Bool) (receiver : ℕ) (z : List Said) (r : ℕ) →
+    ((u : Row) → row unfed r z ≡ Some u → u.ready ≡ true) → (u : Row) →
+    row unfed r (cond b (Unsubscribe receiver) Unrelated ∷ z) ≡ Some u → u.ready ≡ true
+ready_left false receiver z r old u is = old u is
+ready_left true receiver z r old u is = by (r == receiver) is
+  where
+    by : (c : Bool) → cond c None (row unfed r z) ≡ Some u → u.ready ≡ true
+    by true none = absurd cc
+    by false is = old u is
+
 -- A node emits, which was ready.
 record Tell (t : Past) : Type 0 where
   seat : Seat
@@ -254,6 +277,9 @@ told_ready t d ms may = by may
         subst Ready (sym same)
         (λ set r u is. ready_feed (f.set_id == set) f
         (read set (event_of s (next_event s) Sync ∷ stream s.node)) r (d.ready set r) u is)
+    by (Leaves id receiver same can) =
+        subst Ready (sym same)
+        (λ set r u is. ready_left (id == set) receiver (read set (stream s.node)) r (d.ready set r) u is)
     by (Changes f same can had) =
         subst Ready (sym same) (λ set r u is. at set r u is (f.set_id == set) refl)
       where
@@ -273,6 +299,30 @@ told_ready t d ms may = by may
             d.ready set r u
             (sym (ap (λ b. row unfed r (cond b (Subscribe f.receiver f.provider f.forward) Unrelated
             ∷ read set (event_of s (next_event s) Sync ∷ stream s.node))) other) ∙ is)
+
+-- an event on a subscription says so of its receiver
+on_feed : (own : ℕ) (es : List Event) (c : Config) (set r : ℕ) (body : Body) → IsFeed own es c body →
+    is_on_feed set r body ≡ true → FeedOf own es c set r
+on_feed own es c set r (SubscribeSet id provider receiver forward) is on =
+    let same = both_same id set receiver r (left (id == set && receiver == r) on) in
+    subst (λ i. FeedOf own es c i r) same.0 (subst (λ n. FeedOf own es c id n) same.1 is)
+  where
+    left : (b : Bool) → (b || false) ≡ true → b ≡ true
+    left true is = refl
+    left false is = is
+on_feed own es c set r (EnableSubscription id provider receiver forward era) is on =
+    let same = both_same id set receiver r on in
+    subst (λ i. FeedOf own es c i r) same.0 (subst (λ n. FeedOf own es c id n) same.1 is.0)
+on_feed own es c set r others is on = absurd (false≢true on)
+
+-- so it is of a receiver that is to give the set up
+pub left_feed : (t : Past) (s : Seat) → IsSeat t.world.places s → NodeFeeds s.node → (set receiver : ℕ) →
+    CanLeave s.node set receiver → FeedOf s.node.id (stream s.node) (knowledge s.node).config set receiver
+left_feed t s is was set receiver can =
+    let told = tells_of t s is set receiver can.leads can.had in
+    on_feed s.node.id (stream s.node) (knowledge s.node).config set receiver told.event.body
+    (all_among (λ e. IsFeed s.node.id (stream s.node) (knowledge s.node).config e.body) told.event (stream s.node)
+    was.feeds told.among) told.on
 
 told_feeds : (t : Past) (s : Seat) → IsSeat t.world.places s → (ms : List Emission) → MayTell s.node ms →
     NodeFeeds s.node → NodeFeeds (with_deeds (commit_of s ms).deeds s.node)
@@ -366,6 +416,22 @@ told_feeds t s is ms (Changes f same can had) was =
 
     knows : IsKnown f.receiver (change_by own (number + 1) two.body (knowledge s.node).config)
     knows = known_changed f.receiver own (number + 1) two.body (knowledge s.node).config can.knows
+told_feeds t s is ms (Leaves set receiver same can) was =
+    subst (λ ms. NodeFeeds (with_deeds (commit_of s ms).deeds s.node)) (sym same)
+    (node_feeds (with_deeds (commit_of s (leaving set receiver)).deeds s.node)
+    (feeds_more s.node.id e (stream s.node) (knowledge s.node).config refl (
+      still_stored set e (stream s.node) feed.0,
+      known_changed receiver s.node.id (next_event s) e.body (knowledge s.node).config feed.1,
+      feed.2,
+    ) tt (are_feeds s.node was))
+    (told_ready t (record { seat = s; is = is; rows = was.rows; ready = was.ready }) (leaving set receiver)
+    (Leaves set receiver refl can)))
+  where
+    e : Event
+    e = event_of s (next_event s) (UnsubscribeSet set receiver)
+
+    feed : FeedOf s.node.id (stream s.node) (knowledge s.node).config set receiver
+    feed = left_feed t s is was set receiver can
 
 -- ---- every session
 

@@ -213,7 +213,7 @@ gives_the_same set t g =
     held l is =
         let q = place_of t k.name k.node k.is in
         (tables_agree t.limit t.history t.world t.leads k.name g.name q.0 p.0 q.1 p.1 k.node x q.2 p.2 set k.view
-        k.keeps (sym k.own) l.action.table).1
+        k.keeps (sym k.own) l.action.table).0
         (taken_named k.node.id set (knowledge k.node).config l
         (and_parts (is_on_one how.tables l) (is_new how.old how.new l) is).0)
 

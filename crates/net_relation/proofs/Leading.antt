@@ -1,4 +1,5 @@
--- The node that stored a set is its origin, and alone says who receives it. A receiver that is told to copies the set.
+-- The node that stored a set is its origin, and alone says who receives it. A receiver that is told to copies the set,
+-- unless it was told to give that up by then.
 use Rattle.std.proofs.Common.{◌≡◌, ℕ, Bool, true, false, cond, List, Option, Some, None, is_some}
 use Rattle.std.proofs.Common.{◌≢◌, inl, inr, ◌≤◌, suc}
 use Rattle.std.proofs.Common.{refl, sym, ap, subst, ◌∙◌, arith}
@@ -36,6 +37,8 @@ use Rattle.view_laws.specs.Known.{IsSeen}
 use Rattle.view_laws.proofs.Viewed.{seen_now}
 use Rattle.slon_model.specs.Views.{View}
 use Rattle.net_relation.proofs.Earlier.{CopiesFind}
+use Rattle.net_relation.proofs.Readied.{IsReady}
+use Rattle.net_relation.specs.Reading.{read}
 
 -- ---- who stored a set
 
@@ -109,6 +112,7 @@ record Asking (u : Past) (s : Seat) (e : Event) (set : ℕ) : Type 0 where
   forward : Bool
   era : ℕ
   body : e.body ≡ EnableSubscription set provider s.node.id forward era
+  ready : IsReady s.node.id (read set (stream work.event.node)) e.number
 
 abbrev asked_copy : {u : Past} {s : Seat} {e : Event} {set : ℕ} → Asking u s e set → Copying
 asked_copy {set = set} a = record { set_id = set; provider = a.provider; era = a.era }
@@ -199,6 +203,7 @@ asked_forwards {u} {s} {e} {set} a p at finds other = (
       era = a.era;
       body = a.body;
       next = a.work.next ∙ ap (λ i. suc (progress i (knowledge s.node))) (sym y.own);
+      ready = a.ready;
       giver_name = p.name;
       giver = p.node;
       at = there;
@@ -254,7 +259,8 @@ pub record IsAsked (t : Past) (x : Carried) (set : ℕ) : Type 0 where
   pub body : x.event.body ≡ EnableSubscription set provider x.seat.node.id forward era
 
 pub copy_comes : (t : Past) (x : Carried) (origin : ℕ) → IsTaken t origin x → (set : ℕ) → IsAsked t x set →
-    ((f : Finding t x.seat x.event) → CopiesFind set f.to.world f.work.event.node) →
+    ((f : Finding t x.seat x.event) → CopiesFind set f.to.world f.work.event.node
+    × IsReady x.seat.node.id (read set (stream f.work.event.node)) x.event.number) →
     (k : IsCopied t x.seat x.event x.brought) × (k.copy.copying.set_id ≡ set)
 copy_comes t x origin is set a finds = by is.brings
   where
@@ -268,11 +274,14 @@ copy_comes t x origin is set a finds = by is.brings
       era = a.era;
       body = a.body ∙ ap (λ id. EnableSubscription set a.provider id a.forward a.era)
           (sym (same_id t x.seat x.event f is.work.seat));
+      ready =
+          subst (λ id. IsReady id (read set (stream f.work.event.node)) x.event.number)
+          (sym (same_id t x.seat x.event f is.work.seat)) (finds f).1;
     }
 
     by : IsBrought t x.seat x.event x.brought →
         (k : IsCopied t x.seat x.event x.brought) × (k.copy.copying.set_id ≡ set)
-    by (Nothing n) = absurd (not_vain n.at.to n.at.seat x.event set (then n.at) (finds n.at) n.vain)
+    by (Nothing n) = absurd (not_vain n.at.to n.at.seat x.event set (then n.at) (finds n.at).0 n.vain)
     by (Copies k) = (
       k,
       ap (λ (c : Copying). c.set_id) (one_copying (errand_of k.at.seat x.event) k.copy.copying

@@ -28,5 +28,6 @@ pub mod Serving
 pub mod Sessions
 pub mod Stepping
 pub mod Stretches
+pub mod Telling
 pub mod Views
 pub mod Whole

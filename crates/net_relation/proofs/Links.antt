@@ -1,6 +1,6 @@
 -- What a statement or a turn commits: nothing, one commit of a node, or the two by which a node joins.
 use Rattle.std.proofs.Common.{◌≡◌, ◌≢◌, ℕ, Bool, true, false, List, [], ◌∷◌, Option, Some, None, Result}
-use Rattle.std.proofs.Common.{is_some, not, refl, sym, subst, ◌∙◌, ◌⊎◌, inl, inr, ◌≤◌, ap}
+use Rattle.std.proofs.Common.{is_none, is_some, not, refl, sym, subst, ◌∙◌, ◌⊎◌, inl, inr, ◌≤◌, ap}
 use Rattle.std.specs.Prelude.{◌==◌, ◌&&◌, option_map, unwrap_or}
 use Rattle.std.specs.List.{AllByRecursion}
 use Rattle.std.proofs.lemmas.Bool.{eqb-true, eq-eqb, true≢false, and_parts, not-false, or_parts}
@@ -9,7 +9,7 @@ use Rattle.slonik_script.specs.declared.script.Command.TheVariants as order
 use Rattle.node_rows.specs.declared.rows.NodeRow.{NodeRow}
 use Rattle.node_rows.specs.declared.body.Body.{Body}
 use Rattle.node_rows.specs.declared.body.Body.TheVariants.{Sync, StoreNode, StorePath, DropPath, StoreSet}
-use Rattle.node_rows.specs.declared.body.Body.TheVariants.{SubscribeSet, EnableSubscription}
+use Rattle.node_rows.specs.declared.body.Body.TheVariants.{SubscribeSet, EnableSubscription, UnsubscribeSet}
 use Rattle.slon_model.specs.declared.command.Delivery.{Delivery}
 use Rattle.slon_model.specs.declared.command.Delivery.TheVariants.{Lost}
 use Rattle.slon_model.specs.declared.reply.Refusal.{Refusal}
@@ -28,6 +28,7 @@ use Rattle.slon_model.specs.Reaching.{origin_of, owner, commit_of, emitting}
 use Rattle.slon_model.specs.Sets.{NewTable, adding, create_set, set_add_table}
 use Rattle.slon_model.specs.Subscribing.{NewFeed, subscribing, feed_checks, feed_bodies, all_tell, changed_bodies}
 use Rattle.slon_model.specs.Subscribing.{bodies_of, told_bodies, is_waiting, is_provider, provides as is_provided}
+use Rattle.slon_model.specs.Subscribing.{is_unfed, leave_checks, unsubscribe_set}
 use Rattle.slon_model.specs.Subscribing.{subscribe_set, is_active, is_confirmed, is_relayed}
 use Rattle.slon_model.specs.Scripts.{ordered}
 use Rattle.slon_model.specs.Turns.{on_turn, sync_turn}
@@ -57,10 +58,11 @@ use Rattle.node_rows.specs.declared.rows.Subscription.{Subscription}
 
 -- ---- what a node emits
 
--- an event that stands alone: one that is no part of a subscription
+-- an event that is of no subscription
 abbrev pub is_plain : Body → Bool
 is_plain (SubscribeSet set provider receiver forward) = false
 is_plain (EnableSubscription set provider receiver forward era) = false
+is_plain (UnsubscribeSet set receiver) = false
 is_plain others = is_emitted others
 
 -- The provider is another node than this one. It subscribes to the set and forwards it, and this node was told that it
@@ -86,6 +88,13 @@ pub record CanFeed (n : Node) (f : NewFeed) : Type 0 where
       row.mark ≤ told_of n.id n.id f.receiver (knowledge n)
   pub keeps : (f.forward ≡ true) ⊎ (is_provided f.receiver f.set_id (knowledge n).config ≡ false)
 
+-- The node may emit that a subscription ends: it is the origin of the set, the receiver subscribes to that, and no node
+-- has the set from it.
+pub record CanLeave (n : Node) (set receiver : ℕ) : Type 0 where
+  pub leads : is_origin n.id set (knowledge n).config ≡ true
+  pub had : HasFeed set receiver (knowledge n).config
+  pub provides : is_provided receiver set (knowledge n).config ≡ false
+
 abbrev pub feeding : Node → NewFeed → List Emission
 feeding n f = all_tell (feed_bodies (era_of f.set_id (knowledge n).config) f)
 
@@ -93,12 +102,17 @@ feeding n f = all_tell (feed_bodies (era_of f.set_id (knowledge n).config) f)
 abbrev pub changing : NewFeed → List Emission
 changing f = all_tell (changed_bodies f)
 
+-- the event by which a subscription ends
+abbrev pub leaving : ℕ → ℕ → List Emission
+leaving set receiver = tells (UnsubscribeSet set receiver) ∷ []
+
 pub data MayTell (n : Node) (ms : List Emission) : Type 0 where
   Alone : (m : Emission) → ms ≡ m ∷ [] → is_plain m.body ≡ true → MayTell n ms
   Feeds : (f : NewFeed) → ms ≡ feeding n f → CanFeed n f →
       pair_at f.set_id f.receiver (knowledge n).config.subscriptions ≡ None → MayTell n ms
   Changes : (f : NewFeed) → ms ≡ changing f → CanFeed n f → HasFeed f.set_id f.receiver (knowledge n).config →
       MayTell n ms
+  Leaves : (set receiver : ℕ) → ms ≡ leaving set receiver → CanLeave n set receiver → MayTell n ms
 
 -- ---- one commit
 
@@ -332,6 +346,34 @@ feed_link f run t r =
     (feed_told s.node f (can_feed t.world s f is.0 is.1 (all_none (feed_checks s f) none))
     (pair_at f.set_id f.receiver (knowledge s.node).config.subscriptions) refl))))
 
+-- ---- UNSUBSCRIBE SET
+
+some_left : {X : Type 0} (o : Option X) → is_none o ≡ false → is_some o ≡ true
+some_left None never = absurd (true≢false never)
+some_left (Some x) is = refl
+
+can_leave : (w : World) (s : Seat) (set receiver : ℕ) → IsSeat w.places s → claims set s ≡ true →
+    AllByRecursion (λ o. o ≡ None) (leave_checks set receiver s.known.config) → CanLeave s.node set receiver
+can_leave w s set receiver is claimed none = record {
+  leads = subst (λ (k : Knowledge). is_origin s.node.id set k.config ≡ true) is.known claimed;
+  had =
+      subst (λ (k : Knowledge). HasFeed set receiver k.config) is.known
+      (some_left (pair_at set receiver s.known.config.subscriptions)
+      (when_none (is_unfed set receiver s.known.config) (refused.NotActive receiver) none.0));
+  provides =
+      subst (λ (k : Knowledge). is_provided receiver set k.config ≡ false) is.known
+      (when_none (is_provided receiver set s.known.config) (refused.HasReceivers receiver) none.1.0);
+}
+
+leave_link : (set receiver : ℕ) (run : Running) (t : Past) → IsRegular t.world →
+    OnOk (IsStated t) (unsubscribe_set set receiver run t.world)
+leave_link set receiver run t r =
+    bind_ok (IsClaiming set t.world) (IsStated t) (owner run set t.world) _ (owner_claiming run set t.world r.once)
+    (λ s is. checked_ok (IsStated t) (leave_checks set receiver s.known.config)
+    (emitting s (tells (UnsubscribeSet set receiver) ∷ []))
+    (λ none. emits_link t s (tells (UnsubscribeSet set receiver) ∷ []) is.0 (Leaves set receiver refl
+    (can_leave t.world s set receiver is.0 is.1 (all_none (leave_checks set receiver s.known.config) none)))))
+
 ordered_link : (t : Past) → IsRegular t.world → (o : Order) (run : Running) → OnOk (IsStated t) (ordered o run t.world)
 ordered_link t r (order.InitCluster id comment) run = init_link id comment run t
 ordered_link t r (order.StoreNode id event_node comment) run = store_link id event_node comment run t
@@ -342,6 +384,7 @@ ordered_link t r (order.SetAddTable set origin id name key comment) run =
     table_link origin (record { set_id = set; id = id; name = name; comment = comment_of comment }) run t
 ordered_link t r (order.SubscribeSet set provider receiver forward) run =
     feed_link (subscribing set provider receiver forward) run t r
+ordered_link t r (order.UnsubscribeSet set receiver) run = leave_link set receiver run t r
 ordered_link t r (order.Sync id) run = reached t id run _ (λ s is. tells_link t s (tells Sync) is.0 refl)
 ordered_link t r others run = tt
 

@@ -7,7 +7,7 @@ use Rattle.std.specs.List.{AllByRecursion}
 use Rattle.std.proofs.lemmas.Bool.{eqb-true, cases_lt}
 use Rattle.std.proofs.lemmas.List.{length-append, length-map, map-append}
 use Rattle.node_rows.specs.declared.body.Body.{Body}
-use Rattle.node_rows.specs.declared.body.Body.TheVariants.{Sync, SubscribeSet, EnableSubscription}
+use Rattle.node_rows.specs.declared.body.Body.TheVariants.{Sync, SubscribeSet, EnableSubscription, UnsubscribeSet}
 use Rattle.net_laws.specs.Updates.{set_at}
 use Rattle.net_laws.specs.Subscriptions.{Event as Said, Sync as Syncs, Subscribe, Enable, Unsubscribe, DropSet}
 use Rattle.net_laws.specs.Subscriptions.{Unrelated}
@@ -61,6 +61,11 @@ never_over set taken (EnableSubscription id provider receiver forward era) b =
       | true ↦ refl
       | false ↦ refl
     ]
+never_over set taken (UnsubscribeSet id receiver) b =
+    elim (id == set) as (λ c. over_with (cond c (Unsubscribe receiver) Unrelated) b ≡ b) [
+      | true ↦ refl
+      | false ↦ refl
+    ]
 never_over set taken Sync b = refl
 never_over set taken others b = refl
 
@@ -111,7 +116,7 @@ ticks (suc n) w on full =
 abbrev pub Spares : ℕ → Said → Type 0
 Spares r (Subscribe n p f) = n ≢ r
 Spares r (Enable n) = n ≢ r
-Spares r (Unsubscribe n) = ⊥
+Spares r (Unsubscribe n) = n ≢ r
 Spares r DropSet = ⊥
 Spares r others = Unit {0}
 
@@ -119,7 +124,7 @@ spared_quiet : (r : ℕ) (e : Said) → Spares r e → IsQuiet r None e
 spared_quiet r (Syncs m) spares = refl
 spared_quiet r (Subscribe n p f) spares = λ is. refl
 spared_quiet r (Enable n) spares = spares
-spared_quiet r (Unsubscribe n) spares = absurd spares
+spared_quiet r (Unsubscribe n) spares = spares
 spared_quiet r DropSet spares = absurd spares
 spared_quiet r others spares = tt
 
@@ -137,7 +142,11 @@ none_changed r k c (Enable n) spares = by (r == n) refl
     by : (b : Bool) → (r == n) ≡ b → cond b no_row no_row ≡ no_row
     by true same = refl
     by false other = refl
-none_changed r k c (Unsubscribe n) spares = absurd spares
+none_changed r k c (Unsubscribe n) spares = by (r == n)
+  where
+    by : (b : Bool) → cond b no_row no_row ≡ no_row
+    by true = refl
+    by false = refl
 none_changed r k c DropSet spares = absurd spares
 none_changed r k c others spares = refl
 

@@ -3,9 +3,7 @@
 use Rattle.std.proofs.Common.{◌≡◌, ◌≢◌, inl, inr, ℕ, ◌<◌, Bool, true, false, cond, List, [], ◌∷◌, ◌++◌}
 use Rattle.std.proofs.Common.{length, Option, Some, None, refl, sym, ap, subst, ◌∙◌, arith, unwrap_or}
 use Rattle.std.specs.Prelude.{◌+◌, ◌==◌, option_map}
-use Rattle.std.specs.List.{AllByRecursion}
 use Rattle.std.proofs.lemmas.Bool.{cases_eq, eq-eqb, eqb-true, false≢true}
-use Rattle.std.proofs.lemmas.List.{length-map, map-append}
 use Rattle.node_rows.specs.declared.body.Body.{Body}
 use Rattle.node_rows.specs.declared.body.Body.TheVariants.{Sync}
 use Rattle.node_rows.specs.declared.rows.Subscription.{Subscription}
@@ -13,7 +11,7 @@ use Rattle.net_laws.specs.Subscriptions.{Sync as Syncs, Enable, Unrelated, Subsc
 use Rattle.net_laws.specs.Subscriptions.{row, up_to}
 use Rattle.net_laws.specs.Laws.{CanServe, InLog, IsAwaited}
 use Rattle.net_laws.specs.Net.{IsNext, Logs, Net, configured, member}
-use Rattle.net_laws.specs.Sound.{Sound, IsExpected}
+use Rattle.net_laws.specs.Sound.{Sound}
 use Rattle.net_laws.proofs.Laws.{copy_finds, logs_hold, view_has_row}
 use Rattle.slon_model.specs.Names.{find_named}
 use Rattle.slon_model.specs.Events.{Event, is_sync}
@@ -40,7 +38,6 @@ use Rattle.net_relation.proofs.Rowed.{AreRowed, IsRowed}
 use Rattle.net_relation.proofs.Leading.{feeds_at}
 use Rattle.net_relation.proofs.Moments.{seen_moment, unseen_moment}
 use Rattle.net_relation.proofs.Nets.{said_next}
-use Rattle.net_relation.proofs.Readied.{AllExpected, IsReady, Tame, all_expected, read_tame, ready_stays}
 use Rattle.net_relation.proofs.Relating.{Netted, netted_sound}
 use Rattle.slon_model.specs.Sessions.{Seat, seat}
 use Rattle.stream_laws.proofs.Seats.{IsSeat}
@@ -286,19 +283,6 @@ copies_find set t s a = (
     enables : said set a.event ≡ Enable o.id
     enables = ap (said_by set a.event.taken) a.body ∙ ap (λ b. cond b (Enable o.id) Unrelated) (eq-eqb set set refl)
 
-    whole : n.stream ≡ read set found.later ++ Enable o.id ∷ read set found.earlier
-    whole =
-        s.netted.origin.stream ∙ ap (read set) found.all
-        ∙ map-append (said set) found.later (a.event ∷ found.earlier)
-        ∙ ap (λ e. read set found.later ++ e ∷ read set found.earlier) enables
-
-    ready : IsReady o.id (read set found.later ++ Enable o.id ∷ read set found.earlier)
-        (length (read set found.earlier) + 1)
-    ready = ready_stays o.id (read set found.later) (read set found.earlier)
-        (subst AllExpected whole (all_expected n.stream (λ i less.
-        subst (λ b. IsExpected b (up_to i n.stream)) s.netted.origin.start ((stood_sound s).expected i less))))
-        (subst (AllByRecursion Tame) (sym s.netted.origin.stream ∙ whole) (read_tame set (stream x)))
-
     -- its subscription by what it has heard
     known : (u : Row) × (row unfed o.id (read set found.earlier) ≡ Some u) × (u.provider ≡ a.provider)
     known = subst (IsRowed found.earlier) a.body
@@ -315,14 +299,15 @@ copies_find set t s a = (
     awaited : IsAwaited n o.id
     awaited = record {
       next = subst (IsNext n o.id) enables (stood_next s a.event found o.id far);
-      row = ready.0;
-      has = ap (λ b. row b o.id n.stream) s.netted.origin.start ∙ ap (row unfed o.id) whole ∙ ready.1;
-      ready = ready.2;
+      row = a.ready.0;
+      has =
+          ap (λ b. row b o.id n.stream) s.netted.origin.start ∙ ap (row unfed o.id) s.netted.origin.stream ∙ a.ready.1;
+      ready = a.ready.2;
       made =
-          let made = ready.3 in
-          let long = length-map found.earlier (said set) in
+          let made = a.ready.3 in
+          let number = found.are.1 in
           let at = far in
-          omega (arith, made, long, at);
+          omega (arith, made, number, at);
       known = known.0;
       is =
           ap (λ b. row b o.id (up_to (n.nodes o.id).progress n.stream)) s.netted.origin.start

@@ -7,7 +7,8 @@ use Rattle.node_rows.specs.declared.body.Body.{Body}
 use Rattle.node_rows.specs.declared.body.Body.TheVariants.{SubscribeSet, EnableSubscription, DropSet, UnsubscribeSet}
 use Rattle.node_rows.specs.declared.body.Body.TheVariants.{MoveSet, FailoverSet}
 use Rattle.node_rows.specs.declared.rows.Subscription.{Subscription}
-use Rattle.net_laws.specs.Subscriptions.{Event as Said, Subscribe, Enable, Unrelated, Subscription as Row, last_moment}
+use Rattle.net_laws.specs.Subscriptions.{Event as Said, Subscribe, Enable, Unsubscribe, Unrelated, Subscription as Row}
+use Rattle.net_laws.specs.Subscriptions.{last_moment}
 use Rattle.net_laws.specs.Subscriptions.{changed, enabled as enabled_row, readied, row, subscribed}
 use Rattle.slon_model.specs.Maps.{Map2, pair_at}
 use Rattle.slon_model.specs.Events.{Event}
@@ -16,7 +17,8 @@ use Rattle.slon_model.proofs.Names.{one_found}
 use Rattle.stream_laws.specs.Making.{is_emitted}
 use Rattle.net_relation.specs.Reading.{said, said_by, unfed, plain}
 use Rattle.net_relation.specs.Matching.{HasRow}
-use Rattle.view_laws.proofs.Once.{both_same, pair-with}
+use Rattle.view_laws.proofs.Fed.{pair-with, pair-without}
+use Rattle.view_laws.proofs.Lasting.{both_same}
 
 -- ---- pairs
 
@@ -113,7 +115,22 @@ row_changed set r z e c may number old u is =
             (same_test id set false other)
             ∙ old u is
     by (DropSet id) may is = absurd (false≢true may)
-    by (UnsubscribeSet id n) may is = absurd (false≢true may)
+    by (UnsubscribeSet id n) may is = pair-without set r id n c.subscriptions ∙ at (id == set) refl is
+      where
+        here : (b : Bool) → cond b None (row unfed r z) ≡ Some u →
+            cond b None (pair_at set r c.subscriptions) ≡ Some (plain u)
+        here true none = absurd cc
+        here false is = old u is
+
+        at : (a : Bool) → (id == set) ≡ a →
+            changed r k (last_moment z) (cond a (Unsubscribe n) Unrelated) (row unfed r z) ≡ Some u →
+            cond (set == id && r == n) None (pair_at set r c.subscriptions) ≡ Some (plain u)
+        at true same is =
+            ap (λ b. cond (b && r == n) None (pair_at set r c.subscriptions)) (same_test id set true same)
+            ∙ here (r == n) is
+        at false other is =
+            ap (λ b. cond (b && r == n) None (pair_at set r c.subscriptions)) (same_test id set false other)
+            ∙ old u is
     by (MoveSet id from to era feeds) may is = absurd (false≢true may)
     by (FailoverSet failed limit sets) may is = absurd (false≢true may)
     by others may is = old u is
@@ -124,6 +141,7 @@ row_changed set r z e c may number old u is =
 abbrev pub IsBeside : ℕ → ℕ → Body → Type 0
 IsBeside set r (SubscribeSet id p n f) = id ≡ set → n ≡ r → ⊥
 IsBeside set r (EnableSubscription id p n f era) = id ≡ set → n ≡ r → ⊥
+IsBeside set r (UnsubscribeSet id n) = id ≡ set → n ≡ r → ⊥
 IsBeside set r others = Unit {0}
 
 beside_test : (set r id n : ℕ) → (id ≡ set → n ≡ r → ⊥) → (set == id && r == n) ≡ false
@@ -150,7 +168,9 @@ row_beside set r e c u may apart is = by e.body may apart
         marked : Option Subscription
         marked = option_map (λ (s : Subscription). record s { mark = e.number }) (pair_at id n c.subscriptions)
     by (DropSet id) may apart = absurd (false≢true may)
-    by (UnsubscribeSet id n) may apart = absurd (false≢true may)
+    by (UnsubscribeSet id n) may apart =
+        pair-without set r id n c.subscriptions
+        ∙ ap (λ b. cond b None (pair_at set r c.subscriptions)) (beside_test set r id n apart) ∙ is
     by (MoveSet id from to era feeds) may apart = absurd (false≢true may)
     by (FailoverSet failed limit sets) may apart = absurd (false≢true may)
     by others may apart = is

@@ -1,7 +1,6 @@
 -- What a node that applies an event of another one makes of its view of a set.
 use Rattle.std.proofs.Common.{◌≡◌, ◌≢◌, ◌⊎◌, inl, inr, ℕ, Bool, true, false, cond, [], ◌∷◌, Option, Some, None, not}
-use Rattle.std.proofs.Common.{refl}
-use Rattle.std.proofs.Common.{sym, ap, subst, ◌∙◌}
+use Rattle.std.proofs.Common.{refl, sym, ap, subst, ◌∙◌}
 use Rattle.std.specs.Prelude.{◌==◌, ◌&&◌}
 use Rattle.std.specs.List.{AllByRecursion}
 use Rattle.std.proofs.lemmas.Bool.{eqb-true, eqb-false, eq-eqb, false≢true}
@@ -21,7 +20,9 @@ use Rattle.view_laws.specs.Past.{Past}
 use Rattle.view_laws.proofs.Brought.{Brings, Copies, IsBrought, IsCopied, IsKept, IsSynced, Nothing, copied_view}
 use Rattle.view_laws.proofs.Doing.{IsTaken, taking}
 use Rattle.view_laws.proofs.Copied.{copy_asks}
-use Rattle.view_laws.proofs.Turned.{IsBased, IsSame, IsToldAs, Turns, enables_told, found_told, sync_told, there_told}
+use Rattle.view_laws.proofs.Turned.{IsBased, IsSame, IsToldAs, Turns, enables_told, found_told, gone_told, sync_told}
+use Rattle.view_laws.proofs.Turned.{there_told}
+use Rattle.view_laws.specs.Known.{leaves}
 use Rattle.view_laws.proofs.Viewed.{rising_now}
 use Rattle.view_laws.proofs.Reaching.{not_brought}
 use Rattle.view_laws.proofs.Rising.{found_in, stands_found, there_in}
@@ -40,14 +41,16 @@ NoSync x set =
 abbrev NoCopy : Past → Carried → ℕ → Type 0
 NoCopy t x set = (k : IsCopied t x.seat x.event x.brought) → k.copy.copying.set_id ≡ set → ⊥
 
--- The view is as before; or the node begins to forward the set; or the set was copied; or a SYNC of the origin of the
--- set was followed.
+-- The view is as before; or the node begins to forward the set; or it gives the set up; or the set was copied; or a
+-- SYNC of the origin of the set was followed.
 pub data ViewTaken (t : Past) (x : Carried) (set : ℕ) : Type 0 where
   Keeps : view_of set (knowledge (behind x)) ≡ view_of set (knowledge x.seat.node) → NoSync x set → NoCopy t x set →
       ViewTaken t x set
   Turned : (v : View) → view_of set (knowledge x.seat.node) ≡ Some v →
       Turns x.seat.node.id set x.event.body (knowledge x.seat.node).config →
       view_of set (knowledge (behind x)) ≡ Some (based v) → ViewTaken t x set
+  Left : (v : View) → view_of set (knowledge x.seat.node) ≡ Some v →
+      leaves set x.seat.node.id x.event.body ≡ true → view_of set (knowledge (behind x)) ≡ None → ViewTaken t x set
   Copied : (k : IsCopied t x.seat x.event x.brought) → k.copy.copying.set_id ≡ set →
       view_of set (knowledge (behind x))
       ≡ Some (copied_view k.copy) →
@@ -98,8 +101,12 @@ nothing_taken t x origin is set none = by (view_of set k) refl
 
     by : (o : Option View) → view_of set k ≡ o → ViewTaken t x set
     by None missing = keeps (none_told missing (entry_at set told) refl ∙ sym missing)
-    by (Some v) found =
-        let y = there_told own set x.event.body k.config k.views v found in from v y.0 found y.1 y.2
+    by (Some v) found = at (leaves set own x.event.body) refl
+      where
+        at : (b : Bool) → leaves set own x.event.body ≡ b → ViewTaken t x set
+        at true left = Left v found left (there ∙ gone_told own set x.event.body k.config k.views left)
+        at false stays =
+            let y = there_told own set x.event.body k.config k.views v found stays in from v y.0 found y.1 y.2
 
 -- the set of the first view
 abbrev first_id : Map View → ℕ

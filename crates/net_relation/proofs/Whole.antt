@@ -27,17 +27,18 @@ use Rattle.view_laws.specs.Past.{Moment, Past, WasUpTo}
 use Rattle.view_laws.proofs.Doing.{Hears, Takes}
 use Rattle.view_laws.proofs.Moments.{regular_now, sound_now}
 use Rattle.view_laws.proofs.Owned.{brought_own}
-use Rattle.view_laws.proofs.Unfed.{may_emitted}
+use Rattle.view_laws.proofs.Saying.{may_emitted}
 use Rattle.net_relation.specs.Reading.{read, unfed}
 use Rattle.net_relation.specs.Matching.{HasRow, MatchesNode}
-use Rattle.net_relation.proofs.Applying.{coming_later}
+use Rattle.net_relation.proofs.Telling.{coming_later}
 use Rattle.net_relation.proofs.Beginning.{new_net}
 use Rattle.net_relation.proofs.Behind.{begun_node, heard_node, taken_node, told_logs, told_node}
 use Rattle.net_relation.proofs.Beside.{Work, beside_matches, other_row, row_stored}
 use Rattle.net_relation.proofs.Earlier.{IsOwn, WasThen, then_still}
 use Rattle.net_relation.proofs.Emitting.{next_number, told_matches, told_net}
+use Rattle.net_relation.proofs.Feeding.{left_feed}
 use Rattle.net_relation.proofs.Going.{NetAt, among_either}
-use Rattle.net_relation.proofs.Leading.{Known}
+use Rattle.net_relation.proofs.Leading.{Known, feeds_at}
 use Rattle.net_relation.proofs.Links.{Begins, HearsSome, Linked, TakesOne, Telling, Tells}
 use Rattle.net_relation.proofs.Relating.{Netted, NodeLater, Origin, frame, node_later, nodes_of, nodes_with}
 use Rattle.net_relation.proofs.Relating.{origin_later, origin_placed, still}
@@ -197,7 +198,9 @@ told_follower : (set : ℕ) (t : Past) (c : Commit) (p : Place) (f : Following s
 told_follower set t c p f d =
     still f.netted c.name (with_deeds (commit_of d.seat d.emits).deeds d.seat.node)
     (λ apart. told_matches (frame set f.ended f.leader) d.seat d.emits
-    (f.netted.net.nodes d.seat.node.id) d.may apart (follower_matches set t c p f d.seat.node is))
+    (f.netted.net.nodes d.seat.node.id) d.may (λ id receiver can. (left_feed t d.seat d.is (feeds_at t d.seat.name
+    d.seat.node (seat_node t.world.places d.seat d.is)) id receiver can).2) apart
+    (follower_matches set t c p f d.seat.node is))
   where
     is : p.node ≡ Some d.seat.node
     is = ap (λ (q : Place). q.node) (sym d.at) ∙ d.is.node

@@ -1,5 +1,5 @@
 -- The laws of nets, in every session that a legal history leads to.
-use Rattle.std.specs.Prelude.{◌≡◌, ℕ, suc, Bool, ◌≤◌, true, false, List, Some}
+use Rattle.std.specs.Prelude.{◌≡◌, ◌⊎◌, ℕ, suc, Bool, ◌<◌, ◌≤◌, true, false, List, Some}
 use Rattle.node_rows.specs.declared.rows.Subscription.{Subscription}
 use Rattle.node_rows.specs.declared.body.Body.TheVariants.{EnableSubscription}
 use Rattle.net_laws.specs.Laws.{ViewCovers, CopyCovers, ViewHasRow, ViewsRise, LogsHold, BackupServes, ForwarderLogs}
@@ -21,6 +21,7 @@ use Rattle.slon_model.specs.World.{World, start, Happening, Leads}
 use Rattle.stream_laws.specs.Laws.{node_of}
 use Rattle.stream_laws.specs.Nodes.{IsAmong, Nodes, nodes_in}
 use Rattle.image_laws.specs.Facts.{IsHeldBy, IsLogged}
+use Rattle.view_laws.specs.Known.{leaves}
 use Rattle.net_relation.specs.Matching.{HasNet}
 
 -- ---- the nets
@@ -81,12 +82,19 @@ pub record IsEnabled (w : World) (set : ℕ) (x o : Node) : Type 0 where
   pub body : event.body ≡ EnableSubscription set provider o.id forward era
   pub applied : event.number ≤ progress x.id (knowledge o)
 
--- From then on it keeps the set, from x.
+-- Behind that event x has emitted another one by which the node gives the set up.
+pub record IsLeft (set : ℕ) (x o : Node) (enabled : Event) : Type 0 where
+  pub event : Event
+  pub among : IsAmong event (stream x)
+  pub leaves : leaves set o.id event.body ≡ true
+  pub later : enabled.number < event.number
+
+-- From then on it keeps the set, from x, until it is to give the set up.
 abbrev pub SubscribersKeep : Type 0
 SubscribersKeep =
     (limit : ℕ) (history : List Happening) (w : World) → Leads (start limit) history w →
-    (name : List ℕ) (x : Node) → node_of w name ≡ Some x → (set : ℕ) (o : Node) → IsEnabled w set x o →
-    (v : View) × (view_of set (knowledge o) ≡ Some v) × (v.origin ≡ x.id)
+    (name : List ℕ) (x : Node) → node_of w name ≡ Some x → (set : ℕ) (o : Node) → (e : IsEnabled w set x o) →
+    ((v : View) × (view_of set (knowledge o) ≡ Some v) × (v.origin ≡ x.id)) ⊎ IsLeft set x o e.event
 
 -- A SYNC of x that the node has applied, or that was emitted before it became a node and which it was given then.
 pub record IsSynced (x o : Node) (e : Event) : Type 0 where

@@ -17,8 +17,9 @@ pub fn sessions_have_nets()
 {}
 
 /// A node that keeps a set has its subscription to it in its configuration. A node that has applied the event by which
-/// its subscription was enabled keeps the set from then on, from the node that emitted the event. The snapshot that it
-/// keeps sees all that each SYNC of that node saw which is no later in the stream than the node has come.
+/// its subscription was enabled keeps the set from then on, from the node that emitted the event, as long as that node
+/// has emitted no later event by which the other one gives the set up. The snapshot that it keeps sees all that each
+/// SYNC of that node saw which is no later in the stream than the node has come.
 pub fn subscribers_keep()
     ensures rows { KeepersSubscribe }
     ensures keep { SubscribersKeep }

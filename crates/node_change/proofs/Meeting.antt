@@ -4,7 +4,6 @@ use Rattle.std.proofs.Common.{◌∙◌, arith, unwrap_or}
 use Rattle.std.specs.Prelude.{◌==◌}
 use Rattle.std.proofs.lemmas.Bool.{eqb-true}
 use Rattle.slon_base.specs.Keeper.{Store, Kept}
-use Rattle.store_rows.specs.Rows.{IsId}
 use Rattle.store_rows.specs.Space.{IsPending}
 use Rattle.node_rows.specs.Spellings.{CanBody}
 use Rattle.slon_model.specs.Maps.{entry_at, with_entry, number_at}
@@ -21,7 +20,6 @@ use Rattle.event_store.specs.Following.{IsBehindLow}
 use Rattle.event_store.specs.Holds.{HoldsStreams, ShowsStreams}
 use Rattle.event_store.specs.Spellings.{IsNumbered}
 use Rattle.event_store.specs.Streams.{Streams, streams_of, emitted}
-use Rattle.event_store.proofs.Ordered.{ordered_with}
 use Rattle.event_store.proofs.Apart.{config_stays, streams_stay}
 use Rattle.event_store.proofs.Deeds.{applying_adds, keeping_adds}
 use Rattle.event_store.proofs.Regular.{regular_stays}

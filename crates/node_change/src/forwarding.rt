@@ -1,8 +1,8 @@
-// Where a node is told to forward a set, and did not before.
+// What a node keeps of a set as it is told to forward it, and did not before, or to receive it no more.
 ghost use Rattle.std.specs.Prelude.{◌≡◌, Some, true, is_some, not, if◌then◌else◌, OnOk};
 ghost use Rattle.slon_base.specs.Keeper.{Store, sight};
 ghost use Rattle.store_rows.specs.Rows.{IsId};
-ghost use Rattle.store_rows.specs.Space.{AllOf, IsPending, Becomes};
+ghost use Rattle.store_rows.specs.Space.{IsPending, Becomes};
 ghost use Rattle.store_rows.specs.Steps.{Safe, Gives};
 ghost use Rattle.node_rows.specs.Spellings.{CanBody};
 ghost use Rattle.slon_model.specs.Config.{Config, forwards};
@@ -10,12 +10,12 @@ ghost use Rattle.slon_model.specs.Views.{based_at, views_told};
 ghost use Rattle.set_config.specs.Holds.{HoldsConfig};
 ghost use Rattle.event_store.specs.Holds.{ShowsStreams};
 ghost use Rattle.event_store.specs.Streams.{Streams};
-ghost use Rattle.node_change.specs.Forwarding.{ShowsBoth, forwarded_set};
+ghost use Rattle.node_change.specs.Forwarding.{IsOfId, ShowsBoth, told_of};
 ghost use Rattle.slon_model.specs.Events.{is_sync};
 ghost use Rattle.store_rows.specs.Spending.{PutsUpTo};
 
 use crate::lookup::find_subscription;
-use event_store::base_view;
+use event_store::{base_view, drop_view};
 use node_rows::Body;
 use slon_base::Keeper;
 use std::alloc::Global;
@@ -56,11 +56,22 @@ fn begin_forwarding<K: Keeper>(
     base_view(alloc, keeper, set)
 }
 
-/// The set that an event tells the node of this id to forward, if it does.
-fn forwarded_set(own: u32, body: &Body) -> Option<u32>
+/// What an event of another node tells a node of a set that it receives.
+#[derive(Clone, Copy)]
+enum Told {
+    /// Nothing that changes what it keeps of the set.
+    Nothing,
+    /// It is to forward this set.
+    Forwards(u32),
+    /// It is to receive this set no more.
+    Leaves(u32),
+}
+
+/// What an event tells the node of this id of a set that it receives.
+fn told_of(own: u32, body: &Body) -> Told
     requires can { CanBody body.now }
-    ensures ids { AllOf IsId result }
-    ensures is { result ≡ forwarded_set own body.now }
+    ensures ids { IsOfId result }
+    ensures is { result ≡ told_of own body.now }
 {
     match body {
         Body::SubscribeSet {
@@ -70,11 +81,17 @@ fn forwarded_set(own: u32, body: &Body) -> Option<u32>
             ..
         } => {
             if *receiver == own && *forward {
-                return Some(*set);
+                return Told::Forwards(*set);
             }
-            None
+            Told::Nothing
         }
-        _ => None,
+        Body::UnsubscribeSet { set, receiver } => {
+            if *receiver == own {
+                return Told::Leaves(*set);
+            }
+            Told::Nothing
+        }
+        _ => Told::Nothing,
     }
 }
 
@@ -95,8 +112,9 @@ pub(crate) fn tell_views<K: Keeper>(
         Becomes (ShowsStreams base (record s { views = views_told own body.now c s.views })) (K.kept keeper.new)
         result }
 {
-    match forwarded_set(own, body) {
-        None => Ok(()),
-        Some(set) => begin_forwarding(alloc, keeper, own, set),
+    match told_of(own, body) {
+        Told::Nothing => Ok(()),
+        Told::Forwards(set) => begin_forwarding(alloc, keeper, own, set),
+        Told::Leaves(set) => drop_view(alloc, keeper, set),
     }
 }

@@ -12,6 +12,7 @@ use Rattle.slon_model.specs.Names.{Named, find_named}
 use Rattle.slon_model.specs.Maps.{Map, entry_at, pair_at}
 use Rattle.slon_model.specs.Spoken.{IsName, IsLine, IsOrder, AreNodeLines}
 use Rattle.node_rows.specs.declared.body.Body.TheVariants.{Sync, StoreNode, StorePath, DropPath, StoreSet}
+use Rattle.node_rows.specs.declared.body.Body.TheVariants.{UnsubscribeSet}
 use Rattle.slon_model.specs.Config.{era_of, has_path}
 use Rattle.slon_model.specs.Deeds.{Node}
 use Rattle.slon_model.specs.Place.{Place, is_running, node_id}
@@ -25,7 +26,7 @@ use Rattle.slon_model.specs.Membership.{comment_of, already, first_node, stored_
 use Rattle.slon_model.specs.Membership.{is_dropped, store_path, drop_path, sync_node}
 use Rattle.slon_model.specs.Sets.{adding, create_set, NewTable, set_add_table}
 use Rattle.slon_model.specs.Subscribing.{NewFeed, subscribing, all_tell, bodies_of, feed_checks, subscribe_set}
-use Rattle.slon_model.specs.Subscribing.{told_bodies}
+use Rattle.slon_model.specs.Subscribing.{leave_checks, told_bodies, unsubscribe_set}
 use Rattle.node_rows.specs.declared.rows.Subscription.{Subscription}
 use Rattle.slon_model.specs.Scripts.{first_word, ordered}
 use Rattle.slon_model.proofs.Names.{all_map, bytes_same}
@@ -293,6 +294,13 @@ feed_gives f run w runs =
     (emitting_reads s (all_tell (told_bodies f s.known.config)) named
     (told_read f (era_of f.set_id s.known.config) (pair_at f.set_id f.receiver s.known.config.subscriptions))))
 
+leave_gives : (set receiver : ℕ) (run : Running) (w : World) → Runs run w →
+    Gives StatedReads (unsubscribe_set set receiver run w)
+leave_gives set receiver run w runs =
+    bind_gives IsSeat StatedReads (owner run set w) _ (owner_gives run set w runs) (λ s named.
+    checked_gives StatedReads (leave_checks set receiver s.known.config) _ (when_tells _ _ tt, (when_tells _ _ tt, tt))
+    (emitting_reads s (tells (UnsubscribeSet set receiver) ∷ []) named (tt, tt)))
+
 sync_gives : (id : ℕ) (run : Running) (w : World) → Runs run w → Gives StatedReads (sync_node id run w)
 sync_gives id run w runs =
     bind_gives IsSeat StatedReads (reach run id w) _ (reach_gives run id w runs)
@@ -316,5 +324,6 @@ ordered_gives (order.SetAddTable set origin id name key comment) run w texts run
     table_gives origin (record { set_id = set; id = id; name = name; comment = comment_of comment }) run w texts runs
 ordered_gives (order.SubscribeSet set provider receiver forward) run w texts runs =
     feed_gives (subscribing set provider receiver forward) run w runs
+ordered_gives (order.UnsubscribeSet set receiver) run w texts runs = leave_gives set receiver run w runs
 ordered_gives (order.Sync id) run w texts runs = sync_gives id run w runs
 ordered_gives others run w texts runs = word_line others

@@ -28,6 +28,7 @@ use Rattle.slon_model.specs.Sets.{NewTable, adding}
 use Rattle.slon_model.specs.Subscribing.{all_tell, subscribing, told_bodies}
 use Rattle.slon_model.specs.Scripts.{ordered}
 use Rattle.node_rows.specs.declared.body.Body.TheVariants.{Sync, StoreNode, StorePath, DropPath, StoreSet}
+use Rattle.node_rows.specs.declared.body.Body.TheVariants.{UnsubscribeSet}
 use Rattle.slon_model.specs.Turns.{at_node, is_cut, is_synced, on_turn, seat_at}
 use Rattle.slon_model.specs.Polls.{Poll, brings_nothing, hearing, poll_of, served, stated_by}
 use Rattle.slon_model.specs.Following.{Found, FoundCopy, FoundNothing, FoundSyncs, brought_of, content, kept_from}
@@ -238,6 +239,10 @@ ordered_formed (order.SubscribeSet set provider receiver forward) run w =
     any_bind (IsFormedStated w) (owner run set w) _
     (λ s. let f = subscribing set provider receiver forward in
     let done = emitting_formed w s (all_tell (told_bodies f s.known.config)) in
+    search (kept_ok (IsFormedStated w), done))
+ordered_formed (order.UnsubscribeSet set receiver) run w =
+    any_bind (IsFormedStated w) (owner run set w) _
+    (λ s. let done = emitting_formed w s (tells (UnsubscribeSet set receiver) ∷ []) in
     search (kept_ok (IsFormedStated w), done))
 ordered_formed (order.Sync id) run w =
     any_bind (IsFormedStated w) (reach run id w) _ (λ s. emitting_formed w s (tells Sync ∷ []))

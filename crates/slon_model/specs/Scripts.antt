@@ -21,7 +21,7 @@ use Rattle.slon_model.specs.Deeds.{Deed, emitted_by}
 use Rattle.slon_model.specs.Sessions.{World, Memory, Running, Commit, Stated, Outcome, Excess, no_change, excess_of}
 use Rattle.slon_model.specs.Membership.{comment_of, init_cluster, store_node, store_path, drop_path, sync_node}
 use Rattle.slon_model.specs.Sets.{create_set, set_add_table}
-use Rattle.slon_model.specs.Subscribing.{subscribing, subscribe_set}
+use Rattle.slon_model.specs.Subscribing.{subscribing, subscribe_set, unsubscribe_set}
 
 -- ---- one statement
 
@@ -29,7 +29,6 @@ use Rattle.slon_model.specs.Subscribing.{subscribing, subscribe_set}
 abbrev pub first_word : Order → List ℕ
 first_word (order.DropNode id event_node) = codes "drop"
 first_word (order.DropSet id origin) = codes "drop"
-first_word (order.UnsubscribeSet set receiver) = codes "unsubscribe"
 first_word (order.LockSet id origin) = codes "lock"
 first_word (order.UnlockSet id origin) = codes "unlock"
 first_word (order.MoveSet set old new) = codes "move"
@@ -47,6 +46,7 @@ ordered (order.CreateSet id origin comment) = create_set id origin comment
 ordered (order.SetAddTable set origin id name key comment) =
     set_add_table origin (record { set_id = set; id = id; name = name; comment = comment_of comment })
 ordered (order.SubscribeSet set provider receiver forward) = subscribe_set (subscribing set provider receiver forward)
+ordered (order.UnsubscribeSet set receiver) = unsubscribe_set set receiver
 ordered (order.Sync id) = sync_node id
 ordered others = λ run w. Err (refused.NotBuilt (first_word others))
 

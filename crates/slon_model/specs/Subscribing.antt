@@ -1,12 +1,12 @@
--- Statements about receivers: SUBSCRIBE SET.
-use Rattle.std.specs.Prelude.{ℕ, zero, suc, ◌==◌, ◌&&◌, ◌||◌, not, nat_le, is_some, Bool, false, List, [], ◌∷◌}
-use Rattle.std.specs.Prelude.{length, Option, Some, None, unwrap_or, Result}
+-- Statements about receivers: SUBSCRIBE SET, UNSUBSCRIBE SET.
+use Rattle.std.specs.Prelude.{ℕ, zero, suc, ◌==◌, ◌&&◌, ◌||◌, not, nat_le, is_some, is_none, Bool, false, List, []}
+use Rattle.std.specs.Prelude.{◌∷◌, length, Option, Some, None, unwrap_or, Result}
 use Rattle.std.specs.List.{list_any}
 use Rattle.slon_model.specs.declared.reply.Refusal.{Refusal}
 use Rattle.slon_model.specs.declared.reply.Refusal.TheVariants as refused
 use Rattle.slon_model.specs.Maps.{Map, entry_at, pair_at}
 use Rattle.node_rows.specs.declared.body.Body.{Body}
-use Rattle.node_rows.specs.declared.body.Body.TheVariants.{Sync, SubscribeSet, EnableSubscription}
+use Rattle.node_rows.specs.declared.body.Body.TheVariants.{Sync, SubscribeSet, EnableSubscription, UnsubscribeSet}
 use Rattle.node_rows.specs.declared.rows.Subscription.{Subscription}
 use Rattle.slon_model.specs.Config.{Config, forwards, is_known, era_of, receivers}
 use Rattle.slon_model.specs.Deeds.{told_of}
@@ -110,3 +110,24 @@ fed_at f s = checked (feed_checks s f) (emitting s (all_tell (told_bodies f s.kn
 -- SUBSCRIBE SET: 47 nobody owns the set; and then the checks of its owner
 abbrev pub subscribe_set : NewFeed → Running → World → Result Stated Refusal
 subscribe_set f run w = bind (owner run f.set_id w) (fed_at f)
+
+-- ---- a subscription ends
+
+-- the receiver has no subscription to the set
+abbrev pub is_unfed : ℕ → ℕ → Config → Bool
+is_unfed set receiver c = is_none (pair_at set receiver c.subscriptions)
+
+-- 72 it is none of its receivers; 46 another node has the set from it
+abbrev pub leave_checks : ℕ → ℕ → Config → List (Option Refusal)
+leave_checks set receiver c =
+    when (is_unfed set receiver c) (refused.NotActive receiver)
+    ∷ when (provides receiver set c) (refused.HasReceivers receiver) ∷ []
+
+-- what the owner makes of it
+abbrev pub left_at : ℕ → ℕ → Seat → Result Stated Refusal
+left_at set receiver s =
+    checked (leave_checks set receiver s.known.config) (emitting s (tells (UnsubscribeSet set receiver) ∷ []))
+
+-- UNSUBSCRIBE SET: 47 nobody owns the set; and then the checks of its owner
+abbrev pub unsubscribe_set : ℕ → ℕ → Running → World → Result Stated Refusal
+unsubscribe_set set receiver run w = bind (owner run set w) (left_at set receiver)

@@ -3,7 +3,7 @@ use Rattle.std.specs.Prelude.{ℕ, ◌==◌, ◌&&◌, pred, if◌then◌else◌
 use Rattle.slon_model.specs.Maps.{Map, with_entry, without_entry}
 use Rattle.slon_model.specs.Snapshots.{Snapshot, covers}
 use Rattle.node_rows.specs.declared.body.Body.{Body}
-use Rattle.node_rows.specs.declared.body.Body.TheVariants.{SubscribeSet, MoveSet, FailoverSet}
+use Rattle.node_rows.specs.declared.body.Body.TheVariants.{SubscribeSet, UnsubscribeSet, MoveSet, FailoverSet}
 use Rattle.slon_model.specs.Events.{Event, Taken}
 use Rattle.slon_model.specs.Config.{Config, forwards}
 
@@ -57,8 +57,10 @@ abbrev pub based_at : ℕ → Views → Views
 based_at set views = map (λ v. if v.0 == set then (v.0, based v.1) else v) views
 
 -- The views of the node of this id, which knows this, as an event of another one tells it how it receives a set: where
--- it is to forward the set and did not before, it logs from there on.
+-- it is to forward the set and did not before, it logs from there on; where it is to receive the set no more, it gives
+-- its view of the set up.
 abbrev pub views_told : ℕ → Body → Config → Views → Views
 views_told own (SubscribeSet set provider receiver forward) c views =
     if receiver == own && (forward && not (forwards set own c)) then based_at set views else views
+views_told own (UnsubscribeSet set receiver) c views = if receiver == own then without_entry set views else views
 views_told own others c views = views

@@ -7,7 +7,7 @@ use std::alloc::AllocError;
 use std::test::Fail;
 use test_words::require;
 
-const CLUSTER: &str = "\
+pub const CLUSTER: &str = "\
 init cluster (id = 1); => ok
 store node (id = 2, event node = 1); => ok event 1 1
 store node (id = 3, event node = 1); => ok event 1 2
@@ -234,7 +234,7 @@ fn a_receiver_changes_its_provider(rt: HostRuntime) -> Result<(), Fail> {
 
 /// Node 2 has copied two rows, and what the origin changed since has come with a SYNC: it has `p` and `r` now. Node 3
 /// is to take the set from it, and the origin has committed a row that no SYNC has brought.
-const FORWARDED: &str = "\
+pub const FORWARDED: &str = "\
 table c public.t 2 => ok
 start 1 => ok
 start 2 => ok

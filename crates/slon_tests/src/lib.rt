@@ -32,6 +32,8 @@ mod syncs;
 #[cfg(test)]
 mod system;
 #[cfg(test)]
+mod unsubscribing;
+#[cfg(test)]
 mod wanted;
 #[cfg(test)]
 mod works;

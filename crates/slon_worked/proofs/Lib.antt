@@ -4,6 +4,7 @@ pub mod Cascades
 pub mod Changes
 pub mod Copies
 pub mod Doubts
+pub mod Ends
 pub mod Fetches
 pub mod Polls
 pub mod Refusals

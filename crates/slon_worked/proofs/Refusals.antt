@@ -206,7 +206,6 @@ scripts : replies (start 16)
     ∷ refused_each (codes "r") head
     (order.DropNode 2 1
     ∷ order.DropSet 1 1
-    ∷ order.UnsubscribeSet 1 2
     ∷ order.LockSet 1 1
     ∷ order.UnlockSet 1 1
     ∷ order.Failover 1 2
@@ -228,7 +227,6 @@ scripts : replies (start 16)
     ∷ each_refused
     (refused.NotBuilt (codes "drop")
     ∷ refused.NotBuilt (codes "drop")
-    ∷ refused.NotBuilt (codes "unsubscribe")
     ∷ refused.NotBuilt (codes "lock")
     ∷ refused.NotBuilt (codes "unlock")
     ∷ refused.NotBuilt (codes "failover")

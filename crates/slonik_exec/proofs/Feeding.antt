@@ -1,7 +1,7 @@
--- SUBSCRIBE SET at the owner of the set.
+-- SUBSCRIBE SET and UNSUBSCRIBE SET at the owner of the set.
 use Rattle.std.proofs.Common.{◌≡◌, ◌∙◌, ℕ, Bool, true, false, List, [], Option, Some, None, Result, Ok, Err, refl, sym}
 use Rattle.std.proofs.Common.{ap, set, subst}
-use Rattle.std.specs.Prelude.{is_err, is_some, unwrap_or, IfOk}
+use Rattle.std.specs.Prelude.{is_err, is_none, is_some, not, unwrap_or, IfOk}
 use Rattle.std.specs.Option.{option_map}
 use Rattle.std.proofs.lemmas.Bool.{false≢true, false_from_ne_true}
 use Rattle.slon_base.specs.Keeper.{Kept}
@@ -72,6 +72,11 @@ feed_emitted {found = found} f look is emits p n ready node =
 -- whether the receiver has a row
 abbrev pub SaysRow : NewFeed → Place → Bool → Type 0
 SaysRow f = OfConfig (λ k found. found ≡ is_some (pair_at f.set_id f.receiver k.subscriptions))
+
+-- it has none where it is not that it has one
+pub no_row : (o : Option Subscription) → is_none o ≡ not (is_some o)
+no_row None = refl
+no_row (Some row) = refl
 
 told_there : (era : ℕ) (f : NewFeed) (o : Option Subscription) → is_some o ≡ true →
     bodies_of era f o ≡ changed_bodies f

@@ -32,6 +32,7 @@ pub record IsOther (o : Order) : Type 0 where
       o ≡ order.SetAddTable set origin id name key comment → ⊥
   pub feed : (set provider receiver : ℕ) (forward : Option Bool) →
       o ≡ order.SubscribeSet set provider receiver forward → ⊥
+  pub leave : (set receiver : ℕ) → o ≡ order.UnsubscribeSet set receiver → ⊥
 
 pub not_built : (o : Order) → IsOther o → (run : Running) (w : World) →
     ordered o run w ≡ Err (refused.NotBuilt (first_word o))
@@ -45,4 +46,5 @@ not_built (order.SetAddTable set origin id name key comment) other run w =
     absurd (other.table set origin id name key comment refl)
 not_built (order.SubscribeSet set provider receiver forward) other run w =
     absurd (other.feed set provider receiver forward refl)
+not_built (order.UnsubscribeSet set receiver) other run w = absurd (other.leave set receiver refl)
 not_built others other run w = refl

@@ -5,7 +5,7 @@ use Rattle.store_rows.specs.Rows.{IsId}
 use Rattle.slonik_script.specs.declared.script.Command.{Command}
 use Rattle.slonik_script.specs.declared.script.Command.TheVariants.{InitCluster, StoreNode, StorePath, DropPath}
 use Rattle.slonik_script.specs.declared.script.Command.TheVariants.{CreateSet}
-use Rattle.slonik_script.specs.declared.script.Command.TheVariants.{SetAddTable, SubscribeSet, Sync}
+use Rattle.slonik_script.specs.declared.script.Command.TheVariants.{SetAddTable, SubscribeSet, UnsubscribeSet, Sync}
 
 -- its ids are in their range, and its texts can be stored
 abbrev pub IsRunnable : Command → Type 0
@@ -16,6 +16,7 @@ IsRunnable (DropPath server client) = IsId server × IsId client
 IsRunnable (CreateSet id origin comment) = IsId id × IsId origin
 IsRunnable (SetAddTable set origin id name key comment) = IsId set × IsId origin × IsId id × IsText name
 IsRunnable (SubscribeSet id provider receiver forward) = IsId id × IsId provider × IsId receiver
+IsRunnable (UnsubscribeSet id receiver) = IsId id × IsId receiver
 IsRunnable (Sync id) = IsId id
 IsRunnable others = Unit {0}
 

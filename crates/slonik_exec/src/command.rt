@@ -17,6 +17,7 @@ use crate::sets::{NewTable, create_set, set_add_table};
 use crate::short::NoMemory;
 use crate::subscribing::{NewFeed, subscribe_set};
 use crate::syncing::sync;
+use crate::unsubscribing::unsubscribe_set;
 use node_keeper::Keeper;
 use slon_base::Text;
 use slon_model::{Refusal, Reply};
@@ -60,7 +61,6 @@ fn first_word(command: &Command) -> &'static str
 {
     match command {
         Command::DropNode { .. } | Command::DropSet { .. } => "drop",
-        Command::UnsubscribeSet { .. } => "unsubscribe",
         Command::LockSet { .. } => "lock",
         Command::UnlockSet { .. } => "unlock",
         Command::MoveSet { .. } => "move",
@@ -113,6 +113,7 @@ fn is_runnable(command: &Command) -> bool
             receiver,
             ..
         } => is_id(*id) && is_id(*provider) && is_id(*receiver),
+        Command::UnsubscribeSet { id, receiver } => is_id(*id) && is_id(*receiver),
         Command::Sync { id } => is_id(*id),
         _ => true,
     }
@@ -168,6 +169,9 @@ fn run_on_set<K: Keeper>(
                 forward: forward.unwrap_or(false),
             };
             subscribe_set(alloc, databases, caller, feed)
+        }
+        Command::UnsubscribeSet { id, receiver } => {
+            unsubscribe_set(alloc, databases, caller, *id, *receiver)
         }
         _ => {
             let word = Text::from_str(alloc, first_word(command))?;

@@ -18,6 +18,7 @@ mod short;
 mod subscribing;
 mod syncing;
 mod turns;
+mod unsubscribing;
 
 pub use caller::Caller;
 pub use command::run_command;

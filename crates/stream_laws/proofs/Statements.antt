@@ -10,7 +10,7 @@ use Rattle.slonik_script.specs.declared.script.Command.TheVariants as order
 use Rattle.node_rows.specs.declared.rows.SetRow.{SetRow}
 use Rattle.node_rows.specs.declared.rows.Subscription.{Subscription}
 use Rattle.node_rows.specs.declared.body.Body.{Body}
-use Rattle.node_rows.specs.declared.body.Body.TheVariants.{Sync, StorePath, DropPath, StoreSet}
+use Rattle.node_rows.specs.declared.body.Body.TheVariants.{Sync, StorePath, DropPath, StoreSet, UnsubscribeSet}
 use Rattle.slon_model.specs.declared.reply.Refusal.{Refusal}
 use Rattle.slon_model.specs.declared.reply.Refusal.TheVariants as refused
 use Rattle.slon_model.specs.Names.{find_named}
@@ -25,6 +25,7 @@ use Rattle.slon_model.specs.Reaching.{database_of_line, reach, down_among, any_d
 use Rattle.slon_model.specs.Reaching.{owner, emitting, receiver_with}
 use Rattle.slon_model.specs.Sets.{NewTable, adding, create_set, set_add_table}
 use Rattle.slon_model.specs.Subscribing.{NewFeed, subscribing, bodies_of, told_bodies, all_tell, subscribe_set}
+use Rattle.slon_model.specs.Subscribing.{unsubscribe_set}
 use Rattle.slon_model.specs.Scripts.{ordered}
 use Rattle.slon_model.proofs.Names.{bytes_same}
 use Rattle.stream_laws.specs.Nodes.{IsAmong, Nodes, nodes_in}
@@ -107,6 +108,13 @@ feed_stated f run w regular =
     (λ s is. let had = pair_at f.set_id f.receiver s.known.config.subscriptions in
     let done = free_stated w regular s is (all_tell (told_bodies f s.known.config))
     (feeds_free (era_of f.set_id s.known.config) f had) in
+    search (kept_ok (IsStated w), done))
+
+leave_stated : (set receiver : ℕ) (run : Running) (w : World) → IsRegular w →
+    OnOk (IsStated w) (unsubscribe_set set receiver run w)
+leave_stated set receiver run w regular =
+    bind_ok (IsSeat w.places) (IsStated w) (owner run set w) _ (owner_ok run set w regular.once)
+    (λ s is. let done = free_stated w regular s is (tells (UnsubscribeSet set receiver) ∷ []) (refl, tt) in
     search (kept_ok (IsStated w), done))
 
 -- ---- sets
@@ -229,6 +237,7 @@ ordered_stated (order.SetAddTable set origin id name key comment) run w regular 
     table_stated origin (record { set_id = set; id = id; name = name; comment = comment_of comment }) run w regular
 ordered_stated (order.SubscribeSet set provider receiver forward) run w regular =
     feed_stated (subscribing set provider receiver forward) run w regular
+ordered_stated (order.UnsubscribeSet set receiver) run w regular = leave_stated set receiver run w regular
 ordered_stated (order.Sync id) run w regular =
     reached_stated w id run _ (λ s is. free_stated w regular s is.0 (tells Sync ∷ []) (refl, tt))
 ordered_stated others run w regular = tt

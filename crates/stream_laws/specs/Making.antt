@@ -5,7 +5,7 @@ use Rattle.std.specs.Str.{bytes_eq}
 use Rattle.slon_model.specs.Maps.{Map, entry_at, number_at}
 use Rattle.node_rows.specs.declared.rows.SetRow.{SetRow}
 use Rattle.node_rows.specs.declared.body.Body.{Body}
-use Rattle.node_rows.specs.declared.body.Body.TheVariants.{DropNode, StoreSet, DropSet, SetAddTable, UnsubscribeSet}
+use Rattle.node_rows.specs.declared.body.Body.TheVariants.{DropNode, StoreSet, DropSet, SetAddTable}
 use Rattle.node_rows.specs.declared.body.Body.TheVariants.{MoveSet, AcceptSet, FailoverSet}
 use Rattle.slon_model.specs.Events.{Event}
 use Rattle.slon_model.specs.Config.{Config}
@@ -46,7 +46,6 @@ pub record IsMade (nodes : Nodes) (mark : Mark) : Type 0 where
 abbrev pub is_emitted : Body → Bool
 is_emitted (DropNode node) = false
 is_emitted (DropSet set) = false
-is_emitted (UnsubscribeSet set receiver) = false
 is_emitted (MoveSet set old new era feeds) = false
 is_emitted (AcceptSet set old new era moved) = false
 is_emitted (FailoverSet failed limit sets) = false

@@ -1,30 +1,33 @@
--- A node that keeps a set knows the tables that the origin has in it.
-use Rattle.std.proofs.Common.{◌≡◌, ℕ, ◌≤◌, true, List, Option, Some, None, refl, sym, ap, subst, ◌∙◌, arith}
+-- A node that keeps a set knows the tables that the origin has in it, unless it is to give the set up soon.
+use Rattle.std.proofs.Common.{◌≡◌, ◌⊎◌, inl, inr, ℕ, ◌<◌, ◌≤◌, true, List, Option, Some, None, refl}
+use Rattle.std.proofs.Common.{sym, ap, subst, ◌∙◌, arith}
 use Rattle.std.specs.Prelude.{◌==◌, ◌&&◌, is_some, option_map}
 use Rattle.std.specs.Str.{bytes_eq}
 use Rattle.std.proofs.lemmas.Bool.{and_from, and_parts, eq-eqb, eqb-true}
 use Rattle.node_rows.specs.declared.rows.TableRow.{TableRow}
 use Rattle.slon_model.specs.Config.{Config, is_table_of, member_of, names_of, set_of, set_row, tables_of}
-use Rattle.slon_model.specs.Deeds.{Node, knowledge, progress, view_of}
+use Rattle.slon_model.specs.Deeds.{Node, knowledge, progress, stream, view_of}
 use Rattle.slon_model.specs.Views.{View}
+use Rattle.slon_model.specs.Events.{Event}
 use Rattle.slon_model.specs.Maps.{number_at}
 use Rattle.slon_model.proofs.Names.{bytes_itself, bytes_same, one_found}
-use Rattle.stream_laws.specs.Nodes.{IsAmong, nodes_in, node_in}
+use Rattle.stream_laws.specs.Nodes.{IsAmong, IsEvent, nodes_in, node_in}
 use Rattle.stream_laws.specs.Making.{OfName, tells_of}
 use Rattle.stream_laws.proofs.Laws.{marks_are_made_once}
 use Rattle.stream_laws.proofs.Lists.{among_all, any_among, found_all}
-use Rattle.stream_laws.proofs.Streams.{one_node}
+use Rattle.stream_laws.proofs.Streams.{among_found, one_node}
 use Rattle.image_laws.specs.Facts.{IsHeldBy}
 use Rattle.image_laws.proofs.Logging.{among_filtered, filtered_among}
-use Rattle.view_laws.specs.Known.{IsSeen}
-use Rattle.view_laws.specs.Laws.{TablesAgree}
+use Rattle.view_laws.specs.Known.{IsSeen, adds as adds_to, leaves}
+use Rattle.view_laws.specs.Laws.{IsLeaving, TablesAgree}
 use Rattle.view_laws.specs.Past.{Past, past, WasUpTo}
 use Rattle.view_laws.proofs.Viewed.{seen_now}
-use Rattle.view_laws.proofs.Within.{came_within}
+use Rattle.view_laws.proofs.Lasting.{Between}
+use Rattle.view_laws.proofs.Standing.{Viewer, added_or_left, left_later, viewer_event, viewer_far, viewer_other}
 use Rattle.view_laws.proofs.Moments.{regular_now, NodeAt, now_stays}
 use Rattle.view_laws.proofs.Numbered.{among_map, mapped_among}
 use Rattle.view_laws.proofs.Tables.{KnownTable, Table, entry_told, one_table, table_of, held_today, held_then}
-use Rattle.view_laws.proofs.Tables.{moment_today}
+use Rattle.view_laws.proofs.Tables.{moment_today, table_origin}
 use Rattle.slon_laws.proofs.Later.{HoldsOf}
 use Rattle.image_laws.proofs.Staying.{Stays}
 
@@ -54,11 +57,11 @@ member_known table c set is = by (member_of table c) refl is
           bytes_same table e.1.name (and_parts e.1.live (bytes_eq table e.1.name) named).1,
         )
 
--- the node that keeps the set knows the table
+-- a node that is as far as the event of a table that another one knows, knows it too
 pub known_there : (t : Past) (k : KnownTable t) (name : List ℕ) (n : Node) → nodes_in t.world.places name ≡ Some n →
-    (v : View) → IsSeen (WasUpTo t) n k.entry.1.set_id v →
+    (table_of t k).event.number ≤ progress (table_of t k).event.origin (knowledge n) →
     IsAmong k.entry.1.name (names_of k.entry.1.set_id (knowledge n).config)
-known_there t k name n is v seen =
+known_there t k name n is within =
     subst (λ text. IsAmong text (names_of set (knowledge n).config)) (sym named)
     (among_map (λ (e : ℕ × TableRow). e.1.name) mark.0 (tables_of set (knowledge n).config)
     (among_filtered (is_table_of set) mark.0 (knowledge n).config.tables mark.1
@@ -70,9 +73,6 @@ known_there t k name n is v seen =
 
     table : Table t
     table = table_of t k
-
-    within : table.event.number ≤ progress table.event.origin (knowledge n)
-    within = let less = came_within t name n is table v seen in omega (arith, less)
 
     mark : (f : ℕ × TableRow) × IsAmong f (knowledge n).config.tables × (bytes_eq k.entry.1.name f.1.name ≡ true)
     mark =
@@ -97,6 +97,32 @@ known_there t k name n is v seen =
     other : KnownTable t
     other = record { name = name; node = n; is = is; entry = mark.0; among = mark.1 }
 
+-- A table of a set that a node keeps: the node knows it, or has not applied yet that it is to give the set up, which
+-- the origin had told it before the table came into the set.
+pub table_or_left : (t : Past) (k : KnownTable t) (v : Viewer t) → v.set_id ≡ k.entry.1.set_id →
+    IsAmong k.entry.1.name (names_of k.entry.1.set_id (knowledge v.node).config)
+    ⊎ Between (leaves v.set_id v.node.id) (stream (viewer_event t v).node) v.seen.enabled (table_of t k).event
+table_or_left t k v same = by (added_or_left t v table.event table.is (origin, adds))
+  where
+    table : Table t
+    table = table_of t k
+
+    origin : table.event.origin ≡ v.view.origin
+    origin = table_origin t table v.node v.view (subst (λ i. IsSeen (WasUpTo t) v.node i v.view) same v.seen)
+
+    adds : adds_to v.set_id table.event.body ≡ true
+    adds = ap (adds_to v.set_id) table.body ∙ eq-eqb k.entry.1.set_id v.set_id (sym same)
+
+    by : (table.event.number < v.seen.enabled.number)
+        ⊎ Between (leaves v.set_id v.node.id) (stream (viewer_event t v).node) v.seen.enabled table.event →
+        IsAmong k.entry.1.name (names_of k.entry.1.set_id (knowledge v.node).config)
+        ⊎ Between (leaves v.set_id v.node.id) (stream (viewer_event t v).node) v.seen.enabled table.event
+    by (inl less) =
+        inl (known_there t k v.name v.node v.is
+        (subst (λ i. table.event.number ≤ progress i (knowledge v.node)) (sym origin)
+        (let far = viewer_far t v in omega (arith, less, far))))
+    by (inr left) = inr left
+
 -- the origin of a set that a node keeps has each table in the set that the node knows
 origin_holds : (t : Past) (k : KnownTable t) (v : View) → view_of k.entry.1.set_id (knowledge k.node) ≡ Some v →
     (x : NodeAt t) → x.node.id ≡ v.origin →
@@ -116,24 +142,59 @@ origin_holds t k v found x own =
     one = one_node (nodes_in t.world.places) (regular_now t).nodes seen.moment.name x.name now.2.node x.node
         (ap node_in now.1 ∙ now.2.is) (ap node_in x.found ∙ x.at, now.2.id ∙ seen.own ∙ sym own)
 
+-- the origin has told a node to give the set up, which that has not applied
+leaving : (t : Past) (v : Viewer t) (name : List ℕ) (m : Node) → nodes_in t.world.places name ≡ Some m →
+    m.id ≡ v.view.origin → (e : Event) →
+    Between (leaves v.set_id v.node.id) (stream (viewer_event t v).node) v.seen.enabled e → IsLeaving v.set_id v.node m
+leaving t v name m is own e b = record {
+  event = b.closed.event;
+  among =
+      subst (λ (x : Node). IsAmong b.closed.event (stream x)) (one_node (nodes_in t.world.places) (regular_now t).nodes
+      y.name name y.node m y.is (is, y.own ∙ v.seen.of ∙ sym own)) b.closed.among;
+  leaves = b.closed.done;
+  later =
+      subst (λ i. progress i (knowledge v.node) < b.closed.event.number) (sym own)
+      (left_later t v b.closed.event (viewer_other t v b.closed.event b.closed.among from)
+      (from, b.closed.done, b.closed.later));
+}
+  where
+    y : IsEvent (nodes_in t.world.places) v.seen.enabled
+    y = viewer_event t v
+
+    from : b.closed.event.origin ≡ v.view.origin
+    from =
+        (among_found y.node.id (stream y.node) b.closed.event ((regular_now t).nodes.each y.name y.node y.is).emitted
+        b.closed.among).are.0 ∙ y.own ∙ v.seen.of
+
 pub tables_agree : TablesAgree
 tables_agree limit history w leads a b p q found_a found_b n m is_n is_m set v view own table = (
-  λ held.
-      let e = member_known table (knowledge m).config set held.0 in
-      let seen = seen_now t a n (ap node_in found_a ∙ is_n) set v view in
-      let k : KnownTable t =
-      record { name = b; node = m; is = ap node_in found_b ∙ is_m; entry = e.0; among = e.1 } in
-      subst (λ text. IsAmong text (names_of set (knowledge n).config)) (sym e.3)
-      (subst (λ i. IsAmong e.0.1.name (names_of i (knowledge n).config)) e.2
-      (known_there t k a n (ap node_in found_a ∙ is_n) v (subst (λ i. IsSeen (WasUpTo t) n i v) (sym e.2) seen))),
   λ among.
       let e = table_known set (knowledge n).config table among in
       subst (IsHeldBy m.id (knowledge m).config set) (sym e.3)
       (subst (λ i. IsHeldBy m.id (knowledge m).config i e.0.1.name) e.2
-      (origin_holds t (record { name = a; node = n; is = ap node_in found_a ∙ is_n; entry = e.0; among = e.1 }) v
+      (origin_holds t (record { name = a; node = n; is = here; entry = e.0; among = e.1 }) v
       (ap (λ i. view_of i (knowledge n)) e.2 ∙ view)
       (record { name = b; place = q; found = found_b; node = m; at = is_m }) own)),
+  λ held.
+      let e = member_known table (knowledge m).config set held.0 in
+      let k : KnownTable t = record { name = b; node = m; is = there; entry = e.0; among = e.1 } in
+      elim (table_or_left t k viewer (sym e.2)) [
+        | inl known ↦
+            inl (subst (λ text. IsAmong text (names_of set (knowledge n).config)) (sym e.3)
+            (subst (λ i. IsAmong e.0.1.name (names_of i (knowledge n).config)) e.2 known))
+        | inr left ↦ inr (leaving t viewer b m there own (table_of t k).event left)
+      ],
 )
   where
     t : Past
     t = past limit history w leads
+
+    here : nodes_in w.places a ≡ Some n
+    here = ap node_in found_a ∙ is_n
+
+    there : nodes_in w.places b ≡ Some m
+    there = ap node_in found_b ∙ is_m
+
+    viewer : Viewer t
+    viewer =
+        record { name = a; node = n; is = here; set_id = set; view = v; seen = seen_now t a n here set v view }

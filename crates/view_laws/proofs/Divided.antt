@@ -2,8 +2,8 @@
 use Rattle.std.proofs.Common.{◌≡◌, ℕ, List, Some, sym, ap, subst, ◌∙◌}
 use Rattle.slon_model.specs.Names.{find_named}
 use Rattle.slon_model.specs.Snapshots.{Snapshot}
-use Rattle.slon_model.specs.Place.{Place, taken}
-use Rattle.stream_laws.specs.Nodes.{nodes_in, node_in, IsEvent}
+use Rattle.slon_model.specs.Place.{taken}
+use Rattle.stream_laws.specs.Nodes.{node_in}
 use Rattle.image_laws.specs.Laws.{WasTaken}
 use Rattle.image_laws.proofs.Older.{snapshots_divide}
 use Rattle.image_laws.proofs.Staying.{Stays}

@@ -2,7 +2,7 @@
 use Rattle.std.proofs.Common.{◌≡◌, inl, inr, ℕ, true, refl, sym, subst}
 use Rattle.std.proofs.lemmas.Bool.{eqb-true, false≢true}
 use Rattle.node_rows.specs.declared.body.Body.{Body}
-use Rattle.node_rows.specs.declared.body.Body.TheVariants.{SubscribeSet, EnableSubscription}
+use Rattle.node_rows.specs.declared.body.Body.TheVariants.{SubscribeSet, EnableSubscription, UnsubscribeSet}
 use Rattle.slon_model.specs.Config.{is_origin}
 use Rattle.slon_model.specs.Events.{Event}
 use Rattle.slon_model.specs.Deeds.{Node, knowledge, stream}
@@ -50,11 +50,13 @@ emitted_later : (t : Past) (e : Event) → IsEmitted (WasBefore t) e → IsEmitt
 emitted_later t e is =
     record { moment = moment_later t is.moment; own = is.own; taken = is.taken; leads = is.leads }
 
--- who says that a node subscribes to a set is the origin of it
+-- who tells of a subscription to a set is the origin of it
 allowed_leads : (s : Seat) (body : Body) → IsAllowed s body → (set : ℕ) → feeds set body ≡ true →
     is_origin s.node.id set (knowledge s.node).config ≡ true
 allowed_leads s (SubscribeSet id provider receiver forward) may set feed = absurd may
 allowed_leads s (EnableSubscription id provider receiver forward era) may set feed = absurd may
+allowed_leads s (UnsubscribeSet id receiver) may set feed =
+    subst (λ i. is_origin s.node.id i (knowledge s.node).config ≡ true) (eqb-true id set feed) may
 allowed_leads s others may set feed = absurd (false≢true feed)
 
 feed_leads : (s : Seat) (n : Node) (body : Body) → IsOfFeed s n body → (set : ℕ) → feeds set body ≡ true →
@@ -63,6 +65,7 @@ feed_leads s n (SubscribeSet id provider receiver forward) is set feed =
     subst (λ i. is_origin s.node.id i (knowledge s.node).config ≡ true) (eqb-true id set feed) is
 feed_leads s n (EnableSubscription id provider receiver forward era) is set feed =
     subst (λ i. is_origin s.node.id i (knowledge s.node).config ≡ true) (eqb-true id set feed) is.0
+feed_leads s n (UnsubscribeSet id receiver) is set feed = absurd is
 feed_leads s n others is set feed = absurd (false≢true feed)
 
 says_leads : (s : Seat) (n : Node) (m : Emission) → Says s n m → (set : ℕ) → feeds set m.body ≡ true →

@@ -17,13 +17,13 @@ use Rattle.stream_laws.specs.Nodes.{IsEvent, nodes_in}
 use Rattle.stream_laws.specs.Making.{is_emitted}
 use Rattle.view_laws.specs.Known.{AreFedBy, HasFeed, IsFedBy, IsHeard, feeds, is_on_feed}
 use Rattle.view_laws.specs.Past.{Past, WasBefore, WasUpTo}
-use Rattle.view_laws.proofs.Copied.{enables_feeds}
 use Rattle.view_laws.proofs.Doing.{KnowsFrom, KnowsNone, KnowsGiven}
 use Rattle.view_laws.proofs.Living.{Knew, NodeLives, deed_of, event_of, knew, node_lives}
-use Rattle.view_laws.proofs.Once.{both_same, pair-with}
+use Rattle.view_laws.proofs.Fed.{on_feeds, pair-with, pair-without}
+use Rattle.view_laws.proofs.Lasting.{both_same}
 use Rattle.view_laws.proofs.Reached.{event_now}
 use Rattle.view_laws.proofs.Told.{HearsToo, heard_later, heard_was, more_heard}
-use Rattle.view_laws.proofs.Unfed.{may_emitted, says_emitted}
+use Rattle.view_laws.proofs.Saying.{may_emitted, says_emitted}
 use Rattle.view_laws.proofs.Walking.{lives_in}
 use Rattle.slon_model.specs.Moves.{with_commit}
 
@@ -63,7 +63,13 @@ feed_back set receiver origin number (EnableSubscription id provider node forwar
       | inr old ↦ inr old
     ]
 feed_back set receiver origin number (DropSet id) c may has = absurd (false≢true may)
-feed_back set receiver origin number (UnsubscribeSet id node) c may has = absurd (false≢true may)
+feed_back set receiver origin number (UnsubscribeSet id node) c may has =
+    inr (by (set == id && receiver == node)
+    (sym (ap is_some (pair-without set receiver id node c.subscriptions)) ∙ has))
+  where
+    by : (b : Bool) → is_some (cond b None (pair_at set receiver c.subscriptions)) ≡ true → HasFeed set receiver c
+    by true none = absurd (false≢true none)
+    by false had = had
 feed_back set receiver origin number (MoveSet id old new era feeds) c may has = absurd (false≢true may)
 feed_back set receiver origin number (FailoverSet failed limit sets) c may has = absurd (false≢true may)
 feed_back set receiver origin number others c may has = inr has
@@ -120,16 +126,6 @@ feeds_known = record {
 }
 
 -- ---- every session
-
-on_feeds : (set receiver : ℕ) (body : Body) → is_on_feed set receiver body ≡ true → feeds set body ≡ true
-on_feeds set receiver (SubscribeSet id provider node forward) on = left (id == set) (node == receiver) on
-  where
-    left : (a b : Bool) → (a && b || false) ≡ true → a ≡ true
-    left true b is = refl
-    left false b is = absurd (false≢true is)
-on_feeds set receiver (EnableSubscription id provider node forward era) on =
-    enables_feeds set receiver (EnableSubscription id provider node forward era) on
-on_feeds set receiver others on = absurd (false≢true on)
 
 -- the event by which a node of the session knows the subscription of a receiver
 pub record Fed (t : Past) (set receiver : ℕ) : Type 0 where

@@ -1,6 +1,6 @@
--- The snapshot that a node keeps of a set never goes back.
+-- The snapshot that a node keeps of a set never goes back, until the node gives the set up.
 use Rattle.std.proofs.Common.{◌≡◌, ◌≢◌, ◌⊎◌, inl, inr, ℕ, Bool, true, false, cond, [], ◌∷◌, Some, refl}
-use Rattle.std.proofs.Common.{sym, ap, subst, ◌∙◌}
+use Rattle.std.proofs.Common.{sym, ap, subst, ◌∙◌, arith}
 use Rattle.std.specs.List.{AllByRecursion}
 use Rattle.slon_model.specs.Maps.{Map, entry_at}
 use Rattle.slon_model.specs.Snapshots.{Covers, covers}
@@ -16,11 +16,13 @@ use Rattle.slon_model.specs.Working.{Carried}
 use Rattle.slon_model.proofs.Names.{all_map, one_found}
 use Rattle.slon_laws.proofs.Later.{HoldsOf}
 use Rattle.stream_laws.specs.Nodes.{IsAmong, nodes_in}
+use Rattle.stream_laws.specs.Applied.{applied_events}
 use Rattle.stream_laws.proofs.Lists.{all_among}
+use Rattle.view_laws.proofs.Applied.{applied_before}
 use Rattle.stream_laws.proofs.Seats.{seat_node}
 use Rattle.view_laws.proofs.Doing.{IsTaken}
-use Rattle.view_laws.specs.Known.{IsEmitted, IsSeen}
-use Rattle.view_laws.specs.Laws.{GoesOn, ViewsGoOn}
+use Rattle.view_laws.specs.Known.{IsEmitted, IsSeen, leaves}
+use Rattle.view_laws.specs.Laws.{GaveUp, GoesOn, ViewsGoOn}
 use Rattle.view_laws.specs.Past.{Past, past, WasUpTo}
 use Rattle.view_laws.proofs.Brought.{IsBrought, IsKept, Nothing, Copies, Brings}
 use Rattle.view_laws.proofs.Doing.{taking}
@@ -31,9 +33,9 @@ use Rattle.view_laws.proofs.Living.{node_passes}
 use Rattle.view_laws.proofs.Rising.{found_in, stands_found, there_in}
 use Rattle.view_laws.proofs.Seen.{is_older, same_views, syncs_seen}
 use Rattle.view_laws.proofs.Turned.{IsLike, IsToldAs, there_told, told_like}
-use Rattle.view_laws.proofs.Unfed.{says_emitted}
+use Rattle.view_laws.proofs.Saying.{says_emitted}
 use Rattle.view_laws.proofs.Walking.{passing_later}
-use Rattle.view_laws.proofs.Unmoved.{unviewed}
+use Rattle.view_laws.proofs.Unmoved.{left_from, unviewed}
 
 -- ---- a SYNC
 
@@ -103,9 +105,11 @@ goes_same set before n m same on = record {
   covers = on.covers;
 }
 
+-- unless the node gives the set up by it
 pub takes_on : (t : Past) (x : Carried) (origin : ℕ) → IsTaken t origin x → (set : ℕ) (before : View) →
-    GoesOn set before x.seat.node → GoesOn set before (with_deeds (taking x).deeds x.seat.node)
-takes_on t x origin is set before on =
+    leaves set x.seat.node.id x.event.body ≡ false → GoesOn set before x.seat.node →
+    GoesOn set before (with_deeds (taking x).deeds x.seat.node)
+takes_on t x origin is set before stays on =
     by (found_in set there.0 x.brought.views views there.1)
   where
     k : Knowledge
@@ -115,7 +119,7 @@ takes_on t x origin is set before on =
     views = views_told x.seat.node.id x.event.body k.config k.views
 
     told : (y : View) × (entry_at set views ≡ Some y) × IsToldAs x.seat.node.id set x.event.body k.config on.view y
-    told = there_told x.seat.node.id set x.event.body k.config k.views on.view on.found
+    told = there_told x.seat.node.id set x.event.body k.config k.views on.view on.found stays
 
     like : IsLike on.view told.0
     like = told_like x.seat.node.id set x.event.body k.config on.view told.0 told.2
@@ -149,30 +153,92 @@ takes_on t x origin is set before on =
               (subst (λ k. Covers k before.seen) (sym like.seen) on.covers);
         }
 
-goes_on : (t : Past) (set : ℕ) (before : View) → NodeGoes t (GoesOn set before)
-goes_on t set before = record {
-  logs = λ n p xid on. goes_same set before n (with_commit xid p n) refl on;
+-- The node was this one, and goes on with the set, or gave it up.
+record Keeps (set : ℕ) (before : View) (n m : Node) : Type 0 where
+  more : (e : Event) → IsAmong e (applied_events n) → IsAmong e (applied_events m)
+  goes : GoesOn set before m ⊎ GaveUp set before n m
+
+gave_up : (set : ℕ) (before : View) (n m k : Node) → k.id ≡ m.id →
+    ((e : Event) → IsAmong e (applied_events m) → IsAmong e (applied_events k)) → GaveUp set before n m →
+    GaveUp set before n k
+gave_up set before n m k id more g = record {
+  event = g.event;
+  applied = more g.event g.applied;
+  new = g.new;
+  own = g.own;
+  leaves = subst (λ i. leaves set i g.event.body ≡ true) (sym id) g.leaves;
+}
+
+keeps_same : (set : ℕ) (before : View) (n m k : Node) →
+    (k.id ≡ m.id) × (applied_events k ≡ applied_events m) × ((knowledge k).views ≡ (knowledge m).views) →
+    Keeps set before n m → Keeps set before n k
+keeps_same set before n m k (id, same, views) on = record {
+  more = λ e among. subst (IsAmong e) (sym same) (on.more e among);
+  goes = elim on.goes [
+    | inl goes ↦ inl (goes_same set before m k views goes)
+    | inr left ↦ inr (gave_up set before n m k id (λ e among. subst (IsAmong e) (sym same) among) left)
+  ];
+}
+
+-- an event of another node
+keeps_taken : (t : Past) (x : Carried) (origin : ℕ) → IsTaken t origin x → (set : ℕ) (before : View) (n : Node) →
+    Keeps set before n x.seat.node → Keeps set before n (with_deeds (taking x).deeds x.seat.node)
+keeps_taken t x origin is set before n on = record { more = λ e among. inr (on.more e among); goes = either on.goes }
+  where
+    Goes : Type 0
+    Goes = GoesOn set before (with_deeds (taking x).deeds x.seat.node)
+        ⊎ GaveUp set before n (with_deeds (taking x).deeds x.seat.node)
+
+    by : GoesOn set before x.seat.node → (b : Bool) → leaves set x.seat.node.id x.event.body ≡ b → Goes
+    by goes true left =
+        let own = left_from t x origin is set goes.view goes.found left in
+        inr (record {
+          event = x.event;
+          applied = inl refl;
+          new = λ among.
+              let before = applied_before t x origin is x.event (on.more x.event among) refl in omega (arith, before);
+          own = sym own ∙ goes.origin;
+          leaves = left;
+        })
+    by goes false stays = inl (takes_on t x origin is set before stays goes)
+
+    either : GoesOn set before x.seat.node ⊎ GaveUp set before n x.seat.node → Goes
+    either (inl goes) = by goes (leaves set x.seat.node.id x.event.body) refl
+    either (inr left) =
+        inr (gave_up set before n x.seat.node (with_deeds (taking x).deeds x.seat.node) refl
+        (λ e among. inr among) left)
+
+goes_on : (t : Past) (set : ℕ) (before : View) (n : Node) → NodeGoes t (Keeps set before n)
+goes_on t set before n = record {
+  logs = λ m p xid on. keeps_same set before n m (with_commit xid p m) (refl, refl, refl) on;
   does = record {
-    tells = λ s is number m n says on.
-        goes_same set before n (with_deeds (deed_of s number m ∷ []) n)
-        (same_views (event_of s number m.body) m.body (knowledge n).views (says_emitted s n m says)) on;
-    takes = λ x origin is on. takes_on t x origin is set before on;
+    tells = λ s is number e m says on.
+        keeps_same set before n m (with_deeds (deed_of s number e ∷ []) m) (
+          refl,
+          refl,
+          same_views (event_of s number e.body) e.body (knowledge m).views (says_emitted s m e says),
+        ) on;
+    takes = λ x origin is on. keeps_taken t x origin is set before n on;
     hears = λ s confirms on.
-        goes_same set before s.node (with_deeds (deed s.place [] [] (HearsOf confirms) ∷ []) s.node) refl on;
+        keeps_same set before n s.node (with_deeds (deed s.place [] [] (HearsOf confirms) ∷ []) s.node) (refl, refl, refl)
+        on;
   };
 }
 
 pub views_go_on : ViewsGoOn
 views_go_on limit history later w v leads leads_on name p q found found_later n m is_n is_m set before view =
-    subst (GoesOn set before) (one_found there.2.0 m (sym there.2.1 ∙ ap (λ (r : Place). r.node) same ∙ is_m))
-    there.2.2
+    subst (λ k. GoesOn set before k ⊎ GaveUp set before n k)
+    (one_found there.2.0 m (sym there.2.1 ∙ ap (λ (r : Place). r.node) same ∙ is_m)) there.2.2.goes
   where
-    first : GoesOn set before n
-    first = record { view = before; found = view; origin = refl; era = refl; covers = λ x sees. sees }
+    first : Keeps set before n n
+    first = record {
+      more = λ e among. among;
+      goes = inl (record { view = before; found = view; origin = refl; era = refl; covers = λ x sees. sees });
+    }
 
-    there : HoldsOf (HasNode (GoesOn set before)) name v.places
+    there : HoldsOf (HasNode (Keeps set before n)) name v.places
     there =
-        passing_later (λ t. node_passes t (goes_on t set before)) (past limit history w leads) later v leads_on name
+        passing_later (λ t. node_passes t (goes_on t set before n)) (past limit history w leads) later v leads_on name
         (p, found, (n, is_n, first))
 
     same : there.0 ≡ q

@@ -22,11 +22,10 @@ use Rattle.stream_laws.specs.Nodes.{nodes_in, node_in}
 use Rattle.stream_laws.proofs.Seats.{IsSeat}
 use Rattle.stream_laws.proofs.Steps.{Logs, prepared_node, done_logs}
 use Rattle.view_laws.proofs.Doing.{IsTaken}
-use Rattle.view_laws.specs.Known.{IsFed, subscribes}
+use Rattle.view_laws.specs.Known.{subscribes}
 use Rattle.view_laws.specs.Past.{Past, PastUpTo, WasBefore, WasUpTo}
 use Rattle.view_laws.proofs.Doing.{IsAllowed, AreAllowed, IsOne, AreChanges, AreFeeds, taking, KnowsFrom}
 use Rattle.view_laws.proofs.Doing.{Does, DoesTell, DoesTake, DoesHear, DoesBecome}
-use Rattle.view_laws.proofs.Feeds.{some_put}
 use Rattle.view_laws.proofs.Walking.{Passes, LivesOn}
 
 abbrev pub event_of : Seat → ℕ → Body → Event
@@ -51,8 +50,7 @@ IsOfFeed s n Sync = Unit {0}
 IsOfFeed s n (SubscribeSet set provider receiver forward) =
     is_origin s.node.id set (knowledge s.node).config ≡ true
 IsOfFeed s n (EnableSubscription set provider receiver forward era) =
-    (is_origin s.node.id set (knowledge s.node).config ≡ true)
-    × IsFed set (knowledge n).config × HasSubscribed set receiver s n
+    (is_origin s.node.id set (knowledge s.node).config ≡ true) × HasSubscribed set receiver s n
 IsOfFeed s n others = ⊥
 
 -- The node at its seat, as it is by now in a commit, may emit it.
@@ -113,7 +111,6 @@ tells_lives T s tell ms (AreFeeds era f same may) was =
     (tell (next_event s + 1 + 1) (tells enables) two
     (inr (
       may.leads,
-      some_put f.set_id f.set_id f.receiver _ (knowledge one).config.subscriptions (inr refl),
       record {
         event = event_of s (next_event s + 1) first;
         sync = event_of s (next_event s) Sync;

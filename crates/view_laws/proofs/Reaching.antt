@@ -1,7 +1,7 @@
 -- The snapshot of a view sees all that each SYNC of its origin saw which the node has applied.
 use Rattle.std.proofs.Common.{◌≡◌, ◌≢◌, ◌⊎◌, inl, inr, ℕ, Bool, true, false, cond, List, [], ◌∷◌, Some}
-use Rattle.std.proofs.Common.{refl, sym, ap, subst, ◌∙◌, arith, ◌<◌, ◌≤◌, length, not}
-use Rattle.std.specs.Prelude.{◌==◌, ◌+◌, ◌&&◌}
+use Rattle.std.proofs.Common.{refl, sym, ap, subst, ◌∙◌, arith, ◌<◌, ◌≤◌, not}
+use Rattle.std.specs.Prelude.{◌==◌, ◌&&◌}
 use Rattle.std.specs.List.{AllByRecursion}
 use Rattle.std.proofs.lemmas.Bool.{true≢false, eq-eqb, and_from, cases_lt, eqb-true, false_from_ne_true}
 use Rattle.slon_model.specs.Names.{find_named}
@@ -18,7 +18,7 @@ use Rattle.slon_model.specs.Working.{Carried, receives_from}
 use Rattle.slon_model.proofs.Names.{all_map}
 use Rattle.slon_laws.proofs.Later.{HoldsOf}
 use Rattle.stream_laws.specs.Nodes.{IsAmong, nodes_in, node_in, IsEvent}
-use Rattle.stream_laws.specs.Applied.{HasApplied, applied_events, of_origin, AreSuccessive}
+use Rattle.stream_laws.specs.Applied.{HasApplied, applied_events, of_origin}
 use Rattle.stream_laws.proofs.Copies.{copies_silent, vain_silent}
 use Rattle.stream_laws.proofs.Laws.{events_are_applied_once}
 use Rattle.stream_laws.proofs.Lists.{all_among, among_any}
@@ -32,16 +32,16 @@ use Rattle.view_laws.proofs.Emitted.{emitted_in}
 use Rattle.view_laws.proofs.Going.{after_covers}
 use Rattle.view_laws.proofs.Viewed.{rising_now, seen_now}
 use Rattle.view_laws.proofs.Brought.{Finding, IsBrought, IsCopied, IsKept, Nothing, Copies, Brings}
-use Rattle.view_laws.proofs.Within.{applied_within}
+use Rattle.view_laws.proofs.Applied.{applied_above, applied_at, applied_within, event_before}
 use Rattle.view_laws.proofs.Living.{NodeLives, event_of, knew, node_lives, KnewAll}
 use Rattle.view_laws.proofs.Moments.{node_now, now_stays, one_name, passes_covers, regular_now, taken_covers}
 use Rattle.view_laws.proofs.Rising.{found_in, found_stands, stands_found}
 use Rattle.view_laws.proofs.Seen.{same_views, syncs_seen}
 use Rattle.image_laws.proofs.Staying.{Stays}
 use Rattle.view_laws.proofs.Turned.{IsBased, IsSame, IsToldAs, found_told}
-use Rattle.view_laws.proofs.Unfed.{says_emitted}
+use Rattle.view_laws.proofs.Saying.{says_emitted}
 use Rattle.view_laws.proofs.Walking.{lives_in}
-use Rattle.view_laws.proofs.Unmoved.{event_before, none_kept, since, view_then}
+use Rattle.view_laws.proofs.Unmoved.{none_kept, since, view_then}
 use Rattle.view_laws.proofs.Copied.{CopySource, FromOrigin, FromForwarder, copy_asks, copy_source, enables_feeds}
 use Rattle.view_laws.proofs.Copied.{feeder_is}
 use Rattle.view_laws.proofs.Copied.{feeder_leads, seen_leads}
@@ -110,25 +110,6 @@ reaches_later t applied v r =
       earlier = r.earlier;
       later = r.later;
     }
-
--- a number behind the first one is that of one of these
-applied_at : (before : ℕ) (es : List Event) → AreSuccessive before es → (k : ℕ) → before < k → k ≤ before + length es →
-    (e : Event) × IsAmong e es × (e.number ≡ k)
-applied_at before [] are k above within = absurd (omega (arith, above, within))
-applied_at before (e ∷ es) are k above within =
-    by (cases_lt (before + length es) k) (applied_at before es are.1 k above)
-  where
-    by : (before + length es < k) ⊎ (k ≤ before + length es) →
-        (k ≤ before + length es → (e : Event) × IsAmong e es × (e.number ≡ k)) →
-        (f : Event) × IsAmong f (e ∷ es) × (f.number ≡ k)
-    by (inl last) rest = (e, inl refl, (let number = are.0 in omega (arith, number, last, within)))
-    by (inr less) rest = let there = rest less in (there.0, inr there.1, there.2)
-
-applied_above : (before : ℕ) (es : List Event) (e : Event) → AreSuccessive before es → IsAmong e es → before < e.number
-applied_above before [] e are among = absurd among
-applied_above before (f ∷ fs) e are (inl is) =
-    let same = ap (λ (g : Event). g.number) is in let number = are.0 in omega (arith, same, number)
-applied_above before (f ∷ fs) e are (inr later) = applied_above before fs e are.1 later
 
 -- A node that keeps a set in a view.
 pub record Keeping (t : Past) : Type 0 where

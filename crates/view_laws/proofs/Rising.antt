@@ -1,14 +1,15 @@
 -- Maps whose ids rise: each id stands once.
-use Rattle.std.proofs.Common.{◌≡◌, ◌≢◌, ◌⊎◌, inl, inr, ℕ, ◌<◌, Bool, true, false, cond, [], ◌∷◌, Some, refl}
-use Rattle.std.proofs.Common.{sym, ap, subst, ◌∙◌, arith}
+use Rattle.std.proofs.Common.{◌≡◌, ◌≢◌, ◌⊎◌, inl, inr, ℕ, ◌<◌, Bool, true, false, cond, [], ◌∷◌, Option, Some, None}
+use Rattle.std.proofs.Common.{refl, sym, ap, subst, ◌∙◌, arith, not}
 use Rattle.std.specs.Prelude.{◌==◌, nat_lt}
 use Rattle.std.specs.List.{AllByRecursion}
 use Rattle.std.proofs.lemmas.Bool.{false≢true, false_from_ne_true, eqb-true, eq-eqb, ltb-true, lt-ltb}
-use Rattle.slon_model.specs.Maps.{Map, entry_at, with_entry}
+use Rattle.slon_model.specs.Maps.{Map, entry_at, with_entry, without_entry}
+use Rattle.std.proofs.lemmas.Grind.{common_steps}
 use Rattle.slon_model.specs.Views.{View, with_views}
 use Rattle.slon_model.proofs.Names.{all_map, one_found}
 use Rattle.stream_laws.specs.Nodes.{IsAmong}
-use Rattle.stream_laws.proofs.Lists.{all_among, all_with, entry-with}
+use Rattle.stream_laws.proofs.Lists.{all_among, all_filtered, all_with, entry-with}
 use Rattle.view_laws.specs.Known.{AreRising}
 
 pub with_rising : {X : Type 0} (id : ℕ) (x : X) (es : Map X) → AreRising es → AreRising (with_entry id x es)
@@ -36,6 +37,30 @@ with_rising id x (e ∷ es) rising = by (with_rising id x es rising.1) (nat_lt i
             let ge : (id < e.0 → ⊥) = λ under. false≢true (sym not_less ∙ lt-ltb id e.0 under) in
             let ne : id ≢ e.0 = λ same. false≢true (sym other ∙ eq-eqb id e.0 same) in
             omega (arith, ge, ne)
+
+-- a look where an entry was taken away
+pub entry-without : {X : Type 0} (q id : ℕ) (es : Map X) →
+    entry_at q (without_entry id es) ≡ cond (q == id) None (entry_at q es)
+entry-without {X} q id [] = none None (q == id)
+  where
+    none : (o : Option X) (b : Bool) → o ≡ cond b o o
+    none o true = refl
+    none o false = refl
+entry-without q id (e ∷ es) = grind (arith, common_steps, entry-without q id es)
+
+above_without : {X : Type 0} (k id : ℕ) (es : Map X) → AllByRecursion (λ f. k < f.0) es →
+    AllByRecursion (λ f. k < f.0) (without_entry id es)
+above_without k id es all = all_filtered (λ f. k < f.0) (λ e. not (id == e.0)) es all
+
+-- the ids of a map without an entry rise
+pub without_rising : {X : Type 0} (id : ℕ) (es : Map X) → AreRising es → AreRising (without_entry id es)
+without_rising id [] rising = tt
+without_rising id (e ∷ es) rising = by (id == e.0) (without_rising id es rising.1)
+  where
+    by : (b : Bool) → AreRising (without_entry id es) →
+        AreRising (cond (not b) (e ∷ without_entry id es) (without_entry id es))
+    by true rest = rest
+    by false rest = (above_without e.0 id es rising.0, rest)
 
 -- what is found stands in the map
 pub found_stands : {X : Type 0} (id : ℕ) (x : X) (es : Map X) → entry_at id es ≡ Some x → IsAmong (id, x) es

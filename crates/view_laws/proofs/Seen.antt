@@ -1,17 +1,17 @@
 -- The snapshot of each view that a node keeps was taken at the origin of the set, in a session of the history.
 use Rattle.std.proofs.Common.{◌≡◌, ◌≢◌, inl, inr, ℕ, Bool, true, false, cond, List, [], ◌∷◌, Some, refl}
-use Rattle.std.proofs.Common.{sym, subst, ◌∙◌}
+use Rattle.std.proofs.Common.{sym, ap, subst, ◌∙◌, ◌<◌, arith}
 use Rattle.std.specs.List.{AllByRecursion}
 use Rattle.std.proofs.lemmas.Bool.{false≢true, true≢false}
 use Rattle.node_rows.specs.declared.body.Body.{Body}
-use Rattle.node_rows.specs.declared.body.Body.TheVariants.{MoveSet, FailoverSet}
+use Rattle.node_rows.specs.declared.body.Body.TheVariants.{UnsubscribeSet, MoveSet, FailoverSet}
 use Rattle.slon_model.specs.Maps.{Map}
 use Rattle.slon_model.specs.Snapshots.{Covers, Snapshot, covers}
 use Rattle.slon_model.specs.Events.{Event}
 use Rattle.slon_model.specs.Views.{View, based, view_after, views_emitted, views_told, with_views}
 use Rattle.view_laws.proofs.Turned.{all_told}
 use Rattle.slon_model.specs.Deeds.{Node, Brought, Hears as HearsOf, Knowledge, knowledge, nothing_brought, view_of}
-use Rattle.slon_model.specs.Deeds.{stream, with_deeds}
+use Rattle.slon_model.specs.Deeds.{progress, stream, with_deeds}
 use Rattle.slon_model.specs.Moves.{with_commit}
 use Rattle.slon_model.specs.Place.{Place, deed, taken}
 use Rattle.slon_model.specs.Sessions.{World, Seat}
@@ -23,19 +23,20 @@ use Rattle.stream_laws.specs.Applied.{applied_events}
 use Rattle.stream_laws.specs.Making.{is_emitted}
 use Rattle.stream_laws.proofs.Lists.{all_among, all_with, among_behind}
 use Rattle.stream_laws.proofs.Seats.{IsSeat, seat_node}
-use Rattle.stream_laws.proofs.Streams.{one_node}
+use Rattle.stream_laws.proofs.Streams.{among_found, one_node}
 use Rattle.view_laws.proofs.Doing.{IsTaken}
-use Rattle.view_laws.specs.Known.{IsEmitted, IsUnfedBefore, IsSeen, AreSeen, feeds, enables}
+use Rattle.view_laws.specs.Known.{IsEmitted, IsSeen, AreSeen, WasEvent, adds, feeds, enables, leaves}
 use Rattle.view_laws.proofs.Doing.{taking}
 use Rattle.view_laws.specs.Past.{Past, WasBefore, WasUpTo}
 use Rattle.view_laws.proofs.Brought.{IsBrought, IsCopied, IsKept, IsSynced, Nothing, Copies, Brings, same_id}
-use Rattle.view_laws.proofs.Brought.{copied_view, earlier}
+use Rattle.view_laws.proofs.Brought.{copied_view, earlier, was_then}
 use Rattle.view_laws.proofs.Emitted.{moment_later, emitted_in, moment_of}
-use Rattle.view_laws.proofs.Living.{NodeLives, deed_of, event_of, knew, node_lives, KnewAll}
+use Rattle.view_laws.proofs.Living.{NodeLives, deed_of, event_of, knew, KnewAll}
 use Rattle.view_laws.proofs.Moments.{IsLater, covers_passes, regular_now, two_moments}
 use Rattle.image_laws.proofs.Staying.{Stays}
-use Rattle.view_laws.proofs.Unfed.{says_emitted, tables_unfed}
-use Rattle.view_laws.proofs.Walking.{lives_in}
+use Rattle.view_laws.proofs.Saying.{says_emitted}
+use Rattle.view_laws.proofs.Applied.{applied_before}
+use Rattle.view_laws.proofs.Standing.{before_first}
 use Rattle.view_laws.proofs.Copied.{CopySource, FromOrigin, FromForwarder, copy_asks, copy_moment, copy_source}
 use Rattle.view_laws.proofs.Copied.{enables_feeds}
 use Rattle.view_laws.proofs.Copied.{feeder_leads, seen_leads, stays_leading, feeder_is}
@@ -57,16 +58,19 @@ seen_later t n set v is = record {
   applied = is.applied;
   enables = is.enables;
   of = is.of;
+  since = is.since;
   first = is.first;
-  feeds = is.feeds;
   before = is.before;
+  from = record { session = is.from.session; was = inr is.from.was; is = is.from.is };
+  tables = is.tables;
 }
 
--- who applied no less
-abbrev pub seen_more : (Was : World → Type 0) (n m : Node) → m.id ≡ n.id →
-    ((e : Event) → IsAmong e (applied_events n) → IsAmong e (applied_events m)) → (set : ℕ) (v : View) →
+-- who applied no less, and no event by which it is to give the set up
+abbrev pub seen_more : (Was : World → Type 0) (n m : Node) → m.id ≡ n.id → (set : ℕ) (v : View) →
+    ((e : Event) → IsAmong e (applied_events n) → IsAmong e (applied_events m))
+    × ((e : Event) → IsAmong e (applied_events m) → leaves set m.id e.body ≡ true → IsAmong e (applied_events n)) →
     IsSeen Was n set v → IsSeen Was m set v
-seen_more Was n m id more set v is = record {
+seen_more Was n m id set v (more, back) is = record {
   moment = is.moment;
   own = is.own;
   apart = λ same. is.apart (same ∙ id);
@@ -77,23 +81,39 @@ seen_more Was n m id more set v is = record {
   applied = more is.enabled is.applied;
   enables = subst (λ i. enables set i is.enabled.body ≡ true) (sym id) is.enables;
   of = is.of;
+  since = λ e among own left. is.since e (back e among left) own (subst (λ i. leaves set i e.body ≡ true) id left);
   first = is.first;
-  feeds = is.feeds;
   before = is.before;
+  from = is.from;
+  tables = is.tables;
 }
 
-all_seen : (Was : World → Type 0) (n m : Node) → m.id ≡ n.id →
-    ((e : Event) → IsAmong e (applied_events n) → IsAmong e (applied_events m)) → (vs : Map View) →
-    AllByRecursion (λ v. IsSeen Was n v.0 v.1) vs → AllByRecursion (λ v. IsSeen Was m v.0 v.1) vs
-all_seen Was n m id more vs all =
+-- an event that the node applies
+abbrev pub seen_taken : (t : Past) (x : Carried) (set : ℕ) (v : View) → leaves set x.seat.node.id x.event.body ≡ false →
+    IsSeen (WasUpTo t) x.seat.node set v → IsSeen (WasUpTo t) (with_deeds (taking x).deeds x.seat.node) set v
+seen_taken t x set v stays is =
+    seen_more (WasUpTo t) x.seat.node (with_deeds (taking x).deeds x.seat.node) refl set v (
+      λ e among. inr among,
+      λ e among left. elim among [
+        | inl same ↦ absurd (true≢false (sym left ∙ ap (λ (f : Event). leaves set x.seat.node.id f.body) same ∙ stays))
+        | inr old ↦ old
+      ],
+    ) is
+
+-- who applied the same
+abbrev pub seen_same : (Was : World → Type 0) (n m : Node) → m.id ≡ n.id → applied_events m ≡ applied_events n →
+    (set : ℕ) (v : View) → IsSeen Was n set v → IsSeen Was m set v
+seen_same Was n m id same set v =
+    seen_more Was n m id set v
+    (λ e among. subst (IsAmong e) (sym same) among, λ e among left. subst (IsAmong e) same among)
+
+all_seen : (Was : World → Type 0) (n m : Node) → m.id ≡ n.id → applied_events m ≡ applied_events n →
+    (vs : Map View) → AllByRecursion (λ v. IsSeen Was n v.0 v.1) vs → AllByRecursion (λ v. IsSeen Was m v.0 v.1) vs
+all_seen Was n m id same vs all =
     all_map (λ v. IsSeen Was n v.0 v.1) (λ v. IsSeen Was m v.0 v.1)
-    (λ v. seen_more Was n m id more v.0 v.1) vs all
+    (λ v. seen_same Was n m id same v.0 v.1) vs all
 
 -- ---- a copy
-
-pub unfed_now : (t : Past) (name : List ℕ) (n : Node) → nodes_in t.world.places name ≡ Some n →
-    IsUnfedBefore (WasBefore t) n
-unfed_now t = knew IsUnfedBefore t (lives_in (node_lives tables_unfed) t)
 
 -- what is known of the views of the provider of a copy
 abbrev pub ProviderSeen : {t : Past} {s : Seat} {e : Event} {b : Brought} → IsCopied t s e b → Type 0
@@ -101,8 +121,13 @@ ProviderSeen k =
     (v : View) → view_of k.copy.copying.set_id (knowledge k.copy.provider.node) ≡ Some v →
     IsSeen (WasUpTo k.at.to) k.copy.provider.node k.copy.copying.set_id v
 
+-- Of the events of its origin that the node applied, this one is behind each by which the node gives the set up.
+abbrev pub IsSince : ℕ → Node → Event → List Event → Type 0
+IsSince set n event applied =
+    (e : Event) → IsAmong e applied → e.origin ≡ event.origin → leaves set n.id e.body ≡ true → e.number < event.number
+
 -- A copy that the node at its seat makes with an event, with what is known of the views of the provider; and a node
--- that has applied the event, as that one does.
+-- that has applied the event, as that one does, and gave the set up before that alone.
 pub record Copier (t : Past) : Type 0 where
   pub seat : Seat
   pub event : Event
@@ -113,6 +138,7 @@ pub record Copier (t : Past) : Type 0 where
   pub node : Node
   pub id : node.id ≡ seat.node.id
   pub applied : IsAmong event (applied_events node)
+  pub since : IsSince copied.copy.copying.set_id node event (applied_events node)
 
 abbrev pub set_of : {t : Past} → Copier t → ℕ
 set_of c = c.copied.copy.copying.set_id
@@ -166,6 +192,48 @@ copier_origin c v seen =
       leads = feeder_leads (then_of c) c.event y (set_of c) (copier_feed c);
     }) ∙ y.own
 
+-- the session in which the copy was found had the event
+abbrev pub copier_from : (t : Past) (c : Copier t) → WasEvent (WasUpTo t) c.event
+copier_from t c =
+    record { session = (then_of c).world; was = was_then c.copied.at; is = c.copied.at.work.event }
+
+-- the tables that came into the set before it, came into it before the snapshot that the provider keeps was taken
+pub copier_tables : {t : Past} (c : Copier t) (v : View)
+    (seen : IsSeen (WasUpTo (then_of c)) c.copied.copy.provider.node (set_of c) v) → (e : Event) →
+    IsAmong e (stream c.copied.at.work.event.node) → adds (set_of c) e.body ≡ true → e.number < c.event.number →
+    e.number < seen.first.number
+copier_tables c v seen e among adds less =
+    before_first u (record {
+      name = p.name;
+      node = p.node;
+      is = seat_node u.world.places p c.copied.copy.reached.0.0.0;
+      set_id = set_of c;
+      view = v;
+      seen = seen;
+    }) e (record { name = y.name; node = y.node; is = y.is; own = sym from; among = among }) (
+      from ∙ sym own,
+      adds,
+      (let far = c.copied.copy.reached.1 in
+          let at = ap (λ i. progress i (knowledge p.node)) (own ∙ y.own) in
+          omega (arith, less, far, at)),
+    )
+  where
+    u : Past
+    u = then_of c
+
+    p : Seat
+    p = c.copied.copy.provider
+
+    y : IsEvent (nodes_in u.world.places) c.event
+    y = c.copied.at.work.event
+
+    from : e.origin ≡ y.node.id
+    from =
+        (among_found y.node.id (stream y.node) e ((regular_now u).nodes.each y.name y.node y.is).emitted among).are.0
+
+    own : v.origin ≡ y.node.id
+    own = copier_origin c v seen ∙ sym y.own
+
 -- the view that begins with the copy
 abbrev pub seen_from : (t : Past) (c : Copier t) →
     CopySource c.copied.copy.copying c.copied.copy.provider c.copied.copy.seen →
@@ -182,9 +250,11 @@ seen_from t c (FromOrigin leads era same) =
       applied = c.applied;
       enables = copier_enables c;
       of = refl;
+      since = c.since;
       first = c.event;
-      feeds = copier_feed c;
       before = copier_before c leads;
+      from = copier_from t c;
+      tables = λ e among adds less. less;
     }
 seen_from t c (FromForwarder v found era forward same) =
     record {
@@ -198,9 +268,11 @@ seen_from t c (FromForwarder v found era forward same) =
       applied = c.applied;
       enables = copier_enables c;
       of = refl;
+      since = c.since;
       first = (c.seen v found).first;
-      feeds = (c.seen v found).feeds;
       before = (c.seen v found).before;
+      from = copier_from t c;
+      tables = copier_tables c v (c.seen v found);
     }
 
 -- who gives it
@@ -236,9 +308,11 @@ seen_with Was n set v number base is =
       applied = is.applied;
       enables = is.enables;
       of = is.of;
+      since = is.since;
       first = is.first;
-      feeds = is.feeds;
       before = is.before;
+      from = is.from;
+      tables = is.tables;
     }
 
 -- a view of a set that the node begins to forward
@@ -270,8 +344,10 @@ newer_seen Was n set v e from is later =
       applied = is.applied;
       enables = is.enables;
       of = is.of;
+      since = is.since;
       first = is.first;
-      feeds = is.feeds;
+      from = is.from;
+      tables = is.tables;
       before = stays_streaming is.moment.node from.0.moment.place from.0.moment.node later.stays
           from.0.moment.at is.first is.before;
     }
@@ -336,20 +412,28 @@ views_with P [] old all kept = kept
 views_with P (v ∷ more) old all kept =
     all_with P v.0 v.1 (with_views more old) all.0 (views_with P more old all.1 kept)
 
--- A node that has applied the event, and what the other one had applied.
-record HasTaken (x : Carried) : Type 0 where
-  node : Node
-  id : node.id ≡ x.seat.node.id
-  applied : IsAmong x.event (applied_events node)
-  more : (e : Event) → IsAmong e (applied_events x.seat.node) → IsAmong e (applied_events node)
+-- the node that applies the event gave the set up before that alone
+pub copied_since : (t : Past) (x : Carried) (origin : ℕ) → IsTaken t origin x →
+    (k : IsCopied t x.seat x.event x.brought) →
+    IsSince k.copy.copying.set_id x.seat.node x.event (x.event ∷ applied_events x.seat.node)
+copied_since t x origin is k e (inl same) own left =
+    absurd (enables_stays k.copy.copying.set_id k.at.seat.node.id x.seat.node.id x.event.body
+    (copy_asks k.at.to.world k.at.seat x.event k.found k.copy)
+    (subst (λ (f : Event). leaves k.copy.copying.set_id x.seat.node.id f.body ≡ true) same left))
+  where
+    enables_stays : (set node own : ℕ) (body : Body) → enables set node body ≡ true → leaves set own body ≡ true → ⊥
+    enables_stays set node own (UnsubscribeSet id receiver) on left = absurd (false≢true on)
+    enables_stays set node own others on left = absurd (false≢true left)
+copied_since t x origin is k e (inr old) own left = applied_before t x origin is e old own
 
-brought_seen : (t : Past) → KnewAll AreSeen t → (x : Carried) (origin : ℕ) → IsTaken t origin x → (h : HasTaken x) →
+brought_seen : (t : Past) → KnewAll AreSeen t → (x : Carried) (origin : ℕ) → IsTaken t origin x →
     AllByRecursion (λ v. IsSeen (WasUpTo t) x.seat.node v.0 v.1) (knowledge x.seat.node).views →
     IsBrought t x.seat x.event x.brought →
-    AllByRecursion (λ v. IsSeen (WasUpTo t) h.node v.0 v.1) x.brought.views
-brought_seen t knew x origin is h all (Nothing n) =
-    subst (λ (c : Brought). AllByRecursion (λ v. IsSeen (WasUpTo t) h.node v.0 v.1) c.views) (sym n.none) tt
-brought_seen t knew x origin is h all (Copies k) =
+    AllByRecursion (λ v. IsSeen (WasUpTo t) (with_deeds (taking x).deeds x.seat.node) v.0 v.1) x.brought.views
+brought_seen t knew x origin is all (Nothing n) =
+    subst (λ (c : Brought). AllByRecursion (λ v. IsSeen (WasUpTo t) (with_deeds (taking x).deeds x.seat.node) v.0 v.1)
+    c.views) (sym n.none) tt
+brought_seen t knew x origin is all (Copies k) =
     copy_seen t (record {
       seat = x.seat;
       event = x.event;
@@ -357,9 +441,10 @@ brought_seen t knew x origin is h all (Copies k) =
       is = is.work.seat;
       copied = k;
       seen = provider;
-      node = h.node;
-      id = h.id;
-      applied = h.applied;
+      node = with_deeds (taking x).deeds x.seat.node;
+      id = refl;
+      applied = inl refl;
+      since = copied_since t x origin is k;
     })
   where
     p : Seat
@@ -371,8 +456,10 @@ brought_seen t knew x origin is h all (Copies k) =
         (k.copy.copying.set_id, v) (knowledge p.node).views
         (knew k.at.to k.at.within p.name p.node (seat_node k.at.to.world.places p k.copy.reached.0.0.0))
         (found_stands k.copy.copying.set_id v (knowledge p.node).views found))
-brought_seen t knew x origin is h all (Brings y) =
-    all_seen (WasUpTo t) x.seat.node h.node h.id h.more x.brought.views
+brought_seen t knew x origin is all (Brings y) =
+    all_map (λ v. IsSeen (WasUpTo t) x.seat.node v.0 v.1)
+    (λ v. IsSeen (WasUpTo t) (with_deeds (taking x).deeds x.seat.node) v.0 v.1)
+    (λ v. seen_taken t x v.0 v.1 (ap (leaves v.0 x.seat.node.id) y.follows.body)) x.brought.views
     (synced_seen t x.seat x.event x.brought is.work.event is.work.seat y all)
 
 pub views_seen : NodeLives AreSeen
@@ -381,24 +468,25 @@ views_seen = record {
       all_map (λ v. IsSeen (WasBefore t) n v.0 v.1) (λ v. IsSeen (WasUpTo t) n v.0 v.1)
       (λ v. seen_later t n v.0 v.1) (knowledge n).views;
   logs = λ t n p xid was.
-      all_seen (WasUpTo t) n (with_commit xid p n) refl (λ e among. among) (knowledge n).views was;
+      all_seen (WasUpTo t) n (with_commit xid p n) refl refl (knowledge n).views was;
   tells = λ t s is number m n says was.
       subst (λ vs. AllByRecursion (λ v. IsSeen (WasUpTo t) (with_deeds (deed_of s number m ∷ []) n) v.0 v.1) vs)
       (sym (same_views (event_of s number m.body) m.body (knowledge n).views (says_emitted s n m says)))
-      (all_seen (WasUpTo t) n (with_deeds (deed_of s number m ∷ []) n) refl (λ e among. among) (knowledge n).views was);
+      (all_seen (WasUpTo t) n (with_deeds (deed_of s number m ∷ []) n) refl refl (knowledge n).views was);
   takes = λ t knew x origin is was.
       let m : Node = with_deeds (taking x).deeds x.seat.node in
       let k = knowledge x.seat.node in
       views_with (λ v. IsSeen (WasUpTo t) m v.0 v.1) x.brought.views
       (views_told x.seat.node.id x.event.body k.config k.views)
-      (brought_seen t knew x origin is
-      (record { node = m; id = refl; applied = inl refl; more = λ e among. inr among }) was is.brings)
+      (brought_seen t knew x origin is was is.brings)
       (all_told (λ v. IsSeen (WasUpTo t) m v.0 v.1) x.seat.node.id x.event.body k.config k.views
       (λ v seen. based_seen (WasUpTo t) m v.0 v.1 seen)
-      (all_seen (WasUpTo t) x.seat.node m refl (λ e among. inr among) k.views was));
+      (all_map (λ v. IsSeen (WasUpTo t) x.seat.node v.0 v.1)
+      (λ v. leaves v.0 x.seat.node.id x.event.body ≡ false → IsSeen (WasUpTo t) m v.0 v.1)
+      (λ v seen stays. seen_taken t x v.0 v.1 stays seen) k.views was));
   hears = λ t s confirms was.
       all_seen (WasUpTo t) s.node (with_deeds (deed s.place [] [] (HearsOf confirms) ∷ []) s.node) refl
-      (λ e among. among) (knowledge s.node).views was;
+      refl (knowledge s.node).views was;
   becomes = λ t knew n deeds views knows.
       subst (λ ds. AreSeen (WasUpTo t) (record n { deeds = ds })) (sym deeds)
       (subst (AllByRecursion (λ v. IsSeen (WasUpTo t) (record n { deeds = [] }) v.0 v.1)) (sym views) tt);

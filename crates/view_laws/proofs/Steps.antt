@@ -6,6 +6,7 @@ use Rattle.slonik_script.specs.declared.script.Command.{Command as Order}
 use Rattle.slonik_script.specs.declared.script.Command.TheVariants as order
 use Rattle.node_rows.specs.declared.body.Body.{Body}
 use Rattle.node_rows.specs.declared.body.Body.TheVariants.{Sync, StoreNode, StorePath, DropPath, StoreSet}
+use Rattle.node_rows.specs.declared.body.Body.TheVariants.{UnsubscribeSet}
 use Rattle.node_rows.specs.declared.rows.Subscription.{Subscription}
 use Rattle.slon_model.specs.declared.command.Delivery.{Delivery}
 use Rattle.slon_model.specs.declared.command.Delivery.TheVariants.{Lost}
@@ -24,7 +25,7 @@ use Rattle.slon_model.specs.Reaching.{database_of_line, reach, down_among, recei
 use Rattle.slon_model.specs.Reaching.{origin_of, owner, commit_of, emitting}
 use Rattle.slon_model.specs.Sets.{NewTable, adding, create_set, set_add_table}
 use Rattle.slon_model.specs.Subscribing.{NewFeed, subscribing, feed_checks, bodies_of, told_bodies, all_tell}
-use Rattle.slon_model.specs.Subscribing.{subscribe_set}
+use Rattle.slon_model.specs.Subscribing.{subscribe_set, unsubscribe_set}
 use Rattle.slon_model.specs.Scripts.{ordered}
 use Rattle.slon_model.specs.Turns.{on_turn, sync_turn}
 use Rattle.slon_model.specs.Polls.{Poll, polled, stated_by, hearing}
@@ -218,6 +219,15 @@ feed_step f run t =
     (subst (λ (k : Knowledge). is_origin s.node.id f.set_id k.config ≡ true) is.0.known is.1)
     (pair_at f.set_id f.receiver (knowledge s.node).config.subscriptions) refl))))
 
+leave_step : (set receiver : ℕ) (run : Running) (t : Past) →
+    OnOk (IsStated t) (unsubscribe_set set receiver run t.world)
+leave_step set receiver run t =
+    bind_ok (IsClaiming set t.world) (IsStated t) (owner run set t.world) _
+    (owner_claiming run set t.world (regular_now t).once)
+    (λ s is. let done = tells_step t s (UnsubscribeSet set receiver) is.0
+    (subst (λ (k : Knowledge). is_origin s.node.id set k.config ≡ true) is.0.known is.1) in
+    search (kept_ok (IsStated t), done))
+
 ordered_step : (t : Past) → (o : Order) (run : Running) → OnOk (IsStated t) (ordered o run t.world)
 ordered_step t (order.InitCluster id comment) run = init_step id comment run t
 ordered_step t (order.StoreNode id event_node comment) run = store_step id event_node comment run t
@@ -228,6 +238,7 @@ ordered_step t (order.SetAddTable set origin id name key comment) run =
     table_step origin (record { set_id = set; id = id; name = name; comment = comment_of comment }) run t
 ordered_step t (order.SubscribeSet set provider receiver forward) run =
     feed_step (subscribing set provider receiver forward) run t
+ordered_step t (order.UnsubscribeSet set receiver) run = leave_step set receiver run t
 ordered_step t (order.Sync id) run = reached t id run _ (λ s is. tells_step t s Sync is.0 refl)
 ordered_step t others run = tt
 

@@ -1,11 +1,10 @@
 -- Nodes agree on the tables of sets, and the origin of a set knew all of them as a node copied the set, and has them
 -- still.
-use Rattle.std.proofs.Common.{◌≡◌, inl, inr, ℕ, Bool, true, false, cond, List, [], ◌∷◌, ◌++◌, Option, Some, None}
+use Rattle.std.proofs.Common.{◌≡◌, inr, ℕ, Bool, true, false, cond, List, ◌∷◌, ◌≤◌, Option, Some, None}
 use Rattle.std.proofs.Common.{refl, sym, ap, subst, ◌∙◌, arith, is_some}
 use Rattle.std.specs.Prelude.{◌&&◌, option_map}
 use Rattle.std.specs.Str.{bytes_eq}
-use Rattle.std.specs.List.{AllByRecursion}
-use Rattle.std.proofs.lemmas.Bool.{false≢true, true≢false, and_parts, and_from}
+use Rattle.std.proofs.lemmas.Bool.{false≢true, true≢false, and_parts, and_from, eq-eqb}
 use Rattle.node_rows.specs.declared.body.Body.TheVariants.{SetAddTable}
 use Rattle.node_rows.specs.declared.rows.SetRow.{SetRow}
 use Rattle.node_rows.specs.declared.rows.TableRow.{TableRow}
@@ -13,31 +12,31 @@ use Rattle.slon_model.specs.Names.{find_named}
 use Rattle.slon_model.specs.Maps.{entry_at}
 use Rattle.slon_model.specs.Events.{Event}
 use Rattle.slon_model.specs.Config.{Config, live_set, member_of, set_of, set_row, era_of}
-use Rattle.slon_model.specs.Deeds.{Node, Logged, knowledge, stream}
+use Rattle.slon_model.specs.Deeds.{Node, Logged, knowledge, progress, stream}
 use Rattle.slon_model.specs.Place.{Place}
 use Rattle.slon_model.specs.Views.{View}
 use Rattle.slon_model.proofs.Names.{all_found, bytes_itself, bytes_same, one_found}
 use Rattle.slon_laws.proofs.Later.{HoldsOf}
 use Rattle.stream_laws.specs.Nodes.{IsAmong, nodes_in, node_in, IsEvent}
-use Rattle.stream_laws.specs.Making.{Mark, OfSet, OfName, tells_of, IsMade, MayFollow}
-use Rattle.stream_laws.specs.Facts.{Facts}
+use Rattle.stream_laws.specs.Making.{AreEmitted as AreNumbered, IsMet, Mark, OfSet, OfName, tells_of, IsMade, MayFollow}
+use Rattle.stream_laws.specs.Facts.{AreRegular, Facts}
 use Rattle.stream_laws.proofs.Copies.{Leading, origin_row}
 use Rattle.stream_laws.proofs.Laws.{marks_are_made_once}
-use Rattle.stream_laws.proofs.Lists.{all_among, all_entry, among_all, among_behind, any_among, found_all}
-use Rattle.stream_laws.proofs.Streams.{among_found, number_within, one_node, same_number}
+use Rattle.stream_laws.proofs.Lists.{all_among, all_entry, among_all, among_any, among_behind, any_among, found_all}
+use Rattle.stream_laws.proofs.Streams.{among_earlier, among_found, number_within, one_node, same_number}
 use Rattle.image_laws.specs.Facts.{Holds, IsHeldBy}
 use Rattle.image_laws.specs.Fits.{IsWhole}
 use Rattle.image_laws.proofs.Found.{find_none}
 use Rattle.image_laws.proofs.Images.{ready_world}
-use Rattle.view_laws.specs.Known.{AreTold, AreUnfed, IsLoggedAs, IsSeen, IsTold, IsUnfed, feeds}
+use Rattle.view_laws.specs.Known.{AreTold, IsLoggedAs, IsSeen, IsTold, adds as adds_to}
 use Rattle.view_laws.specs.Past.{Past, WasBefore, WasUpTo, Moment}
 use Rattle.view_laws.proofs.Living.{knew, node_lives}
 use Rattle.view_laws.proofs.Moments.{Reached, event_now, now_stays, past_of, reached_up_to, regular_now}
-use Rattle.view_laws.proofs.Seen.{unfed_now}
+use Rattle.view_laws.proofs.Standing.{Viewer, before_first}
 use Rattle.image_laws.proofs.Staying.{Stays}
 use Rattle.view_laws.proofs.Told.{heard_was, tables_told}
 use Rattle.view_laws.proofs.Walking.{lives_in}
-use Rattle.view_laws.proofs.Copied.{stays_leading}
+use Rattle.view_laws.proofs.Copied.{leading_now, stays_leading}
 
 -- ---- one event
 
@@ -48,7 +47,7 @@ made_by t e is mark makes =
     record { name = is.name; node = is.node; is = is.is; event = e; among = is.among; makes = makes }
 
 -- a mark is made by one event
-one_event : (t : Past) (a b : Event) → IsEvent (nodes_in t.world.places) a → IsEvent (nodes_in t.world.places) b →
+pub one_event : (t : Past) (a b : Event) → IsEvent (nodes_in t.world.places) a → IsEvent (nodes_in t.world.places) b →
     (mark : Mark) → (tells_of a.body mark ≡ true) × (tells_of b.body mark ≡ true) → a ≡ b
 one_event t a b is_a is_b mark make =
     same_number is_b.node.id (stream is_b.node) a b ((regular_now t).nodes.each is_b.name is_b.node is_b.is).emitted
@@ -198,19 +197,6 @@ found_in_set t k = by (member_of k.entry.1.name c) refl
 
 -- ---- the tables of a set that a node keeps
 
--- a table came into the set before a node subscribed to it
-came_before : (set : ℕ) (more rest : List Event) (e enabled : Event) →
-    AreUnfed (more ++ rest) × IsAmong e (more ++ rest) →
-    ((es : List Event) → IsUnfed es e.body → AllByRecursion (λ f. feeds set f.body ≡ false) es) →
-    IsAmong enabled rest × (feeds set enabled.body ≡ true) → IsAmong e rest
-came_before set [] rest e enabled (unfed, among) adds is = among
-came_before set (f ∷ more) rest e enabled (unfed, inl same) adds is =
-    absurd (true≢false (sym is.1 ∙ all_among (λ f. feeds set f.body ≡ false) enabled (more ++ rest)
-    (adds (more ++ rest) (subst (λ (g : Event). IsUnfed (more ++ rest) g.body) (sym same) unfed.0))
-    (among_behind enabled more rest is.0)))
-came_before set (f ∷ more) rest e enabled (unfed, inr later) adds is =
-    came_before set more rest e enabled (unfed.1, later) adds is
-
 -- the node that says a table of a set made the set known
 abbrev pub set_made : (t : Past) (table : Table t) → IsMade (nodes_in t.world.places) (OfSet table.set_id)
 set_made t table =
@@ -239,44 +225,89 @@ made_by_leader t table leader =
     (sym by.0.is ∙ ap (nodes_in t.world.places) once.0 ∙ table.is.is) in
     ap (λ (n : Node). n.id) (sym node) ∙ by.1 ∙ row.2
 
--- an event that says a table of a set was emitted before the snapshot of a view of the set was taken
-pub was_before : (t : Past) (table : Table t) (n : Node) (v : View) →
-    (seen : IsSeen (WasUpTo t) n table.set_id v) → IsAmong table.event (stream seen.moment.node)
-was_before t table n v seen =
-    came_before set now.2.more (stream then) table.event seen.first (
-      subst AreUnfed now.2.all (unfed_now t seen.moment.name origin is_origin_now).unfed,
-      subst (IsAmong table.event) now.2.all (subst (λ n. IsAmong table.event (stream n)) one table.is.among),
-    )
-    (λ es unfed. subst (IsUnfed es) table.body unfed) (seen.before, seen.feeds)
+-- a node has applied the event of each table that it knows, or was given it
+pub known_within : (t : Past) (k : KnownTable t) →
+    (table_of t k).event.number ≤ progress (table_of t k).event.origin (knowledge k.node)
+known_within t k =
+    subst (λ i. table.event.number ≤ progress i (knowledge k.node)) (ap (λ (n : Node). n.id) node ∙ table.is.own)
+    (let within = met.within in let number = once.1 in omega (arith, within, number))
   where
-    set : ℕ
-    set = table.set_id
+    table : Table t
+    table = table_of t k
+
+    mark : Mark
+    mark = OfName k.entry.1.name
+
+    met : IsMet (nodes_in t.world.places) (knowledge k.node).progress mark
+    met = (marks_are_made_once t.limit t.history t.world t.leads).met k.name k.node k.is mark
+        (among_any (λ e. bytes_eq k.entry.1.name e.1.name) k.entry (knowledge k.node).config.tables k.among
+        (bytes_itself k.entry.1.name))
+
+    once : (met.made.name ≡ table.is.name) × (met.made.event.number ≡ table.event.number)
+    once = (regular_now t).nodes.once mark met.made (made_by t table.event table.is mark
+        (ap (λ body. tells_of body mark) table.body ∙ bytes_itself k.entry.1.name))
+
+    node : met.made.node ≡ table.is.node
+    node = one_found met.made.node table.is.node
+        (sym met.made.is ∙ ap (nodes_in t.world.places) once.0 ∙ table.is.is)
+
+-- the node that says a table of the set is the origin of each view of it
+pub table_origin : (t : Past) (table : Table t) (n : Node) (v : View) → IsSeen (WasUpTo t) n table.set_id v →
+    table.event.origin ≡ v.origin
+table_origin t table n v seen =
+    let y = leading_now t seen.moment table.set_id seen.leads in
+    sym table.is.own ∙ made_by_leader t table y.0 ∙ y.1 ∙ seen.own
+
+-- an event by which a table came into a set that a node knows, was emitted before the snapshot was taken that the node
+-- keeps of the set
+was_before : (t : Past) (k : KnownTable t) (v : View) (seen : IsSeen (WasUpTo t) k.node k.entry.1.set_id v) →
+    IsAmong (table_of t k).event (stream seen.moment.node)
+was_before t k v seen =
+    among_earlier now.2.node.id now.2.more (stream then) table.event (subst (AreNumbered now.2.node.id) now.2.all are)
+    (subst (IsAmong table.event) now.2.all (subst (λ n. IsAmong table.event (stream n)) one table.is.among))
+    (let before = before_first t viewer table.event table.is (origin, adds, within) in
+    let low = (number_within then.id (stream then) seen.first (regular_then.each seen.moment.name then
+    (ap node_in seen.moment.found ∙ seen.moment.at)).emitted seen.before).1 in
+    omega (arith, before, low))
+  where
+    table : Table t
+    table = table_of t k
 
     then : Node
     then = seen.moment.node
+
+    viewer : Viewer t
+    viewer = record { name = k.name; node = k.node; is = k.is; set_id = k.entry.1.set_id; view = v; seen = seen }
+
+    origin : table.event.origin ≡ v.origin
+    origin = table_origin t table k.node v seen
+
+    adds : adds_to k.entry.1.set_id table.event.body ≡ true
+    adds = ap (adds_to k.entry.1.set_id) table.body ∙ eq-eqb k.entry.1.set_id k.entry.1.set_id refl
+
+    within : table.event.number ≤ progress v.origin (knowledge k.node)
+    within = subst (λ i. table.event.number ≤ progress i (knowledge k.node)) origin (known_within t k)
 
     -- the node that was the origin then, now
     now : HoldsOf (Stays then) seen.moment.name t.world.places
     now = now_stays t seen.moment.session seen.moment.was seen.moment.name seen.moment.place then
         seen.moment.found seen.moment.at
 
-    origin : Node
-    origin = now.2.node
+    there : nodes_in t.world.places seen.moment.name ≡ Some now.2.node
+    there = ap node_in now.1 ∙ now.2.is
 
-    is_origin_now : nodes_in t.world.places seen.moment.name ≡ Some origin
-    is_origin_now = ap node_in now.1 ∙ now.2.is
+    are : AreNumbered now.2.node.id (stream now.2.node)
+    are = ((regular_now t).nodes.each seen.moment.name now.2.node there).emitted
 
-    one : table.is.node ≡ origin
-    one = one_node (nodes_in t.world.places) (regular_now t).nodes table.is.name seen.moment.name table.is.node origin
-        table.is.is (
-          is_origin_now,
-          made_by_leader t table (record {
-            name = seen.moment.name;
-            node = origin;
-            is = is_origin_now;
-            leads = (stays_leading then now.0 origin now.2 now.2.is set seen.leads).0;
-          }),
-        )
+    regular_then : AreRegular (nodes_in seen.moment.session.places)
+    regular_then =
+        let r = reached_up_to t seen.moment.session seen.moment.was in
+        let regular = regular_now (past_of t seen.moment.session r) in
+        regular.nodes
+
+    one : table.is.node ≡ now.2.node
+    one = one_node (nodes_in t.world.places) (regular_now t).nodes table.is.name seen.moment.name table.is.node
+        now.2.node table.is.is (there, table.is.own ∙ origin ∙ sym seen.own ∙ sym now.2.id)
 
 -- the origin of the set knew it then, and knew it in the set
 pub held_then : (t : Past) (k : KnownTable t) (v : View) (seen : IsSeen (WasUpTo t) k.node k.entry.1.set_id v) →
@@ -309,7 +340,7 @@ held_then t k v seen = (
     then = seen.moment.node
 
     among : IsAmong table.event (stream then)
-    among = was_before t table k.node v seen
+    among = was_before t k v seen
 
     reached : Reached t seen.moment.session
     reached = reached_up_to t seen.moment.session seen.moment.was

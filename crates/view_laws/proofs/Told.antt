@@ -36,7 +36,7 @@ use Rattle.view_laws.proofs.Doing.{KnowsFrom, KnowsNone, KnowsGiven, taking}
 use Rattle.view_laws.proofs.Living.{NodeLives, Knew, deed_of, event_of}
 use Rattle.view_laws.proofs.Brought.{IsBrought, Nothing, Copies, Brings, part_has, was_then}
 use Rattle.view_laws.proofs.Reached.{now_stays, regular_now}
-use Rattle.view_laws.proofs.Unfed.{says_emitted, may_emitted}
+use Rattle.view_laws.proofs.Saying.{says_emitted, may_emitted}
 use Rattle.stream_laws.proofs.Copies.{IsTakenOf}
 use Rattle.view_laws.proofs.Brought.{Finding, taken_each}
 use Rattle.stream_laws.proofs.Seats.{IsSeat}

@@ -1,17 +1,20 @@
 -- The views of a node as an event tells it how it receives a set: where it begins to forward the set, the base of its
--- view changes, and nothing else.
-use Rattle.std.proofs.Common.{◌≡◌, ℕ, ◌<◌, Bool, true, false, cond, [], ◌∷◌, Option, Some, None, not, filter}
-use Rattle.std.proofs.Common.{refl, sym, ap, subst, ◌∙◌}
+-- view changes; where it is to receive the set no more, that view goes; and nothing else.
+use Rattle.std.proofs.Common.{◌≡◌, ◌⊎◌, inl, inr, ℕ, ◌<◌, Bool, true, false, cond, [], ◌∷◌, Option, Some, None, not}
+use Rattle.std.proofs.Common.{filter, refl, sym, ap, subst, ◌∙◌}
 use Rattle.std.specs.Prelude.{◌==◌, ◌&&◌, option_map}
 use Rattle.std.specs.List.{AllByRecursion}
-use Rattle.std.proofs.lemmas.Bool.{and_parts, eq-eqb, eqb-true, false≢true, not-true}
+use Rattle.std.proofs.lemmas.Bool.{and_from, and_left, and_parts, and_right, eq-eqb, eqb-true, false≢true}
+use Rattle.std.proofs.lemmas.Bool.{false_from_ne_true, not-true, true≢false}
 use Rattle.node_rows.specs.declared.body.Body.{Body}
-use Rattle.node_rows.specs.declared.body.Body.TheVariants.{Sync, SubscribeSet, EnableSubscription}
-use Rattle.slon_model.specs.Maps.{Map, entry_at}
+use Rattle.node_rows.specs.declared.body.Body.TheVariants.{Sync, SubscribeSet, EnableSubscription, UnsubscribeSet}
+use Rattle.slon_model.specs.Maps.{Map, entry_at, without_entry}
 use Rattle.slon_model.specs.Config.{Config, forwards}
 use Rattle.slon_model.specs.Views.{View, based, based_at, views_told}
 use Rattle.slon_model.proofs.Names.{all_map, one_found}
-use Rattle.view_laws.specs.Known.{AreRising, enables, feeds}
+use Rattle.view_laws.specs.Known.{AreRising, enables, feeds, leaves}
+use Rattle.view_laws.proofs.Rising.{entry-without, without_rising}
+use Rattle.stream_laws.proofs.Lists.{all_passed}
 
 -- by the event the node of this id, which knows this, begins to forward the set
 abbrev pub Turns : ℕ → ℕ → Body → Config → Type 0
@@ -118,6 +121,22 @@ told_turns own id set provider receiver forward c turns same =
     let on = and_parts forward (not (forwards set own c)) here.1 in
     (sym (eqb-true id set same), eqb-true receiver own here.0, on.0, not-true (forwards set own c) on.1)
 
+-- the event tells the node of this id to give up this set
+left_test : (own set receiver : ℕ) → (receiver == own) ≡ true → (id : ℕ) → (id == set) ≡ true →
+    leaves id own (UnsubscribeSet set receiver) ≡ true
+left_test own set receiver here id same =
+    and_from (set == id) (receiver == own) (eq-eqb set id (sym (eqb-true id set same))) here
+
+-- and no other one
+stays_test : (own set receiver id : ℕ) → (id == set) ≡ false → leaves id own (UnsubscribeSet set receiver) ≡ false
+stays_test own set receiver id other =
+    and_left (set == id) (receiver == own)
+    (false_from_ne_true (set == id) (λ same. true≢false (sym (eq-eqb id set (sym (eqb-true set id same))) ∙ other)))
+
+elsewhere_test : (own set receiver : ℕ) → (receiver == own) ≡ false → (id : ℕ) →
+    leaves id own (UnsubscribeSet set receiver) ≡ false
+elsewhere_test own set receiver other id = and_right (set == id) (receiver == own) other
+
 -- what is found then was found before
 pub found_told : (own id : ℕ) (body : Body) (c : Config) (vs : Map View) (y : View) →
     entry_at id (views_told own body c vs) ≡ Some y →
@@ -146,12 +165,50 @@ found_told own id (SubscribeSet set provider receiver forward) c vs y found =
         at true same is = of (entry_at id vs) refl same is
         at false other is = (y, is, IsSame refl)
     by false stays found = (y, found, IsSame refl)
+found_told own id (UnsubscribeSet set receiver) c vs y found = by (receiver == own) found
+  where
+    Told : Type 0
+    Told = (v : View) × (entry_at id vs ≡ Some v) × IsToldAs own id (UnsubscribeSet set receiver) c v y
+
+    by : (b : Bool) → entry_at id (cond b (without_entry set vs) vs) ≡ Some y → Told
+    by true found = at (id == set) (sym (entry-without id set vs) ∙ found)
+      where
+        at : (b : Bool) → cond b None (entry_at id vs) ≡ Some y → Told
+        at true none = absurd cc
+        at false is = (y, is, IsSame refl)
+    by false found = (y, found, IsSame refl)
 found_told own id others c vs y found = (y, found, IsSame refl)
 
--- what was found is found then
+-- and the node was not told to give it up
+pub found_stays : (own id : ℕ) (body : Body) (c : Config) (vs : Map View) (y : View) →
+    entry_at id (views_told own body c vs) ≡ Some y → leaves id own body ≡ false
+found_stays own id (UnsubscribeSet set receiver) c vs y found = by (receiver == own) refl found
+  where
+    by : (b : Bool) → (receiver == own) ≡ b → entry_at id (cond b (without_entry set vs) vs) ≡ Some y →
+        leaves id own (UnsubscribeSet set receiver) ≡ false
+    by true here found = at (id == set) refl (sym (entry-without id set vs) ∙ found)
+      where
+        at : (b : Bool) → (id == set) ≡ b → cond b None (entry_at id vs) ≡ Some y →
+            leaves id own (UnsubscribeSet set receiver) ≡ false
+        at true same none = absurd cc
+        at false other is = stays_test own set receiver id other
+    by false other found = elsewhere_test own set receiver other id
+found_stays own id others c vs y found = refl
+
+-- what it was told to give up is found no more
+pub gone_told : (own id : ℕ) (body : Body) (c : Config) (vs : Map View) → leaves id own body ≡ true →
+    entry_at id (views_told own body c vs) ≡ None
+gone_told own id (UnsubscribeSet set receiver) c vs is =
+    let both = and_parts (set == id) (receiver == own) is in
+    ap (λ b. entry_at id (cond b (without_entry set vs) vs)) both.1 ∙ entry-without id set vs
+    ∙ ap (λ b. cond b None (entry_at id vs)) (eq-eqb id set (sym (eqb-true set id both.0)))
+gone_told own id others c vs is = absurd (false≢true is)
+
+-- what was found is found then, unless the node was told to give it up
 pub there_told : (own id : ℕ) (body : Body) (c : Config) (vs : Map View) (v : View) → entry_at id vs ≡ Some v →
-    (y : View) × (entry_at id (views_told own body c vs) ≡ Some y) × IsToldAs own id body c v y
-there_told own id (SubscribeSet set provider receiver forward) c vs v found =
+    leaves id own body ≡ false → (y : View) × (entry_at id (views_told own body c vs) ≡ Some y)
+    × IsToldAs own id body c v y
+there_told own id (SubscribeSet set provider receiver forward) c vs v found stays =
     by (receiver == own && (forward && not (forwards set own c))) refl
   where
     body : Body
@@ -175,7 +232,23 @@ there_told own id (SubscribeSet set provider receiver forward) c vs v found =
           IsSame refl,
         )
     by false stays = (v, found, IsSame refl)
-there_told own id others c vs v found = (v, found, IsSame refl)
+there_told own id (UnsubscribeSet set receiver) c vs v found stays = by (receiver == own) refl
+  where
+    Told : Bool → Type 0
+    Told b = (y : View) × (entry_at id (cond b (without_entry set vs) vs) ≡ Some y)
+        × IsToldAs own id (UnsubscribeSet set receiver) c v y
+
+    by : (b : Bool) → (receiver == own) ≡ b → Told b
+    by true here = (
+      v,
+      entry-without id set vs
+          ∙ ap (λ b. cond b None (entry_at id vs))
+          (false_from_ne_true (id == set) (λ same. true≢false (sym (left_test own set receiver here id same) ∙ stays)))
+          ∙ found,
+      IsSame refl,
+    )
+    by false other = (v, found, IsSame refl)
+there_told own id others c vs v found stays = (v, found, IsSame refl)
 
 -- ---- all views
 
@@ -189,14 +262,32 @@ all_based P set (e ∷ es) on all = (by (e.0 == set), all_based P set es on all.
     by false = all.0
 
 pub all_told : (P : ℕ × View → Type 0) (own : ℕ) (body : Body) (c : Config) (vs : Map View) →
-    ((f : ℕ × View) → P f → P (f.0, based f.1)) → AllByRecursion P vs → AllByRecursion P (views_told own body c vs)
+    ((f : ℕ × View) → P f → P (f.0, based f.1)) → AllByRecursion (λ e. leaves e.0 own body ≡ false → P e) vs →
+    AllByRecursion P (views_told own body c vs)
 all_told P own (SubscribeSet set provider receiver forward) c vs on all =
     by (receiver == own && (forward && not (forwards set own c)))
   where
+    old : AllByRecursion P vs
+    old =
+        all_map (λ e. leaves e.0 own (SubscribeSet set provider receiver forward) ≡ false → P e) P (λ e is. is refl) vs
+        all
+
     by : (b : Bool) → AllByRecursion P (cond b (based_at set vs) vs)
-    by true = all_based P set vs on all
-    by false = all
-all_told P own others c vs on all = all
+    by true = all_based P set vs on old
+    by false = old
+all_told P own (UnsubscribeSet set receiver) c vs on all = by (receiver == own) refl
+  where
+    Stays : ℕ × View → Type 0
+    Stays e = leaves e.0 own (UnsubscribeSet set receiver) ≡ false → P e
+
+    other_one : (e : ℕ × View) → not (set == e.0) ≡ true → leaves e.0 own (UnsubscribeSet set receiver) ≡ false
+    other_one e passes = and_left (set == e.0) (receiver == own) (not-true (set == e.0) passes)
+
+    by : (b : Bool) → (receiver == own) ≡ b → AllByRecursion P (cond b (without_entry set vs) vs)
+    by true here =
+        all_passed Stays P (λ e. not (set == e.0)) (λ e is passes. is (other_one e passes)) vs all
+    by false other = all_map Stays P (λ e is. is (elsewhere_test own set receiver other e.0)) vs all
+all_told P own others c vs on all = all_map (λ e. leaves e.0 own others ≡ false → P e) P (λ e is. is refl) vs all
 
 rising_based : (set : ℕ) (vs : Map View) → AreRising vs → AreRising (based_at set vs)
 rising_based set [] rising = tt
@@ -216,6 +307,11 @@ rising_told own (SubscribeSet set provider receiver forward) c vs rising =
   where
     by : (b : Bool) → AreRising (cond b (based_at set vs) vs)
     by true = rising_based set vs rising
+    by false = rising
+rising_told own (UnsubscribeSet set receiver) c vs rising = by (receiver == own)
+  where
+    by : (b : Bool) → AreRising (cond b (without_entry set vs) vs)
+    by true = without_rising set vs rising
     by false = rising
 rising_told own others c vs rising = rising
 
@@ -238,19 +334,51 @@ filter_based origin set (e ∷ es) all = by (e.0 == set) refl (filter_based orig
         ∙ rest ∙ sym (ap (λ b. cond b (e ∷ kept es) (kept es)) other)
     by false differ rest = ap (λ vs. cond (e.1.origin == origin) (e ∷ vs) vs) rest
 
+filter_without : (origin set : ℕ) (vs : Map View) →
+    AllByRecursion (λ e. (set == e.0) ≡ true → (e.1.origin == origin) ≡ false) vs →
+    filter (λ e. e.1.origin == origin) (without_entry set vs) ≡ filter (λ e. e.1.origin == origin) vs
+filter_without origin set [] all = refl
+filter_without origin set (e ∷ es) all = by (set == e.0) refl (filter_without origin set es all.1)
+  where
+    kept : Map View → Map View
+    kept vs = filter (λ v. v.1.origin == origin) vs
+
+    by : (b : Bool) → (set == e.0) ≡ b → kept (without_entry set es) ≡ kept es →
+        kept (cond (not b) (e ∷ without_entry set es) (without_entry set es)) ≡ kept (e ∷ es)
+    by true same rest = rest ∙ sym (ap (λ b. cond b (e ∷ kept es) (kept es)) (all.0 same))
+    by false differ rest = ap (λ vs. cond (e.1.origin == origin) (e ∷ vs) vs) rest
+
+-- the event changes the view of this set, or has the node give it up
+abbrev pub Touches : ℕ → ℕ → Body → Config → Type 0
+Touches own id body c = Turns own id body c ⊎ (leaves id own body ≡ true)
+
 -- the views of an origin stay, if the one that changes is of another
 pub filter_told : (origin own : ℕ) (body : Body) (c : Config) (vs : Map View) →
-    AllByRecursion (λ e. Turns own e.0 body c → (e.1.origin == origin) ≡ false) vs →
+    AllByRecursion (λ e. Touches own e.0 body c → (e.1.origin == origin) ≡ false) vs →
     filter (λ e. e.1.origin == origin) (views_told own body c vs) ≡ filter (λ e. e.1.origin == origin) vs
 filter_told origin own (SubscribeSet set provider receiver forward) c vs all =
     by (receiver == own && (forward && not (forwards set own c))) refl
   where
+    body : Body
+    body = SubscribeSet set provider receiver forward
+
     by : (b : Bool) → (receiver == own && (forward && not (forwards set own c))) ≡ b →
         filter (λ e. e.1.origin == origin) (cond b (based_at set vs) vs) ≡ filter (λ e. e.1.origin == origin) vs
     by true turns =
         filter_based origin set vs
-        (all_map (λ e. Turns own e.0 (SubscribeSet set provider receiver forward) c → (e.1.origin == origin) ≡ false)
+        (all_map (λ e. Touches own e.0 body c → (e.1.origin == origin) ≡ false)
         (λ e. e.0 ≡ set → (e.1.origin == origin) ≡ false)
-        (λ e other same. other (told_turns own e.0 set provider receiver forward c turns (eq-eqb e.0 set same))) vs all)
+        (λ e other same. other (inl (told_turns own e.0 set provider receiver forward c turns (eq-eqb e.0 set same))))
+        vs all)
     by false stays = refl
+filter_told origin own (UnsubscribeSet set receiver) c vs all = by (receiver == own) refl
+  where
+    by : (b : Bool) → (receiver == own) ≡ b →
+        filter (λ e. e.1.origin == origin) (cond b (without_entry set vs) vs) ≡ filter (λ e. e.1.origin == origin) vs
+    by true here =
+        filter_without origin set vs
+        (all_map (λ e. Touches own e.0 (UnsubscribeSet set receiver) c → (e.1.origin == origin) ≡ false)
+        (λ e. (set == e.0) ≡ true → (e.1.origin == origin) ≡ false)
+        (λ e other same. other (inr (and_from (set == e.0) (receiver == own) same here))) vs all)
+    by false elsewhere = refl
 filter_told origin own others c vs all = refl

@@ -1,8 +1,8 @@
 -- Between the session in which a node found what is to come with an event and the one in which it applies that, no
 -- other event of the origin is applied: the node keeps the same views of sets of that origin, and the origin had
 -- emitted all events before that one.
-use Rattle.std.proofs.Common.{◌≡◌, ◌∙◌, inl, inr, ℕ, suc, ◌≤◌, Bool, true, false, cond, List, [], ◌∷◌, ◌++◌, Option}
-use Rattle.std.proofs.Common.{◌≢◌, Some, None, refl, sym, ap, subst, arith, filter, length}
+use Rattle.std.proofs.Common.{◌≡◌, ◌∙◌, inl, inr, ℕ, suc, ◌≤◌, Bool, true, false, cond, List, [], ◌∷◌}
+use Rattle.std.proofs.Common.{◌≢◌, Some, refl, sym, ap, subst, arith, filter, length}
 use Rattle.std.specs.Prelude.{◌==◌, ◌+◌, nat_lt}
 use Rattle.std.specs.Str.{bytes_eq}
 use Rattle.std.specs.List.{AllByRecursion}
@@ -17,37 +17,36 @@ use Rattle.slon_model.specs.Following.{SetSync, kept_from, with_sync, with_syncs
 use Rattle.slon_model.specs.Snapshots.{Snapshot}
 use Rattle.slon_model.specs.Turns.{same_snapshot}
 use Rattle.slon_model.specs.Place.{Place}
-use Rattle.slon_model.specs.Sessions.{Seat, World}
+use Rattle.slon_model.specs.Sessions.{Seat}
 use Rattle.slon_model.specs.Working.{Carried, is_view, same_view, stands}
 use Rattle.slon_model.proofs.Names.{all_map, bytes_itself, one_found}
 use Rattle.slon_laws.proofs.Later.{HoldsOf}
-use Rattle.stream_laws.specs.Nodes.{IsAmong, nodes_in, node_in, IsEvent}
-use Rattle.stream_laws.specs.Applied.{applied_events, of_origin, HasApplied}
-use Rattle.stream_laws.specs.Facts.{Facts}
+use Rattle.stream_laws.specs.Nodes.{IsAmong, nodes_in, IsEvent}
+use Rattle.stream_laws.specs.Applied.{applied_events, of_origin}
 use Rattle.stream_laws.specs.Making.{AreEmitted}
 use Rattle.stream_laws.proofs.Lists.{all_among, among_all}
 use Rattle.stream_laws.proofs.Seats.{IsSeat, seat_node}
-use Rattle.stream_laws.proofs.Streams.{among_earlier, number_within, one_node}
 use Rattle.stream_laws.proofs.Works.{IsWork}
 use Rattle.image_laws.proofs.Logging.{among_filtered, filtered_among}
-use Rattle.image_laws.proofs.Staying.{Stays}
-use Rattle.view_laws.specs.Known.{IsSeen, enables, feeds}
+use Rattle.view_laws.specs.Known.{IsSeen, enables, feeds, leaves}
 use Rattle.view_laws.specs.Past.{Past, WasUpTo}
 use Rattle.view_laws.proofs.Brought.{Finding, IsBrought, IsCopied, IsKept, IsPart, IsSynced, Nothing, Copies, Brings}
 use Rattle.view_laws.proofs.Brought.{Whole, Standing, was_then, taken_each, taken_back, same_id}
 use Rattle.view_laws.proofs.Doing.{IsTaken, taking}
 use Rattle.view_laws.proofs.Living.{HasNode, NodeGoes, event_of, node_passes}
-use Rattle.view_laws.proofs.Reached.{Reached, now_stays, past_of, reached_up_to, regular_now, event_now}
+use Rattle.view_laws.proofs.Reached.{Reached, past_of, reached_up_to, regular_now, event_now}
 use Rattle.view_laws.proofs.Rising.{found_in, found_stands, stands_found}
 use Rattle.view_laws.proofs.Seen.{same_views, syncs_seen}
-use Rattle.view_laws.proofs.Turned.{Turns, filter_told, found_told, told_like, turns_feeds}
-use Rattle.view_laws.proofs.Unfed.{says_emitted}
+use Rattle.view_laws.proofs.Turned.{Touches, Turns, filter_told, found_told, told_like, turns_feeds}
+use Rattle.view_laws.proofs.Saying.{says_emitted}
 use Rattle.view_laws.proofs.Viewed.{rising_now, seen_now}
 use Rattle.view_laws.proofs.Walking.{passing_later}
 use Rattle.view_laws.proofs.Copied.{copy_asks, enables_feeds, feeder_leads, seen_leads}
-use Rattle.view_laws.proofs.Within.{applied_within}
-use Rattle.view_laws.proofs.Once.{one_copied}
-use Rattle.stream_laws.proofs.Laws.{events_are_applied_once}
+use Rattle.view_laws.proofs.Applied.{applied_before, event_before}
+use Rattle.view_laws.proofs.Fed.{left_feeds}
+use Rattle.view_laws.proofs.Lasting.{Between, left_again}
+use Rattle.view_laws.proofs.Standing.{Viewer, left_behind, viewer_event, viewer_stream}
+use Rattle.view_laws.proofs.Once.{once_now}
 
 -- ---- what is brought
 
@@ -163,6 +162,13 @@ fed_from t x by is set v found feed =
     y : IsEvent (nodes_in t.world.places) x.event
     y = is.work.event
 
+-- so is one that the node gives up
+pub left_from : (t : Past) (x : Carried) (by : ℕ) → IsTaken t by x → (set : ℕ) (v : View) →
+    view_of set (knowledge x.seat.node) ≡ Some v → leaves set x.seat.node.id x.event.body ≡ true →
+    v.origin ≡ x.event.origin
+left_from t x by is set v found left =
+    fed_from t x by is set v found (left_feeds set x.seat.node.id x.event.body left)
+
 -- so is one whose set the node begins to forward
 pub turned_from : (t : Past) (x : Carried) (by : ℕ) → IsTaken t by x → (set : ℕ) (v : View) →
     view_of set (knowledge x.seat.node) ≡ Some v →
@@ -191,6 +197,11 @@ waits_takes t origin n x by is w = record {
     from : AllByRecursion (IsFrom x.seat x.event) x.brought.views
     from = views_from t x.seat x.event x.brought is.work.seat is.brings
 
+    touched : (e : ℕ × View) → view_of e.0 k ≡ Some e.1 → Touches own e.0 x.event.body k.config →
+        e.1.origin ≡ x.event.origin
+    touched e found (inl turns) = turned_from t x by is e.0 e.1 found turns
+    touched e found (inr left) = left_from t x by is e.0 e.1 found left
+
     beside : (x.event.origin == origin) ≡ false →
         kept_from origin (knowledge (with_deeds (taking x).deeds x.seat.node)) ≡ kept_from origin k
     beside other =
@@ -206,10 +217,9 @@ waits_takes t origin n x by is w = record {
               ap (λ o. o == origin) (like.origin ∙ is.old of.0 of.1) ∙ other,
         )) x.brought.views from)
         ∙ filter_told origin own x.event.body k.config k.views
-        (among_all (λ e. Turns own e.0 x.event.body k.config → (e.1.origin == origin) ≡ false) k.views
-        (λ e among turns. ap (λ o. o == origin) (turned_from t x by is e.0 e.1
-        (stands_found e.0 e.1 k.views
-        (rising_now t x.seat.name x.seat.node (seat_node t.world.places x.seat is.work.seat)) among) turns) ∙ other))
+        (among_all (λ e. Touches own e.0 x.event.body k.config → (e.1.origin == origin) ≡ false) k.views
+        (λ e among touches. ap (λ o. o == origin) (touched e (stands_found e.0 e.1 k.views
+        (rising_now t x.seat.name x.seat.node (seat_node t.world.places x.seat is.work.seat)) among) touches) ∙ other))
 
     cases : (b : Bool) → (x.event.origin == origin) ≡ b →
         (length (of_origin origin (applied_events n)) ≤ length (cond b (x.event ∷ applied) applied))
@@ -316,41 +326,6 @@ view_then t i set v found from =
     then : Seat
     then = i.at.seat
 
--- an event that comes before one of a session of the history was of the same stream there
-pub event_before : (t : Past) (u : World) → WasUpTo t u → (e : Event) (y : IsEvent (nodes_in u.places) e) (f : Event) →
-    IsEvent (nodes_in t.world.places) f → (f.origin ≡ e.origin) × (f.number ≤ e.number) → IsAmong f (stream y.node)
-event_before t u was e y f is before = cases (find_named y.name u.places) refl y.is
-  where
-    then : Facts (nodes_in u.places) y.node
-    then = (regular_now (past_of t u (reached_up_to t u was))).nodes.each y.name y.node y.is
-
-    among : (p : Place) → find_named y.name u.places ≡ Some p → p.node ≡ Some y.node → IsAmong f (stream y.node)
-    among p found at =
-        among_earlier y.node.id now.2.more (stream y.node) f
-        (subst (λ id. AreEmitted id (now.2.more ++ stream y.node)) now.2.id
-        (subst (AreEmitted now.2.node.id) now.2.all facts.emitted))
-        (subst (IsAmong f) now.2.all (subst (λ n. IsAmong f (stream n)) one is.among))
-        (let low = (number_within y.node.id (stream y.node) e then.emitted y.among).1 in
-        let within = before.1 in
-        omega (arith, low, within))
-      where
-        now : HoldsOf (Stays y.node) y.name t.world.places
-        now = now_stays t u was y.name p y.node found at
-
-        there : nodes_in t.world.places y.name ≡ Some now.2.node
-        there = ap node_in now.1 ∙ now.2.is
-
-        facts : Facts (nodes_in t.world.places) now.2.node
-        facts = (regular_now t).nodes.each y.name now.2.node there
-
-        one : is.node ≡ now.2.node
-        one = one_node (nodes_in t.world.places) (regular_now t).nodes is.name y.name is.node now.2.node is.is
-            (there, is.own ∙ before.0 ∙ sym y.own ∙ sym now.2.id)
-
-    cases : (o : Option Place) → find_named y.name u.places ≡ o → node_in o ≡ Some y.node → IsAmong f (stream y.node)
-    cases None found none = absurd cc
-    cases (Some p) found at = among p found at
-
 -- each event of the origin before this one was of its stream then
 pub event_then : (t : Past) (i : Since t) (f : Event) → IsEvent (nodes_in t.world.places) f →
     f.origin ≡ i.event.origin → f.number ≤ progress i.event.origin (knowledge i.seat.node) →
@@ -456,18 +431,15 @@ none_kept t origin x is y set none =
 
 -- ---- a copy
 
--- who copies a set keeps no view of it: a receiver is told once to copy
+-- who copies a set keeps no view of it: a receiver that is told again to copy has given up what it kept
 pub unviewed : (t : Past) (origin : ℕ) (x : Carried) → IsTaken t origin x →
     (k : IsCopied t x.seat x.event x.brought) → (v : View) →
     view_of k.copy.copying.set_id (knowledge x.seat.node) ≡ Some v → ⊥
 unviewed t origin x is k v found =
-    let number = ap (λ (f : Event). f.number) same in
+    let behind = left_behind t viewer e again in
     let next = is.work.next in
-    let within = applied_within (number_at e.origin n.given.progress) (of_origin e.origin (applied_events n))
-    seen.enabled (has.each e.origin is.work.other) (among_filtered (λ f. f.origin == e.origin) seen.enabled
-    (applied_events n) seen.applied (eq-eqb seen.enabled.origin e.origin from)) in
-    let far = has.all e.origin is.work.other in
-    omega (arith, number, next, within, far)
+    let at = ap (λ i. progress i (knowledge n)) (sym from ∙ seen.of) in
+    omega (arith, behind, next, at)
   where
     e : Event
     e = x.event
@@ -484,25 +456,29 @@ unviewed t origin x is k v found =
     seen : IsSeen (WasUpTo t) n set v
     seen = seen_now t x.seat.name n own set v found
 
+    viewer : Viewer t
+    viewer = record { name = x.seat.name; node = n; is = own; set_id = set; view = v; seen = seen }
+
     from : seen.enabled.origin ≡ e.origin
     from = seen.of ∙ copied_old t x.seat e x.brought is.work.seat k v found
 
-    applied : IsEvent (nodes_in t.world.places) seen.enabled
-    applied = (events_are_applied_once t.limit t.history t.world t.leads).events x.seat.name n own seen.enabled
-        seen.applied
+    y : IsEvent (nodes_in t.world.places) seen.enabled
+    y = viewer_event t viewer
 
-    y : IsEvent (nodes_in t.world.places) e
-    y = is.work.event
+    are : AreEmitted y.node.id (stream y.node)
+    are = ((regular_now t).nodes.each y.name y.node y.is).emitted
 
-    same : seen.enabled ≡ e
-    same =
-        one_copied t seen.enabled e y (subst (λ m. IsAmong seen.enabled (stream m)) (one_node (nodes_in t.world.places)
-        (regular_now t).nodes applied.name y.name applied.node y.node applied.is
-        (y.is, applied.own ∙ from ∙ sym y.own)) applied.among) set n.id (
+    again : Between (leaves set n.id) (stream y.node) seen.enabled e
+    again =
+        left_again set n.id y.node.id (stream y.node) (record {
+          first = seen.enabled;
+          second = e;
+          are = are;
+          among = y.among;
+          behind = viewer_stream t viewer e is.work.event (sym from ∙ seen.of);
+          before = applied_before t x origin is seen.enabled seen.applied from;
+        }) (once_now t y.name y.node y.is) (
           seen.enables,
           subst (λ id. enables set id e.body ≡ true) (same_id t x.seat e k.at is.work.seat)
               (copy_asks k.at.to.world k.at.seat e k.found k.copy),
         )
-
-    has : HasApplied n.id n.given.progress (knowledge n).progress (applied_events n)
-    has = ((regular_now t).nodes.each x.seat.name n own).applied

@@ -1,12 +1,14 @@
 -- What is known of the nodes of a session, beside the sessions before it in its history.
-use Rattle.std.specs.Prelude.{◌≡◌, ◌≢◌, ℕ, ◌<◌, ◌⊎◌, ◌==◌, ◌&&◌, ◌||◌, Bool, is_some, true, false, List, [], ◌∷◌, find}
+use Rattle.std.specs.Prelude.{◌≡◌, ◌≢◌, ℕ, ◌<◌, ◌⊎◌, ◌==◌, ◌&&◌, ◌||◌, not, Bool, is_some, true, false, List, []}
+use Rattle.std.specs.Prelude.{◌∷◌}
 use Rattle.std.specs.List.{AllByRecursion}
 use Rattle.node_rows.specs.declared.body.Body.{Body}
 use Rattle.node_rows.specs.declared.body.Body.TheVariants.{SetAddTable, SubscribeSet, EnableSubscription}
+use Rattle.node_rows.specs.declared.body.Body.TheVariants.{UnsubscribeSet}
 use Rattle.node_rows.specs.declared.rows.TableRow.{TableRow}
 use Rattle.slon_model.specs.Maps.{Map, pair_at}
 use Rattle.slon_model.specs.Events.{Event}
-use Rattle.slon_model.specs.Config.{Config, era_of, is_origin, receivers}
+use Rattle.slon_model.specs.Config.{Config, era_of, is_origin}
 use Rattle.slon_model.specs.Deeds.{Node, Logged, knowledge, stream, met}
 use Rattle.slon_model.specs.Logs.{logged}
 use Rattle.slon_model.specs.Place.{taken}
@@ -18,14 +20,15 @@ use Rattle.view_laws.specs.Past.{Moment}
 
 -- ---- when events were emitted
 
--- a node subscribes to the set by an event of this body
+-- an event of this body is of a subscription to the set
 abbrev pub feeds : ℕ → Body → Bool
 feeds set (SubscribeSet id provider receiver forward) = id == set
 feeds set (EnableSubscription id provider receiver forward era) = id == set
+feeds set (UnsubscribeSet id receiver) = id == set
 feeds set others = false
 
--- The event was emitted in such a session, with the snapshot that was taken there. Who says that a node subscribes to a
--- set was the origin of it.
+-- The event was emitted in such a session, with the snapshot that was taken there. Who tells of a subscription to a set
+-- was the origin of it.
 pub record IsEmitted (Was : World → Type 0) (e : Event) : Type 0 where
   pub moment : Moment Was
   pub own : moment.node.id ≡ e.origin
@@ -37,27 +40,7 @@ pub record IsEmitted (Was : World → Type 0) (e : Event) : Type 0 where
 abbrev pub AreEmitted : (World → Type 0) → Node → Type 0
 AreEmitted Was n = AllByRecursion (IsEmitted Was) (stream n)
 
--- ---- tables come into a set before it has receivers
-
--- the set has receivers
-abbrev pub IsFed : ℕ → Config → Type 0
-IsFed set c = is_some (find (λ e. true) (receivers set c)) ≡ true
-
--- no event before one by which a table comes into a set is of a subscription to it
-abbrev pub IsUnfed : List Event → Body → Type 0
-IsUnfed earlier (SetAddTable set table name comment) = AllByRecursion (λ f. feeds set f.body ≡ false) earlier
-IsUnfed earlier others = Unit {0}
-
-abbrev pub AreUnfed : List Event → Type 0
-AreUnfed [] = Unit {0}
-AreUnfed (e ∷ es) = IsUnfed es e.body × AreUnfed es
-
--- So it is of the stream of a node, which knows of each set to which a node subscribed there that it has receivers.
-pub record IsUnfedBefore (Was : World → Type 0) (n : Node) : Type 0 where
-  pub unfed : AreUnfed (stream n)
-  pub fed : AllByRecursion (λ f. (set : ℕ) → feeds set f.body ≡ true → IsFed set (knowledge n).config) (stream n)
-
--- ---- a receiver copies a set once
+-- ---- what events say of one receiver
 
 -- the receiver subscribes to the set by an event of this body
 abbrev pub subscribes : ℕ → ℕ → Body → Bool
@@ -69,32 +52,89 @@ abbrev pub enables : ℕ → ℕ → Body → Bool
 enables set node (EnableSubscription id provider receiver forward era) = id == set && receiver == node
 enables set node others = false
 
+-- it is to give the set up
+abbrev pub leaves : ℕ → ℕ → Body → Bool
+leaves set node (UnsubscribeSet id receiver) = id == set && receiver == node
+leaves set node others = false
+
 abbrev pub is_on_feed : ℕ → ℕ → Body → Bool
 is_on_feed set node body = subscribes set node body || enables set node body
 
--- no event before the one by which a receiver is to copy a set tells it so
+-- Of these events, the newest first, one opens, and none behind it closes.
+abbrev pub lasts : (Body → Bool) → (Body → Bool) → List Event → Bool
+lasts opens closes [] = false
+lasts opens closes (e ∷ es) = opens e.body || (not (closes e.body) && lasts opens closes es)
+
+-- by these events the receiver subscribes to the set
+abbrev pub is_fed : ℕ → ℕ → List Event → Bool
+is_fed set node es = lasts (is_on_feed set node) (leaves set node) es
+
+-- by these events it is to copy the set, and has not given it up since
+abbrev pub is_enabled : ℕ → ℕ → List Event → Bool
+is_enabled set node es = lasts (enables set node) (leaves set node) es
+
+-- the configuration has the subscription of the receiver
+abbrev pub HasFeed : ℕ → ℕ → Config → Type 0
+HasFeed set receiver c = is_some (pair_at set receiver c.subscriptions) ≡ true
+
+-- A node that has told of a subscription has it exactly where its events say so.
+abbrev pub HasFeeds : (World → Type 0) → Node → Type 0
+HasFeeds Was n =
+    (set receiver : ℕ) (e : Event) → IsAmong e (stream n) → is_on_feed set receiver e.body ≡ true →
+    is_some (pair_at set receiver (knowledge n).config.subscriptions) ≡ is_fed set receiver (stream n)
+
+-- ---- a receiver copies a set once, until it gives it up
+
+-- as a receiver is told to copy a set, it has given up what it was to copy before
 abbrev pub IsOnce : List Event → Body → Type 0
-IsOnce earlier (EnableSubscription set provider receiver forward era) =
-    AllByRecursion (λ f. enables set receiver f.body ≡ false) earlier
+IsOnce earlier (EnableSubscription set provider receiver forward era) = is_enabled set receiver earlier ≡ false
 IsOnce earlier others = Unit {0}
 
 abbrev pub AreOnce : List Event → Type 0
 AreOnce [] = Unit {0}
 AreOnce (e ∷ es) = IsOnce es e.body × AreOnce es
 
--- the configuration has the subscription of the receiver
-abbrev pub HasFeed : ℕ → ℕ → Config → Type 0
-HasFeed set receiver c = is_some (pair_at set receiver c.subscriptions) ≡ true
-
 -- so it is of the stream of a node
 abbrev pub IsFedOnce : (World → Type 0) → Node → Type 0
 IsFedOnce Was n = AreOnce (stream n)
 
--- A node has each subscription of which an event of its stream is.
-abbrev pub HasFeeds : (World → Type 0) → Node → Type 0
-HasFeeds Was n =
-    AllByRecursion (λ f. (set receiver : ℕ) → is_on_feed set receiver f.body ≡ true →
-    HasFeed set receiver (knowledge n).config) (stream n)
+-- ---- tables come into a set while it has no receivers
+
+-- a table comes into the set
+abbrev pub adds : ℕ → Body → Bool
+adds set (SetAddTable id table name comment) = id == set
+adds set others = false
+
+-- as a table comes into a set, no node subscribes to it
+abbrev pub IsUnfed : List Event → Body → Type 0
+IsUnfed earlier (SetAddTable set table name comment) = (node : ℕ) → is_fed set node earlier ≡ false
+IsUnfed earlier others = Unit {0}
+
+abbrev pub AreUnfed : List Event → Type 0
+AreUnfed [] = Unit {0}
+AreUnfed (e ∷ es) = IsUnfed es e.body × AreUnfed es
+
+-- so it is of the stream of a node
+abbrev pub IsUnfedBefore : (World → Type 0) → Node → Type 0
+IsUnfedBefore Was n = AreUnfed (stream n)
+
+-- A node of this id was in such a session, and had emitted these events there.
+pub record HadEmitted (Was : World → Type 0) (id : ℕ) (events : List Event) : Type 0 where
+  pub moment : Moment Was
+  pub own : moment.node.id ≡ id
+  pub before : stream moment.node ≡ events
+
+-- So it was with the events before one by which a table comes into a set.
+abbrev pub IsAdded : (World → Type 0) → ℕ → List Event → Body → Type 0
+IsAdded Was own earlier (SetAddTable set table name comment) = HadEmitted Was own earlier
+IsAdded Was own earlier others = Unit {0}
+
+abbrev pub AllAdded : (World → Type 0) → ℕ → List Event → Type 0
+AllAdded Was own [] = Unit {0}
+AllAdded Was own (e ∷ es) = IsAdded Was own es e.body × AllAdded Was own es
+
+abbrev pub AreAdded : (World → Type 0) → Node → Type 0
+AreAdded Was n = AllAdded Was n.id (stream n)
 
 -- ---- the events by which tables are known
 
@@ -140,7 +180,8 @@ AreFedBy Was n = (set receiver : ℕ) → HasFeed set receiver (knowledge n).con
 -- ---- the views that a node keeps
 
 -- The snapshot of the view was taken at the origin of the set, in the era of the view. The node copied the set with an
--- event of the origin, which by then had emitted an event by which some node subscribed to the set.
+-- event of the origin, and has not given it up since. By then the origin had emitted an event by which some node was to
+-- copy the set, and no table came into the set between the two events.
 pub record IsSeen (Was : World → Type 0) (n : Node) (set : ℕ) (v : View) : Type 0 where
   pub moment : Moment Was
   pub own : moment.node.id ≡ v.origin
@@ -152,9 +193,13 @@ pub record IsSeen (Was : World → Type 0) (n : Node) (set : ℕ) (v : View) : T
   pub applied : IsAmong enabled (applied_events n)
   pub enables : enables set n.id enabled.body ≡ true
   pub of : enabled.origin ≡ v.origin
+  pub since : (e : Event) → IsAmong e (applied_events n) → e.origin ≡ v.origin → leaves set n.id e.body ≡ true →
+      e.number < enabled.number
   pub first : Event
-  pub feeds : feeds set first.body ≡ true
   pub before : IsAmong first (stream moment.node)
+  pub from : WasEvent Was enabled
+  pub tables : (e : Event) → IsAmong e (stream from.is.node) → adds set e.body ≡ true → e.number < enabled.number →
+      e.number < first.number
 
 -- so it is with each view of a node
 abbrev pub AreSeen : (World → Type 0) → Node → Type 0

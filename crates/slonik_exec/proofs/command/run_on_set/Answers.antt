@@ -64,6 +64,17 @@ returns-in-SubscribeSet-clause-executes g c =
     (subst (λ b. IfOk c.subscribe_set.result (λ reply. Executes a (feeds.subscribe_set (feed b)) old reply new))
     c.unwrap_or.ensures c.subscribe_set.ensures.executes)
 
+pub unsubscribe_set-requires-clause-can : goal.unsubscribe_set-requires-clause-can
+unsubscribe_set-requires-clause-can g c = subst IsRunnable c.in-UnsubscribeSet.is c.requires.can.0
+
+pub returns-in-UnsubscribeSet-clause-executes : goal.returns-in-UnsubscribeSet-clause-executes
+returns-in-UnsubscribeSet-clause-executes g c =
+    let a : Addresses = record { lines = c.args.caller.lines.now; cluster = c.args.caller.cluster.now } in
+    let old = bases_of g.K.Keeper.kept c.args.databases.now in
+    let new = bases_of g.K.Keeper.kept c.unsubscribe_set.new.databases in
+    subst (λ o. IfOk c.unsubscribe_set.result (λ reply. Executes a (ordered o) old reply new))
+    (sym c.in-UnsubscribeSet.is) c.unsubscribe_set.ensures.executes
+
 pub returns-in_ok-word-in_default : goal.returns-in_ok-word-in_default
 returns-in_ok-word-in_default g c = record {
   runs = runs_refused (refused.NotBuilt c.in_ok-word-in_default.word) (bases_of g.K.Keeper.kept c.args.databases.now)
@@ -74,6 +85,7 @@ returns-in_ok-word-in_default g c = record {
         set = c.in_default.not-CreateSet;
         table = c.in_default.not-SetAddTable;
         feed = c.in_default.not-SubscribeSet;
+        leave = c.in_default.not-UnsubscribeSet;
       }) run w ∙ ap (λ word. Err (refused.NotBuilt word))
       (sym (c.in_ok-word-in_default.ensures ∙ c.first_word.ensures)))
       refl ready.fits;

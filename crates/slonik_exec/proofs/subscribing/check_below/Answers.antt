@@ -1,4 +1,4 @@
-use Rattle.std.proofs.Common.{◌≡◌, ◌∙◌, suc, length, List, [], ◌∷◌, Option, Ok, ℕ, refl, sym, ap}
+use Rattle.std.proofs.Common.{◌≡◌, ◌∙◌, suc, length, List, [], ◌∷◌, Option, ℕ, refl, sym, ap}
 use Rattle.node_rows.specs.declared.rows.Subscription.{Subscription}
 use Rattle.slon_model.specs.declared.reply.Refusal.{Refusal}
 use Rattle.slon_model.specs.declared.reply.Refusal.TheVariants as refused
@@ -7,7 +7,6 @@ use Rattle.slon_model.specs.Maps.{Map}
 use Rattle.slon_model.specs.Place.{Place}
 use Rattle.slon_model.specs.Sessions.{Seat, when, first_refusal}
 use Rattle.slon_model.specs.Subscribing.{is_below, leads_to}
-use Rattle.app_store.specs.Base.{base_of}
 use Rattle.node_store.specs.Looking.{OfConfig}
 use Rattle.slonik_exec.specs.declared.subscribing.NewFeed.{NewFeed}
 use Rattle.slonik_exec.specs.Statements.{feed_as}

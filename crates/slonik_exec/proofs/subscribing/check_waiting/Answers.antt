@@ -1,10 +1,9 @@
-use Rattle.std.proofs.Common.{◌≡◌, ◌∙◌, Bool, true, false, List, [], ◌∷◌, Option, Ok, refl, sym, ap}
+use Rattle.std.proofs.Common.{◌≡◌, ◌∙◌, Bool, List, [], ◌∷◌, Option, Ok, refl, sym, ap}
 use Rattle.slon_model.specs.declared.reply.Refusal.{Refusal}
 use Rattle.slon_model.specs.declared.reply.Refusal.TheVariants as refused
 use Rattle.slon_model.specs.Place.{Place}
-use Rattle.slon_model.specs.Sessions.{Seat, seat, when, first_refusal}
+use Rattle.slon_model.specs.Sessions.{Seat, when, first_refusal}
 use Rattle.slon_model.specs.Subscribing.{is_waiting}
-use Rattle.app_store.specs.Base.{base_of}
 use Rattle.node_store.specs.Polling.{OfNode}
 use Rattle.node_store.specs.Reached.{is_waiting_at}
 use Rattle.slonik_exec.specs.declared.subscribing.NewFeed.{NewFeed}
