@@ -1,6 +1,7 @@
 pub mod Certain
 pub mod Charges
 pub mod Failing
+pub mod Knowing
 pub mod Lifting
 pub mod Living
 pub mod Moving

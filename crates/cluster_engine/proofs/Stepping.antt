@@ -1,5 +1,6 @@
 -- From what the calls on the databases of a session do follow steps that the rules allow.
-use Rattle.std.proofs.Common.{◌≡◌, ◌∙◌, ◌<◌, ℕ, zero, suc, Bool, true, false, cond, List, [], ◌∷◌, length, drop, Option}
+use Rattle.std.proofs.Common.{◌≡◌, ◌∙◌, ◌<◌, ◌&&◌, not, ℕ, zero, suc, Bool, true, false, cond, List, [], ◌∷◌, length}
+use Rattle.std.proofs.Common.{drop, Option}
 use Rattle.std.proofs.Common.{Some, None, is_some, Result, Ok, Err, refl, sym, ap, subst, true≢false, arith}
 use Rattle.slon_base.specs.Keeper.{Kept, nothing}
 use Rattle.slonik_script.specs.declared.script.Command.{Command as Order}
@@ -47,9 +48,11 @@ use Rattle.app_store.specs.Fits.{Ready}
 use Rattle.app_store.specs.Serves.{Founds, is_failure, trouble, settled}
 use Rattle.slonik_exec.proofs.Seats.{same_up}
 use Rattle.slonik_exec.proofs.Lists.{Fitting, fitting, missing_fits, same_length}
-use Rattle.cluster_engine.specs.Agreed.{Clustered, Agrees, Follows}
+use Rattle.slon_turns.specs.Holding.{Holdings}
+use Rattle.cluster_engine.specs.Agreed.{Agrees, AllKnown, Clustered, Follows}
 use Rattle.cluster_engine.specs.Calls.{grant, Moves, Grants, Misses, Asks, Acts, StepsOn, Steps, fused, is_sure_reply}
-use Rattle.cluster_engine.specs.Calls.{Adopts, Rejects, Keeps, Makes, Obeys}
+use Rattle.cluster_engine.specs.Calls.{Adopts, Rejects, Keeps, Makes, Obeys, happened, with_base}
+use Rattle.cluster_engine.proofs.Knowing.{known_behind, known_recalled, known_stay}
 use Rattle.cluster_engine.proofs.Lifting.{same_some, fits_more}
 use Rattle.cluster_engine.proofs.Moving.{IsGranted}
 use Rattle.cluster_engine.proofs.Certain.{never_fails}
@@ -63,6 +66,12 @@ granted_due name w c agrees = rw (
   same_length w.places c.bases agrees.fits,
   agrees.limit,
 ) refl
+
+-- what is known still is behind a step
+known_behind_step : {w v : World} {c : Clustered} {h : Happening} → Follows w c → Step w h v → (held : Holdings) →
+    AllKnown w held → AllKnown v held
+known_behind_step {w} {v} {h = h} follows step held known =
+    known_stay follows.most follows.history w v h (follows.leads, step) held known
 
 -- what is known of the place of a database
 ready_place : (name : List ℕ) (b : Base) (w : World) (c : Clustered) → Follows w c →
@@ -100,43 +109,54 @@ steps command old reply new (Asks s) w follows =
       was_up = sym (same_up fit.place s.before fit.fits);
       now_up = sym (same_up place s.behind comes.2);
     }) fit.found (record { fits = follows.agrees.memory; keeps = follows.agrees.keeps }) in
+    let step : Step w (happened command reply comes.0) (changed s.name place w) = StepAsks (record {
+      name = s.name;
+      task = s.task;
+      place = fit.place;
+      result = s.result;
+      about = s.about;
+      found = fit.found;
+      takes = comes.1;
+      told = s.told;
+      is = refl;
+    }) in
     subst (λ subject. StepsOn subject command w reply new) (sym s.about) (record {
       choice = comes.0;
       world = changed s.name place w;
-      step = StepAsks (record {
-        name = s.name;
-        task = s.task;
-        place = fit.place;
-        result = s.result;
-        about = s.about;
-        found = fit.found;
-        takes = comes.1;
-        told = s.told;
-        is = refl;
-      });
+      step = step;
       agrees = subst (Agrees (changed s.name place w)) (sym s.same)
           (record {
             limit = follows.agrees.limit;
             fits = fit.puts place s.behind comes.2;
             memory = kept.fits;
             keeps = kept.keeps;
+            known = known_behind_step follows step (with_base s.name s.before s.behind old).memory.held
+                (known_recalled w s.name old.memory.held (s.behind.memory.up && not s.before.memory.up)
+                follows.agrees.known);
           });
     })
 steps command old reply new (Acts act about acted) w follows =
     let acts = acted.goes w follows in
+    let step : Step w (happened command reply (Among acts.fate)) (world_by act acts.fate w) = StepActs (record {
+      act = act;
+      fate = acts.fate;
+      about = about;
+      chosen = refl;
+      may = acts.may;
+      told = acts.told;
+      is = refl;
+    }) in
     subst (λ subject. StepsOn subject command w reply new) (sym about) (record {
       choice = Among acts.fate;
       world = world_by act acts.fate w;
-      step = StepActs (record {
-        act = act;
-        fate = acts.fate;
-        about = about;
-        chosen = refl;
-        may = acts.may;
-        told = acts.told;
-        is = refl;
-      });
-      agrees = acts.agrees;
+      step = step;
+      agrees = record {
+        limit = acts.agrees.limit;
+        fits = acts.agrees.fits;
+        memory = acts.agrees.memory;
+        keeps = acts.agrees.keeps;
+        known = known_behind_step follows step new.memory.held (acted.learns w follows);
+      };
     })
 
 -- ---- a step whose reply tells of no fault is the one that is due
@@ -332,6 +352,9 @@ makes name kept old reply new (Keeps b result made memory kept_it told same) emp
                 (place_by ToFound bare_place comes.0) b w.places old.bases agrees.fits comes.2;
             memory = agrees.memory;
             keeps = λ other up. agrees.keeps other (λ d is. up d (found_behind other name b d old.bases is));
+            known = known_behind w (adopted name (place_by ToFound bare_place comes.0) w)
+                (λ other p found. found_behind other name (place_by ToFound bare_place comes.0) p w.places found)
+                old.memory.held agrees.known;
           });
     }
 

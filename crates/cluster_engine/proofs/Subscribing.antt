@@ -19,6 +19,9 @@ pub led_follows : (limit : ℕ) (history : List Happening) (w : World) (c : Clus
     Follows w c
 led_follows limit history w c led = record {
   agrees = led.agrees;
+  most = limit;
+  history = history;
+  leads = led.leads;
   sound = sound_world limit history w led.leads;
   spelled = spelled_world limit history w led.spoken led.leads;
   regular = regular_world limit history w led.leads;

@@ -4,6 +4,7 @@ use Rattle.std.proofs.Common.{Ok}
 use Rattle.std.proofs.Common.{Err, refl, sym, ap, subst, length}
 use Rattle.std.proofs.lemmas.Bool.{false≢true, true≢false}
 use Rattle.std.specs.FinMap.{get}
+use Rattle.std.specs.List.{AllByRecursion}
 use Rattle.std.specs.Prelude.{◌||◌}
 use Rattle.slon_base.specs.declared.fault.Halt.{Halt as HaltOf}
 use Rattle.slon_base.specs.declared.fault.Halt.TheVariants.{Fault}
@@ -34,14 +35,16 @@ use Rattle.slonik_exec.specs.Executing.{Comes}
 use Rattle.slonik_exec.specs.Turning.{Turns}
 use Rattle.slon_turns.specs.declared.polling.Listen.{Listen}
 use Rattle.slon_turns.specs.Polling.{left_when}
-use Rattle.slon_turns.specs.Holding.{HoldAll, Holdings, IsUpIn, KeepsIn, WaitsIn}
+use Rattle.slon_turns.specs.Holding.{HoldAll, HoldBounds, Holdings, IsUpIn, KeepBounds, KeepsIn, WaitsIn, bounds_in}
 use Rattle.slon_turns.specs.Turning.{Kept, Polls}
 use Rattle.slon_turns.specs.declared.working.Aim.{Aim}
 use Rattle.slon_turns.specs.declared.working.Aim.TheVariants.{Fetch, Apply}
-use Rattle.slon_turns.specs.Working.{Due, Goal, ToApply, ToKeep, Works, behind, gives_up, left_after, sources_to}
+use Rattle.slon_turns.specs.Working.{Due, Goal, Learns, ToApply, ToKeep, Works, behind, gives_up, left_after}
+use Rattle.slon_turns.specs.Working.{sources_to}
 use Rattle.slon_turns.specs.Working.{stated_by as due_stated, turned, turned_to}
-use Rattle.cluster_engine.specs.Agreed.{Clustered, Agrees, FitsScripts, Follows}
+use Rattle.cluster_engine.specs.Agreed.{Agrees, Clustered, FitsScripts, Follows, IsKnown, Matches}
 use Rattle.cluster_engine.specs.Calls.{ActsOn, IsActed}
+use Rattle.cluster_engine.proofs.Knowing.{hold_bounds, learn_known}
 use Rattle.cluster_engine.proofs.Rising.{comes_up}
 use Rattle.cluster_engine.proofs.Walking.{Remembers, ready_of, fits_kept, denied_doubt, felled_moves, broken_moves}
 use Rattle.cluster_engine.proofs.Walking.{wavering_moves}
@@ -122,7 +125,7 @@ turn_goes {act} {w} {reply} {new} t made = by made.comes
           fate = AllStand;
           may = tt;
           told = told ∙ sym (ap (λ (x : Outcome). x.reply) same);
-          agrees = subst (λ x. Agrees (after_outcome x w) new) (sym same)
+          agrees = subst (λ x. Matches (after_outcome x w) new) (sym same)
               (record { limit = made.limit; fits = fits; memory = left.fits; keeps = left.keeps });
         }
     by (executing.Stands stated is beyond told fits) =
@@ -132,7 +135,7 @@ turn_goes {act} {w} {reply} {new} t made = by made.comes
           fate = AllStand;
           may = tt;
           told = told ∙ sym (ap (λ (x : Outcome). x.reply) same);
-          agrees = subst (λ x. Agrees (after_outcome x w) new) (sym same)
+          agrees = subst (λ x. Matches (after_outcome x w) new) (sym same)
               (record { limit = made.limit; fits = fits; memory = left.fits; keeps = left.keeps });
         }
     by (executing.Bursts stated e is beyond told fits) =
@@ -144,7 +147,7 @@ turn_goes {act} {w} {reply} {new} t made = by made.comes
           fate = AllStand;
           may = tt;
           told = told ∙ sym (ap (λ (x : Outcome). x.reply) same);
-          agrees = subst (λ x. Agrees (after_outcome x w) new) (sym same) (record {
+          agrees = subst (λ x. Matches (after_outcome x w) new) (sym same) (record {
             limit = after.limit ∙ made.limit;
             fits = subst (λ ps. FitsAll ps new.bases) after.places fits;
             memory = left.fits;
@@ -179,7 +182,7 @@ turn_goes {act} {w} {reply} {new} t made = by made.comes
           fate = DoubtsAt before stays;
           may = subst (λ (x : Outcome). before < length x.commits) (sym same) less;
           told = told ∙ sym (ap (λ (x : Outcome). doubt_reply (drop before x.commits) x.reply) same);
-          agrees = subst (λ (x : Outcome). Agrees (wavering (drop before x.commits) stays
+          agrees = subst (λ (x : Outcome). Matches (wavering (drop before x.commits) stays
               (stand (take before x.commits) (record w { memory = m }))) new) (sym same) (record {
                 limit = after.limit ∙ made.limit;
                 fits = subst (λ ps. FitsAll ps new.bases) after.places fits;
@@ -226,6 +229,7 @@ sync_acted node old reply news runs turns = record {
         undone = λ stated is refused. same;
         broke = λ name count told. same;
       });
+  learns = λ w follows. follows.agrees.known;
 }
 
 pub sync_if : {E : Type 0} (node : ℕ) (old : Clustered) (news : Named Base) (r : Result Reply E) →
@@ -387,6 +391,11 @@ holds_all w old follows = record {
       follows.agrees.keeps name (up_in name w old p follows.agrees.fits found running);
 }
 
+-- what nodes know of the transactions of others is so of all that is logged
+bounds_all : (w : World) (old : Clustered) → Follows w old → HoldBounds w old.memory.held
+bounds_all w old follows =
+    hold_bounds follows.most follows.history w follows.leads follows.regular old.memory.held follows.agrees.known
+
 -- ---- polls
 
 polled_same : (delivery : Delivery) (b : Poll) (m : Memory) →
@@ -406,10 +415,11 @@ polled_left delivery (Err others) reply m = refl
 
 -- what is promised of the databases and of what waits is promised of the command
 pub poll_acted : (l : Listen) (old : Clustered) (reply : Reply) (news : Named Base) (queues : Holdings) →
-    Runs old.bases reply news → Polls l old.memory.switches.started (kept_of old) reply (kept_as news queues) →
-    are_cut l.node l.server old.memory.switches.cuts ≡ l.cut →
+    Runs old.bases reply news
+    × Polls l old.memory.switches.started (kept_of old) reply (kept_as news queues)
+    × KeepBounds old.memory.held queues → are_cut l.node l.server old.memory.switches.cuts ≡ l.cut →
     IsActed (ToListen l.node l.server l.delivery) old reply (with_queues news queues old)
-poll_acted l old reply news queues runs polls cut = record {
+poll_acted l old reply news queues (runs, polls, bounds) cut = record {
   runs = runs;
   limit = refl;
   given = refl;
@@ -438,15 +448,17 @@ poll_acted l old reply news queues runs polls cut = record {
             (takes.keeps name (follows.agrees.keeps name
             (comes_up w old.bases reply news follows.agrees.fits takes.comes name up)));
       });
+  learns = λ w follows name. subst (AllByRecursion (IsKnown w)) (sym (bounds name)) (follows.agrees.known name);
 }
 
 pub poll_if : {E : Type 0} (l : Listen) (old : Clustered) (news : Named Base) (queues : Holdings) (r : Result Reply E) →
     IfOk r (λ reply. Runs old.bases reply news) ×
-    IfOk r (λ reply. Polls l old.memory.switches.started (kept_of old) reply (kept_as news queues)) →
+    IfOk r (λ reply. Polls l old.memory.switches.started (kept_of old) reply (kept_as news queues)) ×
+    IfOk r (λ reply. KeepBounds old.memory.held queues) →
     are_cut l.node l.server old.memory.switches.cuts ≡ l.cut →
     IfOk r (λ reply. IsActed (ToListen l.node l.server l.delivery) old reply (with_queues news queues old))
-poll_if l old news queues (Ok reply) both cut = poll_acted l old reply news queues both.0 both.1 cut
-poll_if l old news queues (Err e) both cut = tt
+poll_if l old news queues (Ok reply) all cut = poll_acted l old reply news queues all cut
+poll_if l old news queues (Err e) all cut = tt
 
 -- ---- work
 
@@ -518,16 +530,17 @@ may_own Apply node origin name w = refl
 -- what is promised of the databases and of what waits is promised of the command
 pub turn_acted : (goal : Goal) (node : ℕ) (old : Clustered) (reply : Reply) (news : Named Base) (queues : Holdings) →
     Runs old.bases reply news →
-    Works goal node old.memory.switches (kept_of old) reply (kept_as news queues) →
+    Works goal node old.memory.switches (kept_of old) reply (kept_as news queues)
+    × Learns goal node old.memory.switches (kept_of old) queues →
     IsActed (act_of goal node) old reply (with_queues news queues old)
-turn_acted goal node old reply news queues runs works = record {
+turn_acted goal node old reply news queues runs (works, learned) = record {
   runs = runs;
   limit = refl;
   given = refl;
   goes = λ w follows.
       let fits = follows.agrees.memory in
       let takes = works w (ready_of w old follows) (ap (λ s. s.started) fits.switches) (ap (λ s. s.cuts) fits.switches)
-      (holds_all w old follows) (takes_up node goal.origin w old follows) follows.formed in
+      (holds_all w old follows) (bounds_all w old follows) (takes_up node goal.origin w old follows) follows.formed in
       finding_goes (record {
         found = turned goal node w;
         left = λ x. behind x w.memory;
@@ -549,11 +562,18 @@ turn_acted goal node old reply news queues runs works = record {
             (takes.keeps name (follows.agrees.keeps name
             (comes_up w old.bases reply news follows.agrees.fits takes.comes name up)) up);
       });
+  learns = λ w follows name.
+      let switches = follows.agrees.memory.switches in
+      learn_known follows.most follows.history w follows.leads follows.regular goal.origin
+      (bounds_in (get old.memory.held name)) (bounds_in (get queues name))
+      (learned w (ready_of w old follows) (ap (λ s. s.started) switches) (ap (λ s. s.cuts) switches)
+      (holds_all w old follows) (bounds_all w old follows) name) (follows.agrees.known name);
 }
 
 pub turn_if : {E : Type 0} (goal : Goal) (node : ℕ) (old : Clustered) (news : Named Base) (queues : Holdings)
     (r : Result Reply E) → IfOk r (λ reply. Runs old.bases reply news) →
-    IfOk r (λ reply. Works goal node old.memory.switches (kept_of old) reply (kept_as news queues)) →
+    IfOk r (λ reply. Works goal node old.memory.switches (kept_of old) reply (kept_as news queues)) ×
+    IfOk r (λ reply. Learns goal node old.memory.switches (kept_of old) queues) →
     IfOk r (λ reply. IsActed (act_of goal node) old reply (with_queues news queues old))
-turn_if goal node old news queues (Ok reply) runs works = turn_acted goal node old reply news queues runs works
-turn_if goal node old news queues (Err e) runs works = tt
+turn_if goal node old news queues (Ok reply) runs both = turn_acted goal node old reply news queues runs both
+turn_if goal node old news queues (Err e) runs both = tt

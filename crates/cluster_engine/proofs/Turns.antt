@@ -23,9 +23,10 @@ use Rattle.slonik_exec.specs.Reached.{HasNode}
 use Rattle.slon_turns.specs.Holding.{Holdings, KeepsIn, WaitsIn}
 use Rattle.slon_turns.proofs.Waiting.{found_in, waits_at, keeps_at, none_forgotten, beside_forgotten}
 use Rattle.slon_turns.proofs.Waiting.{fetches_forgotten, fetches_stay}
-use Rattle.cluster_engine.specs.Agreed.{Remembered, Clustered, Follows}
+use Rattle.cluster_engine.specs.Agreed.{AllKnown, Remembered, Clustered, Follows}
 use Rattle.cluster_engine.specs.Calls.{IsActed}
 use Rattle.cluster_engine.specs.Walking.{IsQuietly}
+use Rattle.cluster_engine.proofs.Knowing.{known_removed}
 use Rattle.cluster_engine.proofs.Walking.{Remembers, quietly_acted}
 
 -- something else is switched
@@ -63,7 +64,7 @@ unknown_acted act node m old about none =
       commits = refl;
       falls = refl;
       memory = record { fits = follows.agrees.memory; keeps = follows.agrees.keeps };
-    })) refl
+    })) refl (λ w known. known)
 
 -- the database of this name is the node, and this is in memory then
 record Switching (act : Act) (node : ℕ) (w : World) (new : Clustered) : Type 0 where
@@ -76,13 +77,14 @@ record Switching (act : Act) (node : ℕ) (w : World) (new : Clustered) : Type 0
 
 turned_acted : (act : Act) (node : ℕ) (old : Clustered) (r : Remembered) →
     ((w : World) → Follows w old → Switching act node w (record old { memory = r })) →
+    ((w : World) → AllKnown w old.memory.held → AllKnown w r.held) →
     IsActed act old (Accepted Done) (record old { memory = r })
-turned_acted act node old r switches =
+turned_acted act node old r switches stays =
     quietly_acted act old (Accepted Done) r
     (λ w follows. let s = switches w follows in
     subst (λ o. IsQuietly o (Accepted Done) (λ n. Remembers n (record old { memory = r })))
     (sym (s.is ∙ ap (λ o. switched_at node s.left o w) s.at))
-    (record { told = refl; commits = refl; falls = refl; memory = s.remembers })) refl
+    (record { told = refl; commits = refl; falls = refl; memory = s.remembers })) refl stays
 
 -- a database is the node
 some_has : (node : ℕ) (w : World) (bases : Named Base) → FitsAll w.places bases → HasNode node bases true →
@@ -116,7 +118,7 @@ on_acted node old started has is =
         };
         keeps = follows.agrees.keeps;
       };
-    })
+    }) (λ w known. known)
 
 -- what waits behind a queue that is forgotten
 pub forgotten_waits : (name : List ℕ) (m : Memory) (queues : Holdings) →
@@ -174,6 +176,7 @@ off_acted node old name started queues at is gone =
             (λ apart. follows.agrees.keeps other up));
       };
     })
+    (λ w known. subst (AllKnown w) (sym gone) (known_removed w name old.memory.held known))
   where
     stopped : World → Memory
     stopped w = record w.memory { started = without_started node w.memory.started }
@@ -198,7 +201,7 @@ cuts_acted act change old cuts about is =
         };
         keeps = follows.agrees.keeps;
       };
-    })) refl
+    })) refl (λ w known. known)
 
 pub cut_acted : (a b : ℕ) (old : Clustered) (cuts : List (ℕ × ℕ)) → cuts ≡ with_cut a b old.memory.switches.cuts →
     IsActed (ToCut a b) old (Accepted Done) (with_cuts_at cuts old)

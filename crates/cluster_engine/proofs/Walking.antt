@@ -44,7 +44,7 @@ use Rattle.slon_turns.specs.declared.held.Held.{Held}
 use Rattle.slon_turns.specs.Holding.{Holdings, IsUpIn, KeepsIn, WaitsIn}
 use Rattle.slon_turns.proofs.Waiting.{found_in, found_put, keeps_at}
 use Rattle.cluster_engine.specs.Agreed.{Scripts, Remembered, Clustered, FitsRun, FitsFound, FitsScripts, FitsMemory}
-use Rattle.cluster_engine.specs.Agreed.{Agrees, Follows}
+use Rattle.cluster_engine.specs.Agreed.{AllKnown, Follows, Matches}
 use Rattle.cluster_engine.specs.Calls.{ActsOn, IsActed}
 use Rattle.cluster_engine.specs.Walking.{IsQuietly, KeepsTo, Keeps, Fares, Stood, Broke, Wavered, Walks, stepping}
 use Rattle.cluster_engine.specs.Walking.{WalksOn}
@@ -162,8 +162,8 @@ fits_lacking name runs scripts fits none other =
 pub quietly_acted : (act : Act) (old : Clustered) (reply : Reply) (r : Remembered) →
     ((w : World) → Follows w old →
     IsQuietly (outcome act w) reply (λ m. Remembers m (record old { memory = r }))) → told_by reply ≡ None →
-    IsActed act old reply (record old { memory = r })
-quietly_acted act old reply r quietly calm = record {
+    ((w : World) → AllKnown w old.memory.held → AllKnown w r.held) → IsActed act old reply (record old { memory = r })
+quietly_acted act old reply r quietly calm stays = record {
   runs = subst (λ t. TriesAll (is_calm reply) t old.bases old.bases) (sym calm)
       (tries_itself (is_calm reply) old.bases);
   limit = refl;
@@ -178,7 +178,7 @@ quietly_acted act old reply r quietly calm = record {
         fate = AllStand;
         may = tt;
         told = kept.told;
-        agrees = subst (λ v. Agrees v (record old { memory = r })) (sym after)
+        agrees = subst (λ v. Matches v (record old { memory = r })) (sym after)
             (record {
               limit = follows.agrees.limit;
               fits = follows.agrees.fits;
@@ -186,6 +186,7 @@ quietly_acted act old reply r quietly calm = record {
               keeps = kept.memory.keeps;
             });
       };
+  learns = λ w follows. stays w follows.agrees.known;
 }
 
 -- what waits in a memory waits in one with the same queues
@@ -217,7 +218,7 @@ keeps_acted act old reply scripts keeps calm =
         keeps = λ name up. fetched_as name w.memory (outcome act w).memory (get old.memory.held name)
             kept.memory.fetches (follows.agrees.keeps name up);
       };
-    }) calm
+    }) calm (λ w known. known)
 
 same_known : (o : Option Running) (s : Option Started) → FitsFound o s → is_some o ≡ is_some s
 same_known None None fits = refl
@@ -470,7 +471,7 @@ walk_goes name old went new walk w follows =
           fate = AllStand;
           may = tt;
           told = told ∙ sym (ap (λ (x : Outcome). x.reply) is);
-          agrees = subst (λ x. Agrees (after_outcome x w) new) (sym is) (record {
+          agrees = subst (λ x. Matches (after_outcome x w) new) (sym is) (record {
             limit = after.limit ∙ follows.agrees.limit ∙ sym walk.limit;
             fits = fits;
             memory = kept.fits;
@@ -503,7 +504,7 @@ walk_goes name old went new walk w follows =
           fate = DoubtsAt before stands;
           may = subst (λ (x : Outcome). before < length x.commits) (sym is) less;
           told = told ∙ sym (ap (λ (x : Outcome). doubt_reply (drop before x.commits) x.reply) is);
-          agrees = subst (λ (x : Outcome). Agrees (wavering (drop before x.commits) stands
+          agrees = subst (λ (x : Outcome). Matches (wavering (drop before x.commits) stands
               (stand (take before x.commits) (with_memory m w))) new) (sym is) (record {
                 limit = after.limit ∙ follows.agrees.limit ∙ sym walk.limit;
                 fits = subst (λ ps. FitsAll ps new.bases) after.places fits;
@@ -528,6 +529,7 @@ walk_acted name old went new walk runs = record {
   limit = walk.limit;
   given = walk.given;
   goes = walk_goes name old went new walk;
+  learns = λ w follows. subst (AllKnown w) (sym walk.held) follows.agrees.known;
 }
 
 -- ---- the beginning

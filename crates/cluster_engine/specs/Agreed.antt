@@ -9,14 +9,17 @@ use Rattle.slon_model.specs.Deeds.{Node}
 use Rattle.slon_model.specs.Place.{Place}
 use Rattle.slon_model.specs.Sessions.{World, Memory, Running}
 use Rattle.slon_model.specs.Turns.{Switches, switches_of}
+use Rattle.slon_model.specs.World.{Happening, Leads, start}
 use Rattle.slon_laws.specs.Fetches.{KeepFormed}
+use Rattle.slon_laws.specs.Older.{IsOlder}
 use Rattle.slon_laws.specs.Sound.{Sound}
 use Rattle.slon_laws.specs.Spelled.{IsSpelled}
 use Rattle.slon_laws.specs.Worlds.{AllPlaces}
 use Rattle.stream_laws.specs.Facts.{IsRegular}
 use Rattle.app_store.specs.Base.{Base}
 use Rattle.slonik_exec.specs.Databases.{FitsAll}
-use Rattle.slon_turns.specs.Holding.{Holdings, IsUpIn, KeepsIn, WaitsIn}
+use Rattle.slon_turns.specs.declared.bounds.Bound.{Bound}
+use Rattle.slon_turns.specs.Holding.{Holdings, IsUpIn, KeepsIn, WaitsIn, bounds_in}
 use Rattle.cluster_engine.specs.declared.scripts.Started.{Started}
 
 -- the scripts that run, by their names
@@ -72,17 +75,42 @@ WasGivenLive (Some n) = AreLive n.given.config
 abbrev pub BeganLive : Place → Type 0
 BeganLive p = WasGivenLive p.node
 
--- The rules agree with the code.
-pub record Agrees (w : World) (c : Clustered) : Type 0 where
+-- The database of the node that is the origin: all its actions below the number are of transactions below the id.
+pub record IsKnown (w : World) (b : Bound) : Type 0 where
+  pub name : List ℕ
+  pub place : Place
+  pub found : find_named name w.places ≡ Some place
+  pub node : Node
+  pub is : place.node ≡ Some node
+  pub own : node.id ≡ b.origin
+  pub older : IsOlder b.number b.xid place
+
+-- so it is of all that nodes know of the transactions of others
+abbrev pub AllKnown : World → Holdings → Type 0
+AllKnown w held = (name : List ℕ) → AllByRecursion (IsKnown w) (bounds_in (get held name))
+
+-- The rules agree with what the code has of the session.
+pub record Matches (w : World) (c : Clustered) : Type 0 where
   pub limit : w.limit ≡ c.limit
   pub fits : FitsAll w.places c.bases
   pub memory : FitsMemory w.memory c.memory
   -- what was fetched, where no database of the name is down
   pub keeps : (name : List ℕ) → IsUpIn name c.bases → KeepsIn name w.memory (get c.memory.held name)
 
--- They do, and the session and each database of it have what each legal history leads to.
+-- They do, and what the code knows besides is so.
+pub record Agrees (w : World) (c : Clustered) : Type 0 where
+  pub limit : w.limit ≡ c.limit
+  pub fits : FitsAll w.places c.bases
+  pub memory : FitsMemory w.memory c.memory
+  pub keeps : (name : List ℕ) → IsUpIn name c.bases → KeepsIn name w.memory (get c.memory.held name)
+  pub known : AllKnown w c.memory.held
+
+-- They do, a legal history led there, and the session and each database of it have what each such history leads to.
 pub record Follows (w : World) (c : Clustered) : Type 0 where
   pub agrees : Agrees w c
+  pub most : ℕ
+  pub history : List Happening
+  pub leads : Leads (start most) history w
   pub sound : AllPlaces Sound w
   pub spelled : AllPlaces IsSpelled w
   pub regular : IsRegular w

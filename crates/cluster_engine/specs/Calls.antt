@@ -25,7 +25,7 @@ use Rattle.app_store.specs.Base.{Base}
 use Rattle.app_store.specs.Handed.{Hands}
 use Rattle.app_store.specs.Serves.{Serves, Founds, arms, is_memory, trouble, settled}
 use Rattle.slonik_exec.specs.Databases.{Runs}
-use Rattle.cluster_engine.specs.Agreed.{Remembered, Clustered, Agrees, Follows}
+use Rattle.cluster_engine.specs.Agreed.{Remembered, Clustered, Agrees, AllKnown, Follows, Matches}
 
 -- ---- commands
 
@@ -99,7 +99,7 @@ pub record ActsOn (act : Act) (w : World) (reply : Reply) (new : Clustered) : Ty
   pub fate : Fate
   pub may : MayEnd act fate w
   pub told : reply ≡ reply_by act fate w
-  pub agrees : Agrees (world_by act fate w) new
+  pub agrees : Matches (world_by act fate w) new
 
 -- Scripts go on: over every store what is told of each database, and from each world that agrees what the rules allow.
 pub record IsActed (act : Act) (old : Clustered) (reply : Reply) (new : Clustered) : Type 0 where
@@ -107,6 +107,8 @@ pub record IsActed (act : Act) (old : Clustered) (reply : Reply) (new : Clustere
   pub limit : new.limit ≡ old.limit
   pub given : new.given ≡ old.given
   pub goes : (w : World) → Follows w old → ActsOn act w reply new
+  -- what is learned was so before it
+  pub learns : (w : World) → Follows w old → AllKnown w new.memory.held
 
 -- What a command does: the making of a database is granted or refused; or no database has the name; in both cases
 -- nothing is changed. Or the database of the name serves the task, the reply is what it answers, and all others stay

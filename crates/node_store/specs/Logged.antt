@@ -1,9 +1,13 @@
 -- What is read of the log of a node.
-use Rattle.std.specs.Prelude.{◌≡◌, ◌<◌, ℕ, Bool, List, [], ◌∷◌, ◌++◌, filter, map}
+use Rattle.std.specs.Prelude.{◌≡◌, ◌<◌, ℕ, Bool, List, [], ◌∷◌, ◌++◌, filter, map, Result}
 use Rattle.std.specs.List.{AllByRecursion}
+use Rattle.slon_model.specs.declared.fault.DbFault.{DbFault}
 use Rattle.slon_model.specs.Deeds.{Logged}
+use Rattle.slon_model.specs.Place.{Place}
 use Rattle.node_state.specs.Held.{action_as}
 use Rattle.node_change.specs.Done.{row_of}
+use Rattle.app_store.specs.Base.{Base}
+use Rattle.app_store.specs.Parts.{FromPlace, LooksUp}
 use Rattle.node_store.specs.declared.logged.LoggedRows.{LoggedRows}
 
 -- What was logged of the origin below this number is of transactions below this id.
@@ -20,3 +24,7 @@ pub record IsAdded (test : Logged → Bool) (l : Logged) (old new : LoggedRows) 
 pub record ArePassed (test : Logged → Bool) (logs : List Logged) (found : LoggedRows) : Type 0 where
   pub rows_are : found.rows ≡ map row_of (filter test logs)
   pub actions_are : found.actions ≡ map (λ l. action_as l.action) (filter test logs)
+
+-- A look from every place that fits and of which this is so, unless there was no memory.
+abbrev pub LooksWhere : {T : Type 0} → (Place → Type 0) → (Place → T → Type 0) → Base → Result T DbFault → Base → Type 0
+LooksWhere so says old result new = FromPlace (λ p r b. so p → LooksUp says p r b) old result new

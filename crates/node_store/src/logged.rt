@@ -1,5 +1,5 @@
 // What another node reads of the log of a node.
-ghost use Rattle.std.specs.Prelude.{◌≡◌, ◌<◌, ◌^◌, ◌==◌, ◌&&◌, ◌++◌, ◌∷◌};
+ghost use Rattle.std.specs.Prelude.{◌≡◌, ◌<◌, ◌^◌, ◌==◌, ◌&&◌, ◌++◌, ◌∷◌, ℕ};
 ghost use Rattle.std.specs.Prelude.{[], List, Some, false, true, IfErr, IfOk, OnOk};
 ghost use Rattle.std.specs.Prelude.{map};
 ghost use Rattle.std.specs.List.{AllByRecursion, list_any};
@@ -20,18 +20,18 @@ ghost use Rattle.node_state.specs.Held.{items_of};
 ghost use Rattle.node_change.specs.Done.{row_of};
 ghost use Rattle.app_store.specs.Base.{base_of};
 ghost use Rattle.app_store.specs.Fits.{Ready};
-ghost use Rattle.app_store.specs.Parts.{Looks, Remembers};
+ghost use Rattle.app_store.specs.Parts.{Remembers};
 ghost use Rattle.app_store.specs.Serves.{halts};
 ghost use Rattle.node_store.specs.Acting.{Acts};
 ghost use Rattle.node_store.specs.Bringing.{CanLogAll, HasLogged};
-ghost use Rattle.node_store.specs.Logged.{ArePassed, HaveEnded, IsAdded};
+ghost use Rattle.node_store.specs.Logged.{ArePassed, HaveEnded, IsAdded, LooksWhere};
 
 use crate::layout::LOG;
 use app_store::{Database, DbFault, fall};
 use change_capture::{Action, LogRow, action_of};
 use log_switch::between_from;
 use node_keeper::Keeper;
-use slon_base::{Many, Text};
+use slon_base::{Many, STORED_LIMIT, Text};
 use std::alloc::{AllocError, Global};
 use store_rows::{Stop, row_stop};
 use txn_core::Snapshot;
@@ -136,6 +136,20 @@ fn first_of<K: Keeper>(database: &Database<K>, origin: u32, xmin: u64) -> u64
     }
 }
 
+/// The later one of two numbers, below each of which all that was logged has ended. One that no action can have tells
+/// nothing.
+fn later_of(first: u64, known: u64) -> u64
+    requires small { first < 2 ^ 63 }
+    ensures small { result < 2 ^ 63 }
+    ensures over { (origin xmin : ℕ) (logs : List SeenLogged) → HaveEnded origin first xmin logs →
+        HaveEnded origin known xmin logs → HaveEnded origin result xmin logs }
+{
+    if known < first || known > STORED_LIMIT {
+        return first;
+    }
+    known
+}
+
 /// What a store has in its log of the actions of an origin on these tables, between two snapshots, where the old one
 /// sees what was logged of the actions below the number `first`.
 fn find_logged<K: Keeper>(
@@ -164,8 +178,9 @@ fn find_logged<K: Keeper>(
 }
 
 /// What the node has logged of the actions of an origin on these tables, each of which has this id and this name: those
-/// whose transactions the new snapshot sees and the old one does not. Of its own actions it reads those from where the
-/// first transaction began that the old snapshot may not see; of others it reads all.
+/// whose transactions the new snapshot sees and the old one does not. It reads those from the number `known` on, where
+/// it is known that what was logged below that is of transactions below the `xmin` of the old snapshot. Of its own
+/// actions it reads no more than those from where the first transaction began that the old snapshot may not see.
 ///
 /// # Errors
 ///
@@ -173,6 +188,7 @@ fn find_logged<K: Keeper>(
 pub fn read_log<K: Keeper>(
     database: &mut Database<K>,
     origin: u32,
+    known: u64,
     tables: &[(u32, Text)],
     old: &Snapshot,
     new: &Snapshot,
@@ -181,12 +197,13 @@ pub fn read_log<K: Keeper>(
     requires origin { IsId origin }
     ensures can { IfOk result (λ found. CanLogAll found.rows found.actions) }
     ensures acts { Acts (halts result) (base_of K.kept database.old) (base_of K.kept database.new) }
-    ensures looks { Looks (λ p found. (n : Node) → p.node ≡ Some n →
+    ensures looks { LooksWhere (λ p. HaveEnded origin known (seen_as old.now).xmin (logs_in p.node))
+        (λ p found. (n : Node) → p.node ≡ Some n →
         HasLogged origin (delta origin tables.now (seen_as old.now) (seen_as new.now) (logged n)) found.rows
         found.actions) (base_of K.kept database.old) result (base_of K.kept database.new) }
     ensures same { Remembers (base_of K.kept database.old) result (base_of K.kept database.new) }
 {
-    let first = first_of(database, origin, old.xmin);
+    let first = later_of(first_of(database, origin, old.xmin), known);
     match find_logged(
         database.alloc,
         &mut database.keeper,

@@ -122,7 +122,7 @@ fn sync(alloc: Global) -> Result<Event, Fail>
 fn logged(alloc: Global, first: &mut Database<MemKeeper>) -> Result<LoggedRows, Fail>
     ensures { IfOk result (λ found. CanLogAll found.rows found.actions) }
 {
-    match read(alloc, first, &(2, "public.t", "7:7:", "9:11:9"))? {
+    match read(alloc, first, &(2, "public.t", "7:7:", "9:11:9", 0))? {
         Ok(found) => Ok(found),
         Err(_) => Err(Fail::new("what is logged")),
     }

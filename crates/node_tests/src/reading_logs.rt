@@ -81,8 +81,8 @@ const OF_NO_ACTION: Pair = (
     b"\0\0\0\0\0\0\0\x07\0\0\0\0\0\0\0\x02\0\0\0\x06public\0\0\0\x01tD\0\0\0\0\0\0\0\0\0\0\0\0",
 );
 
-/// The id and the name of a table, and two snapshots.
-pub(crate) type Ask = (u32, &'static str, &'static str, &'static str);
+/// The id and the name of a table, two snapshots, and the number of an action from which on the log is read.
+pub(crate) type Ask = (u32, &'static str, &'static str, &'static str, u64);
 
 /// What is read of the log of node 1 on this table, between the snapshots of these texts.
 fn read_between(
@@ -96,7 +96,7 @@ fn read_between(
 {
     let old = Snapshot::parse(alloc, ask.2.as_bytes())?;
     let new = Snapshot::parse(alloc, ask.3.as_bytes())?;
-    Ok(read_log(database, 1, array::from_ref(table), &old, &new))
+    Ok(read_log(database, 1, ask.4, array::from_ref(table), &old, &new))
 }
 
 /// What a database that is up reads of it.
@@ -158,19 +158,24 @@ fn expect_read(
 
 /// What is asked for, and what is told of it. A row is on a table only if it has the id and the name of the table.
 const ASKED: &[(Ask, &str)] = &[
-    ((2, "public.t", "7:7:", "9:9:"), "3 of 7 5 of 8 3 5 "),
-    ((2, "public.t", "7:7:", "8:8:"), "3 of 7 3 "),
-    ((2, "public.t", "8:8:", "9:9:"), "5 of 8 5 "),
-    ((2, "public.t", "9:9:", "9:9:"), ""),
-    ((3, "public.u", "7:8:7", "9:9:"), "4 of 7 4 "),
-    ((2, "public.u", "7:7:", "9:9:"), ""),
-    ((3, "public.t", "7:7:", "9:9:"), ""),
+    ((2, "public.t", "7:7:", "9:9:", 0), "3 of 7 5 of 8 3 5 "),
+    ((2, "public.t", "7:7:", "8:8:", 0), "3 of 7 3 "),
+    ((2, "public.t", "8:8:", "9:9:", 0), "5 of 8 5 "),
+    ((2, "public.t", "9:9:", "9:9:", 0), ""),
+    ((3, "public.u", "7:8:7", "9:9:", 0), "4 of 7 4 "),
+    ((2, "public.u", "7:7:", "9:9:", 0), ""),
+    ((3, "public.t", "7:7:", "9:9:", 0), ""),
+    // Where it is told that all below a number has ended, it does not look for that.
+    ((2, "public.t", "7:7:", "9:9:", 4), "5 of 8 5 "),
+    ((2, "public.t", "8:8:", "9:9:", 5), "5 of 8 5 "),
+    // A number that no action has tells nothing.
+    ((2, "public.t", "8:8:", "9:9:", u64::MAX), "5 of 8 5 "),
 ];
 
 /// The same with a row of table 2 in the log that is that of no action. The database is down behind the second.
 const ASKED_AT_LAST: &[(Ask, &str)] = &[
-    ((3, "public.u", "7:7:", "9:9:"), "4 of 7 4 "),
-    ((2, "public.t", "7:7:", "9:9:"), "bad row 15"),
+    ((3, "public.u", "7:7:", "9:9:", 0), "4 of 7 4 "),
+    ((2, "public.t", "7:7:", "9:9:", 0), "bad row 15"),
 ];
 
 /// The database is asked all of this.

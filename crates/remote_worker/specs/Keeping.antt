@@ -11,8 +11,11 @@ use Rattle.slon_model.specs.Config.{Config, forwards, is_table_of}
 use Rattle.slon_model.specs.Views.{View, Views, view_after}
 use Rattle.slon_model.specs.Deeds.{Logged}
 use Rattle.slon_model.specs.Following.{SetSync, delta, tables_taken}
+use Rattle.slon_model.specs.Place.{Place}
+use Rattle.slon_laws.specs.Spelled.{logs_in}
 use Rattle.event_store.specs.Kept.{seen_view}
 use Rattle.event_store.specs.Spellings.{CanView}
+use Rattle.node_store.specs.Logged.{HaveEnded}
 use Rattle.remote_worker.specs.declared.keeping.KeptSet.{KeptSet}
 
 -- ---- by the rules
@@ -57,6 +60,11 @@ taken_of e logs k = record {
   rows = delta e.origin k.tables k.before.seen e.taken logs;
   forwards = k.forwards;
 }
+
+-- where a provider is at this place, what it has logged of the origin below the number had ended as the node was as far
+-- as it is in the set
+abbrev pub HaveEndedBy : ℕ → ℕ → Kept → Place → Type 0
+HaveEndedBy origin known k p = HaveEnded origin known k.before.seen.xmin (logs_in p.node)
 
 -- the names of the tables of a set to which the node of this id takes rows
 abbrev pub names_to : ℕ → ℕ → Config → List (List ℕ)

@@ -1,5 +1,6 @@
 -- What comes with an event, as the code has it of what the rules find.
-use Rattle.std.specs.Prelude.{◌≡◌, ℕ, List, [], ◌∷◌, Option, Some, None, flat_map, length, map, sum_by}
+use Rattle.std.specs.Prelude.{◌≡◌, ◌-◌, ℕ, nat_lt, if◌then◌else◌, List, [], ◌∷◌, Option, Some, None, flat_map, fold}
+use Rattle.std.specs.Prelude.{length, map, slice_get, sum_by}
 use Rattle.std.specs.List.{AllByRecursion}
 use Rattle.slon_model.specs.Names.{Named}
 use Rattle.slon_model.specs.Rows.{Rows}
@@ -7,6 +8,7 @@ use Rattle.slon_model.specs.Deeds.{Knowledge}
 use Rattle.slon_model.specs.Following as rules
 use Rattle.slon_model.specs.Following.{FoundCopy, FoundNothing, FoundSyncs, rows_in}
 use Rattle.slon_model.specs.Working.{still}
+use Rattle.change_capture.specs.declared.log_row.LogRow.{LogRow}
 use Rattle.change_apply.specs.Copied.{AreListed, Listed}
 use Rattle.event_store.specs.Kept.{seen_view}
 use Rattle.node_store.specs.declared.bringing.Brought.{Brought}
@@ -62,6 +64,20 @@ abbrev pub rows_loaded : Option Load → ℕ
 rows_loaded None = 0
 rows_loaded (Some (Copy given)) = rows_listed given.tables
 rows_loaded (Some (Syncs fetches)) = rows_fetched fetches
+
+-- the last of these rows
+abbrev pub last_row : List (ℕ × LogRow) → Option (ℕ × LogRow)
+last_row rows = slice_get rows (length rows - 1)
+
+-- the greater one of this number and that of the row
+abbrev pub greater : Option ℕ → Option (ℕ × LogRow) → Option ℕ
+greater found None = found
+greater None (Some row) = Some row.0
+greater (Some other) (Some row) = if nat_lt row.0 other then Some other else Some row.0
+
+-- the greatest number of an action that was logged of these sets
+abbrev pub last_logged : List SetFetch → Option ℕ
+last_logged fetches = fold (λ found f. greater found (last_row f.sync.rows)) None fetches
 
 -- the names of the tables that are filled
 abbrev pub names_listed : Listed → List (List ℕ)

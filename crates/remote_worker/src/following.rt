@@ -9,10 +9,10 @@ ghost use Rattle.app_store.specs.Base.{base_of};
 ghost use Rattle.app_store.specs.Parts.{Looks, Remembers};
 ghost use Rattle.app_store.specs.Serves.{halts};
 ghost use Rattle.node_store.specs.Acting.{Acts};
+ghost use Rattle.node_store.specs.Logged.{LooksWhere};
 ghost use Rattle.node_store.specs.Polling.{OfNode};
-ghost use Rattle.remote_worker.specs.Keeping.{CanFollow, kept_among, seen_kept, taken_of};
+ghost use Rattle.remote_worker.specs.Keeping.{CanFollow, HaveEndedBy, kept_among, seen_kept, taken_of};
 ghost use Rattle.remote_worker.specs.Loading.{CanFetch, HasFetch};
-ghost use Rattle.remote_worker.specs.Looking.{Seen};
 
 use crate::keeping::{KeptSet, kept_sets};
 use crate::loading::SetFetch;
@@ -48,7 +48,9 @@ pub fn sets_of<K: Keeper>(
     }
 }
 
-/// What the node takes of one set, from a provider whose database this is.
+/// What the node takes of one set, from a provider whose database this is. Of the log of the provider that is read from
+/// the number `known` on, where what was logged of the origin below that is of transactions that had ended as the node
+/// was as far as it is in the set.
 ///
 /// # Errors
 ///
@@ -57,13 +59,17 @@ pub fn fetch_of<K: Keeper>(
     provider: &mut Database<K>,
     event: &Event,
     kept: KeptSet,
+    known: u64,
 ) -> Result<SetFetch, DbFault>
     requires up { provider.old.state.up ≡ true }
     requires can { CanFollow kept }
     ensures can { IfOk result CanFetch }
-    ensures looks { Seen (OfNode (λ n fetch.
+    ensures acts { Acts (halts result) (base_of K.kept provider.old) (base_of K.kept provider.new) }
+    ensures looks { LooksWhere (HaveEndedBy event.now.origin known (seen_kept kept))
+        (OfNode (λ n fetch.
         HasFetch event.now.origin (taken_of (seen_event event.now) (logged n) (seen_kept kept)) fetch))
         (base_of K.kept provider.old) result (base_of K.kept provider.new) }
+    ensures same { Remembers (base_of K.kept provider.old) result (base_of K.kept provider.new) }
 {
     let KeptSet {
         set,
@@ -76,6 +82,7 @@ pub fn fetch_of<K: Keeper>(
     match read_log(
         provider,
         event.origin,
+        known,
         tables.as_slice(),
         &before.seen,
         &event.taken,

@@ -18,5 +18,5 @@ pub use fetches::{Fetches, Kept};
 pub use fetching::{Found, check_provider};
 pub use following::{fetch_of, sets_of};
 pub use keeping::KeptSet;
-pub use loading::{Load, SetFetch};
+pub use loading::{Load, SetFetch, last_logged};
 pub use worker::{Fetched, Next, Ready, Settled, Taken, Worker};

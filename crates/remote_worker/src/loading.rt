@@ -2,9 +2,10 @@
 ghost use Rattle.std.specs.Prelude.{◌≡◌, ◌++◌, OnOk, IfOk, map};
 ghost use Rattle.std.specs.List.{AllByRecursion};
 ghost use Rattle.node_store.specs.Bringing.{CanBring, CanSync, rows_listed};
-ghost use Rattle.remote_worker.specs.Loading.{CanFetch, CanLoad, brought_by, names_fetched, names_listed};
-ghost use Rattle.remote_worker.specs.Loading.{names_loaded, rows_fetched, rows_loaded};
+ghost use Rattle.remote_worker.specs.Loading.{CanFetch, CanLoad, brought_by, greater, last_logged, last_row};
+ghost use Rattle.remote_worker.specs.Loading.{names_fetched, names_listed, names_loaded, rows_fetched, rows_loaded};
 
+use change_capture::LogRow;
 use event_store::View;
 use node_store::{Brought, SetCopy, SetSync};
 use slon_base::{Many, Text, TextList};
@@ -56,6 +57,30 @@ fn count_logged(fetches: &[SetFetch]) -> Result<u64, AllocError>
         count = more;
     }
     Ok(count)
+}
+
+/// The greater one of this number and that of the last of these rows, which ascend.
+fn greater(found: Option<u64>, rows: &[(u64, LogRow)]) -> Option<u64>
+    ensures { result ≡ greater found (last_row rows.now) }
+{
+    let Some((number, _)) = rows.last() else {
+        return found;
+    };
+    match found {
+        Some(other) if other > *number => found,
+        _ => Some(*number),
+    }
+}
+
+/// The greatest number of an action that was logged of these sets, if any was.
+pub fn last_logged(fetches: &[SetFetch]) -> Option<u64>
+    ensures { result ≡ last_logged fetches.now }
+{
+    let mut found = None;
+    for fetch in fetches {
+        found = greater(found, fetch.sync.rows.as_slice());
+    }
+    found
 }
 
 /// How many rows there are.

@@ -7,7 +7,7 @@ use Rattle.slon_base.specs.Outside.{Filed, Poured, with_piece, WritesPart, Enter
 use Rattle.slon_base.specs.Counts.{Rose}
 use Rattle.slon_base.specs.Shelf.{Shelved}
 use Rattle.slon_model.specs.declared.command.Command.{Command}
-use Rattle.slon_model.specs.World.{lines_of}
+use Rattle.slon_model.specs.World.{lines_of, start}
 use Rattle.session_reader.specs.Sessions.{Ended, BadAt, PastLimit, Session}
 use Rattle.slon_main.specs.declared.status.Status.{Status}
 use Rattle.slon_main.specs.declared.status.Status.TheVariants.{Done, Usage, BadLine, ReadFault, WriteFault, NoMemory}
@@ -23,6 +23,7 @@ use Rattle.slon_main.specs.Ending.{EndsInPart, InReply, InLast, EndsRun, EndsAt,
 use Rattle.slon_main.specs.Ending.{hands_back, is_cut, is_run, is_whole, session_word, database_limit, bad_line}
 use Rattle.slon_main.specs.Ending.{read_line}
 use Rattle.slon_main.specs.Ending.{store_line, long_line}
+use Rattle.cluster_engine.proofs.Knowing.{none_known}
 use Rattle.cluster_engine.proofs.Walking.{none_fit, none_kept, none_wait}
 use Rattle.slon_main.proofs.Causes.{rose_since}
 use Rattle.slon_main.proofs.Runs.{ran_nothing}
@@ -212,6 +213,7 @@ ends_short shelf told unread written status has is none =
           fits = tt;
           memory = record { scripts = none_fit empty refl; switches = refl; waits = none_wait empty refl };
           keeps = λ name up. none_kept empty refl name;
+          known = λ name. none_known (start database_limit) empty refl name;
         };
         given = refl;
       }),

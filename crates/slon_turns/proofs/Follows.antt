@@ -58,19 +58,18 @@ ends_any checks (BrokenAt count is rose fits) = BrokenAt count is rose fits
 
 -- it can be read, and gives what it has logged, or its store fails
 pub takes_behind : {name : List ℕ} {old mid : Base} (r : Reader) (k : Kept) (new : Base) (given : Taken SetFetch) →
-    Checked name (Due r k) old None mid → GivesAt r.event k name mid given new → TakesAt r k name old given new
+    Checked name (Due r k) old None mid → GivesAt r.event r.known k name mid given new → TakesAt r k name old given new
 takes_behind {name} r k new (Told reply) first gives = (
   answers_then first.checks.0 gives.0,
-  λ p n ready is.
+  λ p n ready is past.
       let here = first.refuses p n ready is in
-      ends_any (Due r k (seat name p n)) (gives.1 p n (ready_still ready here.1) is),
+      ends_any (Due r k (seat name p n)) (gives.1 p n (ready_still ready here.1) is past),
 )
 takes_behind r k new (Gives fetch) first gives = (
   (acts_then None _ _ _ first.checks.0 gives.0.0, gives.0.1 ∙ first.checks.1),
-  λ p n ready is.
-      let here = first.refuses p n ready is in (here.0, (gives.1 p n (ready_still ready here.1) is).1),
-  λ p n ready is.
-      let here = first.refuses p n ready is in (gives.1 p n (ready_still ready here.1) is).0,
+  λ p n ready is past.
+      let here = first.refuses p n ready is in
+      let given = gives.1 p n (ready_still ready here.1) is past in (here.0, given.1, given.0),
 )
 
 -- ---- what is due of a set

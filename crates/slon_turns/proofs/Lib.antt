@@ -6,6 +6,9 @@ pub mod Brought
 pub mod Fetched
 pub mod Follows
 pub mod Due
+pub mod Entries
+pub mod Known
+pub mod Learning
 pub mod Left
 pub mod Lifted
 pub mod Linking

@@ -46,10 +46,12 @@ use Rattle.slon_turns.specs.declared.following.Looked.TheVariants.{Told, Gives}
 use Rattle.slon_turns.specs.declared.following.Round.{Round}
 use Rattle.slon_turns.specs.declared.held.Held.{Held}
 use Rattle.slon_turns.specs.declared.planning.Plan.TheVariants.{Follow as FollowPlan}
-use Rattle.slon_turns.specs.Applying.{EndsWith, Finder, Post, WorksHere, end_at, followed_with, nodes_at, seat_in}
+use Rattle.slon_turns.specs.Applying.{EndsWith, Finder, Post, WorksHere, end_at, followed_with, left_in, nodes_at}
+use Rattle.slon_turns.specs.Applying.{seat_in}
+use Rattle.slon_turns.specs.Bounds.{AreBounds}
 use Rattle.slon_turns.specs.Fetching.{post_of}
 use Rattle.slon_turns.specs.Following.{Arrives, BrokenSo, EndsLook, FollowsAll, FollowsFrom, FollowsSets, Onward}
-use Rattle.slon_turns.specs.Following.{RefusedSo, Way, due_onward, followed_each, followed_kept, goal_of, onward_post}
+use Rattle.slon_turns.specs.Following.{Heeds, RefusedSo, Way, due_onward, followed_each, followed_kept, goal_of, onward_post}
 use Rattle.slon_turns.specs.Following.{sets_kept}
 use Rattle.slon_turns.specs.Holding.{Holds, Keeps}
 use Rattle.slon_turns.specs.Planning.{IsPlannedAnew}
@@ -206,8 +208,8 @@ pub sets_ended : {K : Type 0} {g : Ghosts K} {kept : K → KeptStore} {t : Way} 
     × EndsOnward x fetches y.name (base_of kept y.database, held) reply (base_of kept z.database, left)) →
     FollowsSets kept t x ks (olds, held) reply (set news t.index z, left)
 sets_ended {kept = kept} {t} {x} {ks} {olds} {news} {held} {left} {reply} z fetches (r, inside) follows ends w d
-    ready cuts is o are can =
-    let found = follows o.event o.took.found w d ready cuts is o.sits in
+    ready heeds is o are can =
+    let found = follows o.event o.took.found w d ready heeds is o.sits in
     let mids = ready_mids ready found.3 in
     let y = get_or news t.index d in
     let y_held = get_or_default news t.index d y r.seat.0 in
@@ -227,8 +229,22 @@ pub sets_stopped : {K : Type 0} {g : Ghosts K} {x : Round} {ks : List Kept} {hel
     ((o : declared.Event) → waits_as x.taken.origin x.taken.state.number held.queue ≡ Some o →
     FollowsAll kept t (seen_event o) ks olds (Told reply) news) →
     FollowsSets kept t x ks (olds, held) reply (news, held)
-sets_stopped {ks = ks} kept t olds news follows w d ready cuts is o are can =
-    arrives_told o ks are (follows o.event o.took.found w d ready cuts is o.sits)
+sets_stopped {ks = ks} kept t olds news follows w d ready heeds is o are can =
+    arrives_told o ks are (follows o.event o.took.found w d ready heeds is o.sits)
+
+-- more is known behind it
+pub sets_known : {K : Type 0} {g : Ghosts K} {t : Way} {x : Round} {ks : List Kept} {held mid left : Held}
+    {reply : Reply} (kept : K → KeptStore) (old new : List (NamedDatabase K g)) →
+    (left.queue ≡ mid.queue) × (left.fetches ≡ mid.fetches) →
+    FollowsSets kept t x ks (old, held) reply (new, mid) → FollowsSets kept t x ks (old, held) reply (new, left)
+sets_known {left = left} {reply} kept old new (queue, fetches) follows w d ready heeds is o are can =
+    let a = follows w d ready heeds is o are can in
+    record {
+      comes = a.comes;
+      own = a.own;
+      waits = subst (Waits d.name (left_in (onward_post o) (due_onward o) reply)) (sym queue) a.waits;
+      keeps = λ up. subst (Keeps d.name (left_in (onward_post o) (due_onward o) reply)) (sym fetches) (a.keeps up);
+    }
 
 -- ---- behind a look at the sets
 
@@ -239,7 +255,7 @@ pub onward_failed : {K : Type 0} {g : Ghosts K} {kept : K → KeptStore} {t : Wa
     Checks x.name (base_of kept x.database) (Some reply) (base_of kept y.database)
     × AtSeat x.name (λ s. []) (base_of kept x.database) (Some reply) (base_of kept y.database) →
     FollowsFrom kept t r (ds, held) reply (set ds t.index y, held)
-onward_failed {kept = kept} {t} {r} {ds} {x} {y} {held} {reply} d (answers, ends) w e ready cuts is =
+onward_failed {kept = kept} {t} {r} {ds} {x} {y} {held} {reply} d (answers, ends) w e ready heeds is =
     subst (λ z. (o : Onward t.node (goal_of r) r.taken w z.name held) → CanTurn (due_onward o) →
     Arrives o reply (bases_of kept (set ds t.index y)) held)
     (sym (one_here ds t.index x e (d.inside, d.held) is))
@@ -265,7 +281,7 @@ pub onward_passed : {K : Type 0} {g : Ghosts K} {kept : K → KeptStore} {t : Wa
     FollowsSets kept t r ks (set ds t.index y, held) reply (news, left) →
     FollowsFrom kept t r (ds, held) reply (news, left)
 onward_passed {kept = kept} {t} {r} {ks} {ds} {x} {y} {held} {left} {reply} news (d, checks) keeps follows w e ready
-    cuts is =
+    heeds is =
     subst (λ z. (o : Onward t.node (goal_of r) r.taken w z.name held) → CanTurn (due_onward o) →
     Arrives o reply (bases_of kept news) left)
     (sym (one_here ds t.index x e (d.inside, d.held) is))
@@ -277,7 +293,7 @@ onward_passed {kept = kept} {t} {r} {ks} {ds} {x} {y} {held} {left} {reply} news
     let y_held = sym (get_or-set_same ds t.index y y d.inside) in
     subst (λ n. (q : Onward t.node (goal_of r) r.taken w n held) → ks ≡ sets_kept q.sits.own (seen_event q.event) →
     CanTurn (due_onward q) → Arrives q reply (bases_of kept news) left) d.name
-    (follows w y mids cuts y_held) o found.0 can)
+    (follows w y mids heeds y_held) o found.0 can)
 
 -- ---- behind a plan
 
@@ -294,7 +310,13 @@ record Going (t : Turn) (v : World) (name : List ℕ) (w : Worker Taken) (goal :
 
 abbrev onward_of : {t : Turn} {v : World} {name : List ℕ} {w : Worker Taken} {goal : Goal} →
     (o : Going t v name w goal) → Onward t.node goal w v name o.held
-onward_of o = record { sits = o.sits; holds = o.holds; event = o.plan.plan.event; took = o.plan.plan.took }
+onward_of o = record {
+  sits = o.sits;
+  holds = o.holds;
+  event = o.plan.plan.event;
+  took = o.plan.plan.took;
+  next = o.plan.plan.next;
+}
 
 carries_onward : {t : Turn} {v : World} {name : List ℕ} {w : Worker Taken} {goal : Goal} {reply : Reply}
     {new : Named Base} {left : Held} → (o : Going t v name w goal) →
@@ -322,11 +344,11 @@ pub carries_followed : {K : Type 0} {g : Ghosts K} {kept : K → KeptStore} {ds 
     {x y : NamedDatabase K g} {reply : Reply} {held mid left : Held} {t : Turn} {w : Worker Taken}
     (news : List (NamedDatabase K g)) →
     Planned kept t ds held mid (FollowPlan w) x y × (w.origin ≡ t.goal.origin) →
-    FollowsFrom kept (record { node = w.node; index = t.index; cuts = t.cuts })
+    FollowsFrom kept (record { node = w.node; index = t.index; cuts = t.cuts; bounds = mid.bounds.items })
     (record { taken = w; aim = t.goal.aim }) (set ds t.index y, mid) reply (news, left) →
     CarriesOut kept t (ds, held) reply (news, left)
 carries_followed {kept = kept} {ds} {x} {y} {reply} {held} {mid} {left} {t} {w} news (p, from) follows v d ready cuts
-    is =
+    known is =
     subst (λ e. SitsOn t.node v e.name → Holds e.name v.memory held → TakesUp t.node t.goal.origin v → KeepFormed v →
     Carries t.goal t.node v e.name reply (bases_of kept news) left)
     (sym (one_here ds t.index x d (p.look.inside, p.look.held) is))
@@ -348,10 +370,13 @@ carries_followed {kept = kept} {ds} {x} {y} {reply} {held} {mid} {left} {t} {w} 
       formed = keep;
     } in
     let own : w.node ≡ t.node = plan.0.plan.took.node ∙ own_id t.node v x.name s in
-    let as_own = subst (λ n. FollowsFrom kept (record { node = n; index = t.index; cuts = t.cuts })
+    let heeds : Heeds (record { node = t.node; index = t.index; cuts = t.cuts; bounds = mid.bounds.items }) v
+    = record { cuts = cuts; bounds = subst (AreBounds v) (sym (ap (λ b. b.items) p.bounds)) known } in
+    let as_own = subst (λ n. FollowsFrom kept
+    (record { node = n; index = t.index; cuts = t.cuts; bounds = mid.bounds.items })
     (record { taken = w; aim = t.goal.aim }) (set ds t.index y, mid) reply (news, left)) own follows in
     subst (λ z. Carries z t.node v x.name reply (bases_of kept news) left) aims
     (carries_onward o
     (subst (λ n. (q : Onward t.node goal w v n mid) → CanTurn (due_onward q) →
     Arrives q reply (bases_of kept news) left)
-    p.look.name (as_own v y mids cuts (sym (get_or-set_same ds t.index y y p.look.inside))) (onward_of o))))
+    p.look.name (as_own v y mids heeds (sym (get_or-set_same ds t.index y y p.look.inside))) (onward_of o))))

@@ -31,11 +31,13 @@ use Rattle.slonik_exec.proofs.Trying.{runs_then, tries_on}
 use Rattle.slon_turns.specs.declared.following.Looked.{Looked}
 use Rattle.slon_turns.specs.declared.following.Looked.TheVariants.{Told, Gives}
 use Rattle.slon_turns.specs.Following.{EndsLook, FollowsAt, FollowsOne, Reader, RefusedSo, RunsLooked, TakesAt, Way}
-use Rattle.slon_turns.specs.Following.{LooksTo, followed_kept}
+use Rattle.slon_turns.specs.Following.{Heeds, LooksTo, followed_kept}
 use Rattle.slon_turns.specs.Applying.{nodes_at}
+use Rattle.slon_turns.specs.Bounds.{start_of}
 use Rattle.slon_turns.specs.Planning.{link_checks}
 use Rattle.slon_turns.proofs.Follows.{Asking, calm_provider, ends_look, is_own_name, is_provider, kept_by, kept_down}
 use Rattle.slon_turns.proofs.Follows.{kept_missed, kept_reached, kept_refused, looked_same, same_then}
+use Rattle.slon_turns.proofs.Known.{start_ended}
 use Rattle.slon_turns.proofs.Linking.{calm_link}
 use Rattle.slon_turns.proofs.Mids.{LookedAt, found_here, mids_ready, mids_try, worked_here}
 use Rattle.slon_turns.proofs.Taking.{one_here}
@@ -92,7 +94,7 @@ asking w s r k = record { memory = w.memory; seat = s; event = r.event; set_kept
 pub follows_missed : {K : Type 0} {g : Ghosts K} (kept : K → KeptStore) (r : Reader) (k : Kept)
     (ds : List (NamedDatabase K g)) → position (is_this k.provider) ds ≡ None →
     FollowsAt kept r k ds (Told (replied.Refused (refused.NoNode k.provider))) ds
-follows_missed kept r k ds none w s ready own reach =
+follows_missed kept r k ds none w s ready own reach past =
     RefusedSo (refused.NoNode k.provider)
     (kept_missed (asking w s r k) (at_node k.provider w) reach
     (none_at kept k.provider w.places ds ready.fits none)) refl refl ready.fits
@@ -101,7 +103,7 @@ follows_missed kept r k ds none w s ready own reach =
 pub follows_down : {K : Type 0} {g : Ghosts K} {kept : K → KeptStore} {ds : List (NamedDatabase K g)} {to : ℕ}
     {q : NamedDatabase K g} (r : Reader) (k : Kept) → Turning kept k.provider ds to q → q.database.state.up ≡ false →
     FollowsAt kept r k ds (Told (replied.Refused (refused.Down q.name))) ds
-follows_down {kept = kept} {q = q} r k t down w s ready own reach =
+follows_down {kept = kept} {q = q} r k t down w s ready own reach past =
     let there = turning_at w.places t ready.fits in
     RefusedSo (refused.Down q.name)
     (kept_down (asking w s r k) (at_node k.provider w) (q.name, there.place) reach there.first
@@ -145,7 +147,7 @@ pub follows_taken : {K : Type 0} {g : Ghosts K} {kept : K → KeptStore} {ds : L
     Turning kept k.provider ds to q × DoneAt kept ds to q z → q.database.state.up ≡ true →
     TakesAt r k q.name (base_of kept q.database) given (base_of kept z.database) →
     FollowsAt kept r k ds given (set ds to z)
-follows_taken {kept = kept} {ds} {to} {q} {z} r k (Told reply) (t, d) up takes w s ready own reach =
+follows_taken {kept = kept} {ds} {to} {q} {z} r k (Told reply) (t, d) up takes w s ready own reach past =
     let a = asking w s r k in
     let x : Read kept w a ds q = read_at {z = z} w a (t, d) up (ready, refl) reach in
     let due = x.due ∙ ap (λ id. kept_by a (seat q.name x.there.place x.node)
@@ -158,17 +160,17 @@ follows_taken {kept = kept} {ds} {to} {q} {z} r k (Told reply) (t, d) up takes w
         calm_provider r.node k.provider r.event x.node refusal first,
       );
       named = is_provider q.name s.name x.there.place (at_node k.provider w) x.there.first;
-    }) x.sits (takes.1 x.there.place x.node x.here x.is))
-follows_taken {kept = kept} {ds} {to} {q} {z} r k (Gives fetch) (t, d) up takes w s ready own reach =
+    }) x.sits (takes.1 x.there.place x.node x.here x.is (past q.name x.there.place x.there.found)))
+follows_taken {kept = kept} {ds} {to} {q} {z} r k (Gives fetch) (t, d) up takes w s ready own reach past =
     let a = asking w s r k in
     let x : Read kept w a ds q = read_at {z = z} w a (t, d) up (ready, refl) reach in
-    let passed = takes.1 x.there.place x.node x.here x.is in (
+    let passed = takes.1 x.there.place x.node x.here x.is (past q.name x.there.place x.there.found) in (
       taken_of r.event (logged x.node) k,
       x.due
           ∙ ap (λ id. kept_by a (seat q.name x.there.place x.node)
           (first_refusal (provider_checks id k.provider r.event x.node))) own
           ∙ ap (kept_by a (seat q.name x.there.place x.node)) passed.0,
-      takes.2 x.there.place x.node x.here x.is,
+      passed.2,
       subst (FitsAll w.places) (put_worked (worked_here kept ds to q z d.distinct (d.inside, d.held) d.name))
           (still_all {w = w} x.sits passed.1),
     )
@@ -184,12 +186,12 @@ pub record Linked {K : Type 0} {g : Ghosts K} (kept : K → KeptStore) (t : Way)
       (base_of kept y.database)
 
 -- the checks are those of the seat of the node
-links_as : {w : World} {name : List ℕ} (t : Way) (k : Kept) → w.memory.cuts ≡ t.cuts → (s : SitsOn t.node w name) →
+links_as : {w : World} {name : List ℕ} (t : Way) (k : Kept) → Heeds t w → (s : SitsOn t.node w name) →
     link_checks s.own.id k.provider w.memory.cuts (seat name s.place s.own)
     ≡ link_checks t.node k.provider t.cuts (seat name s.place s.own)
-links_as {w} {name} t k cuts s =
+links_as {w} {name} t k heeds s =
     ap (λ id. link_checks id k.provider w.memory.cuts (seat name s.place s.own)) (own_id t.node w name s)
-    ∙ ap (λ c. link_checks t.node k.provider c (seat name s.place s.own)) cuts
+    ∙ ap (λ c. link_checks t.node k.provider c (seat name s.place s.own)) heeds.cuts
 
 own_ready : {K : Type 0} {g : Ghosts K} {kept : K → KeptStore} {ds : List (NamedDatabase K g)}
     {x y : NamedDatabase K g} {w : World} (t : Way) → DoneAt kept ds t.index x y → AreReady w (bases_of kept ds) →
@@ -202,7 +204,7 @@ own_ready {kept = kept} {ds} {x} {w = w} t d ready s =
 pub link_ended : {K : Type 0} {g : Ghosts K} {kept : K → KeptStore} {ds : List (NamedDatabase K g)} {t : Way}
     {x y : NamedDatabase K g} {reply : Reply} (e : Event) (k : Kept) → Linked kept t k ds x y (Some reply) →
     FollowsOne kept t e k ds (Told reply) (set ds t.index y)
-link_ended {kept = kept} {ds} {t} {x} {y} {reply} e k l w d ready cuts is =
+link_ended {kept = kept} {ds} {t} {x} {y} {reply} e k l w d ready heeds is =
     subst (λ z. (s : SitsOn t.node w z.name) → EndsLook w z.name (k.provider ∷ [])
     (followed_kept w.memory (seat z.name s.place s.own) e (nodes_at w) k) reply (bases_of kept (set ds t.index y)))
     (sym (one_here ds t.index x d (l.done.inside, l.done.held) is))
@@ -213,7 +215,7 @@ link_ended {kept = kept} {ds} {t} {x} {y} {reply} e k l w d ready cuts is =
     (put_worked (worked_here kept ds t.index x y l.done.distinct (l.done.inside, l.done.held) l.done.name))
     (ends_look {checks = link_checks t.node k.provider t.cuts p} (record {
       refuses = λ refusal first. (
-        kept_refused a (at_node k.provider w) refusal (ap first_refusal (links_as t k cuts s) ∙ first),
+        kept_refused a (at_node k.provider w) refusal (ap first_refusal (links_as t k heeds s) ∙ first),
         calm_link t.node k.provider t.cuts p refusal first,
       );
       named = is_own_name x.name _;
@@ -224,9 +226,11 @@ link_ended {kept = kept} {ds} {t} {x} {y} {reply} e k l w d ready cuts is =
 pub link_passed : {K : Type 0} {g : Ghosts K} {kept : K → KeptStore} {ds : List (NamedDatabase K g)} {t : Way}
     {x y : NamedDatabase K g} (news : List (NamedDatabase K g)) (e : Event) (k : Kept) (given : Looked SetFetch) →
     Linked kept t k ds x y None →
-    FollowsAt kept (record { node = t.node; event = e }) k (set ds t.index y) given news →
+    FollowsAt kept
+    (record { node = t.node; event = e; known = start_of e.origin k.before.seen.xmin t.bounds }) k (set ds t.index y)
+    given news →
     FollowsOne kept t e k ds given news
-link_passed {kept = kept} {ds} {t} {x} {y} news e k given l follows w d ready cuts is =
+link_passed {kept = kept} {ds} {t} {x} {y} news e k given l follows w d ready heeds is =
     subst (λ z. (s : SitsOn t.node w z.name) → LooksTo (HasFetch e.origin) w z.name (k.provider ∷ [])
     (followed_kept w.memory (seat z.name s.place s.own) e (nodes_at w) k) given (bases_of kept news))
     (sym (one_here ds t.index x d (l.done.inside, l.done.held) is))
@@ -234,4 +238,5 @@ link_passed {kept = kept} {ds} {t} {x} {y} news e k given l follows w d ready cu
     let passed = l.refuses s.place s.own (own_ready {y = y} t l.done ready s) s.is in
     follows w (seat x.name s.place s.own)
     (mids_ready (look_done l.done l.checks) ready (s.found, s.running) passed.1) (own_id t.node w x.name s)
-    (ap first_refusal (links_as t k cuts s) ∙ passed.0))
+    (ap first_refusal (links_as t k heeds s) ∙ passed.0)
+    (start_ended w e.origin k.before.seen.xmin t.bounds heeds.bounds))

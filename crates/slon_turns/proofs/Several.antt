@@ -29,7 +29,8 @@ use Rattle.slonik_exec.proofs.Trying.{runs_then, tries_on}
 use Rattle.slon_turns.specs.declared.following.Looked.{Looked}
 use Rattle.slon_turns.specs.declared.following.Looked.TheVariants.{Told, Gives}
 use Rattle.slon_turns.specs.Applying.{Finder, nodes_at}
-use Rattle.slon_turns.specs.Following.{BrokenSo, EndsLook, FollowsAll, FollowsOne, LooksTo, RefusedSo, RunsLooked, Way}
+use Rattle.slon_turns.specs.Following.{BrokenSo, EndsLook, FollowsAll, FollowsOne, Heeds, LooksTo, RefusedSo}
+use Rattle.slon_turns.specs.Following.{RunsLooked, Way}
 use Rattle.slon_turns.specs.Following.{followed_each, followed_kept}
 use Rattle.slon_turns.proofs.Follows.{name_same, or_right, same_then, seat_same}
 
@@ -77,7 +78,7 @@ pub record Leaves (w : World) (s : Seat) (e : Event) (all left : List KeptSet) (
 abbrev pub LeavesSets : {K : Type 0} {g : Ghosts K} → (K → KeptStore) → Way → Event → List KeptSet → List KeptSet →
     List SetFetch → List (NamedDatabase K g) → List (NamedDatabase K g) → Type 0
 LeavesSets {K} {g} kept t e all left taken olds news =
-    (w : World) (d : NamedDatabase K g) → AreReady w (bases_of kept olds) → w.memory.cuts ≡ t.cuts →
+    (w : World) (d : NamedDatabase K g) → AreReady w (bases_of kept olds) → Heeds t w →
     d ≡ get_or olds t.index d → (s : SitsOn t.node w d.name) →
     FitsAll w.places (bases_of kept news) × Leaves w (seat d.name s.place s.own) e all left taken
 
@@ -128,7 +129,7 @@ next_looked : {K : Type 0} {g : Ghosts K} {kept : K → KeptStore} {t : Way}
     {olds mids : List (NamedDatabase K g)} {w : World} (e : Event) (k : KeptSet) (news : List (NamedDatabase K g))
     (d : NamedDatabase K g) (given : Looked SetFetch) →
     AreRead kept t.index olds mids × FollowsOne kept t e (seen_kept k) mids given news →
-    AreReady w (bases_of kept mids) × (w.memory.cuts ≡ t.cuts) × ((get_or mids t.index d).name ≡ d.name) →
+    AreReady w (bases_of kept mids) × Heeds t w × ((get_or mids t.index d).name ≡ d.name) →
     (s : SitsOn t.node w d.name) →
     LooksTo (HasFetch e.origin) w d.name (k.provider ∷ [])
     (followed_kept w.memory (seat d.name s.place s.own) e (nodes_at w) (seen_kept k)) given (bases_of kept news)

@@ -62,6 +62,7 @@ use Rattle.slon_turns.specs.declared.planning.Plan.TheVariants.{Told, Has, Bring
 use Rattle.slon_turns.specs.declared.working.Aim.{Aim}
 use Rattle.slon_turns.specs.declared.working.Aim.TheVariants.{Fetch, Apply}
 use Rattle.slon_turns.specs.declared.working.Work.{Work}
+use Rattle.slon_turns.specs.Bounds.{AreBounds}
 use Rattle.slon_turns.specs.Applying.{due_at, due_of, EndsWith, Finder, followed_with, nodes_at}
 use Rattle.slon_turns.specs.Applying.{IsFor, PostFits, WorksHere, found_kept, found_with}
 use Rattle.slon_turns.specs.Applying.{goal_in, left_in, seat_in}
@@ -76,7 +77,7 @@ use Rattle.slon_turns.specs.Working.{turned, turned_to}
 use Rattle.slon_turns.proofs.Applying.{left_refused}
 use Rattle.slon_turns.proofs.Linking.{planned_copy}
 use Rattle.slon_turns.proofs.Mids.{LookedAt, found_here, mids_distinct, mids_inside, mids_ready, worked_here}
-use Rattle.slon_turns.proofs.Waiting.{fetches_beside, keeps_beside, queue_beside}
+use Rattle.slon_turns.proofs.Waiting.{taken_bounds, fetches_beside, keeps_beside, queue_beside}
 use Rattle.slon_turns.proofs.Waiting.{taken_keeps, taken_waits, waits_beside}
 
 -- ---- what the turn comes to
@@ -261,7 +262,7 @@ pub carries_told : {K : Type 0} {g : Ghosts K} {kept : K → KeptStore} {ds : Li
     Answers x.name (base_of kept x.database) reply (base_of kept y.database) →
     PlansAt t.goal t.cuts x.name (base_of kept x.database, held) (Told reply) (base_of kept y.database, left) →
     CarriesOut kept t (ds, held) reply (set ds t.index y, left)
-carries_told {kept = kept} {ds} {x} {y} {reply} {held} {left} t at answers plans w d ready cuts is =
+carries_told {kept = kept} {ds} {x} {y} {reply} {held} {left} t at answers plans w d ready cuts known is =
     subst (λ e. SitsOn t.node w e.name → Holds e.name w.memory held → TakesUp t.node t.goal.origin w → KeepFormed w →
     Carries t.goal t.node w e.name reply (bases_of kept (set ds t.index y)) left)
     (sym (one_here ds t.index x d (at.inside, at.held) is))
@@ -277,6 +278,7 @@ pub record Planned {K : Type 0} {g : Ghosts K} (kept : K → KeptStore) (t : Tur
   pub look : LookedAt kept ds t.index x y
   pub plans : PlansAt t.goal t.cuts x.name (base_of kept x.database, held) plan (base_of kept y.database, mid)
   pub queue : mid.queue ≡ held.queue
+  pub bounds : mid.bounds ≡ held.bounds
 
 -- all was there that comes with the event
 pub carries_had : {K : Type 0} {g : Ghosts K} {kept : K → KeptStore} {ds : List (NamedDatabase K g)}
@@ -287,7 +289,7 @@ pub carries_had : {K : Type 0} {g : Ghosts K} {kept : K → KeptStore} {ds : Lis
     EndsWith t.goal.aim y.name f (base_of kept y.database, mid) reply (base_of kept z.database, left) →
     CarriesOut kept t (ds, held) reply (set (set ds t.index y) t.index z, left)
 carries_had {kept = kept} {ds} {x} {y} {reply} {held} {mid} {left} {t} {f} z (p, from) named answers ends v d ready
-    cuts is =
+    cuts known is =
     subst (λ e. SitsOn t.node v e.name → Holds e.name v.memory held → TakesUp t.node t.goal.origin v → KeepFormed v →
     Carries t.goal t.node v e.name reply (bases_of kept (set (set ds t.index y) t.index z)) left)
     (sym (one_here ds t.index x d (p.look.inside, p.look.held) is))
@@ -426,7 +428,7 @@ pub carries_brought : {K : Type 0} {g : Ghosts K} {kept : K → KeptStore} {ds :
     BringsFrom kept (trip_by t w c) t.index (set ds t.index y, mid) reply (news, left) →
     CarriesOut kept t (ds, held) reply (news, left)
 carries_brought {kept = kept} {ds} {x} {y} {reply} {held} {mid} {left} {t} {w} {c} news (p, from) brings v d ready
-    cuts is =
+    cuts known is =
     subst (λ e. SitsOn t.node v e.name → Holds e.name v.memory held → TakesUp t.node t.goal.origin v → KeepFormed v →
     Carries t.goal t.node v e.name reply (bases_of kept news) left)
     (sym (one_here ds t.index x d (p.look.inside, p.look.held) is))
@@ -498,7 +500,7 @@ pub work_refused : {K : Type 0} {g : Ghosts K} (kept : K → KeptStore) (work : 
     (told_by (replied.Refused refusal) ≡ None) × HasTurn kept work.node on.started ds (Refused refusal) →
     let old : Kept = record { bases = bases_of kept ds; held = held } in
     Works (goal_in work) work.node on old (replied.Refused refusal) old
-work_refused kept work on ds held refusal (quiet, turns) w ready started cuts holds takes keep =
+work_refused kept work on ds held refusal (quiet, turns) w ready started cuts holds known takes keep =
     let goal = goal_in work in
     let at = turns w ready.fits started in
     let is = turned_refused work.aim work.node work.origin w refusal at in
@@ -592,10 +594,11 @@ pub works_carried : {K : Type 0} {g : Ghosts K} {kept : K → KeptStore} {on : S
 works_carried {kept = kept} {on} {t} held key e x (turns, same) is (named, taken) =
     subst (λ n. Works t.goal t.node on (record { bases = bases_of kept e.old.0; held = held }) e.reply
     (record { bases = bases_of kept e.new.0; held = insert (remove held n) n e.new.1 })) (sym named)
-    (λ w ready started cuts holds takes keep.
+    (λ w ready started cuts holds known takes keep.
     let s = turns w ready.fits started x is in
     let took = subst (λ n. IsTaken (get held n) e.old.1) named taken in
-    let here = e.carries w x ready (cuts ∙ sym same) is s (record {
+    let bounds = taken_bounds (get held x.name) e.old.1 took in
+    let here = e.carries w x ready (cuts ∙ sym same) (subst (AreBounds w) bounds (known x.name)) is s (record {
       waits = taken_waits x.name w.memory (get held x.name) e.old.1 took (holds.waits x.name s.place s.found s.running);
       keeps = taken_keeps x.name w.memory (get held x.name) e.old.1 took (holds.keeps x.name s.place s.found s.running);
     }) takes keep in

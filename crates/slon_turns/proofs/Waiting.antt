@@ -20,8 +20,9 @@ use Rattle.event_store.specs.Seen.{seen_event}
 use Rattle.app_store.specs.Base.{Base}
 use Rattle.remote_worker.specs.declared.fetches.Fetches.{Fetches}
 use Rattle.remote_worker.specs.Kept.{FitsFetch, FitsFetches, kept_at}
+use Rattle.slon_turns.specs.declared.bounds.Bound.{Bound}
 use Rattle.slon_turns.specs.declared.held.Held.{Held}
-use Rattle.slon_turns.specs.Holding.{Holdings, IsTaken, IsUpIn, Keeps, KeepsBut, KeepsIn, WaitsIn}
+use Rattle.slon_turns.specs.Holding.{Holdings, IsTaken, IsUpIn, Keeps, KeepsBut, KeepsIn, WaitsIn, bounds_in}
 use Rattle.slon_turns.specs.Polling.{Waits}
 
 -- what waits follows from the queue of the database alone
@@ -109,6 +110,25 @@ taken_keeps name m None held none keeps = λ origin.
     subst (λ o. FitsFetch origin o (kept_at origin held.fetches)) (sym (keeps origin))
     (subst (FitsFetch origin None) (sym (none.1 origin)) tt)
 taken_keeps name m (Some other) held same keeps = subst (λ (h : Held). Keeps name m h.fetches) (sym same) keeps
+
+-- and what was known
+pub taken_bounds : (found : Option Held) (held : Held) → IsTaken found held → bounds_in found ≡ held.bounds.items
+taken_bounds None held none = sym none.2
+taken_bounds (Some other) held same = ap (λ (h : Held). h.bounds.items) (sym same)
+
+-- at the database of one name other things may be known than before, and at the others the same are
+pub bounds_beside : (P : List Bound → List Bound → Type 0) (held : Holdings) (name : List ℕ) (own : Held) →
+    ((bounds : List Bound) → P bounds bounds) → P (bounds_in (get held name)) own.bounds.items → (other : List ℕ) →
+    P (bounds_in (get held other)) (bounds_in (get (insert (remove held name) name own) other))
+bounds_beside P held name own same here other =
+    subst (λ o. P (bounds_in (get held other)) (bounds_in o)) (sym (put_back other name own held))
+    (by (bytes_eq other name) refl)
+  where
+    by : (b : Bool) → bytes_eq other name ≡ b → P (bounds_in (get held other))
+        (bounds_in (cond b (Some own) (get held other)))
+    by true is =
+        subst (λ n. P (bounds_in (get held n)) own.bounds.items) (sym (bytes_same other name is)) here
+    by false is = same (bounds_in (get held other))
 
 -- At the database of one name other events may wait than before, and at the others the same ones wait.
 pub record Swapped (m : Memory) : Type 0 where

@@ -11,10 +11,10 @@ use Rattle.slon_model.specs.Deeds.{Node, knowledge}
 use Rattle.slon_model.specs.Events.{Event}
 use Rattle.slon_model.specs.Following.{SetSync}
 use Rattle.slon_model.specs.Logs.{logged}
-use Rattle.slon_model.specs.Names.{Named}
+use Rattle.slon_model.specs.Names.{Named, find_named}
 use Rattle.slon_model.specs.Place.{Place}
 use Rattle.slon_model.specs.Sessions.{World, Memory, Seat, bind, first_refusal, seat}
-use Rattle.slon_model.specs.Working.{ToFollow, providers_in}
+use Rattle.slon_model.specs.Working.{ToFollow, next_at, providers_in}
 use Rattle.slon_model.specs.World.{is_of_one}
 use Rattle.event_store.specs.declared.event.Event as declared
 use Rattle.event_store.specs.Seen.{seen_event}
@@ -25,19 +25,21 @@ use Rattle.remote_worker.specs.declared.loading.SetFetch.{SetFetch}
 use Rattle.remote_worker.specs.declared.worker.Taken.{Taken}
 use Rattle.remote_worker.specs.declared.worker.Worker.{Worker}
 use Rattle.remote_worker.specs.Fetching.{is_loud, provider_checks}
-use Rattle.remote_worker.specs.Keeping.{Kept, kept_among, seen_kept, taken_of}
+use Rattle.remote_worker.specs.Keeping.{HaveEndedBy, Kept, kept_among, seen_kept, taken_of}
 use Rattle.remote_worker.specs.Loading.{HasFetch, HaveFetches}
 use Rattle.slonik_exec.specs.declared.databases.Named.{Named as NamedDatabase}
-use Rattle.slonik_exec.specs.Answering.{AtSeat, Checks}
+use Rattle.slonik_exec.specs.Answering.{AtSeat, Checks, EndsAt}
 use Rattle.slonik_exec.specs.Databases.{AreReady, FitsAll, Runs, TriesAll, bases_of, told_by}
 use Rattle.slonik_exec.specs.Executing.{Comes}
 use Rattle.slonik_exec.specs.Heard.{AreSame, BreaksDown}
 use Rattle.slonik_exec.specs.Turning.{SitsOn}
+use Rattle.slon_turns.specs.declared.bounds.Bound.{Bound}
 use Rattle.slon_turns.specs.declared.following.Looked.{Looked}
 use Rattle.slon_turns.specs.declared.following.Looked.TheVariants.{Told, Gives}
 use Rattle.slon_turns.specs.declared.following.Round.{Round}
 use Rattle.slon_turns.specs.declared.held.Held.{Held}
 use Rattle.slon_turns.specs.Applying.{Finder, Post, end_at, left_in, nodes_at, provided_in, seat_in, syncs_with}
+use Rattle.slon_turns.specs.Bounds.{AreBounds, AreLearned}
 use Rattle.slon_turns.specs.Fetching.{post_of}
 use Rattle.slon_turns.specs.Holding.{Holds, IsUpIn, Keeps}
 use Rattle.slon_turns.specs.Planning.{TookUp, link_checks}
@@ -62,38 +64,44 @@ RunsLooked old (Gives x) new = TriesAll true None old new × AreSame old new
 abbrev pub sets_kept : Node → Event → List Kept
 sets_kept n e = kept_among n.id (knowledge n).config e (knowledge n).views
 
--- what a provider has logged for a set, or its store failed
-abbrev pub GivesAt : Event → Kept → List ℕ → Base → Looked SetFetch → Base → Type 0
-GivesAt e k name old (Told reply) new =
-    Checks name old (Some reply) new × AtSeat name (λ s. []) old (Some reply) new
-GivesAt e k name old (Gives fetch) new =
-    Checks name old None new
-    × ((p : Place) (n : Node) → Ready p old → p.node ≡ Some n →
-    HasFetch e.origin (taken_of e (logged n) k) fetch × Fits p new)
-
--- Who reads, and with which event.
+-- Who reads, with which event, and from which number of an action on.
 pub record Reader : Type 0 where
   pub node : ℕ
   pub event : Event
+  pub known : ℕ
+
+-- So it is from every place of the provider where what it has logged below that number had ended as the node was as
+-- far as it is in the set.
+abbrev pub AtProvider : Event → ℕ → Kept → Base → (Place → Node → Type 0) → Type 0
+AtProvider e known k old says =
+    (p : Place) (n : Node) → Ready p old → p.node ≡ Some n → HaveEndedBy e.origin known k p → says p n
+
+-- what a provider has logged for a set, or its store failed
+abbrev pub GivesAt : Event → ℕ → Kept → List ℕ → Base → Looked SetFetch → Base → Type 0
+GivesAt e known k name old (Told reply) new =
+    Checks name old (Some reply) new × AtProvider e known k old (λ p n. EndsAt name p [] reply new)
+GivesAt e known k name old (Gives fetch) new =
+    Checks name old None new
+    × AtProvider e known k old (λ p n. HasFetch e.origin (taken_of e (logged n) k) fetch × Fits p new)
 
 -- the sets that the node keeps, or its store failed
-abbrev pub KeepsAt : Reader → List ℕ → Base → Looked (List KeptSet) → Base → Type 0
-KeepsAt r name old (Told reply) new =
+abbrev pub KeepsAt : ℕ → Event → List ℕ → Base → Looked (List KeptSet) → Base → Type 0
+KeepsAt node e name old (Told reply) new =
     Checks name old (Some reply) new × AtSeat name (λ s. []) old (Some reply) new
-KeepsAt r name old (Gives sets) new =
+KeepsAt node e name old (Gives sets) new =
     Checks name old None new
     × ((p : Place) (n : Node) → Ready p old → p.node ≡ Some n →
-    (n.id ≡ r.node → map seen_kept sets ≡ sets_kept n r.event) × Fits p new)
+    (n.id ≡ node → map seen_kept sets ≡ sets_kept n e) × Fits p new)
 
 -- 62, 63, or what the provider has logged for the set
 abbrev pub TakesAt : Reader → Kept → List ℕ → Base → Looked SetFetch → Base → Type 0
 TakesAt r k name old (Told reply) new =
     Checks name old (Some reply) new
-    × AtSeat name (λ s. provider_checks r.node k.provider r.event s.node) old (Some reply) new
+    × AtProvider r.event r.known k old (λ p n. EndsAt name p (provider_checks r.node k.provider r.event n) reply new)
 TakesAt r k name old (Gives fetch) new =
-    Checks name old None new × AtSeat name (λ s. provider_checks r.node k.provider r.event s.node) old None new
-    × ((p : Place) (n : Node) → Ready p old → p.node ≡ Some n →
-    HasFetch r.event.origin (taken_of r.event (logged n) k) fetch)
+    Checks name old None new
+    × AtProvider r.event r.known k old (λ p n. (first_refusal (provider_checks r.node k.provider r.event n) ≡ None)
+    × Fits p new × HasFetch r.event.origin (taken_of r.event (logged n) k) fetch)
 
 -- ---- under the rules
 
@@ -122,26 +130,38 @@ abbrev pub LooksTo : {X T : Type 0} → (X → T → Type 0) → World → List 
 LooksTo has w name among due (Told reply) new = EndsLook w name among due reply new
 LooksTo {X} has w name among due (Gives t) new = (x : X) × (due ≡ Ok x) × has x t × FitsAll w.places new
 
+-- what any node has logged of the origin below that number had ended as the node was as far as it is in the set
+abbrev pub HadEnded : World → Reader → Kept → Type 0
+HadEnded w r k =
+    (name : List ℕ) (p : Place) → find_named name w.places ≡ Some p → HaveEndedBy r.event.origin r.known k p
+
 -- from all databases that agree, at a node that reaches the provider
 abbrev pub FollowsAt : {K : Type 0} {g : Ghosts K} → (K → KeptStore) → Reader → Kept →
     List (NamedDatabase K g) → Looked SetFetch → List (NamedDatabase K g) → Type 0
 FollowsAt kept r k old given new =
     (w : World) (s : Seat) → AreReady w (bases_of kept old) → s.node.id ≡ r.node →
-    first_refusal (link_checks s.node.id k.provider w.memory.cuts s) ≡ None →
+    first_refusal (link_checks s.node.id k.provider w.memory.cuts s) ≡ None → HadEnded w r k →
     LooksTo (HasFetch r.event.origin) w s.name (k.provider ∷ [])
     (followed_kept w.memory s r.event (nodes_at w) k) given (bases_of kept new)
 
--- A node that reads: its id, the index of its database, and the pairs of nodes that are cut off.
+-- A node that reads: its id, the index of its database, the pairs of nodes that are cut off, and what it knows of the
+-- transactions of other nodes.
 pub record Way : Type 0 where
   pub node : ℕ
   pub index : ℕ
   pub cuts : List (ℕ × ℕ)
+  pub bounds : List Bound
+
+-- these are cut off in the session, and what it knows is so
+pub record Heeds (t : Way) (w : World) : Type 0 where
+  pub cuts : w.memory.cuts ≡ t.cuts
+  pub bounds : AreBounds w t.bounds
 
 -- from all databases that agree, at the node, which has its turn
 abbrev pub FollowsOne : {K : Type 0} {g : Ghosts K} → (K → KeptStore) → Way → Event → Kept →
     List (NamedDatabase K g) → Looked SetFetch → List (NamedDatabase K g) → Type 0
 FollowsOne {K} {g} kept t e k old given new =
-    (w : World) (d : NamedDatabase K g) → AreReady w (bases_of kept old) → w.memory.cuts ≡ t.cuts →
+    (w : World) (d : NamedDatabase K g) → AreReady w (bases_of kept old) → Heeds t w →
     d ≡ get_or old t.index d → (s : SitsOn t.node w d.name) →
     LooksTo (HasFetch e.origin) w d.name (k.provider ∷ [])
     (followed_kept w.memory (seat d.name s.place s.own) e (nodes_at w) k) given (bases_of kept new)
@@ -149,7 +169,7 @@ FollowsOne {K} {g} kept t e k old given new =
 abbrev pub FollowsAll : {K : Type 0} {g : Ghosts K} → (K → KeptStore) → Way → Event → List Kept →
     List (NamedDatabase K g) → Looked (List SetFetch) → List (NamedDatabase K g) → Type 0
 FollowsAll {K} {g} kept t e ks old given new =
-    (w : World) (d : NamedDatabase K g) → AreReady w (bases_of kept old) → w.memory.cuts ≡ t.cuts →
+    (w : World) (d : NamedDatabase K g) → AreReady w (bases_of kept old) → Heeds t w →
     d ≡ get_or old t.index d → (s : SitsOn t.node w d.name) →
     LooksTo (HaveFetches e.origin) w d.name (map (λ (k : Kept). k.provider) ks)
     (followed_each w.memory (seat d.name s.place s.own) e (nodes_at w) ks) given (bases_of kept new)
@@ -163,6 +183,7 @@ pub record Onward (node : ℕ) (goal : Goal) (taken : Worker Taken) (w : World) 
     pub holds : Holds name w.memory held
     pub event : declared.Event
     pub took : TookUp (post_of goal sits) taken held.queue event
+    pub next : next_at w.memory (seat name sits.place sits.own) goal.origin ≡ Some (seen_event event)
 
 abbrev pub onward_post : {node : ℕ} {goal : Goal} {taken : Worker Taken} {w : World} {name : List ℕ} {held : Held} →
     Onward node goal taken w name held → Post
@@ -192,7 +213,7 @@ goal_of x = record { aim = x.aim; origin = x.taken.origin }
 abbrev pub FollowsFrom : {K : Type 0} {g : Ghosts K} → (K → KeptStore) → Way → Round →
     List (NamedDatabase K g) × Held → Reply → List (NamedDatabase K g) × Held → Type 0
 FollowsFrom {K} {g} kept t x old reply new =
-    (w : World) (d : NamedDatabase K g) → AreReady w (bases_of kept old.0) → w.memory.cuts ≡ t.cuts →
+    (w : World) (d : NamedDatabase K g) → AreReady w (bases_of kept old.0) → Heeds t w →
     d ≡ get_or old.0 t.index d → (o : Onward t.node (goal_of x) x.taken w d.name old.1) → CanTurn (due_onward o) →
     Arrives o reply (bases_of kept new.0) new.1
 
@@ -200,7 +221,26 @@ FollowsFrom {K} {g} kept t x old reply new =
 abbrev pub FollowsSets : {K : Type 0} {g : Ghosts K} → (K → KeptStore) → Way → Round → List Kept →
     List (NamedDatabase K g) × Held → Reply → List (NamedDatabase K g) × Held → Type 0
 FollowsSets {K} {g} kept t x ks old reply new =
-    (w : World) (d : NamedDatabase K g) → AreReady w (bases_of kept old.0) → w.memory.cuts ≡ t.cuts →
+    (w : World) (d : NamedDatabase K g) → AreReady w (bases_of kept old.0) → Heeds t w →
     d ≡ get_or old.0 t.index d → (o : Onward t.node (goal_of x) x.taken w d.name old.1) →
     ks ≡ sets_kept o.sits.own (seen_event o.event) → CanTurn (due_onward o) →
     Arrives o reply (bases_of kept new.0) new.1
+
+-- ---- what is learned
+
+-- what the node knows behind the turn
+abbrev pub LearnsFrom : {K : Type 0} {g : Ghosts K} → (K → KeptStore) → Way → Round →
+    List (NamedDatabase K g) × Held → Held → Type 0
+LearnsFrom {K} {g} kept t x old left =
+    (w : World) (d : NamedDatabase K g) → AreReady w (bases_of kept old.0) → Heeds t w →
+    d ≡ get_or old.0 t.index d → Onward t.node (goal_of x) x.taken w d.name old.1 →
+    AreLearned w x.taken.origin old.1.bounds.items left.bounds.items
+
+-- where these are the sets that the node keeps
+abbrev pub LearnsSets : {K : Type 0} {g : Ghosts K} → (K → KeptStore) → Way → Round → List Kept →
+    List (NamedDatabase K g) × Held → Held → Type 0
+LearnsSets {K} {g} kept t x ks old left =
+    (w : World) (d : NamedDatabase K g) → AreReady w (bases_of kept old.0) → Heeds t w →
+    d ≡ get_or old.0 t.index d → (o : Onward t.node (goal_of x) x.taken w d.name old.1) →
+    ks ≡ sets_kept o.sits.own (seen_event o.event) →
+    AreLearned w x.taken.origin old.1.bounds.items left.bounds.items

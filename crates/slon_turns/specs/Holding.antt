@@ -12,7 +12,9 @@ use Rattle.event_store.specs.Queueing.{waiting}
 use Rattle.app_store.specs.Base.{Base}
 use Rattle.remote_worker.specs.declared.fetches.Fetches.{Fetches}
 use Rattle.remote_worker.specs.Kept.{FitsFetch, FitsFetches, kept_at}
+use Rattle.slon_turns.specs.declared.bounds.Bound.{Bound}
 use Rattle.slon_turns.specs.declared.held.Held.{Held}
+use Rattle.slon_turns.specs.Bounds.{AreBounds}
 use Rattle.slon_turns.specs.Polling.{Waits}
 
 -- what the nodes have in memory, by the names of their databases
@@ -43,10 +45,11 @@ pub record Stays (name : List ℕ) (m : Memory) (base : Base) (held : Held) : Ty
 
 -- ---- at the databases of a session
 
--- what was taken out under a name: where nothing is held nothing waits, and nothing was fetched
+-- what was taken out under a name: where nothing is held nothing waits, nothing was fetched, and nothing is known
 abbrev pub IsTaken : Option Held → Held → Type 0
 IsTaken None held =
     ((origin : ℕ) → waiting origin held.queue ≡ []) × ((origin : ℕ) → kept_at origin held.fetches ≡ None)
+    × (held.bounds.items ≡ [])
 IsTaken (Some found) held = held ≡ found
 
 -- what waits at the database of a name is what waits there by the rules
@@ -58,6 +61,19 @@ WaitsIn name m (Some held) = Waits name m held.queue
 abbrev pub KeepsIn : List ℕ → Memory → Option Held → Type 0
 KeepsIn name m None = (origin : ℕ) → entry_at origin (fetches_at name m) ≡ None
 KeepsIn name m (Some held) = Keeps name m held.fetches
+
+-- what is known there of the transactions of other nodes
+abbrev pub bounds_in : Option Held → List Bound
+bounds_in None = []
+bounds_in (Some held) = held.bounds.items
+
+-- so it is by the names of the databases
+abbrev pub HoldBounds : World → Holdings → Type 0
+HoldBounds w held = (name : List ℕ) → AreBounds w (bounds_in (get held name))
+
+-- it is what was known there before
+abbrev pub KeepBounds : Holdings → Holdings → Type 0
+KeepBounds old new = (name : List ℕ) → bounds_in (get new name) ≡ bounds_in (get old name)
 
 -- each database of this name is up; there may be none
 abbrev pub IsUpIn : List ℕ → Named Base → Type 0

@@ -1,4 +1,5 @@
 pub mod Applying
+pub mod Bounds
 pub mod Fetching
 pub mod Following
 pub mod Holding

@@ -30,7 +30,8 @@ use Rattle.slonik_exec.specs.Turning.{SitsOn}
 use Rattle.slon_turns.specs.declared.held.Held.{Held}
 use Rattle.slon_turns.specs.declared.working.Aim.{Aim}
 use Rattle.slon_turns.specs.declared.working.Aim.TheVariants.{Fetch, Apply}
-use Rattle.slon_turns.specs.Holding.{Holdings, HoldAll, Holds, IsUpIn, Keeps, KeepsIn, WaitsIn}
+use Rattle.slon_turns.specs.Bounds.{AreBounds, AreLearned}
+use Rattle.slon_turns.specs.Holding.{Holdings, HoldAll, HoldBounds, Holds, IsUpIn, Keeps, KeepsIn, WaitsIn, bounds_in}
 use Rattle.slon_turns.specs.Polling.{Waits}
 use Rattle.slon_turns.specs.Turning.{Kept}
 
@@ -133,8 +134,15 @@ pub record TakesWork (goal : Goal) (node : ℕ) (w : World) (held : Holdings) (r
 abbrev pub Works : Goal → ℕ → Switches → Kept → Reply → Kept → Type 0
 Works goal node on old reply new =
     (w : World) → AreReady w old.bases → w.memory.started ≡ on.started → w.memory.cuts ≡ on.cuts →
-    HoldAll w old.held → TakesUp node goal.origin w → KeepFormed w →
+    HoldAll w old.held → HoldBounds w old.held → TakesUp node goal.origin w → KeepFormed w →
     TakesWork goal node w old.held reply new.bases new.held
+
+-- what is known at each database behind it
+abbrev pub Learns : Goal → ℕ → Switches → Kept → Holdings → Type 0
+Learns goal node on old left =
+    (w : World) → AreReady w old.bases → w.memory.started ≡ on.started → w.memory.cuts ≡ on.cuts →
+    HoldAll w old.held → HoldBounds w old.held →
+    (name : List ℕ) → AreLearned w goal.origin (bounds_in (get old.held name)) (bounds_in (get left name))
 
 -- ---- with what the node holds taken out
 
@@ -159,6 +167,13 @@ abbrev pub CarriesOut : {K : Type 0} {g : Ghosts K} → (K → KeptStore) → Tu
     List (NamedDatabase K g) × Held → Reply → List (NamedDatabase K g) × Held → Type 0
 CarriesOut {K} {g} kept t old reply new =
     (w : World) (d : NamedDatabase K g) → AreReady w (bases_of kept old.0) → w.memory.cuts ≡ t.cuts →
-    d ≡ get_or old.0 t.index d → SitsOn t.node w d.name → Holds d.name w.memory old.1 →
+    AreBounds w old.1.bounds.items → d ≡ get_or old.0 t.index d → SitsOn t.node w d.name → Holds d.name w.memory old.1 →
     TakesUp t.node t.goal.origin w → KeepFormed w →
     Carries t.goal t.node w d.name reply (bases_of kept new.0) new.1
+
+abbrev pub LearnsAt : {K : Type 0} {g : Ghosts K} → (K → KeptStore) → Turn → List (NamedDatabase K g) × Held → Held →
+    Type 0
+LearnsAt {K} {g} kept t old left =
+    (w : World) (d : NamedDatabase K g) → AreReady w (bases_of kept old.0) → w.memory.cuts ≡ t.cuts →
+    AreBounds w old.1.bounds.items → d ≡ get_or old.0 t.index d → SitsOn t.node w d.name → Holds d.name w.memory old.1 →
+    AreLearned w t.goal.origin old.1.bounds.items left.bounds.items

@@ -49,6 +49,7 @@ fn fetch_between<K: Keeper>(
         (pair_of K.kept own.new provider.new)) }
     ensures brings { IfOk result (λ reply. BringsTo trip
         (couple_of K.kept own.old provider.old) held.old reply (pair_of K.kept own.new provider.new) held.new) }
+    ensures bounds { held.new.bounds ≡ held.old.bounds }
     ensures names { (own.new.name ≡ own.old.name) × (provider.new.name ≡ provider.old.name) }
 {
     let Trip {
@@ -81,6 +82,7 @@ fn fetch_both<K: Keeper>(
     requires can { CanPlan held.old.queue (Bring trip.taken trip.copying) }
     ensures brought { IfOk result (λ reply. BroughtAt K.kept (trip, spots)
         (databases.old, held.old) reply (databases.new, held.new)) }
+    ensures bounds { held.new.bounds ≡ held.old.bounds }
 {
     if spots.from < spots.to {
         let (front, back) = databases.split_at_mut(spots.to);
@@ -108,6 +110,7 @@ pub(crate) fn fetch_from<K: Keeper>(
         (bases_of K.kept databases.new)) }
     ensures brings { IfOk result (λ reply. BringsFrom K.kept trip index
         (databases.old, held.old) reply (databases.new, held.new)) }
+    ensures bounds { held.new.bounds ≡ held.old.bounds }
 {
     let node = trip.copying.provider;
     let Some(to) = index_of_node(databases, node) else {

@@ -13,15 +13,18 @@ ghost use Rattle.remote_worker.specs.Keeping.{CanFollow, seen_kept};
 ghost use Rattle.remote_worker.specs.Loading.{CanFetch};
 ghost use Rattle.slon_turns.specs.declared.planning.Plan.TheVariants.{Follow as ToFollow};
 ghost use Rattle.slon_turns.specs.Following.{CanGive, FollowsAll, FollowsAt, FollowsFrom, FollowsOne, FollowsSets};
-ghost use Rattle.slon_turns.specs.Following.{GivesAt, KeepsAt, RunsLooked, TakesAt};
+ghost use Rattle.slon_turns.specs.Following.{GivesAt, KeepsAt, LearnsFrom, LearnsSets, RunsLooked, TakesAt};
 ghost use Rattle.slon_turns.specs.Planning.{CanPlan};
 
+use crate::bounds::{Bound, known_by, learn, start_of};
 use crate::held::Held;
 use crate::planning::check_link;
 use crate::working::{Aim, end_at};
 use event_store::Event;
 use node_keeper::Keeper;
-use remote_worker::{KeptSet, Load, SetFetch, Taken, Worker, check_provider, fetch_of, sets_of};
+use remote_worker::{
+    KeptSet, Load, SetFetch, Taken, Worker, check_provider, fetch_of, last_logged, sets_of,
+};
 use slon_base::Many;
 use slon_model::{Refusal, Reply};
 use slonik_exec::{Named, NoMemory, index_of_node, told};
@@ -44,21 +47,23 @@ pub(crate) enum Looked<T: Drop> {
     Gives(T),
 }
 
-/// What the node takes of a set, from a provider whose database this is.
+/// What the node takes of a set, from a provider whose database this is, by what that logged from the number `known`
+/// on.
 fn take_log<K: Keeper>(
     alloc: Global,
     provider: &mut Named<K>,
     event: &Event,
     kept: KeptSet,
+    known: u64,
 ) -> Result<Looked<SetFetch>, NoMemory>
     requires up { provider.old.database.state.up ≡ true }
     requires can { CanFollow kept }
     ensures can { IfOk result (CanGive CanFetch) }
-    ensures gives { IfOk result (λ given. GivesAt (seen_event event.now) (seen_kept kept) provider.old.name
+    ensures gives { IfOk result (λ given. GivesAt (seen_event event.now) known (seen_kept kept) provider.old.name
         (base_of K.kept provider.old.database) given (base_of K.kept provider.new.database)) }
     ensures name { provider.new.name ≡ provider.old.name }
 {
-    match fetch_of(&mut provider.database, event, kept) {
+    match fetch_of(&mut provider.database, event, kept, known) {
         Ok(fetch) => Ok(Looked::Gives(fetch)),
         Err(fault) => Ok(Looked::Told(told(alloc, &provider.name, fault)?)),
     }
@@ -72,12 +77,14 @@ fn take_set<K: Keeper>(
     node: u32,
     event: &Event,
     kept: KeptSet,
+    known: u64,
 ) -> Result<Looked<SetFetch>, NoMemory>
     requires up { provider.old.database.state.up ≡ true }
     requires node { is_some provider.old.database.state.node.identity ≡ true }
     requires can { IsId node × CanFollow kept }
     ensures can { IfOk result (CanGive CanFetch) }
-    ensures takes { IfOk result (λ given. TakesAt (record { node = node; event = seen_event event.now })
+    ensures takes { IfOk result (λ given. TakesAt
+        (record { node = node; event = seen_event event.now; known = known })
         (seen_kept kept) provider.old.name (base_of K.kept provider.old.database) given
         (base_of K.kept provider.new.database)) }
     ensures name { provider.new.name ≡ provider.old.name }
@@ -85,7 +92,7 @@ fn take_set<K: Keeper>(
     match check_provider(&mut provider.database, node, kept.provider, event) {
         Ok(refusal) => match refusal {
             Some(refusal) => Ok(Looked::Told(Reply::Refused(refusal))),
-            None => take_log(alloc, provider, event, kept),
+            None => take_log(alloc, provider, event, kept, known),
         },
         Err(fault) => Ok(Looked::Told(told(alloc, &provider.name, fault)?)),
     }
@@ -98,6 +105,7 @@ fn follow_at<K: Keeper>(
     node: u32,
     event: &Event,
     kept: KeptSet,
+    known: u64,
 ) -> Result<Looked<SetFetch>, NoMemory>
     requires distinct { AreDistinct (bases_of K.kept databases.old) }
     requires can { IsId node × CanFollow kept }
@@ -105,7 +113,8 @@ fn follow_at<K: Keeper>(
     ensures runs { IfOk result (λ given. RunsLooked (bases_of K.kept databases.old) given
         (bases_of K.kept databases.new)) }
     ensures follows { IfOk result (λ given. FollowsAt K.kept
-        (record { node = node; event = seen_event event.now }) (seen_kept kept) databases.old given databases.new) }
+        (record { node = node; event = seen_event event.now; known = known }) (seen_kept kept) databases.old given
+        databases.new) }
 {
     let Some(to) = index_of_node(databases, kept.provider) else {
         let node = kept.provider;
@@ -116,14 +125,16 @@ fn follow_at<K: Keeper>(
         let database = provider.name.copy(alloc)?;
         return Ok(Looked::Told(Reply::Refused(Refusal::Down { database })));
     }
-    take_set(alloc, provider, node, event, kept)
+    take_set(alloc, provider, node, event, kept, known)
 }
 
 /// The same, unless 75 the node has no path to the provider, 68 it is cut off from it, or 44 it is the provider itself.
+/// The log of the provider is read from where it is known to have what the node has not seen.
 fn follow_one<K: Keeper>(
     alloc: Global,
     databases: &mut [Named<K>],
     way: Way<'_>,
+    bounds: &[Bound],
     event: &Event,
     kept: KeptSet,
 ) -> Result<Looked<SetFetch>, NoMemory>
@@ -134,14 +145,15 @@ fn follow_one<K: Keeper>(
     ensures runs { IfOk result (λ given. RunsLooked (bases_of K.kept databases.old) given
         (bases_of K.kept databases.new)) }
     ensures follows { IfOk result (λ given. FollowsOne K.kept
-        (record { node = way.entry.node; index = way.entry.index; cuts = way.entry.cuts.now }) (seen_event event.now)
-        (seen_kept kept) databases.old given databases.new) }
+        (record { node = way.entry.node; index = way.entry.index; cuts = way.entry.cuts.now; bounds = bounds.now })
+        (seen_event event.now) (seen_kept kept) databases.old given databases.new) }
 {
     let own = &mut databases[way.index];
     if let Some(reply) = check_link(alloc, own, way.cuts, way.node, kept.provider)? {
         return Ok(Looked::Told(reply));
     }
-    follow_at(alloc, databases, way.node, event, kept)
+    let known = start_of(bounds, event.origin, kept.before.seen.xmin);
+    follow_at(alloc, databases, way.node, event, kept, known)
 }
 
 /// The same of each of these sets, the first one first.
@@ -149,6 +161,7 @@ fn follow_all<K: Keeper>(
     alloc: Global,
     databases: &mut [Named<K>],
     way: Way<'_>,
+    bounds: &[Bound],
     event: &Event,
     sets: Many<KeptSet>,
 ) -> Result<Looked<Many<SetFetch>>, NoMemory>
@@ -159,12 +172,12 @@ fn follow_all<K: Keeper>(
     ensures runs { IfOk result (λ given. RunsLooked (bases_of K.kept databases.old) given
         (bases_of K.kept databases.new)) }
     ensures follows { IfOk result (λ given. FollowsAll K.kept
-        (record { node = way.entry.node; index = way.entry.index; cuts = way.entry.cuts.now }) (seen_event event.now)
-        (map seen_kept sets) databases.old given databases.new) }
+        (record { node = way.entry.node; index = way.entry.index; cuts = way.entry.cuts.now; bounds = bounds.now })
+        (seen_event event.now) (map seen_kept sets) databases.old given databases.new) }
 {
     let mut fetches = Many::new(alloc);
     for kept in sets.into_vec() {
-        match follow_one(alloc, databases, way, event, kept)? {
+        match follow_one(alloc, databases, way, bounds, event, kept)? {
             Looked::Told(reply) => return Ok(Looked::Told(reply)),
             Looked::Gives(fetch) => fetches.push(fetch)?,
         }
@@ -183,7 +196,7 @@ fn read_sets<K: Keeper>(
     requires node { is_some own.old.database.state.node.identity ≡ true }
     requires id { IsId node }
     ensures can { IfOk result (CanGive (AllAre CanFollow)) }
-    ensures keeps { IfOk result (λ given. KeepsAt (record { node = node; event = seen_event event.now }) own.old.name
+    ensures keeps { IfOk result (λ given. KeepsAt node (seen_event event.now) own.old.name
         (base_of K.kept own.old.database) given (base_of K.kept own.new.database)) }
     ensures name { own.new.name ≡ own.old.name }
 {
@@ -201,7 +214,7 @@ pub(crate) struct Round {
 }
 
 /// The node of the database at this index reads what was logged for these sets, which it keeps of the origin of the
-/// event, and keeps that or applies the event.
+/// event, and keeps that or applies the event. It remembers what it learns by that of the transactions of the origin.
 fn follow_sets<K: Keeper>(
     alloc: Global,
     databases: &mut [Named<K>],
@@ -216,20 +229,32 @@ fn follow_sets<K: Keeper>(
     requires own { way.node ≡ round.taken.node }
     ensures runs { IfOk result (λ reply. Runs (bases_of K.kept databases.old) reply
         (bases_of K.kept databases.new)) }
-    ensures follows { IfOk result (λ reply. FollowsSets K.kept
-        (record { node = way.entry.node; index = way.entry.index; cuts = way.entry.cuts.now }) round
-        (map seen_kept sets)
-        (databases.old, held.old) reply (databases.new, held.new)) }
+    ensures follows { IfOk result (λ reply. FollowsSets K.kept (record {
+      node = way.entry.node;
+      index = way.entry.index;
+      cuts = way.entry.cuts.now;
+      bounds = held.old.bounds.items;
+    }) round (map seen_kept sets) (databases.old, held.old) reply (databases.new, held.new)) }
+    ensures learns { IfOk result (λ reply. LearnsSets K.kept (record {
+      node = way.entry.node;
+      index = way.entry.index;
+      cuts = way.entry.cuts.now;
+      bounds = held.old.bounds.items;
+    }) round (map seen_kept sets) (databases.old, held.old) held.new) }
 {
     let Round { taken, aim } = round;
     let Some(event) = held.queue.get(taken.origin, taken.state.number) else {
         unreachable!()
     };
-    match follow_all(alloc, databases, way, event, sets)? {
+    match follow_all(alloc, databases, way, held.bounds.as_slice(), event, sets)? {
         Looked::Told(reply) => Ok(reply),
         Looked::Gives(fetches) => {
+            let known = known_by(event, last_logged(fetches.as_slice()));
+            let xmin = event.taken.xmin;
             let fetched = taken.with(Some(Load::Syncs(fetches)));
-            end_at(alloc, &mut databases[way.index], held, fetched, aim)
+            let reply = end_at(alloc, &mut databases[way.index], held, fetched, aim)?;
+            learn(&mut held.bounds, known, xmin)?;
+            Ok(reply)
         }
     }
 }
@@ -250,9 +275,18 @@ pub(crate) fn follow_from<K: Keeper>(
     requires own { way.node ≡ round.taken.node }
     ensures runs { IfOk result (λ reply. Runs (bases_of K.kept databases.old) reply
         (bases_of K.kept databases.new)) }
-    ensures follows { IfOk result (λ reply. FollowsFrom K.kept
-        (record { node = way.entry.node; index = way.entry.index; cuts = way.entry.cuts.now }) round
-        (databases.old, held.old) reply (databases.new, held.new)) }
+    ensures follows { IfOk result (λ reply. FollowsFrom K.kept (record {
+      node = way.entry.node;
+      index = way.entry.index;
+      cuts = way.entry.cuts.now;
+      bounds = held.old.bounds.items;
+    }) round (databases.old, held.old) reply (databases.new, held.new)) }
+    ensures learns { IfOk result (λ reply. LearnsFrom K.kept (record {
+      node = way.entry.node;
+      index = way.entry.index;
+      cuts = way.entry.cuts.now;
+      bounds = held.old.bounds.items;
+    }) round (databases.old, held.old) held.new) }
 {
     let node = round.taken.node;
     let Some(event) = held.queue.get(round.taken.origin, round.taken.state.number) else {

@@ -2,24 +2,29 @@
 ghost use Rattle.std.specs.Prelude.{◌≡◌};
 ghost use Rattle.std.specs.FinMap.{get, remove};
 
+use crate::bounds::Bound;
 use event_store::Queue;
 use remote_worker::Fetches;
 use slon_base::ByteMap;
 use std::alloc::Global;
 
-/// What the node of a database has in memory: the events that wait there, and what it fetched of them and keeps.
+/// What the node of a database has in memory: the events that wait there, what it fetched of them and keeps, and what
+/// it knows of the transactions of other nodes.
 #[derive(Drop)]
 pub struct Held {
     /// The events that wait.
     pub queue: Queue,
     /// What was fetched.
     pub fetches: Fetches,
+    /// What it knows of the transactions of other nodes.
+    pub bounds: Vec<Bound>,
 }
 
 impl Held {
     ghost use Rattle.slon_turns.specs.Holding.{IsTaken};
 
-    /// Takes out what is held under a name; where nothing is, nothing waits and nothing was fetched.
+    /// Takes out what is held under a name; where nothing is, nothing waits, nothing was fetched, and
+    /// nothing is known.
     pub(crate) fn take(alloc: Global, held: &mut ByteMap<Held>, name: &[u8]) -> Held
         ensures map { held.new ≡ remove held.old name.now }
         ensures is { IsTaken (get held.old name.now) result }
@@ -29,6 +34,7 @@ impl Held {
             None => Held {
                 queue: Queue::new(alloc),
                 fetches: Fetches::new(alloc),
+                bounds: Vec::new(alloc),
             },
         }
     }

@@ -2,6 +2,7 @@
 //! and applies what waits there.
 #![tactic(auto)]
 
+mod bounds;
 mod fetching;
 mod following;
 mod held;
@@ -10,6 +11,7 @@ mod polling;
 mod turn;
 mod working;
 
+pub use bounds::Bound;
 pub use held::Held;
 pub use planning::{are_cut, is_between};
 pub use polling::Listen;

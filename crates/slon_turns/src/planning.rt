@@ -169,6 +169,7 @@ pub(crate) fn plan_at<K: Keeper>(
     requires origin { IsId work.origin }
     ensures can { IfOk result (CanPlan held.old.queue) }
     ensures queue { held.new.queue ≡ held.old.queue }
+    ensures bounds { held.new.bounds ≡ held.old.bounds }
     ensures own { IfOk result (PlansOwn (own_id own.old.database.state.node.identity)) }
     ensures from { IfOk result (PlansFrom work.origin) }
     ensures runs { IfOk result (λ plan. PlanRuns own.old.name (base_of K.kept own.old.database) plan

@@ -3,6 +3,7 @@ ghost use Rattle.std.specs.Prelude.{◌≡◌, IfOk};
 ghost use Rattle.store_rows.specs.Rows.{IsId};
 ghost use Rattle.slonik_exec.specs.Databases.{bases_of, Runs};
 ghost use Rattle.slonik_exec.specs.Heard.{AreDistinct};
+ghost use Rattle.slon_turns.specs.Holding.{KeepBounds};
 ghost use Rattle.slon_turns.specs.Pairing.{AreMeeting, PolledAt};
 ghost use Rattle.slon_turns.specs.Turning.{Polls};
 
@@ -66,6 +67,7 @@ pub fn take_poll<K: Keeper>(
     ensures polls { IfOk result (λ reply. Polls listen started.now
         (record { bases = bases_of K.kept databases.old; held = held.old }) reply
         (record { bases = bases_of K.kept databases.new; held = held.new })) }
+    ensures bounds { IfOk result (λ reply. KeepBounds held.old held.new) }
 {
     let from = match turn_of(alloc, databases, started, listen.node)? {
         Reached::At(from) => from,

@@ -13,7 +13,7 @@ ghost use Rattle.slonik_exec.specs.Turning.{IsSeatHere};
 ghost use Rattle.slonik_exec.specs.declared.reaching.Reached.TheVariants.{At};
 ghost use Rattle.slon_turns.specs.declared.working.Aim.TheVariants.{Apply as IsApply};
 ghost use Rattle.slon_turns.specs.Applying.{applied_as, goal_in, AppliesAt, EndsWith, IsPut};
-ghost use Rattle.slon_turns.specs.Working.{CarriesOut, Works};
+ghost use Rattle.slon_turns.specs.Working.{CarriesOut, Learns, LearnsAt, Works};
 
 use crate::fetching::{Trip, fetch_from};
 use crate::following::{Round, Way, follow_from};
@@ -83,6 +83,7 @@ fn apply_at<K: Keeper>(
         (base_of K.kept own.new.database)) }
     ensures applies { IfOk result (λ reply. AppliesAt own.old.name fetched
         (base_of K.kept own.old.database, held.old) reply (base_of K.kept own.new.database, held.new)) }
+    ensures bounds { held.new.bounds ≡ held.old.bounds }
     ensures name { own.new.name ≡ own.old.name }
 {
     let Fetched { number, kind, .. } = fetched.state;
@@ -114,6 +115,7 @@ fn settle_at<K: Keeper>(
         (base_of K.kept own.new.database)) }
     ensures ends { IfOk result (λ reply. EndsWith IsApply own.old.name fetched
         (base_of K.kept own.old.database, held.old) reply (base_of K.kept own.new.database, held.new)) }
+    ensures bounds { held.new.bounds ≡ held.old.bounds }
     ensures name { own.new.name ≡ own.old.name }
 {
     match fetched.writer(&mut own.database) {
@@ -130,6 +132,7 @@ fn settle_at<K: Keeper>(
 fn keep_at(held: &mut Held, fetched: Worker<Fetched>) -> Result<Reply, NoMemory>
     requires can { CanLoad fetched.state.load }
     ensures queue { held.new.queue ≡ held.old.queue }
+    ensures bounds { held.new.bounds ≡ held.old.bounds }
     ensures fetches { IfOk result (λ reply. IsPut fetched held.old.fetches held.new.fetches) }
     ensures told { IfOk result (λ reply.
         reply ≡ Accepted (IsFetched fetched.state.number (rows_loaded fetched.state.load))) }
@@ -157,6 +160,7 @@ pub(crate) fn end_at<K: Keeper>(
         (base_of K.kept own.new.database)) }
     ensures ends { IfOk result (λ reply. EndsWith aim own.old.name fetched
         (base_of K.kept own.old.database, held.old) reply (base_of K.kept own.new.database, held.new)) }
+    ensures bounds { held.new.bounds ≡ held.old.bounds }
     ensures name { own.new.name ≡ own.old.name }
 {
     match aim {
@@ -182,6 +186,9 @@ fn work_at<K: Keeper>(
     ensures carries { IfOk result (λ reply. CarriesOut K.kept
         (record { node = work.node; goal = goal_in work; index = index; cuts = cuts.now })
         (databases.old, held.old) reply (databases.new, held.new)) }
+    ensures learns { IfOk result (λ reply. LearnsAt K.kept
+        (record { node = work.node; goal = goal_in work; index = index; cuts = cuts.now })
+        (databases.old, held.old) held.new) }
 {
     match plan_at(alloc, &mut databases[index], held, cuts, work)? {
         Plan::Told(reply) => Ok(reply),
@@ -232,6 +239,9 @@ pub fn take_work<K: Keeper>(
         (record { started = on.entry.started.now; cuts = on.entry.cuts.now })
         (record { bases = bases_of K.kept databases.old; held = held.old }) reply
         (record { bases = bases_of K.kept databases.new; held = held.new })) }
+    ensures learns { IfOk result (λ reply. Learns (goal_in work) work.node
+        (record { started = on.entry.started.now; cuts = on.entry.cuts.now })
+        (record { bases = bases_of K.kept databases.old; held = held.old }) held.new) }
 {
     let index = match turn_of(alloc, databases, on.started, work.node)? {
         Reached::At(index) => index,

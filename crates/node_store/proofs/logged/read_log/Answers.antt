@@ -12,13 +12,15 @@ use Rattle.node_store.proofs.Lookups.{look_stops, look_fits}
 use Rattle.node_store.proofs.logged.read_log.Goals as goal
 
 pub returns-in-Ok-clause-looks : goal.returns-in-Ok-clause-looks
-returns-in-Ok-clause-looks g c p ready memory =
+returns-in-Ok-clause-looks g c p ready memory ended =
     let b = base_of g.K.Keeper.kept c.args.database.now in
     let at = up_at ready c.requires.up in
     let seen = sight-idle b.kept (c.args.database.now.idle c.requires.up) ∙ ready.fits.held.1 in
     let m = ready.fits.held.0 in
+    let past = c.later_of-first.ensures.over c.args.origin (seen_as c.args.old.now).xmin (logs_in p.node)
+    (c.first_of.ensures.over p ready) ended in
     let found = c.in-Ok.ensures.says m (logs_in p.node) seen (holds_logs p.node m ready.fits.held.2.node_held)
-    ready.spelled.logged (c.first_of-first.ensures.over p ready) in (
+    ready.spelled.logged past in (
       λ n is. subst (λ (o : Option Node). HasLogged c.args.origin (delta c.args.origin c.args.tables.now
           (seen_as c.args.old.now) (seen_as c.args.new.now) (logs_in o)) c.in-Ok.found.rows c.in-Ok.found.actions) is
           found,
@@ -30,11 +32,13 @@ returns-in-Ok-clause-looks g c p ready memory =
     )
 
 pub returns-in-Err-clause-looks : goal.returns-in-Err-clause-looks
-returns-in-Err-clause-looks g c p ready memory =
+returns-in-Err-clause-looks g c p ready memory ended =
     let b = base_of g.K.Keeper.kept c.args.database.now in
     let at = up_at ready c.requires.up in
     let seen = sight-idle b.kept (c.args.database.now.idle c.requires.up) ∙ ready.fits.held.1 in
     let m = ready.fits.held.0 in
+    let past = c.later_of-first.ensures.over c.args.origin (seen_as c.args.old.now).xmin (logs_in p.node)
+    (c.first_of.ensures.over p ready) ended in
     look_stops at (record {
       held = c.in-Err.ensures.safe.held;
       down = c.fall.ensures.down;
@@ -42,4 +46,4 @@ returns-in-Err-clause-looks g c p ready memory =
       fault_is = c.fall.ensures.fault;
     }) memory
     (c.in-Err.ensures.says m (logs_in p.node) seen (holds_logs p.node m ready.fits.held.2.node_held)
-    ready.spelled.logged (c.first_of-first.ensures.over p ready))
+    ready.spelled.logged past)

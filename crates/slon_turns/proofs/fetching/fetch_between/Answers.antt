@@ -40,6 +40,7 @@ returns-in-Ok-Refused g c =
       brings = λ v can. let look = looked.looks v.post.place v.provider v.fits.ready v.ready refl in
           refused_between v refusal new
           (found_by v c.in-Some.event.now (Refused refusal) (sym c.in-Some.ensures) look.0, calm) (look.1, look.2);
+      bounds = refl;
       names = (refl, refl);
     }
 

@@ -128,6 +128,7 @@ returns-then-spots g c =
         runs = runs;
         brings = brings;
       }) c.fetch_between.ensures.runs c.fetch_between.ensures.brings;
+      bounds = c.fetch_between.ensures.bounds;
     }
 
 pub returns-else-spots : goal.returns-else-spots
@@ -163,4 +164,5 @@ returns-else-spots g c =
         runs = runs;
         brings = brings;
       }) copy.ensures.runs copy.ensures.brings;
+      bounds = copy.ensures.bounds;
     }

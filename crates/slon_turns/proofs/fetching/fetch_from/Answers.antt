@@ -22,6 +22,7 @@ returns-in_default g c =
       runs = runs_quiet (refused.NoNode a.copying.provider) (bases_of kept items) refl;
       brings = provider_missed kept a c.args.index items c.args.held.now
           (sym c.index_of_node.ensures ∙ c.in_default.is);
+      bounds = refl;
     }
 
 pub returns-then-not-is_up : goal.returns-then-not-is_up
@@ -41,6 +42,7 @@ returns-then-not-is_up g c =
           (replied.Refused (refused.Down n)) (items, c.args.held.now)) (sym c.in_ok-database.ensures)
           (provider_down kept a c.args.index c.in-Some.to items c.args.held.now e (c.requires.distinct, at)
           (held, sym c.is_up.ensures ∙ c.if-not-is_up.true));
+      bounds = refl;
     }
 
 pub fetch_both-requires-clause-visiting : goal.fetch_both-requires-clause-visiting
@@ -87,4 +89,5 @@ returns g c =
           ap (λ z. z.database.state.up)
           (held ∙ get_or_default items to e x (found_inside (is_this c.args.trip.copying.provider) items to x at))
           ∙ sym c.is_up.ensures ∙ c.if-not-is_up.false)) c.fetch_both.ensures.brought;
+      bounds = c.fetch_both.ensures.bounds;
     }

@@ -20,7 +20,8 @@ loop-kept-init g c =
     let kept = g.K.Keeper.kept in
     let ds = c.args.databases.now in
     let way = c.args.way in
-    let t : Way = record { node = way.node; index = way.index; cuts = way.cuts.now } in
+    let t : Way =
+    record { node = way.node; index = way.index; cuts = way.cuts.now; bounds = c.args.bounds.now } in
     let e = seen_event c.args.event.now in
     let all = c.args.sets in
     let items = c.into_iter-kept-iterator.ensures.into_iter_gives.0 ∙ c.into_vec-kept-items.ensures in
@@ -56,7 +57,8 @@ loop-kept-preserved g c =
     let mids = c.loop-kept.databases in
     let news = c.follow_one.new.databases in
     let way = c.args.way in
-    let t : Way = record { node = way.node; index = way.index; cuts = way.cuts.now } in
+    let t : Way =
+    record { node = way.node; index = way.index; cuts = way.cuts.now; bounds = c.args.bounds.now } in
     let e = seen_event c.args.event.now in
     let all = c.args.sets in
     let left = into_iter_items c.next.new.self in
@@ -85,7 +87,8 @@ returns-in-Told g c =
     let mids = c.loop-kept.databases in
     let news = c.follow_one.new.databases in
     let way = c.args.way in
-    let t : Way = record { node = way.node; index = way.index; cuts = way.cuts.now } in
+    let t : Way =
+    record { node = way.node; index = way.index; cuts = way.cuts.now; bounds = c.args.bounds.now } in
     let e = seen_event c.args.event.now in
     let all = c.args.sets in
     let k = c.in-Some.kept in
@@ -106,7 +109,8 @@ returns g c =
     let kept = g.K.Keeper.kept in
     let ds = c.args.databases.now in
     let way = c.args.way in
-    let t : Way = record { node = way.node; index = way.index; cuts = way.cuts.now } in
+    let t : Way =
+    record { node = way.node; index = way.index; cuts = way.cuts.now; bounds = c.args.bounds.now } in
     let e = seen_event c.args.event.now in
     let all = c.args.sets in
     let last = c.loop-kept.invariant in

@@ -17,6 +17,6 @@ invariant-loop-kept g l =
       can : AllByRecursion CanFetch l.fetches;
       read : AreRead g.K.Keeper.kept l.way.index l.fn.databases l.databases;
       leaves : LeavesSets g.K.Keeper.kept
-          (record { node = l.way.node; index = l.way.index; cuts = l.way.cuts.now }) (seen_event l.event) l.fn.sets left
-          l.fetches l.fn.databases l.databases;
+          (record { node = l.way.node; index = l.way.index; cuts = l.way.cuts.now; bounds = l.bounds })
+          (seen_event l.event) l.fn.sets left l.fetches l.fn.databases l.databases;
     }

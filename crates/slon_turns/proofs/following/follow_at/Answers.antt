@@ -26,7 +26,8 @@ returns-in_default g c =
     let kept = g.K.Keeper.kept in
     let items = c.args.databases.now in
     let k = seen_kept c.args.kept in
-    let r : Reader = record { node = c.args.node; event = seen_event c.args.event.now } in
+    let r : Reader =
+    record { node = c.args.node; event = seen_event c.args.event.now; known = c.args.known } in
     record {
       can = tt;
       runs = runs_quiet (refused.NoNode k.provider) (bases_of kept items) refl;
@@ -38,7 +39,8 @@ returns-then-not-is_up g c =
     let kept = g.K.Keeper.kept in
     let items = c.args.databases.now in
     let k = seen_kept c.args.kept in
-    let r : Reader = record { node = c.args.node; event = seen_event c.args.event.now } in
+    let r : Reader =
+    record { node = c.args.node; event = seen_event c.args.event.now; known = c.args.known } in
     let to = c.in-Some.to in
     let x = c.index-databases-to.result in
     let at : position (is_this k.provider) items ≡ Some to = sym c.index_of_node.ensures ∙ c.in-Some.is in
@@ -86,7 +88,8 @@ returns g c =
     let kept = g.K.Keeper.kept in
     let items = c.args.databases.now in
     let k = seen_kept c.args.kept in
-    let r : Reader = record { node = c.args.node; event = seen_event c.args.event.now } in
+    let r : Reader =
+    record { node = c.args.node; event = seen_event c.args.event.now; known = c.args.known } in
     let to = c.in-Some.to in
     let x = c.index-databases-to.result in
     let q = get_or items to x in

@@ -1,4 +1,4 @@
-use Rattle.std.proofs.Common.{get_or, None, Some, subst}
+use Rattle.std.proofs.Common.{get_or, set, None, Some, subst}
 use Rattle.std.proofs.lemmas.List.{get_or_default}
 use Rattle.std.proofs.lemmas.Result.{IfOk-weaker}
 use Rattle.event_store.specs.Seen.{seen_event}
@@ -6,7 +6,7 @@ use Rattle.app_store.specs.Base.{base_of}
 use Rattle.remote_worker.specs.Keeping.{seen_kept}
 use Rattle.slonik_exec.specs.Answering.{AtSeat, Checks}
 use Rattle.slonik_exec.proofs.Lifting.{runs_worked}
-use Rattle.slon_turns.specs.Following.{Way}
+use Rattle.slon_turns.specs.Following.{FollowsAt, Way}
 use Rattle.slon_turns.specs.Planning.{link_checks}
 use Rattle.slon_turns.proofs.Mids.{mids_distinct, worked_here}
 use Rattle.slon_turns.proofs.Providers.{DoneAt, Linked, link_ended, link_passed, look_done, runs_behind}
@@ -26,8 +26,9 @@ returns-in-Some g c =
     let x = get_or items way.index c.index-databases-way.result in
     let y = c.check_link.new.own in
     let held = get_or_default items way.index c.index-databases-way.result x c.requires.seat.0 in
-    let l : Linked kept (record { node = way.node; index = way.index; cuts = way.cuts.now }) k items x y (Some reply)
-    = record {
+    let t : Way =
+    record { node = way.node; index = way.index; cuts = way.cuts.now; bounds = c.args.bounds.now } in
+    let l : Linked kept t k items x y (Some reply) = record {
       done = record {
         distinct = c.requires.distinct;
         inside = c.requires.seat.0;
@@ -69,7 +70,8 @@ returns g c =
     let way = c.args.way in
     let k = seen_kept c.args.kept in
     let e = seen_event c.args.event.now in
-    let t : Way = record { node = way.node; index = way.index; cuts = way.cuts.now } in
+    let t : Way =
+    record { node = way.node; index = way.index; cuts = way.cuts.now; bounds = c.args.bounds.now } in
     let x = get_or items way.index c.index-databases-way.result in
     let y = c.check_link.new.own in
     let l : Linked kept t k items x y None = record {
@@ -89,6 +91,8 @@ returns g c =
       can = c.follow_at.ensures.can;
       runs = IfOk-weaker c.follow_at.result _ _ (λ given runs. runs_behind news given (look_done l.done l.checks) runs)
           c.follow_at.ensures.runs;
-      follows = IfOk-weaker c.follow_at.result _ _ (λ given follows. link_passed {t = t} news e k given l follows)
-          c.follow_at.ensures.follows;
+      follows = IfOk-weaker c.follow_at.result _ _ (λ given follows.
+          link_passed {t = t} news e k given l
+          (subst (λ n. FollowsAt kept (record { node = way.node; event = e; known = n }) k (set items way.index y) given
+          news) c.start_of-known.ensures follows)) c.follow_at.ensures.follows;
     }

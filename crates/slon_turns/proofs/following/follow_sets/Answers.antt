@@ -1,29 +1,35 @@
-use Rattle.std.proofs.Common.{◌≡◌, ◌∙◌, true, get_or, set, None, Some, map, sym, subst}
+use Rattle.std.proofs.Common.{◌≡◌, ◌∙◌, ℕ, true, List, get_or, set, None, Some, map, refl, sym, ap, subst}
 use Rattle.std.proofs.lemmas.List.{get_or_default}
-use Rattle.std.proofs.lemmas.Result.{IfOk-weaker}
 use Rattle.std.specs.List.{AllByRecursion}
 use Rattle.store_rows.specs.Rows.{IsId}
+use Rattle.store_rows.specs.Space.{AllOf}
 use Rattle.event_store.specs.declared.event.Event.{Event}
 use Rattle.event_store.specs.Seen.{seen_event}
 use Rattle.app_store.specs.Base.{base_of}
 use Rattle.remote_worker.specs.Keeping.{seen_kept}
-use Rattle.remote_worker.specs.Loading.{CanFetch, CanLoad}
+use Rattle.remote_worker.specs.Loading.{CanFetch, CanLoad, last_logged}
 use Rattle.remote_worker.specs.Working.{IsAble, waits_as}
 use Rattle.slonik_exec.specs.Databases.{bases_of}
 use Rattle.slonik_exec.proofs.Distinct.{distinct_tries}
 use Rattle.slonik_exec.proofs.Lifting.{runs_worked}
 use Rattle.slonik_exec.proofs.Trying.{runs_then}
+use Rattle.slon_turns.specs.declared.bounds.Bound.{Bound}
 use Rattle.slon_turns.specs.declared.following.Looked.TheVariants.{Told, Gives}
+use Rattle.slon_turns.specs.Bounds.{IsKnownBy, learned}
 use Rattle.slon_turns.specs.Following.{CanGive, FollowsAll, RunsLooked, Way}
 use Rattle.slon_turns.proofs.Follows.{seat_same}
-use Rattle.slon_turns.proofs.Listens.{if_both}
+use Rattle.slon_turns.proofs.Learning.{sets_learn, sets_same}
 use Rattle.slon_turns.proofs.Mids.{worked_here}
-use Rattle.slon_turns.proofs.Onwards.{EndsOnward, event_same, sets_ended, sets_stopped}
+use Rattle.slon_turns.proofs.Onwards.{EndsOnward, event_same, sets_ended, sets_known, sets_stopped}
 use Rattle.slon_turns.proofs.Several.{AreRead}
 use Rattle.slon_turns.proofs.following.follow_sets.Goals as goal
 
 pub follow_all-requires-clause-can : goal.follow_all-requires-clause-can
 follow_all-requires-clause-can g c = (subst IsId (sym c.requires.own) c.requires.can.0.1, c.requires.can.1)
+
+-- the way of the node, by what it knows
+abbrev way_by : (node index : ℕ) (cuts : List (ℕ × ℕ)) → List Bound → Way
+way_by node index cuts bounds = record { node = node; index = index; cuts = cuts; bounds = bounds }
 
 pub returns-in-Told : goal.returns-in-Told
 returns-in-Told g c =
@@ -31,7 +37,8 @@ returns-in-Told g c =
     let ds = c.args.databases.now in
     let news = c.follow_all.new.databases in
     let way = c.args.way in
-    let t : Way = record { node = way.node; index = way.index; cuts = way.cuts.now } in
+    let held = c.args.held.now in
+    let t = way_by way.node way.index way.cuts.now held.bounds.items in
     let ks = map seen_kept c.args.sets in
     let found = c.in_ok-reply.ensures in
     record {
@@ -39,7 +46,11 @@ returns-in-Told g c =
       follows = sets_stopped {x = c.args.round} kept t ds news (λ o is.
           subst (λ (e : Event). FollowsAll kept t (seen_event e) ks ds (Told c.in-Told.reply) news)
           (event_same (sym c.in-Some.ensures) is)
-          (subst (λ o. FollowsAll kept t (seen_event c.in-Some.event.now) ks ds o news) c.in-Told.is found.follows));
+          (subst (λ bs. FollowsAll kept (way_by way.node way.index way.cuts.now bs) (seen_event c.in-Some.event.now) ks
+          ds (Told c.in-Told.reply) news) c.as_slice.ensures.value
+          (subst (λ o. FollowsAll kept (way_by way.node way.index way.cuts.now c.as_slice.result.now)
+          (seen_event c.in-Some.event.now) ks ds o news) c.in-Told.is found.follows)));
+      learns = sets_same kept t c.args.round ks (ds, held);
     }
 
 pub end_at-requires-clause-able : goal.end_at-requires-clause-able
@@ -82,14 +93,15 @@ end_at-requires-clause-node g c =
     let held = get_or_default news i c.index-databases-way.result y seat.0 in
     (seat.1 y held).node y held
 
-pub returns-in-Gives : goal.returns-in-Gives
-returns-in-Gives g c =
+pub returns-in_ok-learn-in-Gives : goal.returns-in_ok-learn-in-Gives
+returns-in_ok-learn-in-Gives g c =
     let kept = g.K.Keeper.kept in
     let ds = c.args.databases.now in
     let news = c.follow_all.new.databases in
     let way = c.args.way in
     let i = way.index in
-    let t : Way = record { node = way.node; index = i; cuts = way.cuts.now } in
+    let old = c.args.held.now in
+    let t = way_by way.node i way.cuts.now old.bounds.items in
     let x = c.args.round in
     let ks = map seen_kept c.args.sets in
     let fetches = c.in-Gives.fetches in
@@ -101,22 +113,44 @@ returns-in-Gives g c =
     let y = get_or news i c.index-databases-way.result in
     let z = c.end_at.new.own in
     let held = get_or_default news i c.index-databases-way.result y seat.0 in
-    let follows : (o : Event) → waits_as x.taken.origin x.taken.state.number c.args.held.now.queue ≡ Some o →
+    let follows : (o : Event) → waits_as x.taken.origin x.taken.state.number old.queue ≡ Some o →
     FollowsAll kept t (seen_event o) ks ds (Gives fetches) news = λ o is.
     subst (λ (e : Event). FollowsAll kept t (seen_event e) ks ds (Gives fetches) news)
     (event_same (sym c.in-Some.ensures) is)
-    (subst (λ o. FollowsAll kept t (seen_event c.in-Some.event.now) ks ds o news) c.in-Gives.is found.follows) in
+    (subst (λ bs. FollowsAll kept (way_by way.node i way.cuts.now bs) (seen_event c.in-Some.event.now) ks ds
+    (Gives fetches) news) c.as_slice.ensures.value
+    (subst (λ o. FollowsAll kept (way_by way.node i way.cuts.now c.as_slice.result.now)
+    (seen_event c.in-Some.event.now) ks ds o news) c.in-Gives.is found.follows)) in
+    let ended = c.in_ok-reply-in-Gives.ensures in
+    let reply = c.in_ok-reply-in-Gives.reply in
+    let known = c.known_by-known.result in
+    let last = c.last_logged.ensures ∙ ap last_logged c.as_slice-in-Gives.ensures.value in
     record {
-      runs = IfOk-weaker c.end_at.result _ _ (λ reply answers.
-          runs_then reply (bases_of kept ds) (bases_of kept news) (bases_of kept (set news i z)) runs.0
-          (runs_worked reply (worked_here kept news i y z distinct (seat.0, held) c.end_at.ensures.name) answers))
-          c.end_at.ensures.answers;
-      follows = if_both c.end_at.result (λ reply answers ends.
-          sets_ended {t = t} {x = x} z fetches (read, c.requires.seat.0) follows (λ e at.
+      runs = runs_then reply (bases_of kept ds) (bases_of kept news) (bases_of kept (set news i z)) runs.0
+          (runs_worked reply (worked_here kept news i y z distinct (seat.0, held) c.end_at.ensures.name) ended.answers);
+      follows = sets_known {mid = c.end_at.new.held} kept ds (set news i z) (refl, refl)
+          (sets_ended {t = t} {x = x} z fetches (read, c.requires.seat.0) follows (λ e at.
           let same = at ∙ get_or_default news i e c.index-databases-way.result seat.0 in
-          subst (λ q. (z.name ≡ q.name) × EndsOnward x fetches q.name (base_of kept q.database, c.args.held.now) reply
+          subst (λ q. (z.name ≡ q.name) × EndsOnward x fetches q.name (base_of kept q.database, old) reply
           (base_of kept z.database, c.end_at.new.held)) (sym same) (
             c.end_at.ensures.name,
-            record { fetched = c.with-fetched.result; with = c.with-fetched.ensures; answers = answers; ends = ends },
-          ))) c.end_at.ensures.answers c.end_at.ensures.ends;
+            record {
+              fetched = c.with-fetched.result;
+              with = c.with-fetched.ensures;
+              answers = ended.answers;
+              ends = ended.ends;
+            },
+          )));
+      learns = sets_learn {kept = kept} {t = t} {x = x} {ks = ks} (record {
+        news = news;
+        fetches = fetches;
+        known = known;
+        xmin = c.in-Some.event.now.taken.xmin;
+        follows = follows;
+        each = λ e at. subst (λ (o : Event). AllOf (IsKnownBy (seen_event o) (last_logged fetches)) known)
+            (event_same (sym c.in-Some.ensures) at)
+            (subst (λ n. AllOf (IsKnownBy (seen_event c.in-Some.event.now) n) known) last c.known_by-known.ensures);
+      }) (record c.end_at.new.held { bounds = c.learn.new.bounds })
+          (c.in_ok-learn-in-Gives.ensures
+          ∙ ap (λ b. learned c.in-Some.event.now.taken.xmin known b.items) c.end_at.ensures.bounds);
     }

@@ -21,7 +21,8 @@ SaysAt r k = OfNode (λ n refusal. first_refusal (provider_checks r.node k.provi
 
 pub returns-in-Some-clause-takes : goal.returns-in-Some-clause-takes
 returns-in-Some-clause-takes g c =
-    let r : Reader = record { node = c.args.node; event = seen_event c.args.event.now } in
+    let r : Reader =
+    record { node = c.args.node; event = seen_event c.args.event.now; known = c.args.known } in
     let k = seen_kept c.args.kept in
     let refusal = c.in-Some.refusal in
     let looks = c.in-Ok.ensures.looks in
@@ -29,11 +30,12 @@ returns-in-Some-clause-takes g c =
     (calm_quiet refusal (subst IsCalm c.in-Some.is c.in-Ok.ensures.calm))
     (looked_by (SaysAt r k) {was = Ok c.in-Ok.refusal} refl looks.acts (looks.looks, looks.same))
     (λ p n ready is says. says n is ∙ c.in-Some.is) in
-    (done.checks, done.refuses)
+    (done.checks, λ p n ready is past. done.refuses p n ready is)
 
 pub returns-in-None-clause-takes : goal.returns-in-None-clause-takes
 returns-in-None-clause-takes g c =
-    let r : Reader = record { node = c.args.node; event = seen_event c.args.event.now } in
+    let r : Reader =
+    record { node = c.args.node; event = seen_event c.args.event.now; known = c.args.known } in
     let k = seen_kept c.args.kept in
     let looks = c.in-Ok.ensures.looks in
     let new = base_of g.K.Keeper.kept c.take_log.new.provider.database in
@@ -46,7 +48,8 @@ pub returns-in_ok-told-in-Err : goal.returns-in_ok-told-in-Err
 returns-in_ok-told-in-Err g c =
     let reply = c.in_ok-told-in-Err.field-0 in
     let fault = c.in-Err.fault in
-    let r : Reader = record { node = c.args.node; event = seen_event c.args.event.now } in
+    let r : Reader =
+    record { node = c.args.node; event = seen_event c.args.event.now; known = c.args.known } in
     let k = seen_kept c.args.kept in
     let looks = c.in-Err.ensures.looks in
     let done = stops c.args.provider.now.name (Due r k)
@@ -54,4 +57,4 @@ returns-in_ok-told-in-Err g c =
       is = c.in_ok-told-in-Err.ensures.reply;
       memory = not_short c.told.result reply fault c.in_ok-told-in-Err.was c.told.ensures.memory;
     }) in
-    record { can = tt; takes = (done.checks, done.refuses); name = refl }
+    record { can = tt; takes = (done.checks, λ p n ready is past. done.refuses p n ready is); name = refl }

@@ -1,4 +1,4 @@
-use Rattle.std.proofs.Common.{◌∙◌, sym, ap, subst, refl}
+use Rattle.std.proofs.Common.{◌≡◌, ◌∙◌, sym, ap, subst, refl}
 use Rattle.std.specs.FinMap.{get, insert, remove}
 use Rattle.slon_model.specs.declared.reply.Refusal.TheVariants as refused
 use Rattle.slonik_exec.specs.Databases.{bases_of}
@@ -6,10 +6,11 @@ use Rattle.slonik_exec.specs.Reached.{IsQuietly}
 use Rattle.slonik_exec.specs.Turning.{HasTurn, IsSeatHere, IsThisAt}
 use Rattle.slonik_exec.proofs.Seating.{runs_quiet}
 use Rattle.slon_turns.specs.declared.held.Held.{Held}
-use Rattle.slon_turns.specs.Holding.{IsTaken}
+use Rattle.slon_turns.specs.Holding.{IsTaken, KeepBounds}
 use Rattle.slon_turns.specs.Turning.{Polls}
 use Rattle.slon_turns.proofs.Turned.{turn_refused, server_missed, self_listed, Found, meeting_at}
 use Rattle.slon_turns.proofs.Turned.{runs_polled, polls_under, own_named}
+use Rattle.slon_turns.proofs.Waiting.{bounds_beside, taken_bounds}
 use Rattle.slon_turns.proofs.turn.take_poll.Goals as goal
 
 pub returns-in-Refused : goal.returns-in-Refused
@@ -23,6 +24,7 @@ returns-in-Refused g c =
         quiet,
         subst (HasTurn kept c.args.listen.node c.args.started.now items) c.in-Refused.is c.in_ok-from.ensures.turns,
       );
+      bounds = λ name. refl;
     }
 
 pub returns-in_default : goal.returns-in_default
@@ -36,6 +38,7 @@ returns-in_default g c =
       runs = runs_quiet (refused.NoNode c.args.listen.server) (bases_of kept items) refl;
       polls = server_missed kept c.args.listen c.args.started.now items c.args.held.now c.in-At.from
           (sym c.index_of_node.ensures ∙ c.in_default.is) (turns, at);
+      bounds = λ name. refl;
     }
 
 pub returns-then-listen : goal.returns-then-listen
@@ -49,6 +52,7 @@ returns-then-listen g c =
       runs = runs_quiet (refused.NotListed c.args.listen.server) (bases_of kept items) refl;
       polls = self_listed kept c.args.listen c.args.started.now items c.args.held.now c.in-At.from
           c.if-listen.true (turns, at);
+      bounds = λ name. refl;
     }
 
 pub poll_both-requires-clause-meeting : goal.poll_both-requires-clause-meeting
@@ -83,16 +87,17 @@ returns g c =
     } in
     let sliced = c.as_slice.ensures.value in
     let own : Held = record c.take-own.result { queue = c.poll_both.new.queue } in
+    let taken = subst (λ n. IsTaken (get held n) c.take-own.result) sliced c.take-own.ensures.is in
+    let same = ap (λ n. insert (remove held n) key own) (sym sliced)
+    ∙ ap (λ m. insert m key own) (sym c.take-own.ensures.map) ∙ sym c.in_ok-insert.ensures.ok in
     record {
       runs = runs_polled p f;
       polls = subst (λ q. Polls c.args.listen c.args.started.now
           (record { bases = bases_of kept items; held = held }) c.in_ok-reply.reply
-          (record { bases = bases_of kept c.poll_both.new.databases; held = q }))
-          (ap (λ n. insert (remove held n) key own) (sym sliced)
-          ∙ ap (λ m. insert m key own) (sym c.take-own.ensures.map)
-          ∙ sym c.in_ok-insert.ensures.ok)
-          (polls_under c.take-own.result held key p f (
-            c.in_ok-key.ensures ∙ own_named p f c.index-databases-from.result,
-            subst (λ n. IsTaken (get held n) c.take-own.result) sliced c.take-own.ensures.is,
-          ));
+          (record { bases = bases_of kept c.poll_both.new.databases; held = q })) same
+          (polls_under c.take-own.result held key p f
+          (c.in_ok-key.ensures ∙ own_named p f c.index-databases-from.result, taken));
+      bounds = subst (KeepBounds held) same
+          (bounds_beside (λ old new. new ≡ old) held key own (λ bounds. refl)
+          (sym (taken_bounds (get held key) c.take-own.result taken)));
     }

@@ -8,7 +8,8 @@ use Rattle.slonik_exec.proofs.Seating.{runs_quiet}
 use Rattle.slon_model.specs.Turns.{Switches}
 use Rattle.slon_turns.specs.Applying.{goal_in}
 use Rattle.slon_turns.specs.Holding.{IsTaken}
-use Rattle.slon_turns.specs.Working.{Works}
+use Rattle.slon_turns.specs.Working.{Learns, Turn, Works}
+use Rattle.slon_turns.proofs.Learning.{learns_carried, learns_nothing}
 use Rattle.slon_turns.proofs.Taking.{work_refused, works_carried}
 use Rattle.slon_turns.proofs.working.take_work.Goals as goal
 
@@ -24,6 +25,8 @@ returns-in-Refused g c =
         quiet,
         subst (HasTurn kept c.args.work.node on.started items) c.in-Refused.is c.in_ok-index.ensures.turns,
       );
+      learns = learns_nothing (goal_in c.args.work) c.args.work.node on
+          (record { bases = bases_of kept items; held = c.args.held.now });
     }
 
 pub returns : goal.returns
@@ -36,25 +39,31 @@ returns g c =
     let key = c.in_ok-key.key.items in
     let here = subst (IsSeatHere {g = g.K.Keeper} items) c.in-At.is c.in_ok-index.ensures.here in
     let on : Switches = record { started = c.args.on.started.now; cuts = c.args.on.cuts.now } in
+    let t : Turn =
+    record { node = c.args.work.node; goal = goal_in c.args.work; index = i; cuts = on.cuts } in
     let turns = subst (HasTurn kept c.args.work.node on.started items) c.in-At.is c.in_ok-index.ensures.turns in
     let held = get_or_default items i c.index-databases-index.result x here.0 in
     let sliced = c.as_slice.ensures.value in
     let own = c.work_at.new.held in
+    let taken = subst (λ n. IsTaken (get held_old n) c.take-own.result) sliced c.take-own.ensures.is in
+    let same = ap (λ n. insert (remove held_old n) key own) (sym sliced)
+    ∙ ap (λ m. insert m key own) (sym c.take-own.ensures.map) ∙ sym c.in_ok-insert.ensures.ok in
     record {
       runs = c.in_ok-reply.ensures.runs;
       works = subst (λ q. Works (goal_in c.args.work) c.args.work.node on
           (record { bases = bases_of kept items; held = held_old }) c.in_ok-reply.reply
-          (record { bases = bases_of kept c.work_at.new.databases; held = q }))
-          (ap (λ n. insert (remove held_old n) key own) (sym sliced)
-          ∙ ap (λ m. insert m key own) (sym c.take-own.ensures.map)
-          ∙ sym c.in_ok-insert.ensures.ok)
+          (record { bases = bases_of kept c.work_at.new.databases; held = q })) same
           (works_carried {kept = kept} held_old key (record {
             old = (items, c.take-own.result);
             reply = c.in_ok-reply.reply;
             new = (c.work_at.new.databases, own);
             carries = c.in_ok-reply.ensures.carries;
-          }) x (turns, refl) held (
-            c.in_ok-key.ensures,
-            subst (λ n. IsTaken (get held_old n) c.take-own.result) sliced c.take-own.ensures.is,
-          ));
+          }) x (turns, refl) held (c.in_ok-key.ensures, taken));
+      learns = subst (Learns (goal_in c.args.work) c.args.work.node on
+          (record { bases = bases_of kept items; held = held_old })) same
+          (learns_carried {kept = kept} {t = t} held_old key (record {
+            old = (items, c.take-own.result);
+            left = own;
+            learns = c.in_ok-reply.ensures.learns;
+          }) x (turns, refl) held (c.in_ok-key.ensures, taken));
     }

@@ -11,6 +11,7 @@ use Rattle.slon_turns.specs.declared.planning.Plan.TheVariants.{Bring, Follow}
 use Rattle.slon_turns.specs.Applying.{EndsWith, goal_in}
 use Rattle.slon_turns.specs.Planning.{CanPlan, PlanRuns, PlansAt, PlansFrom}
 use Rattle.slon_turns.specs.Working.{Turn}
+use Rattle.slon_turns.proofs.Learning.{learns_followed, learns_same}
 use Rattle.slon_turns.proofs.Listens.{if_both}
 use Rattle.slon_turns.proofs.Mids.{LookedAt, mids_distinct, mids_inside, mids_seat, mids_try, worked_here}
 use Rattle.slon_turns.proofs.Onwards.{carries_followed}
@@ -47,6 +48,7 @@ returns-in-Told g c =
         held = held;
         name = c.in_ok-reply.ensures.name;
       }) runs plans;
+      learns = learns_same kept t items old c.plan_at.new.held c.plan_at.ensures.bounds;
     }
 
 pub end_at-requires-clause-able : goal.end_at-requires-clause-able
@@ -142,7 +144,7 @@ returns-in-Has-clause-carries g c =
     let from = subst (PlansFrom c.args.work.origin) c.in-Has.is c.in_ok-reply.ensures.from in
     if_both c.end_at.result (λ reply answers ends.
     carries_had {kept = kept} {t = t} {f = c.in-Has.fetched} z (
-      record { look = look; plans = plans; queue = c.plan_at.ensures.queue },
+      record { look = look; plans = plans; queue = c.plan_at.ensures.queue; bounds = c.plan_at.ensures.bounds },
       from,
     ) name answers ends) answers ends
 
@@ -242,8 +244,15 @@ returns-in-Bring-clause-carries g c =
     (base_of kept y.database, mid)) c.in-Bring.is c.in_ok-reply.ensures.plans in
     let from = subst (PlansFrom c.args.work.origin) c.in-Bring.is c.in_ok-reply.ensures.from in
     IfOk-weaker c.fetch_from.result _ _ (λ reply brings.
-    carries_brought {kept = kept} {t = t} {w = c.in-Bring.taken} {c = c.in-Bring.copying} c.fetch_from.new.databases
-    (record { look = look; plans = plans; queue = c.plan_at.ensures.queue }, from) brings)
+    carries_brought {kept = kept} {t = t} {w = c.in-Bring.taken} {c = c.in-Bring.copying} c.fetch_from.new.databases (
+      record {
+        look = look;
+        plans = plans;
+        queue = c.plan_at.ensures.queue;
+        bounds = c.plan_at.ensures.bounds;
+      },
+      from,
+    ) brings)
     c.fetch_from.ensures.brings
 
 pub follow_from-requires-clause-can : goal.follow_from-requires-clause-can
@@ -347,6 +356,64 @@ returns-in-Follow-clause-carries g c =
     (base_of kept y.database, mid)) c.in-Follow.is c.in_ok-reply.ensures.plans in
     let from = subst (PlansFrom c.args.work.origin) c.in-Follow.is c.in_ok-reply.ensures.from in
     IfOk-weaker c.follow_from.result _ _ (λ reply follows.
-    carries_followed {kept = kept} {t = t} {w = c.in-Follow.taken} c.follow_from.new.databases
-    (record { look = look; plans = plans; queue = c.plan_at.ensures.queue }, from) follows)
+    carries_followed {kept = kept} {t = t} {w = c.in-Follow.taken} c.follow_from.new.databases (
+      record {
+        look = look;
+        plans = plans;
+        queue = c.plan_at.ensures.queue;
+        bounds = c.plan_at.ensures.bounds;
+      },
+      from,
+    ) follows)
     c.follow_from.ensures.follows
+
+pub returns-in-Has-clause-learns : goal.returns-in-Has-clause-learns
+returns-in-Has-clause-learns g c =
+    let t : Turn =
+    record { node = c.args.work.node; goal = goal_in c.args.work; index = c.args.index; cuts = c.args.cuts.now } in
+    IfOk-weaker c.end_at.result _ _ (λ reply answers.
+    learns_same g.K.Keeper.kept t c.args.databases.now c.args.held.now c.end_at.new.held
+    (c.end_at.ensures.bounds ∙ c.plan_at.ensures.bounds)) c.end_at.ensures.answers
+
+pub returns-in-Bring-clause-learns : goal.returns-in-Bring-clause-learns
+returns-in-Bring-clause-learns g c =
+    let t : Turn =
+    record { node = c.args.work.node; goal = goal_in c.args.work; index = c.args.index; cuts = c.args.cuts.now } in
+    IfOk-weaker c.fetch_from.result _ _ (λ reply runs.
+    learns_same g.K.Keeper.kept t c.args.databases.now c.args.held.now c.fetch_from.new.held
+    (c.fetch_from.ensures.bounds ∙ c.plan_at.ensures.bounds)) c.fetch_from.ensures.runs
+
+pub returns-in-Follow-clause-learns : goal.returns-in-Follow-clause-learns
+returns-in-Follow-clause-learns g c =
+    let kept = g.K.Keeper.kept in
+    let items = c.args.databases.now in
+    let i = c.args.index in
+    let inside = c.requires.seat.0 in
+    let x = get_or items i c.index-databases-index.result in
+    let y = c.plan_at.new.own in
+    let held = get_or_default items i c.index-databases-index.result x inside in
+    let old = c.args.held.now in
+    let mid = c.plan_at.new.held in
+    let t : Turn = record {
+      node = c.args.work.node;
+      goal = goal_in c.args.work;
+      index = i;
+      cuts = c.args.cuts.now;
+    } in
+    let runs = subst (λ p. PlanRuns x.name (base_of kept x.database) p (base_of kept y.database)) c.in-Follow.is
+    c.in_ok-reply.ensures.runs in
+    let look : LookedAt kept items i x y = record {
+      distinct = c.requires.distinct;
+      inside = inside;
+      held = held;
+      name = c.in_ok-reply.ensures.name;
+      acts = runs.0;
+      same = runs.1;
+    } in
+    let plans = subst (λ p. PlansAt t.goal t.cuts x.name (base_of kept x.database, old) p
+    (base_of kept y.database, mid)) c.in-Follow.is c.in_ok-reply.ensures.plans in
+    let from = subst (PlansFrom c.args.work.origin) c.in-Follow.is c.in_ok-reply.ensures.from in
+    IfOk-weaker c.follow_from.result _ _ (λ reply learns.
+    learns_followed {kept = kept} {t = t} {w = c.in-Follow.taken} c.follow_from.new.held
+    (record { look = look; plans = plans; queue = c.plan_at.ensures.queue; bounds = c.plan_at.ensures.bounds }, from)
+    learns) c.follow_from.ensures.learns

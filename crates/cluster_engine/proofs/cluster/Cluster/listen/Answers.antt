@@ -32,4 +32,5 @@ returns g c =
           (subst (λ started. IfOk c.take_poll.result (λ reply. Polls l started
           (kept_as (bases_of kept c.deref_mut.result.now) old.memory.held) reply (kept_as news queues)))
           c.deref.ensures.value c.take_poll.ensures.polls),
+      c.take_poll.ensures.bounds,
     ) (sym (c.are_cut-cut.ensures ∙ ap (are_cut l.node l.server) c.as_slice.ensures.value)))

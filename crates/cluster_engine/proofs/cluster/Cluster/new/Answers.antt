@@ -1,6 +1,8 @@
 use Rattle.std.proofs.Common.{ℕ, List, refl, sym, ap, subst, ◌∙◌, []}
 use Rattle.slon_model.specs.Turns.{Switches}
+use Rattle.slon_model.specs.World.{start}
 use Rattle.slonik_exec.specs.Databases.{FitsAll, bases_of}
+use Rattle.cluster_engine.proofs.Knowing.{none_known}
 use Rattle.cluster_engine.proofs.Walking.{none_fit, none_kept, none_wait}
 use Rattle.cluster_engine.proofs.cluster.Cluster.new.Goals as goal
 
@@ -18,4 +20,5 @@ returns-clause-agrees g c = record {
     waits = none_wait c.new-5.result c.new-5.ensures;
   };
   keeps = λ name up. none_kept c.new-5.result c.new-5.ensures name;
+  known = λ name. none_known (start c.args.limit) c.new-5.result c.new-5.ensures name;
 }
