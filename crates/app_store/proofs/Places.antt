@@ -6,7 +6,6 @@ use Rattle.std.specs.List.{AllByRecursion}
 use Rattle.std.specs.Str.{bytes_eq}
 use Rattle.std.specs.FinMap.{get}
 use Rattle.std.proofs.lemmas.Bool.{false≢true, true≢false, false_from_ne_true, eqb-true, and_parts}
-use Rattle.std.proofs.lemmas.Slice.Eq.{bytes_eq-Decides}
 use Rattle.slon_model.specs.Names.{Named, find_named, without}
 use Rattle.slon_model.specs.Rows.{Action, change_key, touches, is_on, member, holder_in}
 use Rattle.slon_model.specs.Place.{Filling, rows_since}
@@ -18,16 +17,6 @@ use Rattle.slon_model.proofs.Names.{bytes_same}
 use Rattle.slon_laws.proofs.Locks.{from_one_row}
 use Rattle.slon_laws.proofs.Opens.{member_without, member_taken}
 use Rattle.app_store.specs.Fits.{has_written}
-
-pub bytes_symmetric : (a b : List ℕ) → bytes_eq a b ≡ bytes_eq b a
-bytes_symmetric a b =
-    elim (bytes_eq a b) as (λ x. bytes_eq a b ≡ x → x ≡ bytes_eq b a) [
-      | true ↦ λ is. sym ((bytes_eq-Decides b a).1 (sym ((bytes_eq-Decides a b).0 is)))
-      | false ↦
-          λ is. sym
-          (false_from_ne_true _
-          (λ same. false≢true (sym is ∙ (bytes_eq-Decides a b).1 (sym ((bytes_eq-Decides b a).0 same)))))
-    ] refl
 
 -- ---- ids
 

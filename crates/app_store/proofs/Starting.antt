@@ -12,7 +12,8 @@ use Rattle.slon_model.specs.Moves.{written}
 use Rattle.slon_laws.specs.Sound.{Sound}
 use Rattle.slon_laws.proofs.Lists.{all_appended, all_each, all_reversed}
 use Rattle.app_store.specs.declared.begun.Begun.{Begun}
-use Rattle.app_store.specs.Begun.{AreBegun, AreOlder, AreSmall, IsBegun, start_at}
+use Rattle.slon_laws.specs.Older.{AreOlder}
+use Rattle.app_store.specs.Begun.{AreBegun, AreSmall, IsBegun, start_at}
 
 -- of the same actions, with the same number to come
 pub begun_same : (p q : Place) (begun : List Begun) → q.actions ≡ p.actions → q.numbers ≡ p.numbers →

@@ -69,7 +69,7 @@ use Rattle.app_store.specs.Targets.{AddedWrite, Adds, BurstsWrite, StopsWrite, M
 use Rattle.app_store.specs.Written.{with_write, written_at}
 use Rattle.app_store.proofs.Holding.{holds_same, stored_of}
 use Rattle.app_store.proofs.Openings.{IsWrite, opened_other, opened_own}
-use Rattle.app_store.proofs.Places.{bytes_symmetric}
+use Rattle.node_state.proofs.Learning.{bytes_symmetric}
 use Rattle.app_store.proofs.Standing.{up_running, fits_running, looked, followed, fell_plain, decided_up, IsUp}
 use Rattle.app_store.proofs.Starting.{begun_written}
 use Rattle.app_store.proofs.Transacting.{is_named, ids_differ}

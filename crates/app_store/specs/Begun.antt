@@ -1,13 +1,9 @@
 -- Where transactions began among the actions.
 use Rattle.std.specs.Prelude.{◌<◌, ◌≤◌, ◌^◌, ℕ, List, find, nat_le, reverse, option_map, unwrap_or}
 use Rattle.std.specs.List.{AllByRecursion}
-use Rattle.slon_model.specs.Rows.{Action}
 use Rattle.slon_model.specs.Place.{Place}
+use Rattle.slon_laws.specs.Older.{AreOlder}
 use Rattle.app_store.specs.declared.begun.Begun.{Begun}
-
--- All actions below the number are of transactions below this one.
-abbrev pub AreOlder : ℕ → ℕ → List Action → Type 0
-AreOlder number xid actions = AllByRecursion (λ a. a.number < number → a.xid < xid) actions
 
 -- the number is one that was drawn, or comes next, and all actions below it are of earlier transactions
 abbrev pub IsBegun : Place → Begun → Type 0

@@ -7,12 +7,10 @@ use Rattle.std.specs.List.{AllByRecursion}
 use Rattle.std.specs.Str.{bytes_eq}
 use Rattle.slon_base.specs.Keeper.{key_cmp}
 use Rattle.slon_model.specs.Deeds.{Logged, Node}
-use Rattle.slon_model.specs.Events.{Event}
 use Rattle.slon_model.specs.Logs.{logged}
 use Rattle.slon_model.specs.Names.{Named, find_named}
 use Rattle.slon_model.specs.Place.{Place}
 use Rattle.slon_model.specs.Polls.{line_of, queue_at}
-use Rattle.slon_model.specs.Rows.{Action}
 use Rattle.slon_model.specs.Sessions.{World}
 use Rattle.slon_model.specs.World.{Happening, Leads, Step, start}
 use Rattle.slon_model.proofs.Names.{all_map, one_found}
@@ -20,7 +18,7 @@ use Rattle.slon_laws.specs.Lists.{IsAmong}
 use Rattle.slon_laws.specs.Older.{IsOlder}
 use Rattle.slon_laws.specs.Spelled.{logs_in}
 use Rattle.slon_laws.proofs.Lists.{all_among, among_all}
-use Rattle.stream_laws.specs.Nodes.{IsEvent, Nodes, node_in, nodes_in}
+use Rattle.stream_laws.specs.Nodes.{IsEvent, node_in, nodes_in}
 use Rattle.stream_laws.specs.Facts.{IsRegular, WaitsIn}
 use Rattle.stream_laws.proofs.Copies.{HasReached, provided_ok}
 use Rattle.stream_laws.proofs.Lists.{found_all}

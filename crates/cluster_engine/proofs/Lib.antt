@@ -3,7 +3,6 @@ pub mod Charges
 pub mod Failing
 pub mod Knowing
 pub mod Lifting
-pub mod Living
 pub mod Moving
 pub mod Recalling
 pub mod Rising

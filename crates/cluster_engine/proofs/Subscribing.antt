@@ -12,7 +12,6 @@ use Rattle.follow_laws.proofs.Subscribing.{subscribed}
 use Rattle.cluster_engine.specs.Agreed.{Clustered, Follows}
 use Rattle.cluster_engine.specs.Calls.{GoesOn, Makes, Steps, StepsOn, happened}
 use Rattle.cluster_engine.specs.Subscribing.{Lasts, LastsOn, Led, Subscribes, SubscribesMade}
-use Rattle.cluster_engine.proofs.Living.{live_world}
 
 -- the session and each of its databases have what every legal history leads to
 pub led_follows : (limit : ℕ) (history : List Happening) (w : World) (c : Clustered) → Led limit history w c →
@@ -25,7 +24,6 @@ led_follows limit history w c led = record {
   sound = sound_world limit history w led.leads;
   spelled = spelled_world limit history w led.spoken led.leads;
   regular = regular_world limit history w led.leads;
-  live = live_world limit history w led.leads;
   formed = keep_formed_world limit history w led.spoken led.leads;
 }
 

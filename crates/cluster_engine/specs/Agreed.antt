@@ -1,10 +1,9 @@
 -- What the code keeps of a session, and when the rules agree with it.
-use Rattle.std.specs.Prelude.{◌≡◌, ℕ, true, List, drop, Option, Some, None}
+use Rattle.std.specs.Prelude.{◌≡◌, ℕ, List, drop, Option, Some, None}
 use Rattle.std.specs.List.{AllByRecursion}
 use Rattle.std.specs.FinMap.{FinMap, get}
 use Rattle.slon_base.specs.Keeper.{key_cmp}
 use Rattle.slon_model.specs.Names.{Named, find_named}
-use Rattle.slon_model.specs.Config.{Config}
 use Rattle.slon_model.specs.Deeds.{Node}
 use Rattle.slon_model.specs.Place.{Place}
 use Rattle.slon_model.specs.Sessions.{World, Memory, Running}
@@ -62,19 +61,6 @@ pub record FitsMemory (m : Memory) (r : Remembered) : Type 0 where
   pub switches : switches_of m ≡ r.switches
   pub waits : (name : List ℕ) → WaitsIn name m (get r.held name)
 
--- the sets that a node knows are live
-abbrev pub AreLive : Config → Type 0
-AreLive c = AllByRecursion (λ e. e.1.live ≡ true) c.sets
-
--- so were those that it knew as it became one
-abbrev pub WasGivenLive : Option Node → Type 0
-WasGivenLive None = Unit {0}
-WasGivenLive (Some n) = AreLive n.given.config
-
--- and a database is such a node, or none
-abbrev pub BeganLive : Place → Type 0
-BeganLive p = WasGivenLive p.node
-
 -- The database of the node that is the origin: all its actions below the number are of transactions below the id.
 pub record IsKnown (w : World) (b : Bound) : Type 0 where
   pub name : List ℕ
@@ -114,5 +100,4 @@ pub record Follows (w : World) (c : Clustered) : Type 0 where
   pub sound : AllPlaces Sound w
   pub spelled : AllPlaces IsSpelled w
   pub regular : IsRegular w
-  pub live : AllPlaces BeganLive w
   pub formed : KeepFormed w

@@ -15,7 +15,7 @@ use Rattle.slon_model.specs.Config.{Config, forwards}
 use Rattle.slon_model.specs.Views.{View, Views, based, based_at, views_emitted, views_told}
 use Rattle.slon_model.specs.Views.{with_views}
 use Rattle.node_rows.specs.declared.body.Body.{Body}
-use Rattle.node_rows.specs.declared.body.Body.TheVariants.{Sync, SubscribeSet, UnsubscribeSet}
+use Rattle.node_rows.specs.declared.body.Body.TheVariants.{Sync, SubscribeSet, UnsubscribeSet, DropSet}
 use Rattle.event_store.proofs.Deeds.{kept_views}
 use Rattle.set_config.specs.Holds.{AreIds}
 use Rattle.set_config.proofs.Entries.{entry-with}
@@ -176,6 +176,7 @@ told_views_ordered own (UnsubscribeSet set receiver) c views ordered =
       | true ↦ ordered_without set views ordered
       | false ↦ ordered
     ]
+told_views_ordered own (DropSet set) c views ordered = ordered_without set views ordered
 told_views_ordered own others c views ordered = ordered
 
 pub regular_stays : RegularStays

@@ -1,4 +1,16 @@
 -- Each table that a node keeps was filled with what it held at the origin, and nothing has come on it since.
+use Rattle.follow_laws.proofs.Synced.{more_of}
+use Rattle.slon_model.specs.Events.{is_sync}
+use Rattle.view_laws.proofs.Copied.{leading_now}
+use Rattle.view_laws.proofs.Brought.{same_id}
+use Rattle.view_laws.proofs.Tables.{set_known}
+use Rattle.view_laws.specs.Known.{enables}
+use Rattle.slon_model.specs.Maps.{entry_at}
+use Rattle.slon_model.specs.Config.{set_row}
+use Rattle.follow_laws.proofs.Tabled.{still_like}
+use Rattle.view_laws.proofs.Tables.{whole_now}
+use Rattle.std.proofs.Common.{is_some}
+use Rattle.stream_laws.proofs.Copies.{origin_row}
 use Rattle.std.proofs.Common.{◌≡◌, ◌≢◌, inl, ℕ, ◌<◌, ◌≤◌, Bool, true, false, cond, List, Option, Some, []}
 use Rattle.std.proofs.Common.{arith, None, refl, sym, ap, subst, ◌∙◌, map, unwrap_or}
 use Rattle.std.specs.Prelude.{◌==◌}
@@ -24,13 +36,11 @@ use Rattle.slon_model.specs.Views.{View, view_after}
 use Rattle.slon_model.specs.Working.{Carried, ToCopy, errand_in, names_taken, Copying}
 use Rattle.slon_model.proofs.Names.{all_map, bytes_same, all_found}
 use Rattle.slon_laws.specs.Sound.{Sound}
-use Rattle.slon_laws.proofs.Later.{HoldsOf}
-use Rattle.stream_laws.specs.Nodes.{IsAmong, nodes_in, node_in, IsEvent}
+use Rattle.stream_laws.specs.Nodes.{IsAmong, nodes_in, IsEvent}
 use Rattle.stream_laws.proofs.Copies.{Leading}
 use Rattle.stream_laws.proofs.Lists.{all_mapped, all_passed, among_all}
 use Rattle.stream_laws.proofs.Seats.{seat_node, IsSeat}
 use Rattle.image_laws.proofs.Logging.{among_filtered}
-use Rattle.image_laws.proofs.Staying.{Stays}
 use Rattle.image_laws.specs.Deltas.{applied}
 use Rattle.image_laws.specs.Facts.{IsHeldBy}
 use Rattle.view_laws.proofs.Doing.{IsTaken, taking}
@@ -41,10 +51,12 @@ use Rattle.view_laws.specs.Past.{Past, WasBefore, WasUpTo, PastUpTo}
 use Rattle.follow_laws.proofs.Contents.{AreBefore, content_syncs, covered_none, filled_stands, filling_by, synced}
 use Rattle.follow_laws.proofs.Contents.{filling_filled, rows_found, rows_none}
 use Rattle.view_laws.proofs.Brought.{IsCopied, IsSynced, was_then, copied_view, earlier}
-use Rattle.view_laws.proofs.Emitted.{emitted_in, moment_of}
+use Rattle.view_laws.proofs.Emitted.{moment_of, sync_emitted}
 use Rattle.follow_laws.proofs.Kept.{filled_later}
-use Rattle.view_laws.proofs.Moments.{now_stays, passes_covers, sound_now, event_now}
+use Rattle.view_laws.proofs.Moments.{passes_covers, sound_now, event_now}
 use Rattle.view_laws.proofs.Numbered.{among_map}
+use Rattle.view_laws.proofs.Readings.{read_at}
+use Rattle.view_laws.proofs.Ended.{asked_live, view_live}
 use Rattle.view_laws.proofs.Seen.{Copier, copied_since, is_older, newer_seen, same_seen, seen_from, seen_taken}
 use Rattle.view_laws.proofs.Seen.{source_of}
 use Rattle.follow_laws.proofs.Tabled.{table_then, tables_stay_known}
@@ -52,11 +64,11 @@ use Rattle.view_laws.proofs.Unmoved.{since, syncs_are, view_then}
 use Rattle.view_laws.proofs.Viewed.{seen_now}
 use Rattle.follow_laws.proofs.Synced.{Reading, Syncing, held_at, same_rows, sync_leads, sync_of, synced_of}
 use Rattle.follow_laws.proofs.Synced.{synced_table}
-use Rattle.view_laws.proofs.Tables.{KnownTable, entry_told, held_then, known_within, one_table, table_of}
+use Rattle.view_laws.proofs.Tables.{KnownTable, held_then, known_within, one_table, table_of}
 use Rattle.view_laws.proofs.Tables.{table_origin}
 use Rattle.view_laws.proofs.Copied.{CopySource, FromForwarder, FromOrigin, copy_asks, enables_feeds, feeder_is}
 use Rattle.view_laws.proofs.Copied.{feeder_leads}
-use Rattle.view_laws.proofs.Copied.{seen_leads, stays_leading}
+use Rattle.view_laws.proofs.Copied.{seen_leads}
 use Rattle.view_laws.proofs.Agreeing.{known_there, table_known}
 use Rattle.slon_laws.specs.Worlds.{AllPlaces}
 use Rattle.std.proofs.lemmas.Simd.{map-map}
@@ -206,7 +218,7 @@ names_are t k c =
     other =
         false_from_ne_true _ (λ leads. c.at.work.other (sym (feeder_is c.at.to k.carried.event c.at.work.event set
         (enables_feeds set n.id k.carried.event.body (copy_asks c.at.to.world c.at.seat k.carried.event c.found c.copy))
-        c.at.seat c.at.work.seat leads ∙ c.at.work.event.own)))
+        c.at.seat c.at.work.seat (origin_row n.id set (knowledge n).config leads) ∙ c.at.work.event.own)))
 
 -- A table of the set, which the node knows.
 record CopiedTable (t : Past) (k : Taking t) (c : Copies k) : Type 0 where
@@ -214,11 +226,40 @@ record CopiedTable (t : Past) (k : Taking t) (c : Copies k) : Type 0 where
   among : IsAmong entry (knowledge k.carried.seat.node).config.tables
   same : entry.1.set_id ≡ c.copy.copying.set_id
 
+abbrev known_copied : {t : Past} {k : Taking t} {c : Copies k} → CopiedTable t k c → KnownTable t
+known_copied {t} {k} e =
+    record {
+      name = k.carried.seat.name;
+      node = k.carried.seat.node;
+      is = seat_node t.world.places k.carried.seat k.is.work.seat;
+      entry = e.entry;
+      among = e.among;
+    }
+
+-- the set has not ended
+copied_live : (t : Past) (k : Taking t) (c : Copies k) (e : CopiedTable t k c) →
+    is_some (set_row e.entry.1.set_id (knowledge k.carried.seat.node).config) ≡ true
+copied_live t k c e =
+    asked_live t (record {
+      name = k.carried.seat.name;
+      node = k.carried.seat.node;
+      is = seat_node t.world.places k.carried.seat k.is.work.seat;
+      set_id = e.entry.1.set_id;
+      event = k.carried.event;
+      from = k.is.work.event;
+      enables =
+          subst (λ i. enables i k.carried.seat.node.id k.carried.event.body ≡ true) (sym e.same)
+          (subst (λ id. enables c.copy.copying.set_id id k.carried.event.body ≡ true)
+          (same_id t k.carried.seat k.carried.event c.at k.is.work.seat)
+          (copy_asks c.at.to.world c.at.seat k.carried.event c.found c.copy));
+      next = k.is.work.next;
+    }) (set_known t (known_copied e))
+
 -- the node knew it as it copied the set
 table_was : (t : Past) (k : Taking t) (c : Copies k) (e : CopiedTable t k c) →
     IsAmong e.entry (knowledge c.at.seat.node).config.tables
 table_was t k c e =
-    table_then t (since k.origin k.carried k.is c.at) e.entry e.among
+    table_then t (since k.origin k.carried k.is c.at) e.entry e.among (copied_live t k c e)
     (subst (λ i. (leader : Leading (nodes_in t.world.places) i) × (leader.node.id ≡ k.carried.event.origin))
     (sym e.same) (copy_leader t k.carried.seat k.carried.event k.carried.brought c))
 
@@ -241,20 +282,17 @@ copy_rows t k c e =
     set = c.copy.copying.set_id
 
     known : KnownTable t
-    known = record {
-      name = k.carried.seat.name;
-      node = k.carried.seat.node;
-      is = seat_node t.world.places k.carried.seat k.is.work.seat;
-      entry = e.entry;
-      among = e.among;
-    }
+    known = known_copied e
+
+    live : e.entry.1.live ≡ true
+    live = (whole_now t known.name known.node known.is).live e.entry e.among (copied_live t k c e)
 
     named : IsAmong table (names_taken c.at.seat set)
     named =
         subst (IsAmong table) (sym (names_are t k c))
         (among_map (λ (f : ℕ × TableRow). f.1.name) e.entry (tables_of set (knowledge c.at.seat.node).config)
         (among_filtered (is_table_of set) e.entry (knowledge c.at.seat.node).config.tables (table_was t k c e)
-        (and_from e.entry.1.live (e.entry.1.set_id == set) (entry_told t known).live
+        (and_from e.entry.1.live (e.entry.1.set_id == set) live
         (eq-eqb e.entry.1.set_id set e.same))))
 
 -- a provider that keeps the set has the table, filled with what it held at the origin
@@ -318,10 +356,23 @@ provider_filled t k c e v found =
         let there = ap (λ i. progress i (knowledge p.node)) origin in
         omega (arith, less, next, far, here, there)
 
+    live : is_some (entry_at e.entry.1.set_id (knowledge p.node).config.sets) ≡ true →
+        is_some (set_row e.entry.1.set_id (knowledge p.node).config) ≡ true
+    live =
+        subst (λ i. is_some (entry_at i (knowledge p.node).config.sets) ≡ true →
+        is_some (set_row i (knowledge p.node).config) ≡ true) (sym e.same) (view_live u (record {
+          name = p.name;
+          node = p.node;
+          is = at;
+          set_id = set;
+          view = v;
+          seen = seen_now u p.name p.node at set v found;
+        }))
+
     named : IsAmong e.entry.1.name (names_of set (knowledge p.node).config)
     named =
         subst (λ i. IsAmong e.entry.1.name (names_of i (knowledge p.node).config)) e.same
-        (known_there u known p.name p.node at (within (known_within u known)))
+        (known_there u known p.name p.node at (within (known_within u known)) live)
 
     there : (f : ℕ × TableRow) × IsAmong f (knowledge p.node).config.tables × (f.1.set_id ≡ set)
         × (e.entry.1.name ≡ f.1.name)
@@ -411,10 +462,11 @@ copy_beside t k c e among apart =
 
     other : (f : ℕ × TableRow) → IsAmong f c0.tables → is_table_of set f ≡ true → bytes_eq e.1.name f.1.name ≡ false
     other f there on =
-        let now = tables_stay_known t k.carried.seat k.carried.event c.at k.is.work.seat f there in
-        false_from_ne_true _ (λ same. apart ((one_table t (table_of t (known e among)) (table_of t (known f now))
-        (bytes_same e.1.name f.1.name same)).0
-        ∙ eqb-true f.1.set_id set (and_parts f.1.live (f.1.set_id == set) on).1))
+        let like = still_like f (knowledge k.carried.seat.node).config
+        (tables_stay_known t k.carried.seat k.carried.event c.at k.is.work.seat f there) in
+        false_from_ne_true _ (λ same. apart ((one_table t (table_of t (known e among))
+        (table_of t (known like.entry like.among)) (bytes_same e.1.name f.1.name same ∙ sym like.name)).0
+        ∙ like.set_id ∙ eqb-true f.1.set_id set (and_parts f.1.live (f.1.set_id == set) on).1))
 
 -- ---- a SYNC
 
@@ -445,7 +497,8 @@ reading t k y e among =
       };
       own = y.at.seat.node.id;
       known = knowledge y.at.seat.node;
-      later = λ f there. tables_stay_known t k.carried.seat k.carried.event y.at k.is.work.seat f there;
+      later = λ f there. still_like f (knowledge k.carried.seat.node).config
+          (tables_stay_known t k.carried.seat k.carried.event y.at k.is.work.seat f there);
       event = k.carried.event;
       log = logged y.at.work.event.node;
     }
@@ -493,10 +546,23 @@ sync_filled t k y e among v found from = by (covers v.seen event.taken) refl
     was : IsFilled (WasUpTo t) k.carried.seat.place k.carried.seat.node e.1.set_id v e.1.name
     was = was_filled t k e among v found
 
-    -- the node that leads the set
-    leader : HoldsOf (Stays was.seen.moment.node) was.seen.moment.name t.world.places
-    leader = now_stays t was.seen.moment.session was.seen.moment.was was.seen.moment.name was.seen.moment.place
-        was.seen.moment.node was.seen.moment.found was.seen.moment.at
+    here : nodes_in t.world.places k.carried.seat.name ≡ Some k.carried.seat.node
+    here = seat_node t.world.places k.carried.seat k.is.work.seat
+
+    live : is_some (set_row e.1.set_id (knowledge k.carried.seat.node).config) ≡ true
+    live =
+        view_live t (record {
+          name = k.carried.seat.name;
+          node = k.carried.seat.node;
+          is = here;
+          set_id = e.1.set_id;
+          view = v;
+          seen = was.seen;
+        }) (set_known t (reading t k y e among).table)
+
+    -- the origin of the set
+    leader : (x : Leading (nodes_in t.world.places) e.1.set_id) × (x.node.id ≡ was.seen.moment.node.id)
+    leader = leading_now t was.seen.moment e.1.set_id was.seen.leads
 
     -- the view and the table, as the log was read
     found_then : view_of e.1.set_id (knowledge n) ≡ Some v
@@ -504,16 +570,7 @@ sync_filled t k y e among v found from = by (covers v.seen event.taken) refl
 
     among_then : IsAmong e (knowledge n).config.tables
     among_then =
-        table_then t (since k.origin k.carried k.is y.at) e among (
-          record {
-            name = was.seen.moment.name;
-            node = leader.2.node;
-            is = ap node_in leader.1 ∙ leader.2.is;
-            leads = (stays_leading was.seen.moment.node leader.0 leader.2.node leader.2 leader.2.is e.1.set_id
-                was.seen.leads).0;
-          },
-          leader.2.id ∙ was.seen.own ∙ from,
-        )
+        table_then t (since k.origin k.carried k.is y.at) e among live (leader.0, leader.1 ∙ was.seen.own ∙ from)
 
     z : Syncing then
     z = record {
@@ -523,22 +580,14 @@ sync_filled t k y e among v found from = by (covers v.seen event.taken) refl
       source = event_seat then y.at.work.event;
       there = event_seat_is then y.at.work.event;
       led = y.at.work.event.own;
+      from = y.at.work.event;
+      sync = ap is_sync y.follows.body;
+      next = y.at.work.next;
       entry = e;
       among = among_then;
       view = v;
       found = found_then;
       seen = seen_now then y.at.seat.name n own e.1.set_id v found_then;
-    }
-
-    emitted : IsEmitted (WasUpTo then) event
-    emitted = emitted_in then event y.at.work.event
-
-    emitted_now : IsEmitted (WasUpTo t) event
-    emitted_now = record {
-      moment = moment_of (WasUpTo then) (WasUpTo t) (earlier y.at) emitted.moment;
-      own = emitted.own;
-      taken = emitted.taken;
-      leads = emitted.leads;
     }
 
     stays : leaves e.1.set_id k.carried.seat.node.id event.body ≡ false
@@ -584,13 +633,18 @@ sync_filled t k y e among v found from = by (covers v.seen event.taken) refl
       before = before_then t k e.1.name was.before;
     }
     by false differ =
+        let a = read_at then (more_of z from differ) in
+        let emitted_now : IsEmitted (WasUpTo t) event = record {
+          moment = moment_of (WasUpTo then) (WasUpTo t) (earlier y.at) a.at.moment;
+          own = a.at.own;
+          taken = a.at.taken;
+          leads = (sync_emitted then event z.sync a.at).leads;
+        } in
         let later = is_older t k.carried.seat.node e.1.set_id v event (emitted_now, sym from) was.seen differ in
         record {
           seen = newer_seen (WasUpTo t) (node_then k) e.1.set_id v event (emitted_now, sym from)
-              (seen_taken t k.carried e.1.set_id v stays was.seen) later;
-          rows =
-              now ∙ ap (applied actions) same
-              ∙ sync_leads then z from emitted
-              (is_older then n e.1.set_id v event (emitted, sym from) z.seen differ);
+              (seen_taken t k.carried e.1.set_id v stays was.seen)
+              (later, (a.held.1, a.era ∙ sym z.seen.era ∙ was.seen.era));
+          rows = now ∙ ap (applied actions) same ∙ sync_leads then z from differ;
           before = before_then t k e.1.name was.before;
         }

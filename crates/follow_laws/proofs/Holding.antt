@@ -1,4 +1,6 @@
 -- Each table that a node keeps holds what the snapshot that the node keeps sees of it at the origin.
+use Rattle.std.proofs.Common.{is_some}
+use Rattle.std.proofs.Common.{false}
 use Rattle.std.proofs.Common.{◌≡◌, ◌≢◌, ◌⊎◌, inl, inr, ℕ, true, List, [], ◌∷◌, Option, Some, None, refl, sym, ap}
 use Rattle.std.proofs.Common.{subst, ◌∙◌}
 use Rattle.std.specs.Prelude.{◌+◌, option_map}
@@ -8,7 +10,7 @@ use Rattle.std.proofs.lemmas.Bool.{true≢false}
 use Rattle.node_rows.specs.declared.rows.TableRow.{TableRow}
 use Rattle.slon_model.specs.Maps.{Map, entry_at}
 use Rattle.slon_model.specs.Events.{Event}
-use Rattle.slon_model.specs.Config.{era_of, is_origin}
+use Rattle.slon_model.specs.Config.{is_origin, set_row}
 use Rattle.slon_model.specs.Deciding.{closed_at, decide, move_of}
 use Rattle.slon_model.specs.Deeds.{Node, Brought, Emits, Hears as HearsOf, Knowledge, brought_in, knowledge}
 use Rattle.slon_model.specs.Deeds.{nothing_brought, view_of, with_deeds}
@@ -31,6 +33,10 @@ use Rattle.image_laws.specs.Facts.{IsHeldBy}
 use Rattle.image_laws.proofs.Since.{prepared_fillings, prepared_same}
 use Rattle.follow_laws.specs.Filled.{AreFilled, IsFilled}
 use Rattle.follow_laws.specs.Laws.{HoldsAsSeen, TablesFollow}
+use Rattle.view_laws.specs.Known.{leaves}
+use Rattle.view_laws.specs.Laws.{IsEnding}
+use Rattle.view_laws.proofs.Copied.{live_or_over}
+use Rattle.view_laws.proofs.Ended.{ending_at}
 use Rattle.view_laws.specs.Past.{Past, past, WasBefore, WasUpTo, PastUpTo}
 use Rattle.view_laws.proofs.Doing.{Becomes, Does, DoesBecome, DoesHear, DoesTake, DoesTell, Hears, Takes, Tells}
 use Rattle.view_laws.proofs.Doing.{taking}
@@ -40,7 +46,7 @@ use Rattle.follow_laws.proofs.Filled.{still_filled, kept_then, reading, sync_con
 use Rattle.view_laws.proofs.Brought.{IsBrought, IsKept, Nothing, Copies, Brings, copied_view}
 use Rattle.view_laws.proofs.Viewed.{rising_now, seen_now}
 use Rattle.view_laws.proofs.Living.{does_node, event_of}
-use Rattle.image_laws.proofs.Staying.{Stays}
+use Rattle.image_laws.proofs.Staying.{IsOver, Stays}
 use Rattle.follow_laws.proofs.Kept.{IsAhead, done_before, done_fillings, filled_later, kept_closed, other_leads}
 use Rattle.follow_laws.proofs.Kept.{same_filled, takes_known, tells_ahead}
 use Rattle.view_laws.proofs.Moments.{NodeAt, now_stays}
@@ -48,7 +54,7 @@ use Rattle.follow_laws.proofs.Opened.{open_move}
 use Rattle.view_laws.proofs.Rising.{found_in, stands_found}
 use Rattle.view_laws.proofs.Seen.{based_seen, seen_same, syncs_seen}
 use Rattle.view_laws.proofs.Turned.{IsBased, IsSame, IsToldAs, found_stays, found_told}
-use Rattle.view_laws.proofs.Tables.{Today, held_today, held_then, moment_today}
+use Rattle.view_laws.proofs.Tables.{KnownTable, Today, held_today, held_then, moment_today}
 use Rattle.follow_laws.proofs.Synced.{image_then, synced_nothing}
 use Rattle.view_laws.proofs.Agreeing.{table_known}
 use Rattle.view_laws.proofs.Unmoved.{none_kept}
@@ -57,9 +63,10 @@ use Rattle.slon_laws.specs.Worlds.{AllPlaces}
 
 -- ---- an event
 
--- the table was known, where the set was kept
+-- the table was known, where the set was kept and is kept still
 known_before : (t : Past) (k : Taking t) (e : ℕ × TableRow) (v : View) →
-    view_of e.1.set_id (knowledge k.carried.seat.node) ≡ Some v →
+    (view_of e.1.set_id (knowledge k.carried.seat.node) ≡ Some v)
+    × (leaves e.1.set_id k.carried.seat.node.id k.carried.event.body ≡ false) →
     IsAmong e (knowledge (node_then k)).config.tables → IsAmong e (knowledge k.carried.seat.node).config.tables
 known_before t k e v found among = takes_known t k.carried k.origin k.is e v found among
 
@@ -101,10 +108,8 @@ takes_filled t k e among v found =
         ≡ standing_rows k.carried.seat.place e.1.name → Filled v
     still old same =
         let of = found_told n.id e.1.set_id event.body (knowledge n).config (knowledge n).views v old.0 in
-        as_told of.0 of.2 (still_filled t k e (known_before t k e of.0 of.1 among) of.0 of.1 (
-          same,
-          found_stays n.id e.1.set_id event.body (knowledge n).config (knowledge n).views v old.0,
-        ))
+        let stays = found_stays n.id e.1.set_id event.body (knowledge n).config (knowledge n).views v old.0 in
+        as_told of.0 of.2 (still_filled t k e (known_before t k e of.0 (of.1, stays) among) of.0 of.1 (same, stays))
 
     by : IsBrought t k.carried.seat event k.carried.brought →
         IsAmong (e.1.set_id, v) k.carried.brought.views ⊎ Kept →
@@ -136,12 +141,16 @@ takes_filled t k e among v found =
         let of = found_told n.id e.1.set_id event.body (knowledge n).config (knowledge n).views v old.0 in
         let apart = subst (λ (b : Brought). AllByRecursion (λ u. u.0 ≢ e.1.set_id) b.views) c.is old.1 in
         still old
-        (copy_beside t k c e (known_before t k e of.0 of.1 among) (λ same. apart.0 (sym same)))
+        (copy_beside t k c e (known_before t k e of.0 (of.1, stays) among) (λ same. apart.0 (sym same)))
+      where
+        stays : leaves e.1.set_id n.id event.body ≡ false
+        stays = found_stays n.id e.1.set_id event.body (knowledge n).config (knowledge n).views v old.0
     by (Brings y) (inl new) =
         let of = all_among P (e.1.set_id, v) k.carried.brought.views views new in
         let here = stands_found e.1.set_id of.0 (knowledge n).views (rising_now t k.carried.seat.name n own) of.1 in
         subst (λ u. IsFilled (WasUpTo t) (place_then k) (node_then k) e.1.set_id u e.1.name) (sym of.3)
-        (sync_filled t k y e (known_before t k e of.0 here among) of.0 here of.2)
+        (sync_filled t k y e (known_before t k e of.0
+        (here, ap (leaves e.1.set_id n.id) y.follows.body) among) of.0 here of.2)
       where
         own : nodes_in t.world.places k.carried.seat.name ≡ Some n
         own = seat_node t.world.places k.carried.seat k.is.work.seat
@@ -162,7 +171,8 @@ takes_filled t k e among v found =
             )) y.syncs y.kept) tt)
     by (Brings y) (inr old) =
         let of = found_told n.id e.1.set_id event.body (knowledge n).config (knowledge n).views v old.0 in
-        let there = known_before t k e of.0 of.1 among in
+        let there = known_before t k e of.0
+        (of.1, ap (leaves e.1.set_id n.id) y.follows.body) among in
         still old (sync_content t k y e.1.name
         ∙ synced_nothing t (reading t k y e there) (kept_then t k y) none (standing_rows k.carried.seat.place e.1.name))
       where
@@ -412,7 +422,7 @@ holds_as_seen t x e among v view = record {
   at = now.2.is;
   own = now.2.id ∙ f.seen.own;
   apart = f.seen.apart;
-  held = today_held.0;
+  held = today_held (live_or_over e.1.set_id (knowledge now.2.node).config);
   rows =
       filled_stands x.place e.1.name f.before ∙ f.rows
       ∙ sym (image_then t f.seen.moment today e.1.set_id e.1.name held)
@@ -430,13 +440,26 @@ holds_as_seen t x e among v view = record {
     today : Today t f.seen.moment
     today = moment_today t f.seen.moment
 
-    held : IsHeldBy f.seen.moment.node.id (knowledge f.seen.moment.node).config e.1.set_id e.1.name
-    held = held_then t
-        (record { name = x.name; node = x.node; is = ap node_in x.found ∙ x.at; entry = e; among = among }) v f.seen
+    known : KnownTable t
+    known = record { name = x.name; node = x.node; is = ap node_in x.found ∙ x.at; entry = e; among = among }
 
-    today_held : IsHeldBy now.2.node.id (knowledge now.2.node).config e.1.set_id e.1.name
-        × (era_of e.1.set_id (knowledge now.2.node).config ≡ era_of e.1.set_id (knowledge f.seen.moment.node).config)
-    today_held = held_today t f.seen.moment today e.1.set_id e.1.name held
+    held : IsHeldBy f.seen.moment.node.id (knowledge f.seen.moment.node).config e.1.set_id e.1.name
+    held = held_then t known v f.seen
+
+    today_held : (is_some (set_row e.1.set_id (knowledge now.2.node).config) ≡ true)
+        ⊎ IsOver e.1.set_id (knowledge now.2.node).config →
+        IsHeldBy now.2.node.id (knowledge now.2.node).config e.1.set_id e.1.name
+        ⊎ IsEnding e.1.set_id x.node now.2.node
+    today_held (inl live) = inl (held_today t f.seen.moment today e.1.set_id e.1.name held live).0
+    today_held (inr over) =
+        inr (ending_at t (record {
+          name = x.name;
+          node = x.node;
+          is = known.is;
+          set_id = e.1.set_id;
+          view = v;
+          seen = f.seen;
+        }) f.seen.moment.name now.2.node (ap node_in now.1 ∙ now.2.is) (now.2.id ∙ f.seen.own) over)
 
 pub tables_follow : TablesFollow
 tables_follow limit history w leads name p found n is set v view table among =

@@ -1,14 +1,13 @@
 -- Nothing but what comes with events changes the tables that a node keeps.
 use Rattle.std.proofs.Common.{◌≡◌, ◌⊎◌, inl, inr, ℕ, Bool, true, false, cond, List, [], ◌∷◌, Some, None, refl, sym}
 use Rattle.std.proofs.Common.{ap, subst, ◌∙◌, arith, is_some}
-use Rattle.std.specs.Prelude.{◌==◌, ◌&&◌, nat_lt}
+use Rattle.std.specs.Prelude.{◌==◌, ◌&&◌}
 use Rattle.std.specs.Str.{bytes_eq}
-use Rattle.std.proofs.lemmas.Bool.{eq-eqb, false≢true, false_from_ne_true}
+use Rattle.std.proofs.lemmas.Bool.{eq-eqb, eqb-true, false≢true, false_from_ne_true, true≢false}
 use Rattle.node_rows.specs.declared.body.Body.{Body}
 use Rattle.node_rows.specs.declared.body.Body.TheVariants.{SetAddTable, DropSet, MoveSet, FailoverSet}
 use Rattle.node_rows.specs.declared.rows.TableRow.{TableRow}
 use Rattle.slon_model.specs.declared.fault.DbFault.TheVariants.{NotOrigin, SetLocked}
-use Rattle.slon_model.specs.Maps.{Map, with_entry}
 use Rattle.slon_model.specs.Config.{Config, change_by, is_locked, is_origin, set_of}
 use Rattle.slon_model.specs.Deciding.{closed_at, closed_set}
 use Rattle.slon_model.specs.Deeds.{Node, knowledge, progress, view_of, with_deeds}
@@ -18,28 +17,29 @@ use Rattle.slon_model.specs.Sessions.{World, Seat, Emission, emissions, next_eve
 use Rattle.slon_model.specs.Views.{View}
 use Rattle.slon_model.specs.Working.{Carried}
 use Rattle.slon_model.proofs.Names.{bytes_same}
-use Rattle.slon_laws.proofs.Later.{HoldsOf}
-use Rattle.stream_laws.specs.Nodes.{IsAmong, nodes_in, node_in}
+use Rattle.stream_laws.specs.Nodes.{IsAmong, nodes_in}
 use Rattle.stream_laws.specs.Applied.{applied_events}
 use Rattle.stream_laws.specs.Making.{is_emitted}
-use Rattle.stream_laws.proofs.Copies.{one_leader}
+use Rattle.stream_laws.proofs.Copies.{Leading, one_leader, origin_row}
+use Rattle.stream_laws.proofs.Lists.{mapped_among, with_among}
+use Rattle.image_laws.proofs.Dropping.{dropped, dropped_other, dropped_set}
 use Rattle.stream_laws.proofs.Seats.{seat_node}
 use Rattle.image_laws.proofs.Since.{first_fillings, first_same, prepared_fillings, prepared_same}
 use Rattle.view_laws.proofs.Doing.{IsTaken, AreAllowed, IsAllowed}
-use Rattle.view_laws.specs.Known.{IsSeen, adds as adds_to}
+use Rattle.view_laws.specs.Known.{IsSeen, adds as adds_to, leaves}
 use Rattle.follow_laws.specs.Filled.{IsFilled}
 use Rattle.view_laws.specs.Past.{Past, WasBefore, WasUpTo}
 use Rattle.follow_laws.proofs.Contents.{AreBefore}
 use Rattle.view_laws.proofs.Viewed.{seen_now}
 use Rattle.view_laws.proofs.Living.{IsOfFeed, Says, deed_of, event_of, tells_lives}
-use Rattle.view_laws.proofs.Moments.{now_stays, regular_now}
+use Rattle.view_laws.proofs.Moments.{regular_now}
 use Rattle.follow_laws.proofs.Opened.{IsOpenMove}
 use Rattle.view_laws.proofs.Seen.{same_views, seen_later, seen_same}
-use Rattle.image_laws.proofs.Staying.{Stays}
-use Rattle.view_laws.proofs.Tables.{KnownTable, Table, found_in_set, table_origin}
+use Rattle.view_laws.proofs.Tables.{KnownTable, Table, found_in_set, set_known, table_origin}
 use Rattle.view_laws.proofs.Saying.{may_emitted, says_emitted}
 use Rattle.view_laws.proofs.Standing.{Viewer, added_within}
-use Rattle.view_laws.proofs.Copied.{stays_leading}
+use Rattle.view_laws.proofs.Copied.{leading_now}
+use Rattle.view_laws.proofs.Ended.{view_live}
 
 -- ---- the same fillings
 
@@ -93,6 +93,16 @@ pub kept_closed : (t : Past) (k : KnownTable t) (v : View) → view_of k.entry.1
     (name : List ℕ) → bytes_eq k.entry.1.name name ≡ true → closed_at name (Some k.node) ≡ None → ⊥
 kept_closed t k v found name same none = never is
   where
+    viewer : Viewer t
+    viewer = record {
+      name = k.name;
+      node = k.node;
+      is = k.is;
+      set_id = k.entry.1.set_id;
+      view = v;
+      seen = seen_now t k.name k.node k.is k.entry.1.set_id v found;
+    }
+
     never : Some (NotOrigin k.entry.1.set_id) ≡ None → ⊥
     never same = absurd cc
 
@@ -100,7 +110,7 @@ kept_closed t k v found name same none = never is
     is =
         sym (ap (closed_set k.node.id (knowledge k.node))
         (ap (λ table. set_of table (knowledge k.node).config) (sym (bytes_same k.entry.1.name name same))
-        ∙ found_in_set t k)
+        ∙ found_in_set t k (view_live t viewer (set_known t k)))
         ∙ ap (λ o. cond (is_some o) (Some (NotOrigin k.entry.1.set_id))
         (cond (is_origin k.node.id k.entry.1.set_id (knowledge k.node).config
         && is_locked k.entry.1.set_id (knowledge k.node).config) (Some (SetLocked k.entry.1.set_id)) None)) found)
@@ -108,32 +118,29 @@ kept_closed t k v found name same none = never is
 
 -- ---- tables that come
 
-with_among : {X : Type 0} (id : ℕ) (x : X) (es : Map X) (e : ℕ × X) → IsAmong e (with_entry id x es) →
-    (e ≡ (id, x)) ⊎ IsAmong e es
-with_among id x [] e (inl is) = inl is
-with_among id x [] e (inr never) = absurd never
-with_among {X} id x (f ∷ es) e among = by (nat_lt id f.0) (id == f.0) (with_among id x es e) among
-  where
-    by : (less same : Bool) → (IsAmong e (with_entry id x es) → (e ≡ (id, x)) ⊎ IsAmong e es) →
-        IsAmong e (cond less ((id, x) ∷ f ∷ es) (cond same ((id, x) ∷ es) (f ∷ with_entry id x es))) →
-        (e ≡ (id, x)) ⊎ IsAmong e (f ∷ es)
-    by true same rest (inl is) = inl is
-    by true same rest (inr later) = inr later
-    by false true rest (inl is) = inl is
-    by false true rest (inr later) = inr (inr later)
-    by false false rest (inl is) = inr (inl is)
-    by false false rest (inr later) = elim (rest later) [ inl is ↦ inl is | inr there ↦ inr (inr there) ]
+-- the event brings the table, or drops it with its set
+abbrev IsOfTable : ℕ × TableRow → Body → Type 0
+IsOfTable e body = (body ≡ SetAddTable e.1.set_id e.0 e.1.name e.1.comment) ⊎ (body ≡ DropSet e.1.set_id)
 
--- a table that is known behind an event was known, or comes by it
+-- a table that is known behind an event was known so, or the event is of it
 comes_by : (origin number : ℕ) (body : Body) (c : Config) → is_emitted body ≡ true → (e : ℕ × TableRow) →
-    IsAmong e (change_by origin number body c).tables →
-    IsAmong e c.tables ⊎ (body ≡ SetAddTable e.1.set_id e.0 e.1.name e.1.comment)
+    IsAmong e (change_by origin number body c).tables → IsAmong e c.tables ⊎ IsOfTable e body
 comes_by origin number (SetAddTable set table name comment) c may e among =
     elim (with_among table _ c.tables e among) [
-      | inl is ↦ inr (ap (λ (f : ℕ × TableRow). SetAddTable f.1.set_id f.0 f.1.name f.1.comment) (sym is))
+      | inl is ↦ inr (inl (ap (λ (f : ℕ × TableRow). SetAddTable f.1.set_id f.0 f.1.name f.1.comment) (sym is)))
       | inr there ↦ inl there
     ]
-comes_by origin number (DropSet set) c may e among = absurd (false≢true may)
+comes_by origin number (DropSet set) c may e among = by (made.0.1.set_id == set) refl
+  where
+    made : (f : ℕ × TableRow) × IsAmong f c.tables × (e ≡ dropped set f)
+    made = mapped_among (dropped set) e c.tables among
+
+    by : (b : Bool) → (made.0.1.set_id == set) ≡ b → IsAmong e c.tables ⊎ IsOfTable e (DropSet set)
+    by true same =
+        inr (inr (ap DropSet (sym (ap (λ (f : ℕ × TableRow). f.1.set_id) made.2 ∙ dropped_set set made.0
+        ∙ eqb-true made.0.1.set_id set same))))
+    by false other =
+        inl (subst (λ f. IsAmong f c.tables) (sym (made.2 ∙ dropped_other set made.0 other)) made.1)
 comes_by origin number (MoveSet set old new era feeds) c may e among = absurd (false≢true may)
 comes_by origin number (FailoverSet failed limit sets) c may e among = absurd (false≢true may)
 comes_by origin number others c may e among = inl among
@@ -143,20 +150,12 @@ comes_by origin number others c may e among = inl among
 pub other_leads : (t : Past) (name : List ℕ) (n : Node) → nodes_in t.world.places name ≡ Some n → (set : ℕ) (v : View) →
     IsSeen (WasUpTo t) n set v → is_origin n.id set (knowledge n).config ≡ false
 other_leads t name n is set v seen =
-    false_from_ne_true _ (λ leads. seen.apart (sym seen.own ∙ sym now.2.id
-    ∙ one_leader (nodes_in t.world.places) (regular_now t).nodes set (record {
-      name = seen.moment.name;
-      node = now.2.node;
-      is = ap node_in now.1 ∙ now.2.is;
-      leads = (stays_leading then now.0 now.2.node now.2 now.2.is set seen.leads).0;
-    }) (record { name = name; node = n; is = is; leads = leads })))
+    false_from_ne_true _ (λ leads. seen.apart (sym seen.own ∙ sym now.1
+    ∙ one_leader (nodes_in t.world.places) (regular_now t).nodes set now.0
+    (record { name = name; node = n; is = is; leads = origin_row n.id set (knowledge n).config leads })))
   where
-    then : Node
-    then = seen.moment.node
-
-    now : HoldsOf (Stays then) seen.moment.name t.world.places
-    now = now_stays t seen.moment.session seen.moment.was seen.moment.name seen.moment.place then seen.moment.found
-        seen.moment.at
+    now : (y : Leading (nodes_in t.world.places) set) × (y.node.id ≡ seen.moment.node.id)
+    now = leading_now t seen.moment set seen.leads
 
 -- ---- a node emits events
 
@@ -168,11 +167,12 @@ pub record IsAhead (s : Seat) (n : Node) : Type 0 where
   pub tables : (e : ℕ × TableRow) → IsAmong e (knowledge n).config.tables →
       IsAmong e (knowledge s.node).config.tables ⊎ (is_origin s.node.id e.1.set_id (knowledge s.node).config ≡ true)
 
-allowed_own : (s : Seat) (n : Node) (m : Emission) → Says s n m → (e : ℕ × TableRow) →
-    m.body ≡ SetAddTable e.1.set_id e.0 e.1.name e.1.comment →
+allowed_own : (s : Seat) (n : Node) (m : Emission) → Says s n m → (e : ℕ × TableRow) → IsOfTable e m.body →
     is_origin s.node.id e.1.set_id (knowledge s.node).config ≡ true
-allowed_own s n m (inl may) e is = (subst (IsAllowed s) is may.1).1
-allowed_own s n m (inr feed) e is = absurd (subst (IsOfFeed s n) is feed)
+allowed_own s n m (inl may) e (inl is) = (subst (IsAllowed s) is may.1).1
+allowed_own s n m (inl may) e (inr is) = subst (IsAllowed s) is may.1
+allowed_own s n m (inr feed) e (inl is) = absurd (subst (IsOfFeed s n) is feed)
+allowed_own s n m (inr feed) e (inr is) = absurd (subst (IsOfFeed s n) is feed)
 
 stays_ahead : (s : Seat) (number : ℕ) (m : Emission) (n : Node) → Says s n m → IsAhead s n →
     IsAhead s (with_deeds (deed_of s number m ∷ []) n)
@@ -194,16 +194,19 @@ tells_ahead s ms may =
 
 -- ---- a node applies an event
 
--- a table that is known behind an event of another node, of a set that the node keeps, was known before
+-- a table that is known behind an event of another node, of a set that the node keeps then, was known before
 pub takes_known : (t : Past) (x : Carried) (origin : ℕ) → IsTaken t origin x → (e : ℕ × TableRow) (v : View) →
-    view_of e.1.set_id (knowledge x.seat.node) ≡ Some v →
+    (view_of e.1.set_id (knowledge x.seat.node) ≡ Some v)
+    × (leaves e.1.set_id x.seat.node.id x.event.body ≡ false) →
     IsAmong e (change_by x.event.origin x.event.number x.event.body (knowledge x.seat.node).config).tables →
     IsAmong e (knowledge x.seat.node).config.tables
-takes_known t x origin is e v found among =
+takes_known t x origin is e v (found, stays) among =
     elim (comes_by x.event.origin x.event.number x.event.body (knowledge n).config
     (may_emitted x.event.origin x.event.body (knowledge n).config is.work.may) e among) [
       | inl there ↦ there
-      | inr adds ↦ absurd (never adds)
+      | inr (inl adds) ↦ absurd (never adds)
+      | inr (inr drops) ↦ absurd (true≢false (sym (ap (leaves e.1.set_id n.id) drops
+          ∙ eq-eqb e.1.set_id e.1.set_id refl) ∙ stays))
     ]
   where
     n : Node

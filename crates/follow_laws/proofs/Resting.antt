@@ -1,9 +1,12 @@
 -- Nothing but the events that a node applies changes a table that it keeps.
+use Rattle.std.proofs.Common.{true}
+use Rattle.std.proofs.Common.{is_some}
 use Rattle.std.proofs.Common.{◌≡◌, ◌⊎◌, inl, inr, ℕ, ◌<◌, ◌≤◌, List, Some, None, refl, sym, ap, subst}
 use Rattle.std.proofs.Common.{◌∙◌, ◌++◌, arith, length, suc}
 use Rattle.std.specs.Prelude.{option_map}
 use Rattle.node_rows.specs.declared.rows.TableRow.{TableRow}
-use Rattle.slon_model.specs.Config.{set_of}
+use Rattle.slon_model.specs.Config.{Config, set_row}
+use Rattle.slon_model.specs.Maps.{entry_at}
 use Rattle.slon_model.specs.Deciding.{decide, move_of}
 use Rattle.slon_model.specs.Deeds.{Node, knowledge, view_of, with_deeds}
 use Rattle.slon_model.specs.Moves.{Move, done, prepared, with_commit}
@@ -11,7 +14,7 @@ use Rattle.slon_model.specs.Place.{Filling, Place, doubted, fallen, filled_by, f
 use Rattle.slon_model.specs.Sessions.{Commit, committing, emissions, next_event}
 use Rattle.slon_model.proofs.Names.{one_found}
 use Rattle.slon_laws.proofs.Later.{HoldsOf}
-use Rattle.stream_laws.specs.Nodes.{IsAmong, node_in}
+use Rattle.stream_laws.specs.Nodes.{IsAmong, node_in, nodes_in}
 use Rattle.stream_laws.specs.Applied.{applied_events}
 use Rattle.stream_laws.proofs.Steps.{Logs, done_logs, prepared_node}
 use Rattle.image_laws.proofs.Images.{joined}
@@ -21,14 +24,17 @@ use Rattle.view_laws.specs.Laws.{GoesOn}
 use Rattle.follow_laws.specs.Laws.{TablesStay}
 use Rattle.view_laws.specs.Past.{Past, past, WasUpTo}
 use Rattle.view_laws.proofs.Doing.{Does, DoesBecome, DoesHear, DoesTake, DoesTell}
-use Rattle.view_laws.proofs.Agreeing.{member_known, table_known}
+use Rattle.view_laws.proofs.Agreeing.{table_known}
 use Rattle.follow_laws.proofs.Contents.{filled_stands, none_filled}
 use Rattle.view_laws.proofs.Going.{views_go_on}
 use Rattle.follow_laws.proofs.Holding.{emissions_bring, filled_now}
 use Rattle.follow_laws.proofs.Kept.{done_fillings, tells_ahead}
 use Rattle.view_laws.proofs.Living.{does_node}
-use Rattle.image_laws.proofs.Staying.{Stays, node_stays, stays_itself}
-use Rattle.view_laws.proofs.Tables.{found_in_set}
+use Rattle.image_laws.proofs.Staying.{IsTableOf, Stays, node_stays, stays_itself}
+use Rattle.view_laws.proofs.Tables.{set_known}
+use Rattle.view_laws.proofs.Ended.{view_live}
+use Rattle.view_laws.proofs.Viewed.{seen_now}
+use Rattle.follow_laws.proofs.Tabled.{IsLike, live_table, still_like}
 use Rattle.view_laws.proofs.Walking.{Passes, passing_later, stays_later}
 
 -- A table, with how many events were applied at some time, and what it was filled with then.
@@ -146,24 +152,12 @@ tables_stay limit history later w v leads leads_on name p q found found_later n 
         filled_now t (record { name = name; place = p; found = found; node = n; at = is_n }) e.0 e.1 view
         (ap (λ k. view_of k (knowledge n)) e.2 ∙ kept)
 
-    -- the table is in the set still
-    set_then : set_of table (knowledge n).config ≡ Some set
-    set_then =
-        ap (λ text. set_of text (knowledge n).config) e.3
-        ∙ found_in_set t (record { name = name; node = n; is = ap node_in found ∙ is_n; entry = e.0; among = e.1 })
-        ∙ ap Some e.2
-
     stays : HoldsOf (Stays n) name v.places
     stays = stays_later (node_stays n) t later v leads_on name (p, found, stays_itself n p is_n)
 
     one : stays.2.node ≡ m
     one = one_found stays.2.node m (sym stays.2.is ∙ ap (λ (r : Place). r.node) (one_found stays.0 q
         (sym stays.1 ∙ found_later)) ∙ is_m)
-
-    e_later : (f : ℕ × TableRow) × IsAmong f (knowledge m).config.tables × (f.1.set_id ≡ set) × (table ≡ f.1.name)
-    e_later =
-        member_known table (knowledge m).config set
-        (ap (λ x. set_of table (knowledge x).config) (sym one) ∙ stays.2.members table set set_then)
 
     goes : GoesOn set view m
     goes = elim (views_go_on limit history later w v leads leads_on name p q found found_later n m is_n is_m set view
@@ -172,12 +166,45 @@ tables_stay limit history later w v leads leads_on name p q found found_later n 
           | inr left ↦ absurd (left.new (subst (IsAmong left.event) same left.applied))
         ]
 
+    c : Config
+    c = (knowledge m).config
+
+    -- the node knows the table still
+    stays_known : IsTableOf e.0 c
+    stays_known = subst (λ (x : Node). IsTableOf e.0 (knowledge x).config) one (stays.2.tables e.0 e.1)
+
+    like : IsLike c e.0
+    like = still_like e.0 c stays_known
+
+    at_m : nodes_in v.places name ≡ Some m
+    at_m = ap node_in found_later ∙ is_m
+
+    live : is_some (set_row set c) ≡ true
+    live =
+        view_live later_past (record {
+          name = name;
+          node = m;
+          is = at_m;
+          set_id = set;
+          view = goes.view;
+          seen = seen_now later_past name m at_m set goes.view goes.found;
+        }) (ap (λ i. is_some (entry_at i c.sets)) (sym (like.set_id ∙ e.2)) ∙ set_known later_past (record {
+          name = name;
+          node = m;
+          is = at_m;
+          entry = like.entry;
+          among = like.among;
+        }))
+
+    e_later : IsAmong e.0 c.tables
+    e_later = live_table e.0 c (ap (λ i. is_some (set_row i c)) e.2 ∙ live) stays_known
+
     rows : standing_rows q table ≡ (filling_of table q.fillings).rows
     rows =
-        subst (λ text. standing_rows q text ≡ (filling_of text q.fillings).rows) (sym e_later.3)
-        (filled_stands q e_later.0.1.name (filled_now later_past
-        (record { name = name; place = q; found = found_later; node = m; at = is_m }) e_later.0 e_later.1 goes.view
-        (ap (λ k. view_of k (knowledge m)) e_later.2 ∙ goes.found)).before)
+        subst (λ text. standing_rows q text ≡ (filling_of text q.fillings).rows) (sym e.3)
+        (filled_stands q e.0.1.name (filled_now later_past
+        (record { name = name; place = q; found = found_later; node = m; at = is_m }) e.0 e_later goes.view
+        (ap (λ k. view_of k (knowledge m)) e.2 ∙ goes.found)).before)
 
     then : Filled
     then = record { table = table; count = length (applied_events n); filling = filling_of table p.fillings }

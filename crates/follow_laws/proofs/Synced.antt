@@ -1,6 +1,6 @@
 -- A SYNC brings each table of a set that a node keeps to what the table held at the origin as the SYNC was emitted.
 use Rattle.std.proofs.Common.{◌≡◌, ◌≢◌, ℕ, ◌<◌, Bool, true, false, cond, List, [], ◌∷◌, Some, refl, sym, ap, subst}
-use Rattle.std.proofs.Common.{◌∙◌, map, filter}
+use Rattle.std.proofs.Common.{◌∙◌, arith, map, filter, suc}
 use Rattle.std.specs.Prelude.{◌==◌, ◌&&◌}
 use Rattle.std.specs.Str.{bytes_eq}
 use Rattle.std.specs.List.{AllByRecursion}
@@ -9,40 +9,41 @@ use Rattle.node_rows.specs.declared.rows.TableRow.{TableRow}
 use Rattle.slon_model.specs.Names.{find_named}
 use Rattle.slon_model.specs.Maps.{Map}
 use Rattle.slon_model.specs.Rows.{Action, Rows}
-use Rattle.slon_model.specs.Snapshots.{Covers}
+use Rattle.slon_model.specs.Snapshots.{Covers, covers}
 use Rattle.slon_model.specs.Config.{Config, era_of, is_origin, is_table_of, tables_of}
-use Rattle.slon_model.specs.Deeds.{Knowledge, Logged, knowledge, view_of}
+use Rattle.slon_model.specs.Deeds.{Knowledge, Logged, knowledge, progress, view_of}
 use Rattle.slon_model.specs.Eras.{image_in}
 use Rattle.slon_model.specs.Following.{SetSync, delta, is_on_one, kept_from, set_sync, tables_taken}
 use Rattle.slon_model.specs.Logs.{logged}
 use Rattle.slon_model.specs.Place.{standing_rows, taken}
 use Rattle.slon_model.specs.Sessions.{Seat}
 use Rattle.slon_model.specs.Views.{View}
-use Rattle.slon_model.specs.Events.{Event}
+use Rattle.slon_model.specs.Events.{Event, is_sync}
 use Rattle.slon_model.proofs.Names.{bytes_same}
 use Rattle.slon_laws.proofs.Following.{delta_has}
 use Rattle.slon_laws.proofs.Later.{HoldsOf}
-use Rattle.stream_laws.specs.Nodes.{IsAmong}
+use Rattle.stream_laws.specs.Nodes.{IsAmong, IsEvent, nodes_in}
 use Rattle.stream_laws.proofs.Lists.{all_each, all_mapped, all_passed, any_among}
 use Rattle.stream_laws.proofs.Seats.{IsSeat, seat_node}
 use Rattle.image_laws.specs.Deltas.{IsRead, applied}
 use Rattle.image_laws.specs.Facts.{IsHeldBy}
-use Rattle.image_laws.proofs.Images.{image_is_committed_rows, reading_leads}
+use Rattle.image_laws.proofs.Images.{image_is_committed_rows, reading_led}
 use Rattle.image_laws.proofs.Logging.{among_filtered, filtered_among}
 use Rattle.view_laws.specs.Contents.{actions_on}
-use Rattle.view_laws.specs.Known.{AreRising, IsEmitted, IsSeen}
+use Rattle.view_laws.specs.Known.{AreRising, IsSeen}
 use Rattle.view_laws.specs.Past.{Past, Moment, WasUpTo}
 use Rattle.follow_laws.proofs.Contents.{actions_none, synced, synced_none, synced_one}
 use Rattle.view_laws.proofs.Viewed.{rising_now}
 use Rattle.follow_laws.proofs.Kept.{other_leads}
-use Rattle.view_laws.proofs.Moments.{IsLater, node_now, now_stays, one_name, reached_up_to}
+use Rattle.view_laws.proofs.Moments.{node_now, now_stays, one_name, reached_up_to}
 use Rattle.view_laws.proofs.Divided.{was_taken}
 use Rattle.view_laws.proofs.Numbered.{mapped_among}
 use Rattle.view_laws.proofs.Rising.{found_stands}
-use Rattle.view_laws.proofs.Seen.{newer_seen}
 use Rattle.image_laws.proofs.Staying.{Stays}
-use Rattle.view_laws.proofs.Tables.{KnownTable, held_then, one_table, table_of, moment_today, held_today, Today}
+use Rattle.view_laws.proofs.Tables.{KnownTable, held_then, one_table, table_of, moment_today, Today}
 use Rattle.view_laws.proofs.Taken.{Follows, delta_read}
+use Rattle.view_laws.proofs.Readings.{ReadAt, Reads, ReadsFrom, read_at, reads_follows}
+use Rattle.follow_laws.proofs.Tabled.{IsLike}
 
 -- ---- moments of the origin
 
@@ -109,7 +110,7 @@ pub record Reading (t : Past) : Type 0 where
   pub table : KnownTable t
   pub own : ℕ
   pub known : Knowledge
-  pub later : (f : ℕ × TableRow) → IsAmong f known.config.tables → IsAmong f (knowledge table.node).config.tables
+  pub later : (f : ℕ × TableRow) → IsAmong f known.config.tables → IsLike (knowledge table.node).config f
   pub event : Event
   pub log : List Logged
 
@@ -143,16 +144,18 @@ others_none t r v apart =
         bytes_same l.action.table found.0.1
         (and_parts (found.0.0 == l.table_id) (bytes_eq l.action.table found.0.1) found.2).1 in
         let set = eqb-true made.0.1.set_id v.0 (and_parts made.0.1.live (made.0.1.set_id == v.0) there.1).1 in
+        let like = r.later made.0 there.0 in
         let known : KnownTable t =
         record {
           name = r.table.name;
           node = r.table.node;
           is = r.table.is;
-          entry = made.0;
-          among = r.later made.0 there.0;
+          entry = like.entry;
+          among = like.among;
         } in
-        sym set ∙ (one_table t (table_of t known) (table_of t r.table)
-        (ap (λ (u : ℕ × List ℕ). u.1) (sym made.2) ∙ sym named ∙ sym (bytes_same table l.action.table same))).0
+        sym (like.set_id ∙ set) ∙ (one_table t (table_of t known) (table_of t r.table)
+        (like.name ∙ ap (λ (u : ℕ × List ℕ). u.1) (sym made.2) ∙ sym named
+        ∙ sym (bytes_same table l.action.table same))).0
 
 -- where none of these sets is the one of the table, nothing comes
 pub synced_nothing : (t : Past) (r : Reading t) (kept : Map View) →
@@ -173,6 +176,9 @@ pub record Syncing (t : Past) : Type 0 where
   pub source : Seat
   pub there : IsSeat t.world.places source
   pub led : source.node.id ≡ event.origin
+  pub from : IsEvent (nodes_in t.world.places) event
+  pub sync : is_sync event.body ≡ true
+  pub next : event.number ≡ suc (progress event.origin (knowledge seat.node))
   pub entry : ℕ × TableRow
   pub among : IsAmong entry (knowledge seat.node).config.tables
   pub view : View
@@ -195,7 +201,7 @@ reading_of y =
       table = synced_table y;
       own = y.seat.node.id;
       known = knowledge y.seat.node;
-      later = λ f among. among;
+      later = λ f among. record { entry = f; among = among; set_id = refl; name = refl };
       event = y.event;
       log = logged y.source.node;
     }
@@ -257,23 +263,41 @@ today t y from m own =
       at = y.there.node;
     }
 
--- what the table held at an earlier moment becomes what it held at a later one
+-- the SYNC sees more than the view
+abbrev pub more_of : {t : Past} (y : Syncing t) → y.view.origin ≡ y.event.origin →
+    covers y.view.seen y.event.taken ≡ false → Reads t
+more_of y from more =
+    record {
+      table = synced_table y;
+      view = y.view;
+      seen = y.seen;
+      event = y.event;
+      is = y.from;
+      sync = y.sync;
+      own = sym from;
+      next =
+          let next = y.next in
+          let at = ap (λ i. progress i (knowledge y.seat.node)) from in
+          omega (arith, next, at);
+      more = more;
+    }
+
+-- what the table held as the snapshot of the view was taken becomes what it held as the SYNC was emitted
 pub sync_leads : (t : Past) (y : Syncing t) (from : y.view.origin ≡ y.event.origin)
-    (emitted : IsEmitted (WasUpTo t) y.event) (later : IsLater y.seen.moment emitted.moment) →
+    (more : covers y.view.seen y.event.taken ≡ false) →
     applied (actions_on y.entry.1.name (sync_of y (y.entry.1.set_id, y.view)).rows)
-    (standing_rows y.seen.moment.place y.entry.1.name) ≡ standing_rows emitted.moment.place y.entry.1.name
-sync_leads t y from emitted later =
+    (standing_rows y.seen.moment.place y.entry.1.name)
+    ≡ standing_rows (read_at t (more_of y from more)).at.moment.place y.entry.1.name
+sync_leads t y from more =
     ap (applied actions) (sym (image_then t y.seen.moment first set table held)
-    ∙ ap (λ era. image_in p.place p.node set era table (taken y.seen.moment.place)) (sym now.1)
+    ∙ ap (λ era. image_in p.place p.node set era table (taken y.seen.moment.place)) (sym a.era)
     ∙ ap (image_in p.place p.node set era table) (sym y.seen.seen))
-    ∙ reading_leads t.limit p.name t.world p.place y.there.found p.node y.there.node y.view.seen
+    ∙ reading_led t.limit p.name t.world p.place y.there.found p.node y.there.node y.view.seen
     y.event.taken (was_taken t y.seen.moment p.name first.same y.view.seen y.seen.seen)
-    (was_taken t emitted.moment p.name second.same y.event.taken emitted.taken)
     (subst (Covers y.event.taken) (sym y.seen.seen) (subst (λ k. Covers k (taken y.seen.moment.place))
-    (sym emitted.taken) later.covers)) set table now.0 actions read
-    ∙ ap (image_in p.place p.node set era table) emitted.taken
-    ∙ ap (λ era. image_in p.place p.node set era table (taken emitted.moment.place)) then.1
-    ∙ image_then t emitted.moment second set table held_later
+    (sym a.at.taken) a.later.covers)) set era table follows.held actions read
+    ∙ ap (image_in p.place p.node set era table) a.at.taken
+    ∙ image_then t a.at.moment second set table a.held
   where
     p : Seat
     p = y.source
@@ -284,41 +308,33 @@ sync_leads t y from emitted later =
     table : List ℕ
     table = y.entry.1.name
 
+    r : Reads t
+    r = more_of y from more
+
+    a : ReadAt t r
+    a = read_at t r
+
     era : ℕ
-    era = era_of set (knowledge p.node).config
+    era = era_of set (knowledge a.at.moment.node).config
 
     first : Today t y.seen.moment
     first = today t y from y.seen.moment y.seen.own
 
-    second : Today t emitted.moment
-    second = today t y from emitted.moment (emitted.own ∙ sym from)
+    second : Today t a.at.moment
+    second = today t y from a.at.moment (a.at.own ∙ sym from)
 
     held : IsHeldBy y.seen.moment.node.id (knowledge y.seen.moment.node).config set table
     held = held_then t (synced_table y) y.view y.seen
 
-    held_later : IsHeldBy emitted.moment.node.id (knowledge emitted.moment.node).config set table
-    held_later = held_then t (synced_table y) _
-        (newer_seen (WasUpTo t) y.seat.node set y.view y.event (emitted, sym from) y.seen later)
-
-    now : IsHeldBy p.node.id (knowledge p.node).config set table
-        × (era ≡ era_of set (knowledge y.seen.moment.node).config)
-    now = held_today t y.seen.moment first set table held
-
-    then : IsHeldBy p.node.id (knowledge p.node).config set table
-        × (era ≡ era_of set (knowledge emitted.moment.node).config)
-    then = held_today t emitted.moment second set table held_later
+    reads : ReadsFrom t r
+    reads = record {
+      at = record { name = p.name; place = p.place; found = y.there.found; node = p.node; at = y.there.node };
+      own = y.led;
+      other = other_leads t y.seat.name y.seat.node (synced_table y).is set y.view y.seen;
+    }
 
     follows : Follows t
-    follows = record {
-      table = synced_table y;
-      other = other_leads t y.seat.name y.seat.node (synced_table y).is set y.view y.seen;
-      name = p.name;
-      place = p.place;
-      found = y.there.found;
-      node = p.node;
-      at = y.there.node;
-      held = now.0;
-    }
+    follows = reads_follows t r reads a
 
     actions : List Action
     actions = actions_on table (sync_of y (set, y.view)).rows
@@ -328,4 +344,4 @@ sync_leads t y from emitted later =
         subst (λ id. IsRead p.node table y.view.seen y.event.taken
         (actions_on table (delta id (tables_taken y.seat.node.id set (knowledge y.seat.node).config)
         y.view.seen y.event.taken (logged p.node)))) y.led
-        (delta_read t follows y.view.seen y.event.taken)
+        (delta_read t follows y.view.seen)

@@ -1,10 +1,12 @@
 -- A table of a set of the origin of an event, which a node knows as it applies that, it knew as it found what is to
 -- come with the event.
-use Rattle.std.proofs.Common.{◌≡◌, ◌∙◌, ℕ, ◌≤◌, true, sym, ap, subst, arith}
+use Rattle.std.proofs.Common.{◌≡◌, ◌∙◌, ℕ, ◌≤◌, true, inl, inr, sym, ap, subst, arith, is_some, refl}
+use Rattle.std.proofs.lemmas.Bool.{false≢true}
 use Rattle.std.specs.Str.{bytes_eq}
 use Rattle.node_rows.specs.declared.rows.TableRow.{TableRow}
 use Rattle.slon_model.specs.Maps.{number_at}
 use Rattle.slon_model.specs.Events.{Event}
+use Rattle.slon_model.specs.Config.{Config, set_row}
 use Rattle.slon_model.specs.Deeds.{Node, knowledge, progress}
 use Rattle.slon_model.specs.Sessions.{Seat}
 use Rattle.slon_model.proofs.Names.{bytes_itself, bytes_same, one_found}
@@ -15,25 +17,43 @@ use Rattle.stream_laws.proofs.Copies.{Leading}
 use Rattle.stream_laws.proofs.Lists.{among_any, any_among}
 use Rattle.stream_laws.proofs.Seats.{IsSeat, seat_node}
 use Rattle.stream_laws.proofs.Streams.{has_told}
+use Rattle.image_laws.proofs.Staying.{IsTableOf}
 use Rattle.view_laws.specs.Past.{Past}
 use Rattle.view_laws.proofs.Brought.{Finding, seat_stays}
 use Rattle.view_laws.proofs.Reached.{regular_now}
-use Rattle.view_laws.proofs.Tables.{KnownTable, Table, entry_told, made_by, made_by_leader, one_table, table_of}
+use Rattle.view_laws.proofs.Tables.{KnownTable, Table, made_by, made_by_leader, one_table, table_of, whole_now}
 use Rattle.view_laws.proofs.Unmoved.{Since, event_then}
 
--- what the node knew then it knows
+-- what the node knew then it knows, or has dropped since
 pub tables_stay_known : (t : Past) (s : Seat) (e : Event) (a : Finding t s e) → IsSeat t.world.places s →
-    (f : ℕ × TableRow) → IsAmong f (knowledge a.seat.node).config.tables → IsAmong f (knowledge s.node).config.tables
+    (f : ℕ × TableRow) → IsAmong f (knowledge a.seat.node).config.tables → IsTableOf f (knowledge s.node).config
 tables_stay_known t s e a is f among =
     let stays = seat_stays t s e a is in
-    subst (λ (n : Node). IsAmong f (knowledge n).config.tables) (one_found stays.node s.node (sym stays.is ∙ is.node))
+    subst (λ (n : Node). IsTableOf f (knowledge n).config) (one_found stays.node s.node (sym stays.is ∙ is.node))
     (stays.tables f among)
 
--- two tables that a node knows by one name are one
-same_table : (t : Past) (a b : KnownTable t) → a.entry.1.name ≡ b.entry.1.name → a.entry ≡ b.entry
-same_table t a b name =
+-- A table that a node knows by the id, the name and the set of this one.
+pub record IsLike (c : Config) (f : ℕ × TableRow) : Type 0 where
+  pub entry : ℕ × TableRow
+  pub among : IsAmong entry c.tables
+  pub set_id : entry.1.set_id ≡ f.1.set_id
+  pub name : entry.1.name ≡ f.1.name
+
+pub still_like : (f : ℕ × TableRow) (c : Config) → IsTableOf f c → IsLike c f
+still_like f c (inl there) = record { entry = f; among = there; set_id = refl; name = refl }
+still_like f c (inr ended) = record { entry = _; among = ended.0; set_id = refl; name = refl }
+
+-- where its set is live it is the same
+pub live_table : (f : ℕ × TableRow) (c : Config) → is_some (set_row f.1.set_id c) ≡ true → IsTableOf f c →
+    IsAmong f c.tables
+live_table f c live (inl there) = there
+live_table f c live (inr ended) = absurd (false≢true (sym (ap is_some ended.1) ∙ live))
+
+-- two live tables that a node knows by one name are one
+same_table : (t : Past) (a b : KnownTable t) → a.entry.1.name ≡ b.entry.1.name →
+    a.entry.1.live ≡ b.entry.1.live → a.entry ≡ b.entry
+same_table t a b name live =
     let one = one_table t (table_of t a) (table_of t b) name in
-    let live = (entry_told t a).live ∙ sym (entry_told t b).live in
     λ i. (one.1 i, record { set_id = one.0 i; name = name i; live = live i; comment = one.2 i })
 
 -- a node has met the event by which it knows a table
@@ -66,10 +86,12 @@ known_within t k =
     node = one_found met.made.node table.is.node
         (sym met.made.is ∙ ap (nodes_in t.world.places) once.0 ∙ table.is.is)
 
+-- a table of a live set was known so
 pub table_then : (t : Past) (i : Since t) (k : ℕ × TableRow) → IsAmong k (knowledge i.seat.node).config.tables →
+    is_some (set_row k.1.set_id (knowledge i.seat.node).config) ≡ true →
     (leader : Leading (nodes_in t.world.places) k.1.set_id) × (leader.node.id ≡ i.event.origin) →
     IsAmong k (knowledge i.at.seat.node).config.tables
-table_then t i k among leads =
+table_then t i k among live leads =
     subst (λ f. IsAmong f (knowledge a.seat.node).config.tables) (sym one) mark.1
   where
     s : Seat
@@ -121,12 +143,38 @@ table_then t i k among leads =
         (told (OfName k.1.name)
         (ap (λ body. tells_of body (OfName k.1.name)) table.body ∙ bytes_itself k.1.name))
 
-    one : k ≡ mark.0
-    one =
-        same_table t known (record {
+    name : k.1.name ≡ mark.0.1.name
+    name = bytes_same k.1.name mark.0.1.name mark.2
+
+    c : Config
+    c = (knowledge s.node).config
+
+    stays : IsTableOf mark.0 c
+    stays = tables_stay_known t s e a i.work.seat mark.0 mark.1
+
+    like : IsLike c mark.0
+    like = still_like mark.0 c stays
+
+    set : mark.0.1.set_id ≡ k.1.set_id
+    set =
+        sym like.set_id
+        ∙ sym (one_table t table (table_of t (record {
           name = s.name;
           node = s.node;
           is = known.is;
-          entry = mark.0;
-          among = tables_stay_known t s e a i.work.seat mark.0 mark.1;
-        }) (bytes_same k.1.name mark.0.1.name mark.2)
+          entry = like.entry;
+          among = like.among;
+        })) (name ∙ sym like.name)).0
+
+    live_there : is_some (set_row mark.0.1.set_id c) ≡ true
+    live_there = ap (λ i. is_some (set_row i c)) set ∙ live
+
+    there : IsAmong mark.0 c.tables
+    there = live_table mark.0 c live_there stays
+
+    one : k ≡ mark.0
+    one =
+        let whole = whole_now t s.name s.node known.is in
+        same_table t known
+        (record { name = s.name; node = s.node; is = known.is; entry = mark.0; among = there }) name
+        (whole.live k among live ∙ sym (whole.live mark.0 there live_there))

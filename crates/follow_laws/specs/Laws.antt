@@ -1,5 +1,5 @@
 -- The laws of what nodes that subscribe hold, in every session that a legal history leads to.
-use Rattle.std.specs.Prelude.{◌≡◌, ◌≢◌, ℕ, List, ◌++◌, Some}
+use Rattle.std.specs.Prelude.{◌≡◌, ◌≢◌, ◌⊎◌, ℕ, List, ◌++◌, Some}
 use Rattle.slon_model.specs.Names.{find_named}
 use Rattle.slon_model.specs.Config.{names_of}
 use Rattle.slon_model.specs.Views.{View}
@@ -10,11 +10,13 @@ use Rattle.slon_model.specs.World.{World, start, Happening, Leads}
 use Rattle.stream_laws.specs.Nodes.{IsAmong}
 use Rattle.stream_laws.specs.Applied.{applied_events}
 use Rattle.image_laws.specs.Facts.{IsHeldBy}
+use Rattle.view_laws.specs.Laws.{IsEnding}
 
 -- ---- tables
 
--- The database of a node that keeps a set in this view: another node of the session is the origin of the set, the table
--- is in the set there, and what stands in the table here is what the snapshot of the view sees of the table there.
+-- The database of a node that keeps a set in this view: another node of the session is the origin of the set, and what
+-- stands in the table here is what the snapshot of the view sees of the table there. The table is in the set there, or
+-- the set has ended there by an event that the node has not applied yet.
 pub record HoldsAsSeen (w : World) (p : Place) (n : Node) (set : ℕ) (v : View) (table : List ℕ) : Type 0 where
   pub name : List ℕ
   pub place : Place
@@ -23,7 +25,7 @@ pub record HoldsAsSeen (w : World) (p : Place) (n : Node) (set : ℕ) (v : View)
   pub at : place.node ≡ Some origin
   pub own : origin.id ≡ v.origin
   pub apart : v.origin ≢ n.id
-  pub held : IsHeldBy origin.id (knowledge origin).config set table
+  pub held : IsHeldBy origin.id (knowledge origin).config set table ⊎ IsEnding set n origin
   pub rows : standing_rows p table ≡ image_in place origin set v.era table v.seen
 
 -- Of each set that a node keeps, each table that it knows holds what the snapshot that it keeps sees at the origin.

@@ -1,6 +1,6 @@
 -- A table comes into a set, and its stretch begins; and what any deed of a node keeps.
 use Rattle.std.proofs.Common.{◌≡◌, ℕ, ◌<◌, Bool, true, false, cond, List, [], ◌∷◌, ◌++◌, map, Option, Some, None}
-use Rattle.std.proofs.Common.{refl, sym, ap, subst, ◌∙◌, is_some, arith}
+use Rattle.std.proofs.Common.{refl, sym, ap, subst, ◌∙◌, is_some, arith, ◌⊎◌, inl, inr}
 use Rattle.std.specs.Prelude.{◌==◌, ◌&&◌, ◌||◌, find, filter_map, option_map, nat_le}
 use Rattle.std.specs.Str.{bytes_eq}
 use Rattle.std.specs.List.{AllByRecursion, list_any}
@@ -23,14 +23,16 @@ use Rattle.slon_model.proofs.Names.{all_map, bytes_itself, bytes_same, bytes_tur
 use Rattle.slon_laws.specs.Sound.{Sound}
 use Rattle.slon_laws.proofs.Opens.{member_all}
 use Rattle.slon_laws.proofs.Played.{play_skips}
-use Rattle.stream_laws.proofs.Lists.{all_with}
+use Rattle.stream_laws.specs.Nodes.{IsAmong}
+use Rattle.stream_laws.proofs.Lists.{all_with, among_any, with_among}
 use Rattle.image_laws.specs.Fits.{IsListed, IsWhole, Comes, Adds, Follows, Fit, Keeps, CreatesSet, AddsTable}
-use Rattle.image_laws.specs.Fits.{FollowsTable}
+use Rattle.image_laws.specs.Fits.{FollowsTable, DropsSet, is_owner}
 use Rattle.image_laws.specs.Facts.{FillsAt, HoldsStretch, IsHeldBy, HasStretch, StretchesHold, NodeHolds}
 use Rattle.image_laws.proofs.Found.{IsNew, find_mapped, find_past, find_alone, find_none, any_none, any_with, any_here}
 use Rattle.image_laws.proofs.Stretching.{Before, Stay, listed_member, behind, all_behind, there_behind, keeps_holds}
-use Rattle.image_laws.proofs.Stretching.{kept_stay, created_stay}
+use Rattle.image_laws.proofs.Stretching.{kept_stay, created_stay, owns_not}
 use Rattle.image_laws.proofs.Stretching.{creates_holds, none_begin, same_stretch}
+use Rattle.image_laws.proofs.Dropping.{dropped_stay, drops_holds}
 
 -- ---- what a new stretch begins with
 
@@ -106,6 +108,7 @@ pub record Coming : Type 0 where
   row : TableRow
   fresh : IsNew id was.known.tables
   unused : list_any (λ e. bytes_eq row.name e.1.name) was.known.tables ≡ false
+  live : row.live ≡ true
 
 abbrev now_known : Coming → Config
 now_known k = record k.was.known { tables = with_entry k.id k.row k.was.known.tables }
@@ -150,21 +153,50 @@ another_name k table listed =
 still_there : (k : Coming) → Stay k.was.known (now_known k)
 still_there k = record {
   listed = λ table listed. any_with (λ e. bytes_eq table e.1.name) k.id k.row k.was.known.tables k.fresh listed;
-  member = λ table set is. found_past k table (not_member k.was.known table (k.id, k.row)
-      (another_name k table (listed_member table k.was.known set is))) ∙ is;
+  member = λ table set is. inl (found_past k table (not_member k.was.known table (k.id, k.row)
+      (another_name k table (listed_member table k.was.known set is))) ∙ is);
   only = λ table set listed only.
       all_with (λ e. bytes_eq table e.1.name ≡ true → e.1.set_id ≡ set) k.id k.row k.was.known.tables
       (λ same. absurd (true≢false (sym same ∙ another_name k table listed))) only;
 }
 
-whole_with : (k : Coming) → is_some (entry_at k.row.set_id k.was.known.sets) ≡ true → IsWhole k.was.own (now_known k)
-whole_with k known = record {
+whole_with : (k : Coming) → is_some (entry_at k.row.set_id k.was.known.sets) ≡ true →
+    (is_owner k.was.own k.row.set_id k.was.known ≡ true → is_some (set_row k.row.set_id k.was.known) ≡ true) →
+    IsWhole k.was.own (now_known k)
+whole_with k known own = record {
   knows = k.was.holds.whole.knows;
   sets = k.was.holds.whole.sets;
   tables =
       all_with (λ e. is_some (entry_at e.1.set_id k.was.known.sets) ≡ true) k.id k.row k.was.known.tables known
       k.was.holds.whole.tables;
+  names = λ e f first second.
+      by e f (with_among k.id k.row k.was.known.tables e first) (with_among k.id k.row k.was.known.tables f second);
+  live = λ e among some.
+      elim (with_among k.id k.row k.was.known.tables e among) [
+        | inl is ↦ ap (λ (e : ℕ × TableRow). e.1.live) is ∙ k.live
+        | inr there ↦ k.was.holds.whole.live e there some
+      ];
+  ended = λ e among owns live.
+      elim (with_among k.id k.row k.was.known.tables e among) [
+        | inl is ↦
+            subst (λ (f : ℕ × TableRow). is_some (set_row f.1.set_id k.was.known) ≡ true) (sym is)
+            (own (subst (λ (f : ℕ × TableRow). is_owner k.was.own f.1.set_id k.was.known ≡ true) is owns))
+        | inr there ↦ k.was.holds.whole.ended e there owns live
+      ];
 }
+  where
+    other : (e : ℕ × TableRow) → IsAmong e k.was.known.tables → e.1.name ≡ k.row.name → ⊥
+    other e among same =
+        true≢false (sym (among_any (λ e. bytes_eq k.row.name e.1.name) e k.was.known.tables among
+        (subst (λ name. bytes_eq k.row.name name ≡ true) (sym same) (bytes_itself k.row.name))) ∙ k.unused)
+
+    by : (e f : ℕ × TableRow) → (e ≡ (k.id, k.row)) ⊎ IsAmong e k.was.known.tables →
+        (f ≡ (k.id, k.row)) ⊎ IsAmong f k.was.known.tables → e.1.name ≡ f.1.name → e.1.set_id ≡ f.1.set_id
+    by e f (inl one) (inl two) same = ap (λ (e : ℕ × TableRow). e.1.set_id) (one ∙ sym two)
+    by e f (inl one) (inr two) same =
+        absurd (other f two (sym same ∙ ap (λ (e : ℕ × TableRow). e.1.name) one))
+    by e f (inr one) (inl two) same = absurd (other e one (same ∙ ap (λ (e : ℕ × TableRow). e.1.name) two))
+    by e f (inr one) (inr two) same = k.was.holds.whole.names e f one two same
 
 -- ---- into a set of the node
 
@@ -173,7 +205,6 @@ pub record Adding : Type 0 where
   table : Coming
   sound : Sound table.was.place
   deed : Deed
-  live : table.row.live ≡ true
   first : deed.first ≡ table.was.place.numbers.next
   rows : deed.rows ≡ (table.row.name, standing_rows table.was.place table.row.name) ∷ []
   leads : is_origin table.was.own table.row.set_id table.was.known ≡ true
@@ -194,7 +225,7 @@ found_here : (a : Adding) → set_of a.table.row.name (now_known a.table) ≡ So
 found_here a =
     let k = a.table in
     found_alone k
-    (ap (λ b. b && bytes_eq k.row.name k.row.name && is_some (set_row k.row.set_id k.was.known)) a.live
+    (ap (λ b. b && bytes_eq k.row.name k.row.name && is_some (set_row k.row.set_id k.was.known)) k.live
     ∙ ap (λ b. b && is_some (set_row k.row.set_id k.was.known)) (bytes_itself k.row.name)
     ∙ leads_live k.was.own (set_row k.row.set_id k.was.known) a.leads)
 
@@ -303,7 +334,9 @@ adds_holds : (a : Adding) → HoldsWith a.table a.deed
 adds_holds a =
     subst (StretchesHold k.was.place k.was.own (now_known k))
     (ap (λ first. first ++ all_later k a.deed) (sym (begins a))) (record {
-      whole = whole_with k (leads_known k.was.own (entry_at k.row.set_id k.was.known.sets) a.leads);
+      whole =
+          whole_with k (leads_known k.was.own (entry_at k.row.set_id k.was.known.sets) a.leads)
+          (λ owns. leads_live k.was.own (set_row k.row.set_id k.was.known) a.leads);
       each = (new_holds a, all_still k a.deed);
       there = there_now a;
     })
@@ -319,7 +352,7 @@ record Following : Type 0 where
   deed : Deed
   rows : deed.rows ≡ []
   known : is_some (entry_at table.row.set_id table.was.known.sets) ≡ true
-  other : is_origin table.was.own table.row.set_id table.was.known ≡ false
+  other : is_owner table.was.own table.row.set_id table.was.known ≡ false
 
 -- what the node holds as an origin it held before
 held_before : (f : Following) (set : ℕ) (table : List ℕ) → IsHeldBy f.table.was.own (now_known f.table) set table →
@@ -338,14 +371,15 @@ held_before f set table held = by (is_member k.was.known table (k.id, k.row)) re
         sym (found_alone k (ap (λ name. is_member k.was.known name (k.id, k.row)) (sym name) ∙ passes))
         ∙ ap (λ name. set_of name (now_known k)) (sym name) ∙ held.0 in
         let here : k.row.set_id ≡ set = cc in
-        absurd (true≢false (sym held.1 ∙ ap (λ i. is_origin k.was.own i k.was.known) (sym here) ∙ f.other))
+        absurd (true≢false (sym held.1 ∙ ap (λ i. is_origin k.was.own i k.was.known) (sym here)
+        ∙ owns_not k.was.own k.row.set_id k.was.known f.other))
     by false other = sym (found_past k table other) ∙ held.0
 
 follows_holds : (f : Following) → HoldsWith f.table f.deed
 follows_holds f =
     subst (StretchesHold k.was.place k.was.own (now_known k))
     (sym (none_begin k.was.own (now_known k) f.deed k.was.all f.rows)) (record {
-      whole = whole_with k f.known;
+      whole = whole_with k f.known (λ owns. absurd (true≢false (sym owns ∙ f.other)));
       each = all_still k f.deed;
       there = λ set table held.
           there_behind k.was (now_known k) f.deed set table (held_before f set table held, held.1)
@@ -417,6 +451,7 @@ coming_of p d h k = record {
   row = record { set_id = k.set_id; name = k.name; live = true; comment = k.comment };
   fresh = k.new;
   unused = k.unused;
+  live = refl;
 }
 
 abbrev pub adding_of : (p : Place) (d : OneDeed p) → Sound p → NodeHolds p d.node → Adds p d.node d.deed → Adding
@@ -424,7 +459,6 @@ adding_of p d sound h a = record {
   table = coming_of p d h a.table;
   sound = sound;
   deed = d.deed;
-  live = refl;
   first = d.first;
   rows = a.rows;
   leads = a.leads;
@@ -471,6 +505,9 @@ deed_holds p d sound h = by d.fit
     by (FollowsTable f) =
         subst (HoldsBy p d.node d.deed) (sym (told p d f.table.event _ f.table.met f.table.body))
         (follows_holds (following_of p d h f))
+    by (DropsSet e) =
+        subst (HoldsBy p d.node d.deed) (sym (told p d e.event _ e.met e.body))
+        (drops_holds (before_deed p d.node h) e.set_id (e.event.origin, e.event.number) d.deed e.rows)
 
 pub finds_behind : (p : Place) (d : OneDeed p) (set era : ℕ) (table : List ℕ) → Sound p → NodeHolds p d.node →
     IsListed table (knowledge d.node).config →
@@ -485,6 +522,7 @@ finds_behind p d set era table sound h listed = by d.fit
         (sym (told p d a.table.event _ a.table.met a.table.body))
         (finds_added (adding_of p d sound h a) set era table listed)
     by (FollowsTable f) = finds_rest d.node d.deed set era table (known_behind p d) f.rows
+    by (DropsSet e) = finds_rest d.node d.deed set era table (known_behind p d) e.rows
 
 -- ---- tables behind a deed
 
@@ -505,6 +543,9 @@ stays_behind p d sound h = by d.fit
         (created_stay d.node.id (knowledge d.node).config a.set_id _ h.whole a.new)
     by (AddsTable a) = comes a.table
     by (FollowsTable f) = comes f.table
+    by (DropsSet e) =
+        subst (Stay (knowledge d.node).config) (sym (told p d e.event _ e.met e.body))
+        (dropped_stay d.node.id (knowledge d.node).config e.set_id (e.event.origin, e.event.number) h.whole)
 
 -- the stretch that begins with a table
 abbrev pub new_behind : (p : Place) (d : OneDeed p) → Sound p → NodeHolds p d.node → Adds p d.node d.deed → Stretch

@@ -20,7 +20,7 @@ use Rattle.slon_laws.specs.Turning.{Turned, Commits, Falls, Doubts}
 use Rattle.slon_laws.proofs.Covering.{Outlasts, outlasts_itself, keeps_outlasting}
 use Rattle.stream_laws.proofs.Steps.{Logs, prepared_node, done_logs}
 use Rattle.image_laws.specs.Fits.{IsListed, Fit, Keeps, CreatesSet, AddsTable, FollowsTable, AllDone, IsFit, MayStand}
-use Rattle.image_laws.specs.Fits.{Does, Becomes}
+use Rattle.image_laws.specs.Fits.{Does, Becomes, DropsSet}
 use Rattle.image_laws.specs.Facts.{HoldsStretch, Holds}
 use Rattle.image_laws.proofs.Adding.{OneDeed, known_behind, finds_behind}
 use Rattle.image_laws.proofs.Found.{find_has}
@@ -146,6 +146,7 @@ fit_beside p o n d (CreatesSet a) = CreatesSet a
 fit_beside p o n d (AddsTable a) =
     AddsTable (record { table = a.table; rows = a.rows; leads = a.leads; free = a.free })
 fit_beside p o n d (FollowsTable f) = FollowsTable f
+fit_beside p o n d (DropsSet e) = DropsSet e
 
 -- the database with the node behind these deeds
 abbrev pub doing_so : Place → Node → List Deed → Place

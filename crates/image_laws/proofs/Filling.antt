@@ -21,7 +21,8 @@ use Rattle.slon_laws.proofs.Keys.{played_at}
 use Rattle.slon_laws.proofs.Locks.{pairs_each}
 use Rattle.slon_laws.proofs.Played.{Apart, NoneBetween, split_played}
 use Rattle.slon_lemmas.proofs.Keys.{same_keys}
-use Rattle.image_laws.specs.Fits.{IsOfOther, AreOfOthers, BringOthers}
+use Rattle.image_laws.specs.Fits.{IsOfOther, AreOfOthers, BringOthers, is_owner}
+use Rattle.image_laws.proofs.Stretching.{leads_owns}
 use Rattle.image_laws.specs.Facts.{Fills, FillsAt, Lasts}
 
 -- ---- fewer open transactions
@@ -85,8 +86,9 @@ not_filled p own c s lasts table o =
     let here : o.entry.1.set_id ≡ s.set_id =
     all_among (λ e. bytes_eq s.table e.1.name ≡ true → e.1.set_id ≡ s.set_id) o.entry c.tables lasts.only o.among
     (subst (λ name. bytes_eq s.table name ≡ true) on (bytes_itself s.table)) in
-    true≢false (sym (and_parts (is_origin own s.set_id c) (s.era == era_of s.set_id c) lasts.stands).0
-    ∙ ap (λ set. is_origin own set c) (sym here) ∙ o.other))
+    true≢false (sym (leads_owns own s.set_id c
+    (and_parts (is_origin own s.set_id c) (s.era == era_of s.set_id c) lasts.stands).0)
+    ∙ ap (λ set. is_owner own set c) (sym here) ∙ o.other))
 
 -- the database with what the deeds fill
 pub fills_beside : (p : Place) (own : ℕ) (c : Config) (ds : List Deed) (s : Stretch) → BringOthers own c ds →

@@ -1,12 +1,12 @@
 -- The commits of every statement and every turn are such that stretches hold behind them.
 use Rattle.slon_model.specs.World.{outcome}
 use Rattle.slon_model.specs.Tasks.{Act}
-use Rattle.std.proofs.Common.{◌≡◌, ◌≢◌, ℕ, Bool, true, false, cond, List, [], ◌∷◌, Option, Some, None, Result, refl}
-use Rattle.std.proofs.Common.{◌++◌, sym, ap, subst, ◌∙◌, is_some, map}
-use Rattle.std.specs.Prelude.{◌==◌, ◌+◌, ◌&&◌}
+use Rattle.std.proofs.Common.{◌≡◌, ◌≢◌, ℕ, true, false, cond, List, [], ◌∷◌, Option, Some, None, Result, refl}
+use Rattle.std.proofs.Common.{◌++◌, sym, ap, subst, ◌∙◌, is_some}
+use Rattle.std.specs.Prelude.{◌==◌, ◌+◌}
 use Rattle.std.specs.Str.{bytes_eq}
 use Rattle.std.specs.List.{list_any, AllByRecursion}
-use Rattle.std.proofs.lemmas.Bool.{true≢false, false≢true, false_from_ne_true, eqb-true, eq-eqb, and_parts}
+use Rattle.std.proofs.lemmas.Bool.{true≢false, false_from_ne_true, eqb-true, eq-eqb}
 use Rattle.std.proofs.lemmas.List.{append_assoc}
 use Rattle.slonik_script.specs.declared.script.Command.{Command as Order}
 use Rattle.slon_model.specs.declared.command.Delivery.{Delivery}
@@ -15,42 +15,40 @@ use Rattle.slon_model.specs.declared.reply.Refusal.{Refusal}
 use Rattle.node_rows.specs.declared.rows.NodeRow.{NodeRow}
 use Rattle.node_rows.specs.declared.rows.SetRow.{SetRow}
 use Rattle.node_rows.specs.declared.rows.Subscription.{Subscription}
-use Rattle.node_rows.specs.declared.rows.TableRow.{TableRow}
 use Rattle.node_rows.specs.declared.body.Body.{Body}
-use Rattle.node_rows.specs.declared.body.Body.TheVariants.{Sync, StoreNode, StorePath, DropPath, StoreSet, DropSet}
+use Rattle.node_rows.specs.declared.body.Body.TheVariants.{Sync, StoreNode, DropNode, StorePath, DropPath, StoreSet}
+use Rattle.node_rows.specs.declared.body.Body.TheVariants.{DropSet}
 use Rattle.node_rows.specs.declared.body.Body.TheVariants.{SetAddTable, UnsubscribeSet, MoveSet, FailoverSet}
 use Rattle.slon_model.specs.Names.{Named, find_named}
 use Rattle.slon_model.specs.Maps.{entry_at, pair_at}
 use Rattle.slon_model.specs.Events.{Event}
-use Rattle.slon_model.specs.Config.{Config, change_by, is_origin, is_table_of, era_of, live_set, leads_row, tables_of}
-use Rattle.slon_model.specs.Deeds.{Node, Deed, Doing, Emits, Applies, Hears, Brought, Knowledge, Logged, brought_in}
-use Rattle.slon_model.specs.Deeds.{knowledge, learned, nothing_brought, with_deeds}
-use Rattle.slon_model.specs.Place.{Place, deed, standing_rows, taken, node_id}
+use Rattle.slon_model.specs.Config.{Config, change_by, era_of, leads_row}
+use Rattle.slon_model.specs.Deeds.{Node, Deed, Doing, Emits, Applies, Hears, Brought, Logged, brought_in}
+use Rattle.slon_model.specs.Deeds.{knowledge, learned, with_deeds}
+use Rattle.slon_model.specs.Place.{Place, deed, taken, node_id}
 use Rattle.slon_model.specs.Sessions.{World, Running, Commit, Stated, Seat, Emission, bind, tells, when, writer_of}
 use Rattle.slon_model.specs.Sessions.{emissions, next_event, committing, stood_at}
 use Rattle.slon_model.specs.Membership.{comment_of, already, first_node, init_cluster, store_node, store_path}
-use Rattle.slon_model.specs.Membership.{drop_path, becoming, first_of_cluster, joining, stored_by}
+use Rattle.slon_model.specs.Membership.{drop_node, drop_path, becoming, first_of_cluster, joining, stored_by}
 use Rattle.slon_model.specs.Reaching.{database_of_line, reach, down_among, any_down, known_somewhere, origin_of, owner}
 use Rattle.slon_model.specs.Reaching.{commit_of, emitting}
-use Rattle.slon_model.specs.Sets.{NewTable, adding, create_set, set_add_table}
+use Rattle.slon_model.specs.Sets.{NewTable, adding, create_set, drop_set, set_add_table}
 use Rattle.slon_model.specs.Subscribing.{NewFeed, subscribing, bodies_of, told_bodies, all_tell, subscribe_set}
 use Rattle.slon_model.specs.Subscribing.{unsubscribe_set}
 use Rattle.slon_model.specs.Scripts.{ordered}
 use Rattle.slon_model.specs.Turns.{on_turn, sync_turn}
 use Rattle.slon_model.specs.Polls.{Poll, polled, stated_by, hearing}
-use Rattle.slon_model.specs.Following.{Found, FoundCopy, FoundNothing, FoundSyncs, SetSync, brought_of, is_on_one}
-use Rattle.slon_model.specs.Following.{kept_from, set_sync, tables_taken}
-use Rattle.slon_model.specs.Logs.{logged}
-use Rattle.slon_model.specs.Working.{Carried, applied_by, fetched, stands, still, worked, names_taken}
-use Rattle.slon_model.proofs.Names.{put_other, all_found, all_map, bytes_itself, bytes_same, one_found}
+use Rattle.slon_model.specs.Following.{Found, FoundCopy, FoundNothing, FoundSyncs}
+use Rattle.slon_model.specs.Working.{Carried, applied_by, fetched, stands, still, worked}
+use Rattle.slon_model.proofs.Names.{put_other, all_found, all_map, bytes_itself, one_found}
 use Rattle.slon_laws.specs.Turning.{IsWithin, HoldsAt, AllHold}
 use Rattle.slon_laws.proofs.Acting.{outcome_all}
 use Rattle.slon_laws.specs.Worlds.{AllPlaces}
-use Rattle.stream_laws.specs.Nodes.{IsAmong, node_in}
+use Rattle.stream_laws.specs.Nodes.{node_in}
 use Rattle.stream_laws.specs.Making.{OfSet, OfTable, OfName, tells_of}
 use Rattle.stream_laws.specs.Facts.{IsRegular}
 use Rattle.slon_laws.proofs.Lists.{all_filtered}
-use Rattle.stream_laws.proofs.Lists.{all_appended, all_among, all_each, all_mapped, all_passed, among_all, any_among}
+use Rattle.stream_laws.proofs.Lists.{all_appended}
 use Rattle.stream_laws.proofs.Lists.{there_here, there_with}
 use Rattle.stream_laws.proofs.Seats.{OnOk, ok_then, IsSeat, IsFound, IsReached, IsLeading, bind_ok, checked_ok, kept_ok}
 use Rattle.stream_laws.proofs.Seats.{all_none, when_none, turn_ok, owner_ok, origin_ok, already_none, line_ok, reach_ok}
@@ -60,30 +58,22 @@ use Rattle.stream_laws.proofs.Emits.{known_changed}
 use Rattle.stream_laws.proofs.Commits.{Newcomer, other_name}
 use Rattle.stream_laws.proofs.Waiting.{IsPoll, polled_ok}
 use Rattle.stream_laws.proofs.Applies.{IsSetOf, MayCome}
-use Rattle.stream_laws.proofs.Copies.{Finds, Nothing, Copies, Brings, AreTakenOf}
 use Rattle.stream_laws.proofs.Works.{IsWork, IsCarried, IsFetched, IsThere, Fresh, Kept, fetched_ok, worked_ok}
-use Rattle.image_laws.specs.Fits.{IsWhole, IsKept, Fit, Keeps, CreatesSet, AddsTable, FollowsTable, IsFirst, IsFit}
+use Rattle.image_laws.specs.Fits.{IsWhole, IsKept, Fit, Keeps, CreatesSet, AddsTable, FollowsTable, DropsSet, IsFirst}
 use Rattle.image_laws.specs.Fits.{IsDoneNow, AllDone, IsOfOther, AreOfOthers, BringOthers, LogOthers, MayStand, Does}
-use Rattle.image_laws.specs.Fits.{Becomes}
+use Rattle.image_laws.specs.Fits.{Becomes, IsFit, is_owner}
 use Rattle.image_laws.specs.Facts.{Holds, NodeHolds}
 use Rattle.slon_laws.specs.Fetches.{AllKept}
 use Rattle.slon_laws.proofs.Fetches.{IsKeptFor, OfFetch, kept_for}
-use Rattle.slon_laws.proofs.Following.{delta_has, syncs_have}
 use Rattle.slon_laws.proofs.Holds.{HoldsOf}
 use Rattle.slon_laws.proofs.Leaves.{Leaves, outcome_has}
 use Rattle.slon_laws.proofs.Results.{any_ok, none_busy}
 use Rattle.image_laws.proofs.Staying.{Stays, deed_stays, stays_itself}
-use Rattle.slon_model.specs.Views.{Views}
+use Rattle.image_laws.proofs.Others.{FoundOthers, brought_others, found_others, other_stays, others_map}
 use Rattle.slonik_script.specs.declared.script.Command.TheVariants as order
 use Rattle.slon_model.specs.declared.reply.Refusal.TheVariants as refused
 
 -- ---- a session
-
--- what is found for an event is of sets of other nodes than the one of this id
-abbrev pub FoundOthers : ℕ → Config → Found → Type 0
-FoundOthers own c FoundNothing = Unit {0}
-FoundOthers own c (FoundCopy set view rows) = AreOfOthers own c rows
-FoundOthers own c (FoundSyncs ts) = AllByRecursion (λ t. LogOthers own c t.rows) ts
 
 -- What the node of the database of a name fetched is of sets of other nodes, as the node knew them then. The database
 -- is that node still.
@@ -221,6 +211,9 @@ init_fit id comment run w =
                   ap (λ b. is_some (cond b (Some row) None)) (eq-eqb id id refl);
               sets = λ set row is. absurd cc;
               tables = tt;
+              names = λ e f never other same. absurd never;
+              live = λ e never some. absurd never;
+              ended = λ e never owns live. absurd never;
             };
             leads = λ set. refl;
           })),
@@ -230,19 +223,14 @@ init_fit id comment run w =
 -- the id of the new node is of no set's origin
 new_leads_none : (id : ℕ) (c : Config) → ((set : ℕ) (row : SetRow) → entry_at set c.sets ≡ Some row →
     is_some (entry_at row.origin c.nodes) ≡ true) → is_some (entry_at id c.nodes) ≡ false → (set : ℕ) →
-    is_origin id set c ≡ false
+    is_owner id set c ≡ false
 new_leads_none id c known new set = by (entry_at set c.sets) refl
   where
-    live : (row : SetRow) → entry_at set c.sets ≡ Some row → (b : Bool) →
-        leads_row id (cond b (Some row) None) ≡ false
-    live row is true =
+    by : (o : Option SetRow) → entry_at set c.sets ≡ o → leads_row id o ≡ false
+    by None is = refl
+    by (Some row) is =
         false_from_ne_true (row.origin == id) (λ same. true≢false (sym (known set row is)
         ∙ ap (λ k. is_some (entry_at k c.nodes)) (eqb-true row.origin id same) ∙ new))
-    live row is false = refl
-
-    by : (o : Option SetRow) → entry_at set c.sets ≡ o → leads_row id (live_set o) ≡ false
-    by None is = refl
-    by (Some row) is = live row is row.live
 
 stores_fit : (w : World) → Ready w → (s : Seat) (c : Newcomer w.places) (comment : List ℕ) (run : Running) →
     IsSeat w.places s → IsStated w (stored_by s c.name c.id comment run)
@@ -272,6 +260,9 @@ stores_fit w r s c comment run is =
         ap (λ o. find_named c.name (stood_at commit o w.places)) is.found
         ∙ put_other c.name s.name (committing commit s.place) w.places (other_name w.places s c is) ∙ c.found
 
+    none : (set : ℕ) → is_owner c.id set known ≡ false
+    none = new_leads_none c.id known whole.sets (c.unknown s.name s.node (seat_node w.places s is))
+
     first : IsFirst joined
     first = record {
       deeds = refl;
@@ -279,8 +270,11 @@ stores_fit w r s c comment run is =
         knows = there_here c.id _ known.nodes;
         sets = λ set row at. there_with row.origin c.id _ known.nodes (whole.sets set row at);
         tables = whole.tables;
+        names = whole.names;
+        live = whole.live;
+        ended = λ e among owns live. absurd (true≢false (sym owns ∙ none e.1.set_id));
       };
-      leads = new_leads_none c.id known whole.sets (c.unknown s.name s.node (seat_node w.places s is));
+      leads = none;
     }
 
 -- what is looked at before a database joins
@@ -371,7 +365,27 @@ table_fit origin t run w =
     (λ s is. checked_ok (IsStated w) (table_checks t w s) (emitting s (adding s t ∷ []))
     (λ none. adds_fit t w s is (all_none (table_checks t w s) none)))
 
+drop_fit : (id origin : ℕ) (run : Running) (w : World) → OnOk (IsStated w) (drop_set id origin run w)
+drop_fit id origin run w =
+    bind_ok (IsLeading w.places id) (IsStated w) (origin_of run origin id w) _ (origin_ok run origin id w)
+    (λ s is. emits_fit w s (tells (DropSet id) ∷ []) is.0 (
+      DropsSet (record {
+        set_id = id;
+        event = event_of s (next_event s) (DropSet id);
+        met = refl;
+        body = refl;
+        rows = refl;
+      }),
+      tt,
+    ))
+
 -- ---- all of them
+
+drop_node_fit : (id event_node : ℕ) (run : Running) (w : World) → OnOk (IsStated w) (drop_node id event_node run w)
+drop_node_fit id event_node run w =
+    reached w event_node run _
+    (λ s is. let fit = quiet_fit w s (DropNode id ∷ []) is.0 (λ origin number c. (refl, refl), tt) in
+    search (kept_ok (IsStated w), fit))
 
 path_fit : (server client : ℕ) (conninfo : List ℕ) (run : Running) (w : World) →
     OnOk (IsStated w) (store_path server client conninfo run w)
@@ -414,9 +428,11 @@ leave_fit set receiver run w r =
 ordered_fit : (w : World) → Ready w → (o : Order) (run : Running) → OnOk (IsStated w) (ordered o run w)
 ordered_fit w r (order.InitCluster id comment) run = init_fit id comment run w
 ordered_fit w r (order.StoreNode id event_node comment) run = store_fit id event_node comment run w r
+ordered_fit w r (order.DropNode id event_node) run = drop_node_fit id event_node run w
 ordered_fit w r (order.StorePath server client conninfo retry) run = path_fit server client conninfo run w
 ordered_fit w r (order.DropPath server client) run = no_path_fit server client run w
 ordered_fit w r (order.CreateSet id origin comment) run = create_fit id origin comment run w r
+ordered_fit w r (order.DropSet id origin) run = drop_fit id origin run w
 ordered_fit w r (order.SetAddTable set origin id name key comment) run =
     table_fit origin (record { set_id = set; id = id; name = name; comment = comment_of comment }) run w
 ordered_fit w r (order.SubscribeSet set provider receiver forward) run =
@@ -470,14 +486,10 @@ poll_fit w others b is = hears_fit w b.seat b.confirms is.seat
 -- ---- a node applies an event
 
 -- another node is the origin of the set
-other_leads : (own origin set : ℕ) (c : Config) → origin ≢ own → IsSetOf set origin c → is_origin own set c ≡ false
+other_leads : (own origin set : ℕ) (c : Config) → origin ≢ own → IsSetOf set origin c → is_owner own set c ≡ false
 other_leads own origin set c other (row, found, from) =
-    ap (λ o. leads_row own (live_set o)) found ∙ live row.live
-  where
-    live : (b : Bool) → leads_row own (cond b (Some row) None) ≡ false
-    live true =
-        false_from_ne_true (row.origin == own) (λ same. other (sym from ∙ eqb-true row.origin own same))
-    live false = refl
+    ap (leads_row own) found
+    ∙ false_from_ne_true (row.origin == own) (λ same. other (sym from ∙ eqb-true row.origin own same))
 
 abbrev DoesFit : Seat → Event → Brought → Type 0
 DoesFit s e b = Fit s.place s.node (deed s.place [] b.logs (Applies e b))
@@ -510,10 +522,11 @@ applies_fit w by s e b work (SetAddTable set table name comment) (is, may) =
         unused = work.new (OfName name) (ap (λ b. tells_of b (OfName name)) is ∙ bytes_itself name);
       };
       rows = refl;
-      known = ap is_some may.1;
-      other = other_leads s.node.id e.origin set (knowledge s.node).config work.other may;
+      known = ap is_some may.0.1;
+      other = other_leads s.node.id e.origin set (knowledge s.node).config work.other may.0;
     })
-applies_fit w by s e b work (DropSet set) (is, may) = absurd (true≢false (sym may))
+applies_fit w by s e b work (DropSet set) (is, may) =
+    DropsSet (record { set_id = set; event = e; met = refl; body = is; rows = refl })
 applies_fit w by s e b work (MoveSet set old new era feeds) (is, may) = absurd (true≢false (sym may))
 applies_fit w by s e b work (FailoverSet failed limit sets) (is, may) = absurd (true≢false (sym may))
 applies_fit w by s e b work others (is, may) =
@@ -524,98 +537,6 @@ applies_fit w by s e b work others (is, may) =
       nodes = λ id. known_changed id e.origin e.number others c;
     }))
 
--- the tables of a set of another node
-tables_others : (own set : ℕ) (c : Config) → is_origin own set c ≡ false →
-    AllByRecursion (λ e. IsOfOther own c e.1.name) (tables_of set c)
-tables_others own set c other =
-    all_passed (λ e. IsAmong e c.tables) (λ e. IsOfOther own c e.1.name) (is_table_of set)
-    (λ e among on. record {
-      entry = e;
-      among = among;
-      named = refl;
-      other =
-          ap (λ id. is_origin own id c) (eqb-true e.1.set_id set (and_parts e.1.live (e.1.set_id == set) on).1) ∙ other;
-    }) c.tables (among_all (λ e. IsAmong e c.tables) c.tables (λ e among. among))
-
--- an action on a table to which a node takes rows is on one of a set of another node
-taken_other : (own set : ℕ) (c : Config) (l : Logged) → is_on_one (tables_taken own set c) l ≡ true →
-    IsOfOther own c l.action.table
-taken_other own set c l = by (is_origin own set c) refl
-  where
-    entry : ℕ × TableRow → ℕ × List ℕ
-    entry e = (e.0, e.1.name)
-
-    by : (b : Bool) → is_origin own set c ≡ b →
-        is_on_one (cond b [] (map entry (tables_of set c))) l ≡ true → IsOfOther own c l.action.table
-    by true leads on = absurd (false≢true on)
-    by false other on =
-        let found =
-        any_among (λ t. t.0 == l.table_id && bytes_eq l.action.table t.1) (map entry (tables_of set c)) on in
-        subst (IsOfOther own c)
-        (sym (bytes_same l.action.table found.0.1
-        (and_parts (found.0.0 == l.table_id) (bytes_eq l.action.table found.0.1) found.2).1))
-        (all_among (λ t. IsOfOther own c t.1) found.0 (map entry (tables_of set c))
-        (all_mapped (λ e. IsOfOther own c e.1.name) (λ t. IsOfOther own c t.1) entry (λ e is. is) (tables_of set c)
-        (tables_others own set c other)) found.1)
-
--- a table to which a node takes rows is one of a set of another node
-names_others : (own set : ℕ) (c : Config) → AllByRecursion (λ t. IsOfOther own c t.1) (tables_taken own set c)
-names_others own set c = by (is_origin own set c) refl
-  where
-    entry : ℕ × TableRow → ℕ × List ℕ
-    entry e = (e.0, e.1.name)
-
-    by : (b : Bool) → is_origin own set c ≡ b →
-        AllByRecursion (λ t. IsOfOther own c t.1) (cond b [] (map entry (tables_of set c)))
-    by true leads = tt
-    by false other =
-        all_mapped (λ e. IsOfOther own c e.1.name) (λ t. IsOfOther own c t.1) entry (λ e is. is) (tables_of set c)
-        (tables_others own set c other)
-
--- what is taken of sets is on such tables
-taken_others : (w : World) (s : Seat) (e : Event) → s.known ≡ knowledge s.node → (vs : Views) (ts : List SetSync) →
-    AreTakenOf w s e vs ts → AllByRecursion (λ t. LogOthers s.node.id (knowledge s.node).config t.rows) ts
-taken_others w s e known [] [] taken = tt
-taken_others w s e known [] (t ∷ ts) taken = absurd taken
-taken_others w s e known (v ∷ vs) [] taken = absurd taken
-taken_others w s e known (v ∷ vs) (t ∷ ts) (here, more) = (
-  subst (λ (t : SetSync). LogOthers s.node.id c t.rows) (sym here.is)
-      (subst (λ (k : Knowledge). LogOthers s.node.id c (set_sync s.node.id k e log v).rows) (sym known)
-      (delta_has (λ l. Unit {0}) (λ l. IsOfOther s.node.id c l.action.table) (tables_taken s.node.id v.0 c)
-      (λ l any on. taken_other s.node.id v.0 c l on) e.origin v.1.seen e.taken log
-      (all_each (λ l. Unit {0}) (λ l. tt) log))),
-  taken_others w s e known vs ts more,
-)
-  where
-    c : Config
-    c = (knowledge s.node).config
-
-    log : List Logged
-    log = logged here.provider.node
-
--- what is found for an event is so
-found_others : (w : World) (s : Seat) (e : Event) (f : Found) → IsSeat w.places s → Finds w s e f →
-    FoundOthers s.node.id (knowledge s.node).config f
-found_others w s e f is (Nothing none silent) =
-    subst (FoundOthers s.node.id (knowledge s.node).config) (sym none) tt
-found_others w s e f is (Copies k) =
-    subst (FoundOthers s.node.id known) (sym k.is)
-    (all_mapped (IsOfOther s.node.id known) (λ r. IsOfOther s.node.id known r.0)
-    (λ name. (name, standing_rows k.provider.place name)) (λ name of. of) (names_taken s set)
-    (all_mapped (λ t. IsOfOther s.node.id known t.1) (IsOfOther s.node.id known) (λ t. t.1) (λ t is. is)
-    (tables_taken s.node.id set s.known.config)
-    (subst (λ (m : Knowledge). AllByRecursion (λ t. IsOfOther s.node.id known t.1)
-    (tables_taken s.node.id set m.config)) (sym is.known) (names_others s.node.id set known))))
-  where
-    set : ℕ
-    set = k.copying.set_id
-
-    known : Config
-    known = (knowledge s.node).config
-found_others w s e f is (Brings k) =
-    subst (FoundOthers s.node.id (knowledge s.node).config) (sym k.is)
-    (taken_others w s e is.known (kept_from e.origin s.known) k.syncs k.taken)
-
 pub fetched_others : (w : World) → Ready w → (node origin : ℕ) →
     OnOk (λ x. KeptOthers w.places x.seat.name x.found) (fetched node origin w)
 fetched_others w r node origin =
@@ -624,7 +545,8 @@ fetched_others w r node origin =
     (λ x is. record {
       node = x.seat.node;
       whole = (node_holds w r x.seat is.work.seat).whole;
-      others = found_others w x.seat x.event x.found is.work.seat is.finds;
+      others = found_others w x.seat x.event x.found is.work.seat
+          (node_holds w r x.seat is.work.seat).whole is.finds;
       stays = (
         x.seat.place,
         is.work.seat.found,
@@ -634,44 +556,10 @@ fetched_others w r node origin =
 
 -- ---- what a node knows later
 
--- what holds of tables of other nodes' sets holds of what is found
-others_map : (own later : ℕ) (c d : Config) →
-    ((table : List ℕ) → IsOfOther own c table → IsOfOther later d table) → (f : Found) → FoundOthers own c f →
-    FoundOthers later d f
-others_map own later c d on FoundNothing is = tt
-others_map own later c d on (FoundCopy set view rows) is =
-    all_map (λ r. IsOfOther own c r.0) (λ r. IsOfOther later d r.0) (λ r. on r.0) rows is
-others_map own later c d on (FoundSyncs ts) is =
-    all_map (λ (t : SetSync). LogOthers own c t.rows) (λ t. LogOthers later d t.rows)
-    (λ t. all_map (λ l. IsOfOther own c l.action.table) (λ l. IsOfOther later d l.action.table)
-    (λ l. on l.action.table) t.rows) ts is
-
--- a table of a set of another node is one still
-other_stays : (n : Node) (q : Place) (s : Stays n q) → IsWhole n.id (knowledge n).config → (table : List ℕ) →
-    IsOfOther n.id (knowledge n).config table → IsOfOther s.node.id (knowledge s.node).config table
-other_stays n q s whole table is = record {
-  entry = is.entry;
-  among = s.tables is.entry is.among;
-  named = is.named;
-  other = by (entry_at is.entry.1.set_id c.sets) refl
-      (all_among (λ e. is_some (entry_at e.1.set_id c.sets) ≡ true) is.entry c.tables whole.tables is.among);
-}
-  where
-    c : Config
-    c = (knowledge n).config
-
-    by : (o : Option SetRow) → entry_at is.entry.1.set_id c.sets ≡ o → is_some o ≡ true →
-        is_origin s.node.id is.entry.1.set_id (knowledge s.node).config ≡ false
-    by None none some = absurd (false≢true some)
-    by (Some row) found some =
-        ap (λ o. leads_row s.node.id (live_set o)) (s.rows is.entry.1.set_id row found)
-        ∙ ap (λ id. leads_row id (live_set (Some row))) s.id ∙ ap (λ o. leads_row n.id (live_set o)) (sym found)
-        ∙ is.other
-
 -- what there is for an event
 there_others : (w : World) → Ready w → (s : Seat) (e : Event) (f : Found) → IsSeat w.places s → IsThere w s e f →
     FoundOthers s.node.id (knowledge s.node).config f
-there_others w r s e f is (Fresh finds) = found_others w s e f is finds
+there_others w r s e f is (Fresh finds) = found_others w s e f is (node_holds w r s is).whole finds
 there_others w r s e f is (Kept g some same) =
     subst (FoundOthers s.node.id (knowledge s.node).config) (sym same)
     (still_others g (subst (λ (m : Node). FoundOthers m.id (knowledge m).config g) one
@@ -698,15 +586,6 @@ there_others w r s e f is (Kept g some same) =
         all_filtered (λ t. LogOthers s.node.id (knowledge s.node).config t.rows) (stands s.known) ts all
     still_others FoundNothing all = all
     still_others (FoundCopy set view rows) all = all
-
--- what comes of it
-brought_others : (here : Place) (own : ℕ) (c : Config) (f : Found) → FoundOthers own c f →
-    AreOfOthers own c (brought_of here f).rows × LogOthers own c (brought_of here f).logs
-brought_others here own c FoundNothing is = (tt, tt)
-brought_others here own c (FoundCopy set view rows) is = (is, tt)
-brought_others here own c (FoundSyncs ts) is =
-    syncs_have here (λ r. IsOfOther own c r.0) (λ l. IsOfOther own c l.action.table) (λ rows l old is. is) ts
-    nothing_brought is (tt, tt)
 
 work_fit : (w : World) → Ready w → (by : ℕ) (c : Carried) → IsCarried w by c → AreFit w (applied_by c).commits
 work_fit w r by c is =

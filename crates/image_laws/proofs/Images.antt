@@ -1,11 +1,20 @@
 -- An image is the committed rows, in every session that a legal history leads to.
+use Rattle.image_laws.specs.Fits.{IsListed}
+use Rattle.slon_model.specs.Names.{find_named}
+use Rattle.std.proofs.Common.{inr}
+use Rattle.std.proofs.Common.{inl}
+use Rattle.image_laws.specs.Facts.{IsOf}
+use Rattle.std.proofs.lemmas.Bool.{and_from}
+use Rattle.image_laws.specs.Facts.{IsLogged}
+use Rattle.slon_model.specs.Eras.{is_within}
 use Rattle.image_laws.specs.Fits.{MayStand}
 use Rattle.slon_laws.specs.Turning.{Turned}
 use Rattle.slon_laws.specs.Keeps.{KeepsTasks}
 use Rattle.image_laws.proofs.Deltas.{delta_leads}
-use Rattle.image_laws.proofs.Reading.{read_leads}
+use Rattle.image_laws.proofs.Reading.{has_had, read_leads}
+use Rattle.image_laws.proofs.Had.{HadLogs, had_later, held_owned}
 use Rattle.image_laws.specs.Deltas.{applied, IsRead}
-use Rattle.stream_laws.proofs.Lists.{all_among, all_each}
+use Rattle.stream_laws.proofs.Lists.{all_among, all_each, among_behind, append_parts}
 use Rattle.slon_model.specs.Logs.{logged}
 use Rattle.image_laws.proofs.Logs.{keeps_all, bare_all, turned_all}
 use Rattle.std.proofs.Common.{◌≡◌, ℕ, ◌<◌, Bool, true, false, List, [], ◌∷◌, ◌++◌, Some, refl, sym, ap, subst, None}
@@ -19,7 +28,7 @@ use Rattle.slon_model.specs.Rows.{Action, member, play_rows}
 use Rattle.slon_model.specs.Snapshots.{sees}
 use Rattle.slon_model.specs.Tasks.{ToFound}
 use Rattle.slon_model.specs.Config.{era_of}
-use Rattle.slon_model.specs.Deeds.{Node, knowledge}
+use Rattle.slon_model.specs.Deeds.{Logged, Node, knowledge}
 use Rattle.slon_model.specs.Place.{Place, bare_place, standing_rows, taken}
 use Rattle.slon_model.specs.Deciding.{place_by}
 use Rattle.slon_model.specs.Eras.{Stretch, stretches, is_stretch, stretch_of, is_before, image_of}
@@ -37,12 +46,15 @@ use Rattle.slon_laws.proofs.Sounds.{sound_bare}
 use Rattle.slon_laws.proofs.Worlds.{sound_world}
 use Rattle.stream_laws.proofs.Steps.{regular_world}
 use Rattle.image_laws.specs.Laws.{ImageIsCommittedRows, SnapshotsAreMoments, LogsHaveTheActions, LogHas, ReadingLeads}
+use Rattle.image_laws.specs.Laws.{LogHad, LogsHadTheActions, ReadingLed, WasTaken}
+use Rattle.image_laws.proofs.Older.{seen_there}
+use Rattle.stream_laws.specs.Nodes.{IsAmong}
 use Rattle.image_laws.specs.Facts.{Lasts, HoldsStretch, HasStretch, NodeHolds, Holds, HasLogged, HoldsAll}
 use Rattle.image_laws.proofs.Continuing.{IsLate, Continues, keeps_continuing, turned_continues}
 use Rattle.image_laws.proofs.Fitting.{IsKeptOthers, KeepOthers, Ready, fetched_others, outcome_fit}
 use Rattle.image_laws.proofs.Found.{find_has}
 use Rattle.image_laws.proofs.Moving.{keeps_holding, bare_holds, turned_holds}
-use Rattle.image_laws.proofs.Staying.{KeptLater, node_stays}
+use Rattle.image_laws.proofs.Staying.{KeptLater, node_stays, stays_itself}
 use Rattle.image_laws.proofs.Since.{Since, since_itself, keeps_since, seen_committed}
 use Rattle.image_laws.proofs.Ticking.{Ticking, keeps_ticking, bare_ticks, turned_ticks, has_moments}
 
@@ -340,12 +352,12 @@ logs_have_the_actions limit history w leads name p found n is set table held = (
 pub reading_leads : ReadingLeads
 reading_leads limit name w p found n is old new was now covers set table held actions read =
     ap (λ o. applied actions (image_of p.actions p.commits old o)) log.1
-    ∙ read_leads p n s sound.rising log.2 (record {
+    ∙ read_leads p n s sound.rising (record {
       old = old;
       new = new;
       actions = actions;
       is = subst (λ t. IsRead n t old new actions) (sym same) read;
-    }) (image_of p.actions p.commits old (Some s))
+    }) (has_had p n s new log.2) (image_of p.actions p.commits old (Some s))
     ∙ delta_leads limit name w p found old new was now covers s
     ∙ sym (ap (image_of p.actions p.commits new) log.1)
   where
@@ -369,3 +381,192 @@ reading_leads limit name w p found n is old new was now covers set table held ac
         and_parts (s.set_id == set) (s.era == era_of set (knowledge n).config && bytes_eq table s.table) passes in
         sym (bytes_same table s.table (and_parts (s.era == era_of set (knowledge n).config) (bytes_eq table s.table)
         first.1).1)
+
+-- ---- sets that may have ended
+
+-- what is kept of a database by each step holds later
+kept_on : {R : Place → Type 0} → KeptLater R → (name : List ℕ) (limit : ℕ) (w : World) →
+    Reached limit w × HoldsOf R name w.places → (later : List Happening) (v : World) → Leads w later v →
+    HoldsOf R name v.places
+kept_on {R} k name limit w (r, there) [] v is = subst (λ u. HoldsOf R name u.places) (sym is) there
+kept_on k name limit w (r, there) (h ∷ later) v leads =
+    later_step k name leads.0 v h
+    (ready_world limit (later ++ r.history) leads.0 (joined limit r.history later w leads.0 r.leads leads.1)) leads.2
+    (kept_on k name limit w (r, there) later leads.0 leads.1)
+
+pub logs_had_the_actions : LogsHadTheActions
+logs_had_the_actions limit name w p found n is k set era table h =
+    (t, there, record { all = all; only = only })
+  where
+    was : WasTaken limit name w k
+    was = h.taken
+
+    q : Place
+    q = was.place
+
+    m : Node
+    m = h.node
+
+    sound : Sound q
+    sound = all_found Sound name q was.before.places (sound_world limit was.history was.before was.leads) was.found
+
+    log : (s : Stretch) × (stretch_of set (era_of set (knowledge m).config) table m ≡ Some s) × LogHas q m s
+    log = logs_have_the_actions limit was.history was.before was.leads name q was.found m h.at set table h.held
+
+    s : Stretch
+    s = log.0
+
+    now : HadLogs q m table p
+    now =
+        let there = kept_on (had_later q m table sound (held_owned m set table h.held)) name limit was.before (
+          record { history = was.history; leads = was.leads },
+          (
+            q,
+            was.found,
+            record {
+              stays = stays_itself m q h.at;
+              since = since_itself q;
+              logs = record { newer = []; log = λ x at. ap logged (one_found x m (sym at ∙ h.at)); unseen = tt };
+            },
+          ),
+        ) was.later w was.goes_on in
+        subst (HadLogs q m table) (one_found there.0 p (sym there.1 ∙ found)) there.2
+
+    parts : (s.set_id ≡ set) × ((s.era ≡ era) × (s.table ≡ table))
+    parts =
+        let passes = (find_has (λ t. Unit {0}) (is_stretch set (era_of set (knowledge m).config) table) s (stretches m)
+        (all_each (λ t. Unit {0}) (λ t. tt) (stretches m)) log.1).1 in
+        let first =
+        and_parts (s.set_id == set) (s.era == era_of set (knowledge m).config && bytes_eq table s.table) passes in
+        let second = and_parts (s.era == era_of set (knowledge m).config) (bytes_eq table s.table) first.1 in (
+          eqb-true s.set_id set first.0,
+          (
+            eqb-true s.era (era_of set (knowledge m).config) second.0 ∙ sym h.is_era,
+            sym (bytes_same table s.table second.1),
+          ),
+        )
+
+    test : is_stretch s.set_id s.era s.table ≡ is_stretch set era table
+    test i = is_stretch (parts.0 i) (parts.1.0 i) (parts.1.1 i)
+
+    c : Continues s q.numbers.next p
+    c =
+        let there = continues_later (record { stretch = s; first = q.numbers.next; name = name }) limit was.before
+        (record { history = was.history; leads = was.leads }) was.later w was.goes_on (
+          q,
+          was.found,
+          record {
+            node = m;
+            is = h.at;
+            stretch = s;
+            found = ap (λ test. find test (stretches m)) test
+                ∙ ap (λ era. find (is_stretch set era table) (stretches m)) h.is_era ∙ log.1;
+            same = refl;
+            late = record { each = λ x less. ap (is_before x) log.2.lasts };
+            numbers = omega arith;
+          },
+        ) in
+        subst (Continues s q.numbers.next) (one_found there.0 p (sym there.1 ∙ found)) there.2
+
+    t : Stretch
+    t = c.stretch
+
+    there : stretch_of set era table n ≡ Some t
+    there =
+        ap (λ test. find test (stretches n)) (sym test)
+        ∙ ap (λ (x : Node). find (is_stretch s.set_id s.era s.table) (stretches x))
+        (one_found n c.node (sym is ∙ c.is)) ∙ c.found
+
+    since : Since q p
+    since = now.since
+
+    newer : List Logged
+    newer = now.logs.newer
+
+    logs : logged n ≡ newer ++ logged m
+    logs = now.logs.log n is
+
+    -- a transaction that the snapshot sees had committed then
+    came : (x : ℕ) → sees k x ≡ true → member x p.commits ≡ member x q.commits
+    came x seen = since.commits x (subst (λ j. sees j x ≡ true) was.is seen)
+
+    all : (a : Action) → IsAmong a p.actions → a.table ≡ t.table → member a.xid p.commits ≡ true →
+        is_within t a ≡ true → sees k a.xid ≡ true → IsLogged (logged n) a
+    all a among on committed within seen =
+        let then = seen_there (taken q) a since.more q.actions since.unseen (subst (IsAmong a) since.actions among)
+        (subst (λ j. sees j a.xid ≡ true) was.is seen) in
+        let first = (and_parts (nat_le t.first a.number) (is_before a.number t.last) within).0 in
+        let had = log.2.all a then (on ∙ ap (λ (x : Stretch). x.table) c.same) (sym (came a.xid seen) ∙ committed)
+        (and_from (nat_le s.first a.number) (is_before a.number s.last)
+        (ap (λ (x : Stretch). nat_le x.first a.number) (sym c.same) ∙ first)
+        (ap (is_before a.number) log.2.lasts)) in
+        (had.0, subst (IsAmong had.0) (sym logs) (among_behind had.0 newer (logged m) had.1), had.2)
+
+    of_old : (l : Logged) → IsAmong l (logged m) → l.action.table ≡ t.table → sees k l.action.xid ≡ true →
+        IsOf p n.id t l × (is_within t l.action ≡ true)
+    of_old l among on seen =
+        let one = log.2.only l among (on ∙ ap (λ (x : Stretch). x.table) c.same) in
+        let drawn = all_among (λ a. a.number < q.numbers.next) l.action q.actions sound.numbered one.among in (
+          record {
+            set_id = one.set_id ∙ ap (λ (x : Stretch). x.set_id) (sym c.same);
+            era = one.era ∙ ap (λ (x : Stretch). x.era) (sym c.same);
+            origin = one.origin ∙ sym now.stays.id
+                ∙ ap (λ (x : Node). x.id) (one_found now.stays.node n (sym now.stays.is ∙ is));
+            among = subst (IsAmong l.action) (sym since.actions)
+                (among_behind l.action since.more q.actions one.among);
+            came = came l.action.xid seen ∙ one.came;
+            first = ap (λ (x : Stretch). nat_le x.first l.action.number) c.same ∙ one.first;
+          },
+          and_from (nat_le t.first l.action.number) (is_before l.action.number t.last)
+              (ap (λ (x : Stretch). nat_le x.first l.action.number) c.same ∙ one.first)
+              (c.late.each l.action.number drawn),
+        )
+
+    only : (l : Logged) → IsAmong l (logged n) → l.action.table ≡ t.table → sees k l.action.xid ≡ true →
+        IsOf p n.id t l × (is_within t l.action ≡ true)
+    only l among on seen =
+        elim (append_parts l newer (logged m) (subst (IsAmong l) logs among)) [
+          | inl new ↦ absurd (false≢true (sym (all_among (λ l. l.action.table ≡ table →
+              sees (taken q) l.action.xid ≡ false) l newer now.logs.unseen new
+              (on ∙ ap (λ (x : Stretch). x.table) c.same ∙ parts.1.1))
+              ∙ subst (λ j. sees j l.action.xid ≡ true) was.is seen))
+          | inr old ↦ of_old l old on seen
+        ]
+
+pub reading_led : ReadingLed
+reading_led limit name w p found n is old new was covers set era table held actions read =
+    ap (λ o. applied actions (image_of p.actions p.commits old o)) log.1
+    ∙ read_leads p n s sound.rising (record {
+      old = old;
+      new = new;
+      actions = actions;
+      is = subst (λ t. IsRead n t old new actions) (sym same) read;
+    }) log.2 (image_of p.actions p.commits old (Some s))
+    ∙ delta_leads limit name w p found old new was held.taken covers s
+    ∙ sym (ap (image_of p.actions p.commits new) log.1)
+  where
+    leads : Leads (start limit) (was.later ++ was.history) w
+    leads = joined limit was.history was.later was.before w was.leads was.goes_on
+
+    sound : Sound p
+    sound = all_found Sound name p w.places (sound_world limit (was.later ++ was.history) w leads) found
+
+    log : (s : Stretch) × (stretch_of set era table n ≡ Some s) × LogHad p n s new
+    log = logs_had_the_actions limit name w p found n is new set era table held
+
+    s : Stretch
+    s = log.0
+
+    same : s.table ≡ table
+    same =
+        let passes = (find_has (λ t. Unit {0}) (is_stretch set era table) s (stretches n)
+        (all_each (λ t. Unit {0}) (λ t. tt) (stretches n)) log.1).1 in
+        let first = and_parts (s.set_id == set) (s.era == era && bytes_eq table s.table) passes in
+        sym (bytes_same table s.table (and_parts (s.era == era) (bytes_eq table s.table) first.1).1)
+
+-- each table of an entry of a log is known
+pub logs_listed : (limit : ℕ) (history : List Happening) (w : World) → Leads (start limit) history w →
+    (name : List ℕ) (p : Place) → find_named name w.places ≡ Some p → (n : Node) → p.node ≡ Some n →
+    AllByRecursion (λ l. IsListed l.action.table (knowledge n).config) (logged n)
+logs_listed limit history w leads name p found n is =
+    ((all_found HoldsAll name p w.places (each_world logs_on limit history w leads) found).1 n is).listed

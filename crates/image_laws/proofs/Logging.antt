@@ -17,7 +17,8 @@ use Rattle.slon_model.specs.Eras.{Stretch, stretches}
 use Rattle.slon_model.proofs.Names.{all_map, bytes_itself, bytes_same}
 use Rattle.stream_laws.specs.Nodes.{IsAmong}
 use Rattle.stream_laws.proofs.Lists.{all_appended, all_among, among_all, among_any, all_mapped}
-use Rattle.image_laws.specs.Fits.{IsListed, Keeps, CreatesSet, AddsTable, FollowsTable, Fit, IsOfOther, LogOthers}
+use Rattle.image_laws.specs.Fits.{IsListed, Keeps, CreatesSet, AddsTable, FollowsTable, DropsSet, Fit, IsOfOther}
+use Rattle.image_laws.specs.Fits.{LogOthers}
 use Rattle.image_laws.specs.Facts.{Lasts, HoldsStretch, NodeHolds, IsOf, IsLogged, HasLogged, LogHolds}
 use Rattle.image_laws.proofs.Adding.{OneDeed, known_behind, stays_behind, new_behind, begins_behind}
 use Rattle.image_laws.proofs.Filling.{not_filled}
@@ -272,6 +273,7 @@ deed_logs p d sound h others k = record {
           rest,
         )
     by (FollowsTable f) = none f.rows
+    by (DropsSet e) = none e.rows
 
 -- ---- a commit
 

@@ -25,6 +25,7 @@ use Rattle.slon_laws.proofs.Sounds.{keeps_sound, sound_prepared, sound_closed}
 use Rattle.stream_laws.proofs.Lists.{all_each}
 use Rattle.stream_laws.proofs.Steps.{prepared_node, first_rows_node}
 use Rattle.image_laws.specs.Fits.{Keeps, AllDone, IsFit, MayStand, Does, Becomes, IsFirst}
+use Rattle.image_laws.proofs.Stretching.{owns_not}
 use Rattle.image_laws.specs.Facts.{FillsAt, Lasts, HoldsStretch, StretchesHold, NodeHolds, Holds}
 use Rattle.image_laws.proofs.Adding.{deed_holds}
 use Rattle.image_laws.proofs.Filling.{fills_beside, fills_left, fills_written, fills_committed}
@@ -214,7 +215,8 @@ first_holds p n f =
     (sym f.deeds) (record {
       whole = f.whole;
       each = tt;
-      there = λ set table held. absurd (true≢false (sym held.1 ∙ f.leads set));
+      there = λ set table held.
+          absurd (true≢false (sym held.1 ∙ owns_not n.id set n.given.config (f.leads set)));
     })
 
 -- one deed after the other

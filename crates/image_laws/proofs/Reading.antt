@@ -15,7 +15,7 @@ use Rattle.slon_laws.specs.Sound.{Pairs}
 use Rattle.stream_laws.specs.Nodes.{IsAmong}
 use Rattle.stream_laws.proofs.Lists.{all_among, among_all, all_appended}
 use Rattle.image_laws.specs.Deltas.{applied, AreInOrder, IsRead}
-use Rattle.image_laws.specs.Laws.{LogHas}
+use Rattle.image_laws.specs.Laws.{LogHas, LogHad}
 use Rattle.image_laws.proofs.Logging.{among_left, among_right}
 
 -- ---- what passes a test, in order
@@ -164,9 +164,10 @@ pub record Reading (n : Node) (table : List ℕ) : Type 0 where
   pub is : IsRead n table old new actions
 
 -- applied in order it is the delta
-pub read_leads : (p : Place) (n : Node) (s : Stretch) → Pairs (λ a b. a.number < b.number) p.actions → LogHas p n s →
-    (r : Reading n s.table) (rows : Rows) → applied r.actions rows ≡ delta_on p.actions p.commits r.old r.new s rows
-read_leads p n s rising log r rows =
+pub read_leads : (p : Place) (n : Node) (s : Stretch) → Pairs (λ a b. a.number < b.number) p.actions →
+    (r : Reading n s.table) → LogHad p n s r.new → (rows : Rows) →
+    applied r.actions rows ≡ delta_on p.actions p.commits r.old r.new s rows
+read_leads p n s rising r log rows =
     ap (λ list. applied list rows) (one_order r.actions (picked test p.actions) r.is.in_order
     (picked_order test p.actions rising) (there, back))
     ∙ picked_played delta s.table p.actions rows
@@ -183,10 +184,9 @@ read_leads p n s rising log r rows =
     there : (a : Action) → IsAmong a r.actions → IsAmong a (picked test p.actions)
     there a among =
         let from = r.is.only a among in
-        let one = log.only from.0 from.1 from.3.on in
-        let within : is_within s from.0.action ≡ true =
-        and_from (nat_le s.first from.0.action.number) (is_before from.0.action.number s.last) one.first
-        (ap (is_before from.0.action.number) log.lasts) in
+        let both = log.only from.0 from.1 from.3.on from.3.seen in
+        let one = both.0 in
+        let within : is_within s from.0.action ≡ true = both.1 in
         subst (λ b. IsAmong b (picked test p.actions)) from.2
         (is_picked test from.0.action p.actions one.among
         (and_from (delta from.0.action) (bytes_eq s.table from.0.action.table)
@@ -201,10 +201,21 @@ read_leads p n s rising log r rows =
         let told =
         tested (sees r.new a.xid) (sees r.old a.xid) (member a.xid p.commits) (is_within s a) parts.0 in
         let on : a.table ≡ s.table = sym (bytes_same s.table a.table parts.1) in
-        let from = log.all a is.0 on told.2 told.3 in
+        let from = log.all a is.0 on told.2 told.3 told.0 in
         subst (λ b. IsAmong b r.actions) from.2
         (r.is.all from.0 from.1 (record {
           on = ap (λ (b : Action). b.table) from.2 ∙ on;
           seen = ap (λ (b : Action). sees r.new b.xid) from.2 ∙ told.0;
           unseen = ap (λ (b : Action). sees r.old b.xid) from.2 ∙ told.1;
         }))
+
+-- of a stretch that lasts, the log has what any snapshot sees
+pub has_had : (p : Place) (n : Node) (s : Stretch) (k : Snapshot) → LogHas p n s → LogHad p n s k
+has_had p n s k log = record {
+  all = λ a among on came within seen. log.all a among on came within;
+  only = λ l among on seen. let one = log.only l among on in (
+    one,
+    and_from (nat_le s.first l.action.number) (is_before l.action.number s.last) one.first
+        (ap (is_before l.action.number) log.lasts),
+  );
+}

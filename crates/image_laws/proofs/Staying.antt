@@ -1,16 +1,17 @@
--- A database that is a node is the same node later: its stream only grows, and each set and table that it knows stays.
+-- A database that is a node is the same node later: its stream only grows, and each set and table that it knows stays,
+-- unless the set ends.
 use Rattle.std.proofs.Common.{◌≡◌, ℕ, Bool, true, false, cond, List, [], ◌∷◌, ◌++◌, Some, None, refl, sym, ap}
-use Rattle.std.proofs.Common.{subst, ◌∙◌, inl, inr, is_some}
+use Rattle.std.proofs.Common.{subst, ◌∙◌, ◌⊎◌, inl, inr, is_some, Option}
 use Rattle.std.specs.Prelude.{filter_map, option_map, ◌==◌}
 use Rattle.std.specs.Option.{option_or}
-use Rattle.std.proofs.lemmas.Bool.{true≢false, false_from_ne_true, eqb-true}
+use Rattle.std.proofs.lemmas.Bool.{true≢false, false≢true, false_from_ne_true, eqb-true}
 use Rattle.std.proofs.lemmas.List.{append_assoc}
 use Rattle.std.proofs.lemmas.List.Elements.{filter_map-append}
 use Rattle.node_rows.specs.declared.rows.SetRow.{SetRow}
 use Rattle.node_rows.specs.declared.rows.TableRow.{TableRow}
 use Rattle.slon_model.specs.Maps.{Map, entry_at, with_entry}
 use Rattle.slon_model.specs.Events.{Event}
-use Rattle.slon_model.specs.Config.{Config, set_of}
+use Rattle.slon_model.specs.Config.{Config, live_set, set_of}
 use Rattle.slon_model.specs.Deeds.{Node, Deed, Logged, knowledge, emitted_by}
 use Rattle.slon_model.specs.Deeds.{stream, with_deeds}
 use Rattle.slon_model.specs.Logs.{logged}
@@ -21,13 +22,15 @@ use Rattle.slon_model.proofs.Names.{one_found}
 use Rattle.slon_laws.specs.Keeps.{KeepsTasks}
 use Rattle.slon_laws.specs.Turning.{Turned, Commits, Falls, Doubts}
 use Rattle.stream_laws.specs.Nodes.{IsAmong}
-use Rattle.stream_laws.proofs.Lists.{entry-with}
+use Rattle.stream_laws.proofs.Lists.{all_among, among_map, entry-with}
 use Rattle.stream_laws.proofs.Steps.{Logs, prepared_node, done_logs}
 use Rattle.image_laws.specs.Fits.{Comes, Fit, Keeps, CreatesSet, AddsTable, FollowsTable, AllDone, IsFit, MayStand}
-use Rattle.image_laws.specs.Fits.{Does, Becomes}
+use Rattle.image_laws.specs.Fits.{Does, Becomes, DropsSet, IsWhole}
 use Rattle.image_laws.specs.Facts.{Holds}
 use Rattle.image_laws.proofs.Adding.{OneDeed, known_behind, stays_behind, told}
 use Rattle.image_laws.proofs.Continuing.{doing_so, fit_beside}
+use Rattle.image_laws.proofs.Dropping.{config_without, dropped, entry-dropped, entry_other, member_row, over, set_over}
+pub use Rattle.image_laws.proofs.Stretching.{IsOver}
 use Rattle.image_laws.proofs.Found.{IsNew, new_parts, with_new}
 use Rattle.image_laws.proofs.Moving.{doing_holds}
 
@@ -35,6 +38,14 @@ use Rattle.image_laws.proofs.Moving.{doing_holds}
 pub record KeptLater (R : Place → Type 0) : Type 0 where
   pub tasks : KeepsTasks (λ task. Unit {0}) (λ p. Holds p × R p) R
   pub turns : (p q : Place) → Turned MayStand p q → Holds p → R p → R q
+
+-- the set has the row, or it has ended since it had it
+abbrev pub IsRowOf : ℕ → SetRow → Config → Type 0
+IsRowOf set row c = (entry_at set c.sets ≡ Some row) ⊎ (entry_at set c.sets ≡ Some (over row))
+
+-- the table is known so, or it is dropped with its set
+abbrev pub IsTableOf : ℕ × TableRow → Config → Type 0
+IsTableOf e c = IsAmong e c.tables ⊎ (IsAmong (e.0, record e.1 { live = false }) c.tables × IsOver e.1.set_id c)
 
 -- The database is the node still, which has no less.
 pub record Stays (n : Node) (q : Place) : Type 0 where
@@ -46,10 +57,10 @@ pub record Stays (n : Node) (q : Place) : Type 0 where
   pub newer : List Logged
   pub log : logged node ≡ newer ++ logged n
   pub rows : (set : ℕ) (row : SetRow) → entry_at set (knowledge n).config.sets ≡ Some row →
-      entry_at set (knowledge node).config.sets ≡ Some row
-  pub tables : (e : ℕ × TableRow) → IsAmong e (knowledge n).config.tables → IsAmong e (knowledge node).config.tables
+      IsRowOf set row (knowledge node).config
+  pub tables : (e : ℕ × TableRow) → IsAmong e (knowledge n).config.tables → IsTableOf e (knowledge node).config
   pub members : (table : List ℕ) (set : ℕ) → set_of table (knowledge n).config ≡ Some set →
-      set_of table (knowledge node).config ≡ Some set
+      (set_of table (knowledge node).config ≡ Some set) ⊎ IsOver set (knowledge node).config
 
 pub stays_itself : (n : Node) (q : Place) → q.node ≡ Some n → Stays n q
 stays_itself n q is = record {
@@ -60,9 +71,9 @@ stays_itself n q is = record {
   all = refl;
   newer = [];
   log = refl;
-  rows = λ set row found. found;
-  tables = λ e among. among;
-  members = λ table set found. found;
+  rows = λ set row found. inl found;
+  tables = λ e among. inl among;
+  members = λ table set found. inl found;
 }
 
 same_stays : (n : Node) (q r : Place) → r.node ≡ q.node → Stays n q → Stays n r
@@ -90,21 +101,53 @@ row_beside sets id new fresh set row found =
     true≢false (sym (ap is_some found) ∙ ap (λ k. is_some (entry_at k sets)) (eqb-true set id same) ∙ fresh)))
     ∙ found
 
--- a set that is known stays as it is
+-- a set that is known stays as it is, unless it ends
 row_behind : (p : Place) (d : OneDeed p) (set : ℕ) (row : SetRow) →
-    entry_at set (knowledge d.node).config.sets ≡ Some row → entry_at set (known_behind p d).sets ≡ Some row
+    entry_at set (knowledge d.node).config.sets ≡ Some row → IsRowOf set row (known_behind p d)
 row_behind p d set row found = by d.fit
   where
-    comes : Comes d.node d.deed → entry_at set (known_behind p d).sets ≡ Some row
-    comes k = ap (λ (c : Config). entry_at set c.sets) (told p d k.event _ k.met k.body) ∙ found
+    Row : Config → Type 0
+    Row c = IsRowOf set row c
 
-    by : Fit p d.node d.deed → entry_at set (known_behind p d).sets ≡ Some row
-    by (Keeps none kept) = ap (entry_at set) kept.sets ∙ found
+    known : Config
+    known = (knowledge d.node).config
+
+    comes : Comes d.node d.deed → IsRowOf set row (known_behind p d)
+    comes k = subst Row (sym (told p d k.event _ k.met k.body)) (inl found)
+
+    ends : (id : ℕ) (i : ℕ × ℕ) (b : Bool) → (set == id) ≡ b → Row (config_without id i known)
+    ends id i true same =
+        inr (entry-dropped id set i known
+        ∙ ap (λ b. cond b (option_map over (entry_at set known.sets)) (entry_at set known.sets)) same
+        ∙ ap (option_map over) found)
+    ends id i false other = inl (entry_other id set i known other ∙ found)
+
+    by : Fit p d.node d.deed → IsRowOf set row (known_behind p d)
+    by (Keeps none kept) = inl (ap (entry_at set) kept.sets ∙ found)
     by (CreatesSet a) =
-        ap (λ (c : Config). entry_at set c.sets) (told p d a.event _ a.met a.body)
-        ∙ row_beside (knowledge d.node).config.sets a.set_id _ a.new set row found
+        subst Row (sym (told p d a.event _ a.met a.body))
+        (inl (row_beside known.sets a.set_id _ a.new set row found))
     by (AddsTable a) = comes a.table
     by (FollowsTable f) = comes f.table
+    by (DropsSet e) =
+        subst Row (sym (told p d e.event _ e.met e.body))
+        (ends e.set_id (e.event.origin, e.event.number) (set == e.set_id) refl)
+
+-- a row of a set that is not live, later
+row_over : (set : ℕ) (row : SetRow) (c : Config) → live_set (Some row) ≡ None → IsRowOf set row c → IsOver set c
+row_over set row c none (inl same) = ap live_set same ∙ none
+row_over set row c none (inr ended) = ap live_set ended
+
+-- a known set that is over stays so
+over_behind : (p : Place) (d : OneDeed p) (set : ℕ) → is_some (entry_at set (knowledge d.node).config.sets) ≡ true →
+    IsOver set (knowledge d.node).config → IsOver set (known_behind p d)
+over_behind p d set known is = by (entry_at set (knowledge d.node).config.sets) refl known
+  where
+    by : (o : Option SetRow) → entry_at set (knowledge d.node).config.sets ≡ o → is_some o ≡ true →
+        IsOver set (known_behind p d)
+    by None none some = absurd (false≢true some)
+    by (Some row) found some =
+        row_over set row (known_behind p d) (ap live_set (sym found) ∙ is) (row_behind p d set row found)
 
 -- an entry stays beside a new one
 among_new : {X : Type 0} (id : ℕ) (x : X) (es : Map X) (e : ℕ × X) → IsNew id es → IsAmong e es →
@@ -122,20 +165,37 @@ among_new {X} id x (f ∷ es) e new among =
 
 -- so does a table
 tables_behind : (p : Place) (d : OneDeed p) (e : ℕ × TableRow) → IsAmong e (knowledge d.node).config.tables →
-    IsAmong e (known_behind p d).tables
+    IsTableOf e (known_behind p d)
 tables_behind p d e among = by d.fit
   where
-    comes : Comes d.node d.deed → IsAmong e (known_behind p d).tables
-    comes k =
-        subst (λ (c : Config). IsAmong e c.tables) (sym (told p d k.event _ k.met k.body))
-        (among_new k.table_id _ (knowledge d.node).config.tables e k.new among)
+    known : Config
+    known = (knowledge d.node).config
 
-    by : Fit p d.node d.deed → IsAmong e (known_behind p d).tables
-    by (Keeps none kept) = subst (IsAmong e) (sym kept.tables) among
-    by (CreatesSet a) =
-        subst (λ (c : Config). IsAmong e c.tables) (sym (told p d a.event _ a.met a.body)) among
+    comes : Comes d.node d.deed → IsTableOf e (known_behind p d)
+    comes k =
+        subst (IsTableOf e) (sym (told p d k.event _ k.met k.body))
+        (inl (among_new k.table_id _ known.tables e k.new among))
+
+    ends : (id : ℕ) (i : ℕ × ℕ) (b : Bool) → (e.1.set_id == id) ≡ b →
+        IsAmong (cond b (e.0, record e.1 { live = false }) e) (config_without id i known).tables →
+        IsTableOf e (config_without id i known)
+    ends id i true same there =
+        inr (
+          there,
+          subst (λ k. IsOver k (config_without id i known)) (sym (eqb-true e.1.set_id id same))
+              (set_over id i known),
+        )
+    ends id i false other there = inl there
+
+    by : Fit p d.node d.deed → IsTableOf e (known_behind p d)
+    by (Keeps none kept) = inl (subst (IsAmong e) (sym kept.tables) among)
+    by (CreatesSet a) = subst (IsTableOf e) (sym (told p d a.event _ a.met a.body)) (inl among)
     by (AddsTable a) = comes a.table
     by (FollowsTable f) = comes f.table
+    by (DropsSet x) =
+        subst (IsTableOf e) (sym (told p d x.event _ x.met x.body))
+        (ends x.set_id (x.event.origin, x.event.number) (e.1.set_id == x.set_id) refl
+        (among_map (dropped x.set_id) e known.tables among))
 
 pub deed_stays : (n : Node) (q r : Place) (d : OneDeed q) → (q.node ≡ Some d.node) ×
     (r.node ≡ Some (with_deeds (d.deed ∷ []) d.node)) → Holds q → Stays n q → Stays n r
@@ -153,17 +213,54 @@ deed_stays n q r d is h s = record {
       ap (λ ls. d.deed.logs ++ ls) (ap logged one ∙ s.log)
       ∙ sym (append_assoc d.deed.logs s.newer (logged n));
   rows = λ set row found.
-      row_behind q d set row
-      (ap (λ (m : Node). entry_at set (knowledge m).config.sets) one ∙ s.rows set row found);
+      rows set row (subst (λ (m : Node). IsRowOf set row (knowledge m).config) (sym one) (s.rows set row found));
   tables = λ e among.
-      tables_behind q d e (subst (λ (m : Node). IsAmong e (knowledge m).config.tables) (sym one) (s.tables e among));
+      tables e (subst (λ (m : Node). IsTableOf e (knowledge m).config) (sym one) (s.tables e among));
   members = λ table set found.
-      (stays_behind q d h.0 (h.1 d.node is.0)).member table set
-      (ap (λ (m : Node). set_of table (knowledge m).config) one ∙ s.members table set found);
+      members table set found
+      (subst (λ (m : Node). (set_of table (knowledge m).config ≡ Some set) ⊎ IsOver set (knowledge m).config) (sym one)
+      (s.members table set found));
 }
   where
     one : d.node ≡ s.node
     one = one_found d.node s.node (sym is.0 ∙ s.is)
+
+    c : Config
+    c = (knowledge d.node).config
+
+    whole : IsWhole d.node.id c
+    whole = (h.1 d.node is.0).whole
+
+    rows : (set : ℕ) (row : SetRow) → IsRowOf set row c → IsRowOf set row (known_behind q d)
+    rows set row (inl same) = row_behind q d set row same
+    rows set row (inr ended) = elim (row_behind q d set (over row) ended) [ inl is ↦ inr is | inr is ↦ inr is ]
+
+    tables : (e : ℕ × TableRow) → IsTableOf e c → IsTableOf e (known_behind q d)
+    tables e (inl among) = tables_behind q d e among
+    tables e (inr (among, gone)) =
+        inr (
+          elim (tables_behind q d (e.0, record e.1 { live = false }) among) [
+            | inl there ↦ there
+            | inr both ↦ both.0
+          ],
+          over_behind q d e.1.set_id
+              (all_among (λ e. is_some (entry_at e.1.set_id c.sets) ≡ true) (e.0, record e.1 { live = false }) c.tables
+              whole.tables among) gone,
+        )
+
+    members : (table : List ℕ) (set : ℕ) → set_of table (knowledge n).config ≡ Some set →
+        (set_of table c ≡ Some set) ⊎ IsOver set c →
+        (set_of table (known_behind q d) ≡ Some set) ⊎ IsOver set (known_behind q d)
+    members table set found (inl there) = (stays_behind q d h.0 (h.1 d.node is.0)).member table set there
+    members table set found (inr gone) = inr (over_behind q d set known gone)
+      where
+        row : (row : SetRow) × (entry_at set (knowledge n).config.sets ≡ Some row)
+        row = member_row table set (knowledge n).config found
+
+        known : is_some (entry_at set c.sets) ≡ true
+        known =
+            subst (λ (m : Node). is_some (entry_at set (knowledge m).config.sets) ≡ true) (sym one)
+            (elim (s.rows set row.0 row.1) [ inl same ↦ ap is_some same | inr ended ↦ ap is_some ended ])
 
 -- ---- a task of the database
 
@@ -182,7 +279,7 @@ done_stays n move q h s = by (done_logs move q)
 
 -- ---- a commit of a script or a turn
 
-deeds_stay : (n : Node) (q : Place) (m : Node) (ds : List Deed) → q.node ≡ Some m → AllDone q m ds →
+pub deeds_stay : (n : Node) (q : Place) (m : Node) (ds : List Deed) → q.node ≡ Some m → AllDone q m ds →
     Holds q × Stays n q → Stays n (doing_so q m ds)
 deeds_stay n q m [] is done on = same_stays n q (doing_so q m []) (sym is) on.1
 deeds_stay n q m (d ∷ ds) is done on =

@@ -1,6 +1,6 @@
 -- The stretches of a node after one more deed that gives no rows to tables.
 use Rattle.std.proofs.Common.{◌≡◌, ℕ, Bool, true, false, cond, List, [], ◌++◌, map, Option, Some, None, refl, sym, ap}
-use Rattle.std.proofs.Common.{subst, ◌∙◌, is_some}
+use Rattle.std.proofs.Common.{subst, ◌∙◌, is_some, ◌⊎◌, inl, inr}
 use Rattle.std.specs.Prelude.{◌==◌, ◌&&◌, find, filter_map, option_map, unwrap_or}
 use Rattle.std.specs.Str.{bytes_eq}
 use Rattle.std.specs.List.{AllByRecursion}
@@ -13,10 +13,43 @@ use Rattle.slon_model.specs.Deeds.{Deed}
 use Rattle.slon_model.specs.Place.{Place}
 use Rattle.slon_model.specs.Eras.{Stretch, reigns, stretch_in, ended, stretches_by, is_stretch}
 use Rattle.slon_model.proofs.Names.{all_map}
-use Rattle.stream_laws.proofs.Lists.{all_mapped, entry-with, there_with}
-use Rattle.image_laws.specs.Fits.{IsListed, IsWhole, IsKept}
+use Rattle.stream_laws.specs.Nodes.{IsAmong}
+use Rattle.stream_laws.proofs.Lists.{all_among, all_mapped, entry-with, there_with}
+use Rattle.image_laws.specs.Fits.{IsListed, IsWhole, IsKept, is_owner}
 use Rattle.image_laws.specs.Facts.{HoldsStretch, IsHeldBy, IsOnlyIn, HasStretch, StretchesHold}
 use Rattle.image_laws.proofs.Found.{find_any, IsNew, find_agrees, find_mapped, find_has}
+
+-- ---- who is the origin of a set
+
+-- who leads a set is its origin
+pub leads_owns : (own set : ℕ) (c : Config) → is_origin own set c ≡ true → is_owner own set c ≡ true
+leads_owns own set c leads = by (entry_at set c.sets) leads
+  where
+    live : (row : SetRow) (b : Bool) → leads_row own (cond b (Some row) None) ≡ true → leads_row own (Some row) ≡ true
+    live row true leads = leads
+    live row false leads = absurd (false≢true leads)
+
+    by : (o : Option SetRow) → leads_row own (live_set o) ≡ true → leads_row own o ≡ true
+    by None leads = absurd (false≢true leads)
+    by (Some row) leads = live row row.live leads
+
+pub owns_not : (own set : ℕ) (c : Config) → is_owner own set c ≡ false → is_origin own set c ≡ false
+owns_not own set c other =
+    false_from_ne_true (is_origin own set c) (λ leads. false≢true (sym other ∙ leads_owns own set c leads))
+
+-- the origin of a live set leads it
+pub owns_leads : (own set : ℕ) (c : Config) → is_owner own set c ≡ true → is_some (set_row set c) ≡ true →
+    is_origin own set c ≡ true
+owns_leads own set c owns live = by (entry_at set c.sets) owns live
+  where
+    still : (row : SetRow) (b : Bool) → leads_row own (Some row) ≡ true → is_some (cond b (Some row) None) ≡ true →
+        leads_row own (cond b (Some row) None) ≡ true
+    still row true owns some = owns
+    still row false owns none = absurd (false≢true none)
+
+    by : (o : Option SetRow) → leads_row own o ≡ true → is_some (live_set o) ≡ true → leads_row own (live_set o) ≡ true
+    by None owns none = absurd (false≢true none)
+    by (Some row) owns some = still row row.live owns some
 
 -- ---- each stretch
 
@@ -82,10 +115,14 @@ listed_member table c set is = by (member_of table c) refl is
     by None found none = absurd cc
     by (Some e) found some = find_any _ (λ e. bytes_eq table e.1.name) named e c.tables found
 
--- Tables that are known are known still, and in their sets.
+-- the set is not live
+abbrev pub IsOver : ℕ → Config → Type 0
+IsOver set c = set_row set c ≡ None
+
+-- Tables that are known are known still, and in their sets, if those are live still.
 pub record Stay (old new : Config) : Type 0 where
   pub listed : (table : List ℕ) → IsListed table old → IsListed table new
-  pub member : (table : List ℕ) (set : ℕ) → set_of table old ≡ Some set → set_of table new ≡ Some set
+  pub member : (table : List ℕ) (set : ℕ) → set_of table old ≡ Some set → (set_of table new ≡ Some set) ⊎ IsOver set new
   pub only : (table : List ℕ) (set : ℕ) → IsListed table old → IsOnlyIn set table old → IsOnlyIn set table new
 
 each_behind : (p : Place) (own : ℕ) (old new : Config) (d : Deed) → Stay old new → (s : Stretch) →
@@ -93,6 +130,13 @@ each_behind : (p : Place) (own : ℕ) (old new : Config) (d : Deed) → Stay old
     HoldsStretch p own new (behind own new d s)
 each_behind p own old new d stay s h = by s.last refl
   where
+    still : reigns own new s ≡ true → (set_of s.table new ≡ Some s.set_id) ⊎ IsOver s.set_id new →
+        set_of s.table new ≡ Some s.set_id
+    still stands (inl there) = there
+    still stands (inr over) =
+        absurd (false≢true (sym (ap (leads_row own) over)
+        ∙ (and_parts (is_origin own s.set_id new) (s.era == era_of s.set_id new) stands).0))
+
     by : (o : Option ℕ) → s.last ≡ o → HoldsStretch p own new (ended own new d.first o s)
     by (Some last) is = record {
       listed = stay.listed s.table h.listed;
@@ -107,7 +151,7 @@ each_behind p own old new d stay s h = by s.last refl
             begun = h.begun;
             lasts = λ none. record {
               stands = stands;
-              member = stay.member s.table s.set_id (h.lasts none).member;
+              member = still stands (stay.member s.table s.set_id (h.lasts none).member);
               only = stay.only s.table s.set_id h.listed (h.lasts none).only;
               fills = (h.lasts none).fills;
             };
@@ -192,7 +236,7 @@ abbrev era_by : Option SetRow → ℕ
 era_by o = unwrap_or (option_map (λ row. row.era) (live_set o)) 0
 
 -- a set whose row is as before
-same_leads : (own : ℕ) (old new : Config) (set : ℕ) → entry_at set new.sets ≡ entry_at set old.sets →
+pub same_leads : (own : ℕ) (old new : Config) (set : ℕ) → entry_at set new.sets ≡ entry_at set old.sets →
     is_origin own set new ≡ true → Leads own old new set × (is_origin own set old ≡ true)
 same_leads own old new set same is =
     (record { origin = is; era = ap era_by same }, ap (leads_by own) (sym same) ∙ is)
@@ -205,6 +249,15 @@ kept_whole own old new kept w = record {
       subst (λ tables. AllByRecursion (λ e. is_some (entry_at e.1.set_id new.sets) ≡ true) tables) (sym kept.tables)
       (subst (λ sets. AllByRecursion (λ e. is_some (entry_at e.1.set_id sets) ≡ true) old.tables) (sym kept.sets)
       w.tables);
+  names = subst (λ (tables : Map TableRow). (e f : ℕ × TableRow) → IsAmong e tables → IsAmong f tables →
+      e.1.name ≡ f.1.name → e.1.set_id ≡ f.1.set_id) (sym kept.tables) w.names;
+  live = λ e among some.
+      w.live e (subst (IsAmong e) kept.tables among)
+      (subst (λ sets. is_some (live_set (entry_at e.1.set_id sets)) ≡ true) kept.sets some);
+  ended = λ e among owns live.
+      subst (λ sets. is_some (live_set (entry_at e.1.set_id sets)) ≡ true) (sym kept.sets)
+      (w.ended e (subst (IsAmong e) kept.tables among)
+      (subst (λ sets. leads_row own (entry_at e.1.set_id sets) ≡ true) kept.sets owns) live);
 }
 
 same_set : (old new : Config) → IsKept old new → (table : List ℕ) → set_of table new ≡ set_of table old
@@ -213,7 +266,7 @@ same_set old new kept table i = set_of table (record old { sets = kept.sets i; t
 pub kept_stay : (old new : Config) → IsKept old new → Stay old new
 kept_stay old new kept = record {
   listed = λ table listed. subst (λ tables. IsListed table (record new { tables = tables })) (sym kept.tables) listed;
-  member = λ table set is. same_set old new kept table ∙ is;
+  member = λ table set is. inl (same_set old new kept table ∙ is);
   only = λ table set listed only.
       subst (λ tables. IsOnlyIn set table (record new { tables = tables })) (sym kept.tables) only;
 }
@@ -269,7 +322,7 @@ pub created_stay : (own : ℕ) (c : Config) (id : ℕ) (row : SetRow) → IsWhol
     Stay c (record c { sets = with_entry id row c.sets })
 created_stay own c id row w fresh = record {
   listed = λ table listed. listed;
-  member = λ table set is. created_set own c id row w fresh table ∙ is;
+  member = λ table set is. inl (created_set own c id row w fresh table ∙ is);
   only = λ table set listed only. only;
 }
 
@@ -286,6 +339,12 @@ creates_holds b id row d none fresh origin =
             all_map (λ e. is_some (entry_at e.1.set_id b.known.sets) ≡ true)
             (λ e. is_some (entry_at e.1.set_id new.sets) ≡ true)
             (λ e known. there_with e.1.set_id id row b.known.sets known) b.known.tables b.holds.whole.tables;
+        names = b.holds.whole.names;
+        live = λ e among some.
+            b.holds.whole.live e among (ap (λ o. is_some (live_set o)) (sym (same_row e among)) ∙ some);
+        ended = λ e among owns live.
+            ap (λ o. is_some (live_set o)) (same_row e among)
+            ∙ b.holds.whole.ended e among (ap (leads_row b.own) (sym (same_row e among)) ∙ owns) live;
       };
       each = all_behind b.place b.own b.known new d stay b.all b.holds.each;
       there = λ set table held.
@@ -297,6 +356,12 @@ creates_holds b id row d none fresh origin =
   where
     new : Config
     new = record b.known { sets = with_entry id row b.known.sets }
+
+    same_row : (e : ℕ × TableRow) → IsAmong e b.known.tables →
+        entry_at e.1.set_id new.sets ≡ entry_at e.1.set_id b.known.sets
+    same_row e among =
+        another_set b.known.sets id row fresh e.1.set_id
+        (all_among (λ e. is_some (entry_at e.1.set_id b.known.sets) ≡ true) e b.known.tables b.holds.whole.tables among)
 
     by : (set : ℕ) (r : SetRow) (c : Bool) → cond c (Some row) (entry_at set b.known.sets) ≡ Some r →
         is_some (entry_at r.origin b.known.nodes) ≡ true

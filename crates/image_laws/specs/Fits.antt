@@ -1,15 +1,15 @@
 -- What a node does with the sets and tables that it knows, deed by deed.
-use Rattle.std.specs.Prelude.{◌≡◌, ℕ, is_some, true, false, List, [], ◌∷◌, Some, None}
+use Rattle.std.specs.Prelude.{◌≡◌, ℕ, is_some, Bool, true, false, List, [], ◌∷◌, Some, None}
 use Rattle.std.specs.Str.{bytes_eq}
 use Rattle.std.specs.List.{list_any, AllByRecursion}
 use Rattle.node_rows.specs.declared.rows.SetRow.{SetRow}
-use Rattle.node_rows.specs.declared.body.Body.TheVariants.{StoreSet, SetAddTable}
+use Rattle.node_rows.specs.declared.body.Body.TheVariants.{StoreSet, DropSet, SetAddTable}
 use Rattle.node_rows.specs.declared.rows.TableRow.{TableRow}
 use Rattle.slon_model.specs.Names.{Named}
 use Rattle.slon_model.specs.Maps.{entry_at}
 use Rattle.slon_model.specs.Rows.{Rows}
 use Rattle.slon_model.specs.Events.{Event}
-use Rattle.slon_model.specs.Config.{Config, is_origin}
+use Rattle.slon_model.specs.Config.{Config, is_origin, leads_row, set_row}
 use Rattle.slon_model.specs.Deeds.{Node, Deed, Logged, Emits, brought_in, learned, met_by, knowledge}
 use Rattle.slon_model.specs.Deeds.{with_deeds}
 use Rattle.slon_model.specs.Place.{Place, standing_rows, taken}
@@ -17,15 +17,25 @@ use Rattle.slon_model.specs.Sessions.{Commit, writer_of}
 use Rattle.slon_laws.specs.Turning.{IsWithin}
 use Rattle.stream_laws.specs.Nodes.{IsAmong}
 
+-- the node of this id is the origin of the set, whether that is live or not
+abbrev pub is_owner : ℕ → ℕ → Config → Bool
+is_owner own set c = leads_row own (entry_at set c.sets)
+
 -- some table that is known has this name
 abbrev pub IsListed : List ℕ → Config → Type 0
 IsListed table c = list_any (λ e. bytes_eq table e.1.name) c.tables ≡ true
 
--- A node knows itself, the origin of each set, and the set of each table.
+-- A node knows itself, the origin of each set, and the set of each table, which is that of each table of its name. All
+-- tables of a live set are live, and those of its own sets no longer.
 pub record IsWhole (own : ℕ) (c : Config) : Type 0 where
   pub knows : is_some (entry_at own c.nodes) ≡ true
   pub sets : (set : ℕ) (row : SetRow) → entry_at set c.sets ≡ Some row → is_some (entry_at row.origin c.nodes) ≡ true
   pub tables : AllByRecursion (λ e. is_some (entry_at e.1.set_id c.sets) ≡ true) c.tables
+  pub names : (e f : ℕ × TableRow) → IsAmong e c.tables → IsAmong f c.tables → e.1.name ≡ f.1.name →
+      e.1.set_id ≡ f.1.set_id
+  pub live : (e : ℕ × TableRow) → IsAmong e c.tables → is_some (set_row e.1.set_id c) ≡ true → e.1.live ≡ true
+  pub ended : (e : ℕ × TableRow) → IsAmong e c.tables → is_owner own e.1.set_id c ≡ true → e.1.live ≡ true →
+      is_some (set_row e.1.set_id c) ≡ true
 
 -- the sets and tables stay, and so does each node
 pub record IsKept (old new : Config) : Type 0 where
@@ -69,7 +79,15 @@ pub record Follows (n : Node) (d : Deed) : Type 0 where
   pub table : Comes n d
   pub rows : d.rows ≡ []
   pub known : is_some (entry_at table.set_id (knowledge n).config.sets) ≡ true
-  pub other : is_origin n.id table.set_id (knowledge n).config ≡ false
+  pub other : is_owner n.id table.set_id (knowledge n).config ≡ false
+
+-- A set ends, by an event of the node or of another one.
+pub record Drops (d : Deed) : Type 0 where
+  pub set_id : ℕ
+  pub event : Event
+  pub met : met_by d.doing ≡ Some event
+  pub body : event.body ≡ DropSet set_id
+  pub rows : d.rows ≡ []
 
 -- what a node of a database does
 pub data Fit (p : Place) (n : Node) (d : Deed) : Type 0 where
@@ -77,19 +95,20 @@ pub data Fit (p : Place) (n : Node) (d : Deed) : Type 0 where
   CreatesSet : Creates n d → Fit p n d
   AddsTable : Adds p n d → Fit p n d
   FollowsTable : Follows n d → Fit p n d
+  DropsSet : Drops d → Fit p n d
 
 -- a new node has done nothing, knows its cluster, and is the origin of no set in it
 pub record IsFirst (n : Node) : Type 0 where
   pub deeds : n.deeds ≡ []
   pub whole : IsWhole n.id n.given.config
-  pub leads : (set : ℕ) → is_origin n.id set n.given.config ≡ false
+  pub leads : (set : ℕ) → is_owner n.id set n.given.config ≡ false
 
--- The table is in a set of which the node of this id is not the origin.
+-- The table is in a set of which the node of this id is not the origin, nor was it before the set ended.
 pub record IsOfOther (own : ℕ) (c : Config) (table : List ℕ) : Type 0 where
   pub entry : ℕ × TableRow
   pub among : IsAmong entry c.tables
   pub named : entry.1.name ≡ table
-  pub other : is_origin own entry.1.set_id c ≡ false
+  pub other : is_owner own entry.1.set_id c ≡ false
 
 -- rows that are brought are of such tables
 abbrev pub AreOfOthers : ℕ → Config → Named Rows → Type 0

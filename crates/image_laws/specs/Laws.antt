@@ -98,6 +98,30 @@ LogsHaveTheActions =
     (set : ℕ) (table : List ℕ) → IsHeldBy n.id (knowledge n).config set table →
     (s : Stretch) × (stretch_of set (era_of set (knowledge n).config) table n ≡ Some s) × LogHas p n s
 
+-- The snapshot was taken while the node had the table in this set, of which it was the origin, in this era.
+pub record WasHeld (limit : ℕ) (name : List ℕ) (w : World) (k : Snapshot) (set era : ℕ) (table : List ℕ) : Type 0 where
+  pub taken : WasTaken limit name w k
+  pub node : Node
+  pub at : taken.place.node ≡ Some node
+  pub held : IsHeldBy node.id (knowledge node).config set table
+  pub is_era : era ≡ era_of set (knowledge node).config
+
+-- Of a table, the log of the node has the committed actions of a stretch that a snapshot sees, and no others of such
+-- transactions, whether the stretch lasts or not.
+pub record LogHad (p : Place) (n : Node) (s : Stretch) (k : Snapshot) : Type 0 where
+  pub all : (a : Action) → IsAmong a p.actions → a.table ≡ s.table → member a.xid p.commits ≡ true →
+      is_within s a ≡ true → sees k a.xid ≡ true → IsLogged (logged n) a
+  pub only : (l : Logged) → IsAmong l (logged n) → l.action.table ≡ s.table → sees k l.action.xid ≡ true →
+      IsOf p n.id s l × (is_within s l.action ≡ true)
+
+-- So it is of a table of a set of which the node was the origin as the snapshot was taken, though the set may have
+-- ended.
+abbrev pub LogsHadTheActions : Type 0
+LogsHadTheActions =
+    (limit : ℕ) (name : List ℕ) (w : World) (p : Place) → find_named name w.places ≡ Some p → (n : Node) →
+    p.node ≡ Some n → (k : Snapshot) (set era : ℕ) (table : List ℕ) → WasHeld limit name w k set era table →
+    (s : Stretch) × (stretch_of set era table n ≡ Some s) × LogHad p n s k
+
 -- What is read of the log of the origin between two snapshots, of which the later one sees all that the earlier one
 -- sees, applied in the order of numbers, leads from what the earlier one sees of a table to what the later one sees.
 abbrev pub ReadingLeads : Type 0
@@ -108,3 +132,12 @@ ReadingLeads =
     IsRead n table old new actions →
     applied actions (image_in p n set (era_of set (knowledge n).config) table old)
     ≡ image_in p n set (era_of set (knowledge n).config) table new
+
+-- The same where the table was in the set as the later snapshot was taken, though the set may have ended since.
+abbrev pub ReadingLed : Type 0
+ReadingLed =
+    (limit : ℕ) (name : List ℕ) (w : World) (p : Place) → find_named name w.places ≡ Some p → (n : Node) →
+    p.node ≡ Some n → (old new : Snapshot) → WasTaken limit name w old → Covers new old → (set era : ℕ)
+    (table : List ℕ) → WasHeld limit name w new set era table → (actions : List Action) →
+    IsRead n table old new actions →
+    applied actions (image_in p n set era table old) ≡ image_in p n set era table new

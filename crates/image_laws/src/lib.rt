@@ -4,6 +4,7 @@
 
 ghost use Rattle.image_laws.specs.Laws.{ImageIsCommittedRows, DeltaLeads, SnapshotsAreMoments};
 ghost use Rattle.image_laws.specs.Laws.{CountsTell, LogsHaveTheActions, ReadingLeads, SnapshotsDivide, OlderStay};
+ghost use Rattle.image_laws.specs.Laws.{LogsHadTheActions, ReadingLed};
 
 /// What a snapshot sees of a table of a set, in the era in which it is taken at the origin of the set, is what the
 /// table holds at that moment; and it is so still after whatever happens later: transactions that were open then, or
@@ -36,13 +37,16 @@ pub fn snapshots_divide()
 {}
 
 /// The log of the origin of a set has, of each table of the set, exactly the committed actions since the table came
-/// into the set.
+/// into the set. Once the set has ended, the log has all of them that a snapshot sees which was taken before.
 pub fn logs_have_the_actions()
-    ensures { LogsHaveTheActions }
+    ensures have { LogsHaveTheActions }
+    ensures had { LogsHadTheActions }
 {}
 
 /// Who holds what a snapshot of the origin sees of a table, and applies what the log of the origin has of the table
-/// between it and a later snapshot, in the order of numbers, holds what the later one sees.
+/// between it and a later snapshot, in the order of numbers, holds what the later one sees; also where the set has
+/// ended since the later one was taken.
 pub fn readings_lead()
-    ensures { ReadingLeads }
+    ensures lead { ReadingLeads }
+    ensures led { ReadingLed }
 {}

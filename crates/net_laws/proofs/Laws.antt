@@ -4,8 +4,9 @@ use Rattle.std.proofs.Common.{refl, sym, ap, subst, ◌∙◌, arith, ◌⊎◌,
 use Rattle.std.specs.Prelude.{◌==◌}
 use Rattle.std.proofs.lemmas.Bool.{cases_lt, cases_eq, cases_Bool, ne_eqb, eq-eqb, cond-true, cond-false}
 use Rattle.std.proofs.lemmas.Option.{same_Some}
-use Rattle.net_laws.specs.Subscriptions.{Subscription, Enable, up_to, last_moment, readied, row}
-use Rattle.net_laws.specs.Net.{Node, Logs, given_up, barring, cleaned_below, IsViewed, Net, owned, with_node, heard}
+use Rattle.net_laws.specs.Subscriptions.{Subscription, Sync, Enable, up_to, last_moment, readied, row}
+use Rattle.net_laws.specs.Net.{Node, Logs, LogsAll, stretch, given_up, barring, cleaned_below, IsViewed, Net, owned}
+use Rattle.net_laws.specs.Net.{with_node, heard}
 use Rattle.net_laws.specs.Net.{configured, IsNext, Turn, Passes, Syncs, Turns, Copies, Skips, Leaves, NextTurn, Step}
 use Rattle.net_laws.specs.Net.{Commits, Ticks, Emits, Applies, GivesUp, Bars, Cleans, Leads, Here, More}
 use Rattle.net_laws.specs.Sound.{Sound, Provides, IsForwarder, IsBased}
@@ -88,6 +89,34 @@ cleaned_is_seen w s p r v other known is = elim (s.spared p r other known) [
   | inr later ↦ not_both (w.nodes r).view v later.0 is
 ]
 
+-- n, which keeps a view, is to apply a SYNC of this moment from its provider. That is another node than the origin, has
+-- come as far, and has not given the set up.
+pub record Follows (w : Net) (n moment : ℕ) : Type 0 where
+  pub next : IsNext w n (Sync moment)
+  pub view : ℕ
+  pub keeps : (w.nodes n).view ≡ Some view
+  pub row : Subscription
+  pub has : configured w n n ≡ Some row
+  pub other : row.provider ≡ w.origin → ⊥
+  pub far : (w.nodes n).progress + 1 ≤ (w.nodes row.provider).progress
+  pub stays : (w.nodes row.provider).gave_up ≡ false
+
+-- The provider has logged all of it, whomever it has as dropped or as fenced.
+pub provider_logs : (w : Net) → Sound w → (n m : ℕ) (f : Follows w n m) →
+    LogsAll (w.nodes f.row.provider).log (stretch f.view m)
+provider_logs w s n m f moment inside =
+    let next = f.next.next in
+    let more = f.next.more in
+    let far = f.far in
+    let low = inside.from in
+    let within : (w.nodes n).progress + 1 ≤ length w.stream = omega (arith, more) in
+    let provides =
+    s.provided ((w.nodes n).progress + 1) within n f.row (ap (row w.start n) next ∙ f.has) f.other in
+    let l = length_up_to ((w.nodes n).progress + 1) w.stream within in
+    let cut = (s.holds n).cut f.view f.row f.keeps f.has in
+    provides.served f.stays (omega (arith, far, l)) m (heard w n) next moment
+    (record { from = omega (arith, cut, low); to = inside.to })
+
 pub logs_hold : (w : Net) → Sound w → LogsHold w
 logs_hold w s n m i moment inside = (logged (cases_eq p w.origin), omega (arith, seen, low))
   where
@@ -107,15 +136,16 @@ logs_hold w s n m i moment inside = (logged (cases_eq p w.origin), omega (arith,
         from : HasReached w p ((w.nodes n).progress + 1) → Logs (w.nodes p).log moment
         from (inl is) = absurd (other is)
         from (inr far) =
-            let next = i.next.next in
-            let more = i.next.more in
-            let within : (w.nodes n).progress + 1 ≤ length w.stream = omega (arith, more) in
-            let provides =
-            s.provided ((w.nodes n).progress + 1) within n i.row (ap (row w.start n) next ∙ i.has) other in
-            let l = length_up_to ((w.nodes n).progress + 1) w.stream within in
-            let cut = (s.holds n).cut i.view i.row i.keeps i.has in
-            provides.served i.may.keeps (omega (arith, far, l)) m (heard w n) next moment
-            (record { from = omega (arith, cut, low); to = inside.to })
+            provider_logs w s n m (record {
+              next = i.next;
+              view = i.view;
+              keeps = i.keeps;
+              row = i.row;
+              has = i.has;
+              other = other;
+              far = far;
+              stays = i.may.keeps;
+            }) moment inside
 
 pub backup_serves : (w : Net) → Sound w → BackupServes w
 backup_serves w s n p c moment inside =

@@ -6,7 +6,9 @@ use Rattle.std.specs.Str.{bytes_eq}
 use Rattle.std.proofs.lemmas.Bool.{eqb-true, eq-eqb, true≢false, le-ltb, lt-ltb, cases_eq, cases_lt}
 use Rattle.node_rows.specs.declared.rows.Subscription.{Subscription}
 use Rattle.node_rows.specs.declared.body.Body.{Body}
-use Rattle.node_rows.specs.declared.body.Body.TheVariants.{Sync, SubscribeSet, EnableSubscription, UnsubscribeSet}
+use Rattle.node_rows.specs.declared.body.Body.TheVariants.{Sync, DropSet, SubscribeSet, EnableSubscription}
+use Rattle.node_rows.specs.declared.body.Body.TheVariants.{UnsubscribeSet}
+use Rattle.net_laws.specs.Subscriptions.{DropSet as Ends}
 use Rattle.net_laws.specs.Updates.{set_at}
 use Rattle.net_laws.specs.Subscriptions.{Event as Said, Subscribe, Enable, Unsubscribe, Unrelated}
 use Rattle.net_laws.specs.Subscriptions.{Subscription as Row}
@@ -49,6 +51,7 @@ use Rattle.net_relation.proofs.Coming.{IsLeader, source_leads}
 use Rattle.net_relation.proofs.Readied.{IsReady, ready_before, ready_or_not}
 use Rattle.net_relation.proofs.Coming.{Coming, FindingOf, Source, comes, configured_is, event_among, event_of}
 use Rattle.net_relation.proofs.Coming.{heard_bounded, heard_of, is_at, node_of, reached_is, row_then, source_then}
+use Rattle.net_relation.proofs.Dropped.{whole_stays}
 use Rattle.net_relation.proofs.Entries.{Forwarding, entry_logged}
 use Rattle.net_relation.proofs.Leading.{IsAsked, copy_comes}
 use Rattle.net_relation.proofs.Relating.{FitsNode, NodeLater, frame, netted_sound, node_behind}
@@ -99,7 +102,7 @@ pub record Turned (set : ℕ) (t : Past) (c : Coming set t) : Type 0 where
   pub logs : (l : Logged) (moment : ℕ) →
       IsEntry set (order_in c.work.ended) c.work.leader l moment → Logs node.log moment →
       IsAmong l (logged (behind c.work.carried))
-  pub whole : IsWhole node
+  pub whole : IsWhole (knowledge (worker c.work)).config node
 
 turned_matches : (set : ℕ) (t : Past) (c : Coming set t) (k : Turned set t c) →
     MatchesNode set (order_in c.work.ended) (length c.work.ended) c.work.leader (behind c.work.carried) k.node
@@ -119,7 +122,8 @@ turned_matches set t c k = record {
       (sym (ap (λ i. row unfed o.id (up_to i (read set (stream c.work.leader)))) k.far
       ∙ ap (row unfed o.id) (is_at set t c).next) ∙ has);
   logs = k.logs;
-  whole = k.whole;
+  whole =
+      whole_stays e (knowledge o).config (may_emitted e.origin e.body (knowledge o).config c.work.is.work.may) k.whole;
 }
   where
     o : Node
@@ -145,6 +149,7 @@ turned_later set t c k = record {
     comes = comes set t c;
     turn = k.turn;
   }) refl);
+  leader = set_other o.id k.node n.nodes c.work.leader.id (λ same. c.work.other (sym same));
   rest = λ name m is other. set_other o.id k.node n.nodes m.id (λ same. apart name m is other same);
   others = λ id other. set_other o.id k.node n.nodes id other;
   is = λ apart. subst (FitsNode (frame set c.work.ended c.work.leader) (behind c.work.carried))
@@ -465,12 +470,14 @@ copy_turned set t c s = record {
 abbrev pub IsOfOthers : ℕ → ℕ → Body → Type 0
 IsOfOthers set own (SubscribeSet id provider receiver forward) = id ≡ set → receiver ≡ own → ⊥
 IsOfOthers set own (UnsubscribeSet id receiver) = id ≡ set → receiver ≡ own → ⊥
+IsOfOthers set own (DropSet id) = id ≡ set → ⊥
 IsOfOthers set own others = Unit {0}
 
--- It says how the node itself receives the set, or that it is to give the set up; or neither.
+-- It says how the node itself receives the set, or that it is to give the set up, or that the set ends; or neither.
 pub data Concerns (set own : ℕ) (body : Body) : Type 0 where
   TellsHow : (provider : ℕ) (forward : Bool) → body ≡ SubscribeSet set provider own forward → Concerns set own body
   TellsEnd : body ≡ UnsubscribeSet set own → Concerns set own body
+  TellsDrop : body ≡ DropSet set → Concerns set own body
   TellsOthers : IsOfOthers set own body → Concerns set own body
 
 pub concerned : (set own : ℕ) (body : Body) → Concerns set own body
@@ -489,6 +496,10 @@ concerned set own (UnsubscribeSet id receiver) = by (cases_eq id set) (cases_eq 
     by (inl same) (inl at) = TellsEnd (ap (λ i. UnsubscribeSet i receiver) same ∙ ap (λ r. UnsubscribeSet set r) at)
     by (inr other) at = TellsOthers (λ same here. other same)
     by (inl same) (inr other) = TellsOthers (λ id here. other here)
+concerned set own (DropSet id) = elim (cases_eq id set) [
+  | inl same ↦ TellsDrop (ap DropSet same)
+  | inr other ↦ TellsOthers other
+]
 concerned set own others = TellsOthers tt
 
 -- The view stays, as no SYNC was followed and no set was copied.
@@ -577,6 +588,11 @@ pass_turn set t c s = by (event_of c).body refl
       where
         at : (b : Bool) → (id == set) ≡ b → Turns (cond b (Unsubscribe receiver) Unrelated)
         at true same = Passes (inl (others (UnsubscribeSet id receiver) is (eqb-true id set same))) refl
+        at false other = Passes (inl tt) refl
+    by (DropSet id) is = at (id == set) refl
+      where
+        at : (b : Bool) → (id == set) ≡ b → Turns (cond b Ends Unrelated)
+        at true same = absurd (others (DropSet id) is (eqb-true id set same))
         at false other = Passes (inl tt) refl
     by (EnableSubscription id provider receiver forward era) is = at (id == set) refl (cases_eq receiver o.id)
       where

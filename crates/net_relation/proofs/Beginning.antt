@@ -5,10 +5,11 @@ use Rattle.std.specs.Prelude.{◌==◌}
 use Rattle.std.specs.List.{AllByRecursion}
 use Rattle.std.proofs.lemmas.Bool.{eq-eqb, eqb-true, false≢true}
 use Rattle.node_rows.specs.declared.body.Body.{Body}
-use Rattle.node_rows.specs.declared.body.Body.TheVariants.{SubscribeSet, EnableSubscription, UnsubscribeSet}
+use Rattle.node_rows.specs.declared.body.Body.TheVariants.{DropSet, SubscribeSet, EnableSubscription, UnsubscribeSet}
+use Rattle.net_laws.specs.Subscriptions.{DropSet as Ends}
 use Rattle.net_laws.specs.Updates.{set_at}
 use Rattle.net_laws.specs.Subscriptions.{Subscribe, Enable, Unsubscribe, Unrelated, row, up_to}
-use Rattle.net_laws.specs.Net.{Leads, Net, Node as NetNode}
+use Rattle.net_laws.specs.Net.{Leads, Net, Node as NetNode, member}
 use Rattle.net_laws.proofs.Updates.{set_here, set_other}
 use Rattle.slon_model.specs.Snapshots.{Snapshot}
 use Rattle.slon_model.specs.Deeds.{Node, knowledge, progress, stream, view_of}
@@ -51,7 +52,7 @@ fresh_matches set order now y o none is = record {
       let never : row unfed o.id [] ≡ Some u = sym (ap (λ es. row unfed o.id (up_to 0 (read set es))) none) ∙ has in
       absurd cc;
   logs = λ l moment e never. absurd never;
-  whole = record { keeps = refl; bars = refl; has = refl };
+  whole = record { keeps = refl; bars = λ id never. absurd (false≢true never); has = refl };
 }
 
 -- all other nodes have applied nothing of it
@@ -72,6 +73,8 @@ new_net set ended all q y none clock others = record {
         let never : row unfed r [] ≡ Some u =
         sym (ap (λ s. row s r later.0.stream) t.start ∙ ap (row unfed r) t.stream) ∙ is in
         absurd cc;
+    bars = λ id barred.
+        absurd (false≢true (sym (ap (λ (f : ℕ → NetNode). member id (f y.id).barred) t.nodes) ∙ barred));
   };
   now = now;
   events = subst (AllByRecursion (λ e. IsTaken (order_in ended) (length ended) e.taken)) (sym none) tt;
@@ -82,7 +85,7 @@ new_net set ended all q y none clock others = record {
 }
   where
     later : (v : Net) × Ticked (length ended) (first_net y.id) v
-    later = ticks (length ended) (first_net y.id) refl refl
+    later = ticks (length ended) (first_net y.id) (λ on. refl)
 
     t : Ticked (length ended) (first_net y.id) later.0
     t = later.1
@@ -153,6 +156,8 @@ feed_spares set r x k (UnsubscribeSet id receiver) is none = by (id == set)
     by : (b : Bool) → Spares r (cond b (Unsubscribe receiver) Unrelated)
     by true = λ same. none (subst (λ i. IsKnown i (knowledge x).config) same is.1)
     by false = tt
+feed_spares set r x k (DropSet id) is none =
+    elim (id == set) as (λ b. Spares r (cond b Ends Unrelated)) [ true ↦ tt | false ↦ tt ]
 feed_spares set r x k others is none = tt
 
 pub joined_spared : (t : Past) (j : Join t.world) (set : ℕ) (name : List ℕ) (x : Node) →
@@ -167,6 +172,7 @@ pub record Joining (set : ℕ) (ended : List ℕ) (t : Past) (j : Join t.world) 
     Type 0 where
   pub netted : Netted set ended all p x
   pub free : (name : List ℕ) (o : Node) → all name ≡ Some o → o.id ≢ j.new.id
+  pub other : x.id ≢ j.new.id
   pub far : progress x.id (knowledge (giver j)) ≤ length (read set (stream x))
   pub spares : AllByRecursion (Spares j.new.id) (read set (stream x))
 
@@ -175,6 +181,7 @@ pub joined_later : {set : ℕ} {ended : List ℕ} {t : Past} {j : Join t.world} 
 joined_later {set} {ended} {t} {j} {all} {p} {x} k = record {
   nodes = set_at j.new.id (at_fresh far) n.nodes;
   leads = subst (Leads n) passed.1.is passed.1.leads;
+  leader = set_other j.new.id (at_fresh far) n.nodes x.id k.other;
   rest = λ name m is other. set_other j.new.id (at_fresh far) n.nodes m.id (k.free name m is);
   others = λ id other. set_other j.new.id (at_fresh far) n.nodes id other;
   is = λ apart.
@@ -189,7 +196,7 @@ joined_later {set} {ended} {t} {j} {all} {p} {x} k = record {
             (all_up_to (Spares j.new.id) far (read set (stream x)) k.spares)) ∙ has in
             absurd cc;
         logs = λ l moment e never. absurd never;
-        whole = record { keeps = refl; bars = refl; has = refl };
+        whole = record { keeps = refl; bars = λ id never. absurd (false≢true never); has = refl };
       });
 }
   where

@@ -1,4 +1,5 @@
 -- The node that a database is behind a commit, and what is kept by every history.
+use Rattle.net_relation.proofs.Links.{EndsSet}
 use Rattle.std.proofs.Common.{◌≡◌, ℕ, List, [], ◌∷◌, Some, None, sym, ap, subst, ◌∙◌}
 use Rattle.std.specs.Prelude.{option_map}
 use Rattle.std.specs.Option.{option_or}
@@ -53,6 +54,8 @@ told_logs s ms (Feeds f same can new) =
 told_logs s ms (Changes f same can had) =
     ap (λ ms. logged (with_deeds (commit_of s ms).deeds s.node)) same
 told_logs s ms (Leaves set receiver same can) =
+    ap (λ ms. logged (with_deeds (commit_of s ms).deeds s.node)) same
+told_logs s ms (EndsSet set same can) =
     ap (λ ms. logged (with_deeds (commit_of s ms).deeds s.node)) same
 
 -- ---- histories

@@ -5,8 +5,8 @@ use Rattle.std.specs.Prelude.{◌+◌, ◌==◌}
 use Rattle.std.specs.List.{AllByRecursion}
 use Rattle.std.proofs.lemmas.Bool.{eqb-true, false≢true, false_from_ne_true}
 use Rattle.node_rows.specs.declared.body.Body.{Body}
-use Rattle.node_rows.specs.declared.body.Body.TheVariants.{SubscribeSet, EnableSubscription, UnsubscribeSet}
-use Rattle.net_laws.specs.Subscriptions.{Event as Said, Subscribe, Enable, Unsubscribe, DropSet, Unrelated}
+use Rattle.node_rows.specs.declared.body.Body.TheVariants.{DropSet, SubscribeSet, EnableSubscription, UnsubscribeSet}
+use Rattle.net_laws.specs.Subscriptions.{Event as Said, Subscribe, Enable, Unsubscribe, DropSet as Ends, Unrelated}
 use Rattle.net_laws.specs.Subscriptions.{Subscription as Row}
 use Rattle.net_laws.specs.Subscriptions.{changed, enabled, last_moment, row, up_to}
 use Rattle.slon_model.specs.Events.{Event}
@@ -34,6 +34,7 @@ use Rattle.view_laws.proofs.Going.{takes_on}
 use Rattle.view_laws.proofs.Saying.{may_emitted}
 use Rattle.net_relation.specs.Reading.{moment_of, read, said, said_by, unfed}
 use Rattle.net_relation.specs.Matching.{IsKept, MatchesNode}
+use Rattle.net_relation.proofs.Dropped.{whole_stays}
 use Rattle.net_relation.proofs.Earlier.{WasThen}
 use Rattle.net_relation.proofs.Feeding.{IsFeed}
 use Rattle.net_relation.proofs.Leading.{Known, feeds_at, one_storer}
@@ -118,7 +119,7 @@ said_so P r (e ∷ z) all u is = by e (said_so P r z all.1) all.0 is
     by (Enable n) rest here is =
         either (r == n) (enabled k (row unfed r z)) (enables (row unfed r z) rest) (rest u) is
     by (Unsubscribe n) rest here is = either (r == n) None (none None refl) (rest u) is
-    by DropSet rest here is = none None refl is
+    by Ends rest here is = none None refl is
     by others rest here is = rest u is
 
 said_by_feed : (set own : ℕ) (all : List Event) (c : Config) (k : Snapshot) (body : Body) → IsFeed own all c body →
@@ -137,6 +138,11 @@ said_by_feed set own all c k (EnableSubscription id provider receiver forward er
 said_by_feed set own all c k (UnsubscribeSet id receiver) is = by (id == set)
   where
     by : (b : Bool) → SaysOf (HasStored set all) (cond b (Unsubscribe receiver) Unrelated)
+    by true = tt
+    by false = tt
+said_by_feed set own all c k (DropSet id) is = by (id == set)
+  where
+    by : (b : Bool) → SaysOf (HasStored set all) (cond b Ends Unrelated)
     by true = tt
     by false = tt
 said_by_feed set own all c k others is = tt
@@ -160,6 +166,7 @@ stored_beside set r own es c (SubscribeSet id p n f) is none = λ same at. none 
 stored_beside set r own es c (EnableSubscription id p n f era) is none =
     λ same at. none (subst (λ i. HasStored i es) same is.0.0)
 stored_beside set r own es c (UnsubscribeSet id n) is none = λ same at. none (subst (λ i. HasStored i es) same is.0)
+stored_beside set r own es c (DropSet id) is none = λ same. none (subst (λ i. HasStored i es) same is)
 stored_beside set r own es c others is none = tt
 
 -- so a subscription of another stream stays
@@ -183,7 +190,7 @@ moment_other origin v apart =
     (false_from_ne_true (v.origin == origin) (λ same. apart (eqb-true v.origin origin same)))
 
 -- who is to copy a set by an event does not give one up by it
-copy_stays : (set id node own : ℕ) (body : Body) → enables id node body ≡ true → leaves set own body ≡ false
+pub copy_stays : (set id node own : ℕ) (body : Body) → enables id node body ≡ true → leaves set own body ≡ false
 copy_stays set id node own (EnableSubscription other provider receiver forward era) is = refl
 copy_stays set id node own others is = absurd (false≢true is)
 
@@ -258,7 +265,8 @@ beside_matches {set} {t} w apart = record {
       (other_row t w.carried w.is (leader_known w) apart set o.id
       (row_stored t (leader_known w) set o.id (w.netted.net.nodes o.id).progress u has)) (old.row u has);
   logs = λ l moment is logs. among_right l w.carried.brought.logs (logged o) (old.logs l moment is logs);
-  whole = old.whole;
+  whole =
+      whole_stays e (knowledge o).config (may_emitted e.origin e.body (knowledge o).config w.is.work.may) old.whole;
 }
   where
     o : Node

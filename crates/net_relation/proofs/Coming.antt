@@ -5,7 +5,9 @@ use Rattle.std.specs.Prelude.{◌+◌, ◌==◌}
 use Rattle.std.proofs.lemmas.Bool.{cases_lt}
 use Rattle.std.proofs.lemmas.List.{length-map, map-append}
 use Rattle.node_rows.specs.declared.body.Body.{Body}
-use Rattle.node_rows.specs.declared.body.Body.TheVariants.{Sync, SubscribeSet, EnableSubscription, UnsubscribeSet}
+use Rattle.node_rows.specs.declared.body.Body.TheVariants.{Sync, DropSet, SubscribeSet, EnableSubscription}
+use Rattle.node_rows.specs.declared.body.Body.TheVariants.{UnsubscribeSet}
+use Rattle.net_laws.specs.Subscriptions.{DropSet as Ends}
 use Rattle.net_laws.specs.Subscriptions.{Event as Said, Subscribe, Enable, Unsubscribe, Unrelated}
 use Rattle.net_laws.specs.Subscriptions.{Subscription as Row, last_moment}
 use Rattle.net_laws.specs.Subscriptions.{moment_with, row, up_to}
@@ -60,6 +62,11 @@ said_bounded set v k (EnableSubscription id provider receiver forward era) m mos
 said_bounded set v k (UnsubscribeSet id receiver) m most = by (id == set)
   where
     by : (b : Bool) → moment_with (cond b (Unsubscribe receiver) Unrelated) m ≤ v
+    by true = most.1
+    by false = most.1
+said_bounded set v k (DropSet id) m most = by (id == set)
+  where
+    by : (b : Bool) → moment_with (cond b Ends Unrelated) m ≤ v
     by true = most.1
     by false = most.1
 said_bounded set v k others m most = most.1

@@ -1,17 +1,16 @@
 -- What the laws of nets say of sessions.
-use Rattle.std.proofs.Common.{◌≡◌, ◌≢◌, ◌⊎◌, inl, inr, ℕ, ◌<◌, ◌≤◌, true, cond, List, ◌∷◌, ◌++◌, length}
+use Rattle.std.proofs.Common.{◌≡◌, ◌≢◌, ℕ, ◌<◌, ◌≤◌, true, cond, List, ◌∷◌, ◌++◌, length}
 use Rattle.std.proofs.Common.{Some, None, refl, sym, ap, subst, ◌∙◌, arith}
 use Rattle.std.specs.Prelude.{◌+◌, max}
-use Rattle.std.proofs.lemmas.Bool.{eq-eqb}
+use Rattle.std.proofs.lemmas.Bool.{eq-eqb, false_from_ne_true, true≢false}
 use Rattle.net_laws.specs.Subscriptions.{Sync as Syncs, Subscription as Row, last_moment, row, up_to}
-use Rattle.net_laws.specs.Net.{Logs, member, configured, heard}
+use Rattle.net_laws.specs.Net.{configured, heard}
 use Rattle.net_laws.specs.Sound.{Sound}
 use Rattle.net_laws.proofs.Prefixes.{moment_between}
 use Rattle.net_laws.proofs.Laws.{active_has_view, backup_serves, copy_covers, copy_finds, forwarder_logs, logged_once}
 use Rattle.net_laws.proofs.Laws.{logs_are_committed, logs_hold, view_covers, view_has_row, views_rise}
 use Rattle.slon_model.specs.Events.{Event, is_sync}
 use Rattle.slon_model.specs.Deeds.{Node, knowledge, stream}
-use Rattle.slon_model.specs.Logs.{logged}
 use Rattle.slon_model.specs.Place.{Place}
 use Rattle.stream_laws.specs.Nodes.{IsAmong, nodes_in}
 use Rattle.stream_laws.proofs.Lists.{all_among}
@@ -200,65 +199,13 @@ keepers_see limit history w leads name x at set keeper e sync =
     s : Seen set t k n
     s = seen_in set t k n
 
+-- from the base of the other one on, it has logged all up to its view, which sees all that the SYNC does
 pub forwarders_serve : ForwardersServe
 forwarders_serve limit history w leads name x at set keeper other forward covers e sync l is =
-    by (backup_serves n.net (net_sound x.id n.net n.leads) other.node.id o.id (record {
-      row = s.row;
-      has = s.has;
-      forward = row_forwards set o s.row s.known forward;
-      top = count_of keeper.view.seen;
-      seen = s.viewed;
-      view = count_of other.view.seen;
-      keeps = r.viewed;
-      base =
-          let base = s.kept.base in
-          let less = (counts_tell n.order n.net.now order other.view.seen keeper.view.base r.kept.seen s.kept.began).0
-          covers in
-          omega (arith, base, less);
-      other = λ same. keeper_other set t q (same ∙ n.matches.origin.origin);
-      known = ap (member other.node.id) s.matches.whole.bars;
-      number = e.number;
-      reached = let applied = sync.applied in let reached = s.matches.reached in omega (arith, applied, reached);
-    }) moment.0 (record {
-      from = unseen_moment n.order n.net.now other.view.seen l.action.xid moment.0 r.kept.seen (moment.1, is.unseen);
-      to =
-          let less = moment.2 in
-          let last = synced_moment set t name x at e sync.among sync.sync in
-          let here : last_moment (up_to e.number n.net.stream) ≡ last_moment (up_to e.number (read set (stream x))) =
-          ap (λ z. last_moment (up_to e.number z)) n.matches.origin.stream in
-          omega (arith, less, last, here);
-    }))
-  where
-    t : Past
-    t = past limit history w leads
-
-    k : Kept set t
-    k = record { name = name; leader = x; at = at; keeper = keeper }
-
-    q : Kept set t
-    q = record { name = name; leader = x; at = at; keeper = other }
-
-    o : Node
-    o = keeper.node
-
-    n : HasNet set (nodes_in w.places) (place_is k) x
-    n = net_of set t k
-
-    s : Seen set t k n
-    s = seen_in set t k n
-
-    r : Seen set t q n
-    r = seen_in set t q n
-
-    order : IsOrder n.order n.net.now
-    order = subst (IsOrder n.order) (sym n.matches.origin.now) n.is
-
-    moment : (m : ℕ) × (n.order l.action.xid ≡ Some m) × (m < count_of e.taken)
-    moment = seen_moment n.order n.net.now e.taken l.action.xid
-        (all_among (λ e. IsTaken n.order n.net.now e.taken) e (stream x) n.matches.events sync.among) is.seen
-
-    by : ((o.id ≡ n.net.origin) ⊎ Logs (n.net.nodes o.id).log moment.0)
-        × ((n.net.nodes o.id).cleaned ≤ moment.0) → IsAmong l (logged o)
-    by (inl same, low) = absurd (keeper_other set t k (same ∙ n.matches.origin.origin))
-    by (inr logs, low) =
-        s.matches.logs l moment.0 (record { among = is.among; of = is.of; own = is.own; ended = moment.1 }) logs
+    forwarders_log limit history w leads name x at set keeper forward l (record {
+      among = is.among;
+      of = is.of;
+      own = is.own;
+      seen = keepers_see limit history w leads name x at set keeper e sync l.action.xid is.seen;
+      unseen = false_from_ne_true _ (λ sees. true≢false (sym (covers l.action.xid sees) ∙ is.unseen));
+    })

@@ -1,11 +1,18 @@
 -- A node emits events: the net of each of its own sets goes on by them, and no other net does.
+use Rattle.net_laws.specs.Subscriptions.{up_to}
+use Rattle.net_relation.proofs.Links.{EndsSet}
+use Rattle.net_relation.proofs.Links.{CanEnd}
 use Rattle.std.proofs.Common.{◌≡◌, ◌≢◌, inl, ℕ, Bool, true, false, cond, List, [], ◌∷◌, length, Option, ◌⊎◌, inr, ◌≤◌}
 use Rattle.std.proofs.Common.{Some, None, refl, sym, ap, subst, ◌∙◌, arith}
 use Rattle.std.specs.Prelude.{◌+◌, ◌==◌, max}
 use Rattle.std.proofs.lemmas.Bool.{eqb-true, eq-eqb, false≢true, true≢false}
 use Rattle.std.proofs.lemmas.List.{length-map}
 use Rattle.node_rows.specs.declared.body.Body.{Body}
-use Rattle.node_rows.specs.declared.body.Body.TheVariants.{Sync, SubscribeSet, EnableSubscription, UnsubscribeSet}
+use Rattle.node_rows.specs.declared.body.Body.TheVariants.{Sync, DropSet, SubscribeSet, EnableSubscription}
+use Rattle.node_rows.specs.declared.body.Body.TheVariants.{UnsubscribeSet}
+use Rattle.net_laws.specs.Subscriptions.{DropSet as Ends}
+use Rattle.view_laws.specs.Known.{ends}
+use Rattle.std.specs.List.{AllByRecursion}
 use Rattle.net_laws.specs.Subscriptions.{Event as Said, Sync as Syncs, Subscribe, Enable, Unrelated}
 use Rattle.net_laws.specs.Subscriptions.{Subscription as Row, Unsubscribe, is_over, last_moment}
 use Rattle.net_laws.specs.Subscriptions.{row, subscribed}
@@ -32,10 +39,11 @@ use Rattle.view_laws.proofs.Moments.{regular_now}
 use Rattle.view_laws.proofs.Rising.{found_stands}
 use Rattle.view_laws.proofs.Seen.{same_views}
 use Rattle.net_relation.specs.Reading.{moment_of, plain, read, said, said_by, unfed}
+use Rattle.net_relation.proofs.Dropped.{dropped_stays, whole_stays}
 use Rattle.net_relation.proofs.Feeding.{plain_emitted}
 use Rattle.net_relation.proofs.Links.{Alone, CanFeed, CanLeave, Changes, Feeds, Leaves, MayTell, is_plain}
 use Rattle.net_relation.proofs.Moments.{taken_now}
-use Rattle.net_relation.proofs.Nets.{stays_on}
+use Rattle.net_relation.proofs.Nets.{on_live, over_back}
 use Rattle.net_relation.proofs.Relating.{FitsNode, Frame, Netted, netted_sound, origin_later}
 use Rattle.net_relation.proofs.Rows.{IsBeside, row_beside, row_changed}
 use Rattle.net_relation.proofs.Relaying.{AreReadyFor, IsAsFar, Relay}
@@ -77,11 +85,13 @@ emit_one {set} {ended} {all} {p} {y} e m is may =
         start = n.origin.start;
         stream = ap (λ z. says ∷ z) n.origin.stream;
         now = n.origin.now;
-        full = n.origin.full;
+        full = λ on. n.origin.full (over_back says (is_over n.net.stream) on);
         rows = λ r u has.
             row_changed set r (read set (stream y)) event (knowledge y).config is number
             (λ t old. n.origin.rows r t (at r n.net.stream n.origin.stream ∙ old)) u
             (sym (at r (says ∷ n.net.stream) (ap (λ z. says ∷ z) n.origin.stream)) ∙ has);
+        bars = λ id barred.
+            dropped_stays id (y.id, e.number) m.body (knowledge y).config is (n.origin.bars id barred);
       };
       now = n.now;
       events = (taken_now p ended e.sound e.clock, n.events);
@@ -110,6 +120,7 @@ plain_may set n k Sync plain now = now
 plain_may set n k (SubscribeSet id provider receiver forward) plain now = absurd (false≢true plain)
 plain_may set n k (EnableSubscription id provider receiver forward era) plain now = absurd (false≢true plain)
 plain_may set n k (UnsubscribeSet id receiver) plain now = absurd (false≢true plain)
+plain_may set n k (DropSet id) plain now = absurd (false≢true plain)
 plain_may set n k others plain now = tt
 
 abbrev emit_plain : {set : ℕ} {ended : List ℕ} {all : Nodes} {p : Place} {y : Node} (e : Emitting set ended all p y)
@@ -146,6 +157,7 @@ record Feeding {set : ℕ} {ended : List ℕ} {all : Nodes} {p : Place} {y : Nod
   is : stream y ≡ synced ∷ before
   body : synced.body ≡ Sync
   snapshot : synced.taken ≡ taken p
+  live : AllByRecursion (λ e. ends f.set_id e.body ≡ false) (stream y)
 
 -- a node of the net is as far as one of the session
 far_reached : {set : ℕ} {ended : List ℕ} {all : Nodes} {p : Place} {y : Node} (n : Netted set ended all p y) (r k : ℕ) →
@@ -224,7 +236,10 @@ feed_may {set} {p = p} {y} e f k = by (f.set_id == set) refl
 
     by : (b : Bool) → (f.set_id == set) ≡ b → MayEmit n (cond b (Subscribe f.receiver f.provider f.forward) Unrelated)
     by true same = record {
-      here = ap is_over e.netted.origin.stream ∙ stays_on set (stream y);
+      here =
+          ap is_over e.netted.origin.stream
+          ∙ on_live set (stream y) (subst (λ i. AllByRecursion (λ e. ends i e.body ≡ false) (stream y))
+          (eqb-true f.set_id set same) k.live);
       synced = last;
       apart = k.distinct;
       provider = feed_provider e f k (eqb-true f.set_id set same);
@@ -246,7 +261,8 @@ feed_may {set} {p = p} {y} e f k = by (f.set_id == set) refl
 
 -- ENABLE_SUBSCRIPTION behind it
 enable_may : {set : ℕ} {ended : List ℕ} {all : Nodes} {p : Place} {y : Node} (e : Emitting set ended all p y)
-    (f : NewFeed) → pair_at f.set_id f.receiver (knowledge y).config.subscriptions ≡ None → (number : ℕ)
+    (f : NewFeed) → (pair_at f.set_id f.receiver (knowledge y).config.subscriptions ≡ None)
+    × AllByRecursion (λ e. ends f.set_id e.body ≡ false) (stream y) → (number : ℕ)
     (n : Netted set ended all p (telling p y number (tells (SubscribeSet f.set_id f.provider f.receiver f.forward)))) →
     (era : ℕ) → MayEmit n.net (said_by set (taken p) (EnableSubscription f.set_id f.provider f.receiver f.forward era))
 enable_may {set} {p = p} {y} e f new number n era = by (f.set_id == set) refl
@@ -256,8 +272,11 @@ enable_may {set} {p = p} {y} e f new number n era = by (f.set_id == set) refl
 
     by : (b : Bool) → (f.set_id == set) ≡ b → MayEmit n.net (cond b (Enable f.receiver) Unrelated)
     by true same = (
-      ap is_over n.origin.stream ∙ stays_on set (stream (telling p y number
-          (tells (SubscribeSet f.set_id f.provider f.receiver f.forward)))),
+      ap is_over n.origin.stream
+          ∙ on_live set (stream (telling p y number (tells (SubscribeSet f.set_id f.provider f.receiver f.forward)))) (
+            refl,
+            subst (λ i. AllByRecursion (λ e. ends i e.body ≡ false) (stream y)) (eqb-true f.set_id set same) new.1,
+          ),
       (
         made,
         record {
@@ -280,7 +299,7 @@ enable_may {set} {p = p} {y} e f new number n era = by (f.set_id == set) refl
         none =
             ap (row unfed f.receiver) (sym e.netted.origin.stream)
             ∙ ap (λ s. row s f.receiver e.netted.net.stream) (sym e.netted.origin.start)
-            ∙ no_row e.netted f new (eqb-true f.set_id set same)
+            ∙ no_row e.netted f new.0 (eqb-true f.set_id set same)
     by false other = tt
 
 -- the end of a subscription
@@ -291,10 +310,23 @@ leave_may {set} {y = y} e id receiver can = by (id == set) refl
   where
     by : (b : Bool) → (id == set) ≡ b → MayEmit e.netted.net (cond b (Unsubscribe receiver) Unrelated)
     by true same = (
-      ap is_over e.netted.origin.stream ∙ stays_on set (stream y),
+      ap is_over e.netted.origin.stream ∙ on_live set (stream y)
+          (subst (λ i. AllByRecursion (λ e. ends i e.body ≡ false) (stream y)) (eqb-true id set same) can.live),
       provides_none e.netted receiver
           (subst (λ i. is_provided receiver i (knowledge y).config ≡ false) (eqb-true id set same) can.provides),
     )
+    by false other = tt
+
+-- the end of a set
+end_may : {set : ℕ} {ended : List ℕ} {all : Nodes} {p : Place} {y : Node} (e : Emitting set ended all p y) (id : ℕ) →
+    CanEnd y id → MayEmit e.netted.net (said_by set (taken p) (DropSet id))
+end_may {set} {y = y} e id can = by (id == set) refl
+  where
+    by : (b : Bool) → (id == set) ≡ b → MayEmit e.netted.net (cond b Ends Unrelated)
+    by true same =
+        ap is_over e.netted.origin.stream
+        ∙ on_live set (stream y)
+        (subst (λ i. AllByRecursion (λ e. ends i e.body ≡ false) (stream y)) (eqb-true id set same) can.live)
     by false other = tt
 
 -- ---- what a node emits at once
@@ -350,6 +382,7 @@ emit_change {set} {ended} {all} {p} {y} e f can ready =
       is = refl;
       body = refl;
       snapshot = refl;
+      live = (refl, can.live);
     }
 
 -- and where it is a new one, the event at which the receiver copies the set
@@ -361,7 +394,7 @@ emit_feed : {set : ℕ} {ended : List ℕ} {all : Nodes} {p : Place} {y : Node} 
     (tells (EnableSubscription f.set_id f.provider f.receiver f.forward (era_of f.set_id (knowledge y).config))))
 emit_feed {set} {ended} {all} {p} {y} e f can new ready =
     emit_one three (tells (EnableSubscription f.set_id f.provider f.receiver f.forward era)) refl
-    (enable_may (behind_sync e) f new (e.number + 1) three.netted era)
+    (enable_may (behind_sync e) f (new, (refl, can.live)) (e.number + 1) three.netted era)
   where
     era : ℕ
     era = era_of f.set_id (knowledge y).config
@@ -401,6 +434,11 @@ told_net {set} {ended} {all} s ms (Leaves id receiver same can) ready number sou
     record { netted = n; sound = sound; clock = clock; number = next_event s; is = number } in
     subst (λ ms. Netted set ended all s.place (with_deeds (commit_of s ms).deeds s.node)) (sym same)
     (emit_one e (tells (UnsubscribeSet id receiver)) refl (leave_may e id receiver can))
+told_net {set} {ended} {all} s ms (EndsSet id same can) ready number sound clock n =
+    let e : Emitting set ended all s.place s.node =
+    record { netted = n; sound = sound; clock = clock; number = next_event s; is = number } in
+    subst (λ ms. Netted set ended all s.place (with_deeds (commit_of s ms).deeds s.node)) (sym same)
+    (emit_one e (tells (DropSet id)) refl (end_may e id can))
 
 pub next_number : (t : Past) (s : Seat) → IsSeat t.world.places s → next_event s ≡ length (stream s.node) + 1
 next_number t s is =
@@ -410,22 +448,27 @@ next_number t s is =
 
 -- ---- another node
 
+-- by the stream of the origin the node subscribes to the set
+abbrev pub IsRowed : Frame → Node → NetNode → Type 0
+IsRowed f o node =
+    (u : Row) × (row unfed o.id (up_to node.progress (read f.set_id (stream f.leader))) ≡ Some u)
+
 -- it emits an event that is not of its own subscription
-record Tells (f : Frame) (o : Node) (m : Emission) : Type 0 where
+record Tells (f : Frame) (o : Node) (node : NetNode) (m : Emission) : Type 0 where
   apart : o.id ≢ f.leader.id
   emitted : is_emitted m.body ≡ true
-  beside : IsBeside f.set_id o.id m.body
+  beside : IsRowed f o node → IsBeside f.set_id o.id m.body
 
-tell_beside : (f : Frame) (p : Place) (o : Node) (number : ℕ) (m : Emission) (node : NetNode) → Tells f o m →
+tell_beside : (f : Frame) (p : Place) (o : Node) (number : ℕ) (m : Emission) (node : NetNode) → Tells f o node m →
     FitsNode f o node → FitsNode f (telling p o number m) node
 tell_beside f p o number m node is old = record {
   reached = old.reached
       ∙ sym (number_beside f.leader.id o.id number (knowledge o).progress (λ same. is.apart (sym same)));
   view = old.view ∙ ap (λ vs. moment_of f.leader.id (entry_at f.set_id vs)) (sym views);
   kept = λ v found own. old.kept v (ap (entry_at f.set_id) (sym views) ∙ found) own;
-  row = λ u has. row_beside f.set_id o.id event (knowledge o).config u is.emitted is.beside (old.row u has);
+  row = λ u has. row_beside f.set_id o.id event (knowledge o).config u is.emitted (is.beside (u, has)) (old.row u has);
   logs = old.logs;
-  whole = old.whole;
+  whole = whole_stays event (knowledge o).config is.emitted old.whole;
 }
   where
     event : Event
@@ -438,27 +481,29 @@ plain_beside : (set r : ℕ) (body : Body) → is_plain body ≡ true → IsBesi
 plain_beside set r (SubscribeSet id provider receiver forward) plain = absurd (false≢true plain)
 plain_beside set r (EnableSubscription id provider receiver forward era) plain = absurd (false≢true plain)
 plain_beside set r (UnsubscribeSet id receiver) plain = absurd (false≢true plain)
+plain_beside set r (DropSet id) plain = absurd (false≢true plain)
 plain_beside set r others plain = tt
 
 pub told_matches : (f : Frame) (s : Seat) (ms : List Emission) (node : NetNode) → MayTell s.node ms →
-    ((set receiver : ℕ) → CanLeave s.node set receiver → receiver ≢ s.node.id) → s.node.id ≢ f.leader.id →
+    ((set receiver : ℕ) → CanLeave s.node set receiver → receiver ≢ s.node.id)
+    × (CanEnd s.node f.set_id → IsRowed f s.node node → ⊥) → s.node.id ≢ f.leader.id →
     FitsNode f s.node node → FitsNode f (with_deeds (commit_of s ms).deeds s.node) node
 told_matches f s ms node (Alone m same plain) leave apart old =
     subst (λ ms. FitsNode f (with_deeds (commit_of s ms).deeds s.node) node) (sym same)
     (tell_beside f s.place s.node (next_event s) m node (record {
       apart = apart;
       emitted = plain_emitted m.body plain;
-      beside = plain_beside f.set_id s.node.id m.body plain;
+      beside = λ rowed. plain_beside f.set_id s.node.id m.body plain;
     }) old)
 told_matches f s ms node (Feeds k same can new) leave apart old =
     subst (λ ms. FitsNode f (with_deeds (commit_of s ms).deeds s.node) node) (sym same)
     (tell_beside f s.place two (next_event s + 1 + 1)
     (tells (EnableSubscription k.set_id k.provider k.receiver k.forward (era_of k.set_id (knowledge s.node).config)))
-    node (record { apart = apart; emitted = refl; beside = λ id is. can.apart is })
+    node (record { apart = apart; emitted = refl; beside = λ rowed id is. can.apart is })
     (tell_beside f s.place one (next_event s + 1) (tells (SubscribeSet k.set_id k.provider k.receiver k.forward)) node
-    (record { apart = apart; emitted = refl; beside = λ id is. can.apart is })
+    (record { apart = apart; emitted = refl; beside = λ rowed id is. can.apart is })
     (tell_beside f s.place s.node (next_event s) (tells Sync) node
-    (record { apart = apart; emitted = refl; beside = tt }) old)))
+    (record { apart = apart; emitted = refl; beside = λ rowed. tt }) old)))
   where
     one : Node
     one = telling s.place s.node (next_event s) (tells Sync)
@@ -469,10 +514,17 @@ told_matches f s ms node (Changes k same can had) leave apart old =
     subst (λ ms. FitsNode f (with_deeds (commit_of s ms).deeds s.node) node) (sym same)
     (tell_beside f s.place (telling s.place s.node (next_event s) (tells Sync)) (next_event s + 1)
     (tells (SubscribeSet k.set_id k.provider k.receiver k.forward)) node
-    (record { apart = apart; emitted = refl; beside = λ id is. can.apart is })
+    (record { apart = apart; emitted = refl; beside = λ rowed id is. can.apart is })
     (tell_beside f s.place s.node (next_event s) (tells Sync) node
-    (record { apart = apart; emitted = refl; beside = tt }) old))
+    (record { apart = apart; emitted = refl; beside = λ rowed. tt }) old))
 told_matches f s ms node (Leaves set receiver same can) leave apart old =
     subst (λ ms. FitsNode f (with_deeds (commit_of s ms).deeds s.node) node) (sym same)
     (tell_beside f s.place s.node (next_event s) (tells (UnsubscribeSet set receiver)) node
-    (record { apart = apart; emitted = refl; beside = λ id is. leave set receiver can is }) old)
+    (record { apart = apart; emitted = refl; beside = λ rowed id is. leave.0 set receiver can is }) old)
+told_matches f s ms node (EndsSet set same can) leave apart old =
+    subst (λ ms. FitsNode f (with_deeds (commit_of s ms).deeds s.node) node) (sym same)
+    (tell_beside f s.place s.node (next_event s) (tells (DropSet set)) node (record {
+      apart = apart;
+      emitted = refl;
+      beside = λ rowed id. leave.1 (subst (CanEnd s.node) id can) rowed;
+    }) old)

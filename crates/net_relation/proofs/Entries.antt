@@ -3,11 +3,12 @@ use Rattle.std.proofs.Common.{◌≡◌, inl, inr, ℕ, Bool, true, false, cond,
 use Rattle.std.proofs.Common.{◌∙◌, ◌<◌, suc, arith}
 use Rattle.std.specs.Prelude.{◌==◌, ◌&&◌, filter, map}
 use Rattle.std.specs.Str.{bytes_eq}
-use Rattle.std.proofs.lemmas.Bool.{eq-eqb, false_from_ne_true}
+use Rattle.std.proofs.lemmas.Bool.{eq-eqb, false_from_ne_true, true≢false}
 use Rattle.node_rows.specs.declared.rows.TableRow.{TableRow}
-use Rattle.slon_model.specs.Snapshots.{sees}
-use Rattle.slon_model.specs.Events.{Event}
-use Rattle.slon_model.specs.Config.{era_of, forwards, is_origin, names_of, set_of}
+use Rattle.slon_model.specs.Maps.{entry_at}
+use Rattle.slon_model.specs.Snapshots.{covers, sees}
+use Rattle.slon_model.specs.Events.{Event, is_sync}
+use Rattle.slon_model.specs.Config.{forwards, names_of}
 use Rattle.slon_model.specs.Deeds.{Brought, Logged, Node, knowledge, nothing_brought, progress, stream, view_of}
 use Rattle.slon_model.specs.Deeds.{Knowledge}
 use Rattle.slon_model.specs.Following.{SetSync, delta, is_new, is_on_one, kept_from, numbered, onto, set_sync}
@@ -18,18 +19,18 @@ use Rattle.slon_model.specs.Sessions.{Seat}
 use Rattle.slon_model.specs.Views.{View}
 use Rattle.slon_model.specs.Working.{Carried}
 use Rattle.slon_model.proofs.Names.{bytes_itself, bytes_same}
-use Rattle.slon_laws.proofs.Later.{HoldsOf}
-use Rattle.stream_laws.specs.Nodes.{IsAmong, IsEvent, nodes_in, node_in}
+use Rattle.stream_laws.specs.Nodes.{IsAmong, IsEvent, nodes_in}
 use Rattle.stream_laws.specs.Facts.{Facts}
 use Rattle.stream_laws.specs.Laws.{AreMadeOnce, IsProper}
 use Rattle.stream_laws.specs.Making.{HasStored, OfName, has_mark, tells_of}
-use Rattle.stream_laws.proofs.Copies.{one_leader, IsTakenOf}
+use Rattle.stream_laws.proofs.Applies.{IsSetOf}
+use Rattle.stream_laws.proofs.Copies.{Leading, one_leader, origin_row, IsTakenOf}
 use Rattle.stream_laws.proofs.Laws.{marks_are_made_once}
 use Rattle.stream_laws.proofs.Lists.{all_among, any_among}
 use Rattle.stream_laws.proofs.Seats.{IsSeat, seat_node}
-use Rattle.stream_laws.proofs.Statements.{has_stored}
+use Rattle.stream_laws.proofs.Statements.{owner_stored}
 use Rattle.stream_laws.proofs.Streams.{number_within, one_node}
-use Rattle.image_laws.specs.Facts.{IsHeldBy}
+use Rattle.image_laws.proofs.Had.{Owned}
 use Rattle.image_laws.proofs.Logging.{among_filtered, filtered_among}
 use Rattle.view_laws.specs.Contents.{actions_on}
 use Rattle.view_laws.specs.Known.{IsLoggedAs, IsSeen, leaves}
@@ -41,17 +42,17 @@ use Rattle.view_laws.proofs.Standing.{Viewer, left_behind, viewer_event}
 use Rattle.view_laws.proofs.Brought.{IsSynced, taken_at}
 use Rattle.view_laws.proofs.Doing.{IsTaken}
 use Rattle.view_laws.proofs.Viewed.{seen_now}
-use Rattle.view_laws.proofs.Moments.{NodeAt, now_stays, regular_now}
+use Rattle.view_laws.proofs.Moments.{NodeAt, passes_covers, regular_now}
 use Rattle.view_laws.proofs.Numbered.{IsNumbered, are_numbered, mapped_among}
 use Rattle.view_laws.proofs.Rising.{found_stands}
-use Rattle.image_laws.proofs.Staying.{Stays}
-use Rattle.view_laws.proofs.Tables.{KnownTable, Table, found_in_set, logged_table, one_table, table_of, told_now}
+use Rattle.view_laws.proofs.Tables.{KnownTable, Table, logged_table, one_table, table_of, told_now}
 use Rattle.view_laws.proofs.Tables.{table_origin}
-use Rattle.view_laws.proofs.Taken.{Follows, delta_read}
+use Rattle.view_laws.proofs.Taken.{Follows, delta_read, entry_own, set_delta}
+use Rattle.view_laws.proofs.Readings.{Reads, ReadsFrom, read_at, reads_follows}
 use Rattle.view_laws.proofs.Unmoved.{syncs_are}
 use Rattle.net_relation.proofs.Leading.{one_storer}
 use Rattle.net_relation.proofs.Stretches.{one_entry}
-use Rattle.view_laws.proofs.Copied.{stays_leading}
+use Rattle.view_laws.proofs.Copied.{leading_now}
 
 -- ---- what a brought log has
 
@@ -96,6 +97,7 @@ pub record Keeping (t : Past) (s : Seat) (ev : Event) (set : ℕ) : Type 0 where
   pub found : view_of set (knowledge s.node) ≡ Some view
   pub own : view.origin ≡ ev.origin
   pub event : IsEvent (nodes_in t.world.places) ev
+  pub sync : is_sync ev.body ≡ true
   pub next : ev.number ≡ suc (progress ev.origin (knowledge s.node))
 
 -- the origin of the set
@@ -106,26 +108,19 @@ leader_is : (t : Past) (s : Seat) (ev : Event) (set : ℕ) (f : Keeping t s ev s
     nodes_in t.world.places f.source.name ≡ Some (leader f)
 leader_is t s ev set f = seat_node t.world.places f.source f.is
 
--- it leads the set
-leader_leads : (t : Past) (s : Seat) (ev : Event) (set : ℕ) (f : Keeping t s ev set) →
-    is_origin (leader f).id set (knowledge (leader f)).config ≡ true
-leader_leads t s ev set f = subst (λ (n : Node). is_origin n.id set (knowledge n).config ≡ true) one leads.0
+-- it is the origin of the set, which may have ended since
+leader_owns : (t : Past) (s : Seat) (ev : Event) (set : ℕ) (f : Keeping t s ev set) →
+    IsSetOf set (leader f).id (knowledge (leader f)).config
+leader_owns t s ev set f =
+    subst (λ (n : Node). IsSetOf set n.id (knowledge n).config)
+    (one_node (nodes_in t.world.places) (regular_now t).nodes now.0.name f.source.name now.0.node (leader f) now.0.is
+    (leader_is t s ev set f, now.1 ∙ seen.own ∙ f.own ∙ sym f.led)) now.0.leads
   where
     seen : IsSeen (WasUpTo t) s.node set f.view
     seen = seen_now t s.name s.node (seat_node t.world.places s f.seat) set f.view f.found
 
-    now : HoldsOf (Stays seen.moment.node) seen.moment.name t.world.places
-    now = now_stays t seen.moment.session seen.moment.was seen.moment.name seen.moment.place seen.moment.node
-        seen.moment.found seen.moment.at
-
-    leads : (is_origin now.2.node.id set (knowledge now.2.node).config ≡ true)
-        × (era_of set (knowledge now.2.node).config ≡ era_of set (knowledge seen.moment.node).config)
-    leads = stays_leading seen.moment.node now.0 now.2.node now.2 now.2.is set seen.leads
-
-    one : now.2.node ≡ leader f
-    one = one_node (nodes_in t.world.places) (regular_now t).nodes seen.moment.name f.source.name now.2.node
-        (leader f) (ap node_in now.1 ∙ now.2.is)
-        (leader_is t s ev set f, now.2.id ∙ seen.own ∙ f.own ∙ sym f.led)
+    now : (y : Leading (nodes_in t.world.places) set) × (y.node.id ≡ seen.moment.node.id)
+    now = leading_now t seen.moment set seen.leads
 
 -- An entry of its log on the set, between the two snapshots.
 pub record IsNewEntry {t : Past} {s : Seat} {ev : Event} {set : ℕ} (f : Keeping t s ev set) (l : Logged) : Type 0 where
@@ -172,8 +167,8 @@ entry_known t s ev set f l i = record {
 
     stored : HasStored set (stream maker)
     stored =
-        let before = subst (IsProper maker table.event.number) table.body
-        (laws.bodies table.is.name maker table.is.is table.event table.is.among) in
+        let before = (subst (IsProper maker table.event.number) table.body
+        (laws.bodies table.is.name maker table.is.is table.event table.is.among)).0 in
         subst (λ i. HasStored i (stream maker)) i.of (before.0, before.1, before.3)
 
     one : maker ≡ y
@@ -183,8 +178,8 @@ entry_known t s ev set f l i = record {
           one_storer t (record { name = table.is.name; node = maker; is = table.is.is })
               (record { name = f.source.name; node = y; is = leader_is t s ev set f }) set (
                 stored,
-                has_stored (nodes_in t.world.places) (regular_now t).nodes f.source.name y
-                    (leader_is t s ev set f) set (leader_leads t s ev set f),
+                owner_stored (nodes_in t.world.places) (regular_now t).nodes f.source.name y
+                    (leader_is t s ev set f) set (leader_owns t s ev set f),
               ),
         )
 
@@ -225,15 +220,18 @@ entry_known t s ev set f l i = record {
     named : l.action.table ≡ entry.0.1.name
     named = bytes_same l.action.table entry.0.1.name entry.2
 
--- so the table is in the set there
-entry_held : (t : Past) (s : Seat) (ev : Event) (set : ℕ) (f : Keeping t s ev set) (l : Logged) → IsNewEntry f l →
-    IsHeldBy (leader f).id (knowledge (leader f)).config set l.action.table
-entry_held t s ev set f l i =
-    let k = entry_known t s ev set f l i in (
-      ap (set_of l.action.table) (ap (λ (n : Node). (knowledge n).config) (sym k.at))
-          ∙ ap (λ name. set_of name (knowledge k.known.node).config) k.named ∙ found_in_set t k.known ∙ ap Some k.of,
-      leader_leads t s ev set f,
-    )
+-- so the table is one of its own
+entry_owned : (t : Past) (s : Seat) (ev : Event) (set : ℕ) (f : Keeping t s ev set) (l : Logged) →
+    (k : EntryKnown t set (leader f) l) → Owned (leader f) k.known.entry.1.name
+entry_owned t s ev set f l k =
+    let owns = leader_owns t s ev set f in record {
+      entry = k.known.entry;
+      among = subst (λ (n : Node). IsAmong k.known.entry (knowledge n).config.tables) k.at k.known.among;
+      named = refl;
+      row = owns.0;
+      found = ap (λ i. entry_at i (knowledge (leader f)).config.sets) k.of ∙ owns.1;
+      owns = eq-eqb owns.0.origin (leader f).id owns.2;
+    }
 
 -- A node that keeps the set knows the table of the entry: as that came into the set the node was not told yet to give
 -- it up, since the SYNC came before that, and sees the entry.
@@ -253,9 +251,7 @@ entry_named t s ev set f l i = elim (table_or_left t k.known viewer (sym k.of)) 
     };
     table = table;
     there = there;
-    held =
-        subst (λ i. IsHeldBy y.id (knowledge y).config i k.known.entry.1.name) (sym k.of)
-        (subst (IsHeldBy y.id (knowledge y).config set) k.named (entry_held t s ev set f l i));
+    owned = entry_owned t s ev set f l k;
     entry = l;
     among = i.among;
     on = k.named;
@@ -306,49 +302,61 @@ entry_named t s ev set f l i = elim (table_or_left t k.known viewer (sym k.of)) 
 -- the node knows it too, as a table to which it takes rows
 entry_follows : (t : Past) (s : Seat) (ev : Event) (set : ℕ) (f : Keeping t s ev set) (l : Logged) → IsNewEntry f l →
     (w : Follows t) × (w.table.node ≡ s.node) × (w.node ≡ leader f) × (w.table.entry.1.set_id ≡ set)
-    × (w.table.entry.1.name ≡ l.action.table)
-entry_follows t s ev set f l i = (
-  record {
-    table = record {
-      name = s.name;
-      node = s.node;
-      is = seat_node t.world.places s f.seat;
-      entry = there.0;
-      among = there.1;
-    };
-    other = false_from_ne_true _ (λ own. f.apart (sym f.led
-        ∙ one_leader (nodes_in t.world.places) (regular_now t).nodes set (record {
-          name = f.source.name;
-          node = leader f;
-          is = leader_is t s ev set f;
-          leads = leader_leads t s ev set f;
-        }) (record {
-          name = s.name;
-          node = s.node;
-          is = seat_node t.world.places s f.seat;
-          leads = subst (λ i. is_origin s.node.id i (knowledge s.node).config ≡ true) there.2 own;
-        })));
-    name = f.source.name;
-    place = f.source.place;
-    found = f.is.found;
-    node = leader f;
-    at = f.is.node;
-    held =
-        subst (λ i. IsHeldBy (leader f).id (knowledge (leader f)).config i there.0.1.name) (sym there.2)
-        (subst (IsHeldBy (leader f).id (knowledge (leader f)).config set) there.3 (entry_held t s ev set f l i));
-  },
-  refl,
-  refl,
-  there.2,
-  sym there.3,
-)
+    × (w.table.entry.1.name ≡ l.action.table) × (w.top ≡ ev.taken)
+entry_follows t s ev set f l i =
+    (reads_follows t r from (read_at t r), refl, refl, there.2, sym there.3, refl)
   where
-    among : IsAmong l.action.table (names_of set (knowledge s.node).config)
-    among = entry_named t s ev set f l i
-
     there : (r : ℕ × TableRow) × IsAmong r (knowledge s.node).config.tables × (r.1.set_id ≡ set)
         × (l.action.table ≡ r.1.name)
-    there = table_known set (knowledge s.node).config l.action.table among
+    there = table_known set (knowledge s.node).config l.action.table (entry_named t s ev set f l i)
+
+    own : nodes_in t.world.places s.name ≡ Some s.node
+    own = seat_node t.world.places s f.seat
+
+    r : Reads t
+    r = record {
+      table = record { name = s.name; node = s.node; is = own; entry = there.0; among = there.1 };
+      view = f.view;
+      seen =
+          subst (λ i. IsSeen (WasUpTo t) s.node i f.view) (sym there.2)
+          (seen_now t s.name s.node own set f.view f.found);
+      event = ev;
+      is = f.event;
+      sync = f.sync;
+      own = sym f.own;
+      next =
+          let next = f.next in
+          let at = ap (λ i. progress i (knowledge s.node)) f.own in
+          omega (arith, next, at);
+      more = false_from_ne_true (covers f.view.seen ev.taken) (λ all. true≢false
+          (sym (passes_covers f.view.seen ev.taken all l.action.xid i.seen) ∙ i.unseen));
+    }
+
+    from : ReadsFrom t r
+    from = record {
+      at = record {
+        name = f.source.name;
+        place = f.source.place;
+        found = f.is.found;
+        node = leader f;
+        at = f.is.node;
+      };
+      own = f.led;
+      other = false_from_ne_true _ (λ leads. f.apart (sym f.led
+          ∙ one_leader (nodes_in t.world.places) (regular_now t).nodes set (record {
+            name = f.source.name;
+            node = leader f;
+            is = leader_is t s ev set f;
+            leads = leader_owns t s ev set f;
+          }) (record {
+            name = s.name;
+            node = s.node;
+            is = own;
+            leads =
+                subst (λ i. IsSetOf i s.node.id (knowledge s.node).config) there.2
+                (origin_row s.node.id there.0.1.set_id (knowledge s.node).config leads);
+          })));
+    }
 
 -- what it takes of the set of the log of the origin
 abbrev pub sync_of : {t : Past} {s : Seat} {ev : Event} {set : ℕ} → Keeping t s ev set → SetSync
@@ -359,8 +367,8 @@ sync_of {s = s} {ev} {set} f =
 entry_taken : (t : Past) (s : Seat) (ev : Event) (set : ℕ) (f : Keeping t s ev set) (l : Logged) → IsNewEntry f l →
     IsAmong l (sync_of f).rows
 entry_taken t s ev set f l e =
-    subst (λ (m : Logged). IsAmong m sync.rows) (one_entry t origin set k l (entry_held t s ev set f l e)
-    (of.among, e.among) made.2).0 there
+    subst (λ (m : Logged). IsAmong m sync.rows)
+    (one_entry t origin k l (of.among, e.among) made.2 (of.own ∙ sym own)) there
   where
     n : Node
     n = s.node
@@ -378,24 +386,31 @@ entry_taken t s ev set f l e =
     sync = sync_of f
 
     w : (w : Follows t) × (w.table.node ≡ n) × (w.node ≡ leader f) × (w.table.entry.1.set_id ≡ set)
-        × (w.table.entry.1.name ≡ l.action.table)
+        × (w.table.entry.1.name ≡ l.action.table) × (w.top ≡ ev.taken)
     w = entry_follows t s ev set f l e
+
+    own : l.origin ≡ ev.origin
+    own =
+        entry_own t w.0 l (subst (λ (m : Node). IsAmong l (logged m)) (sym w.2) e.among) (sym w.4)
+        (ap (λ k. sees k l.action.xid) w.5 ∙ e.seen)
+        ∙ ap (λ (m : Node). m.id) w.2 ∙ f.led
 
     taken : IsAmong l.action (actions_on l.action.table sync.rows)
     taken =
         subst (λ ls. IsAmong l.action (actions_on l.action.table ls)) rows_are
-        (subst (λ name. IsAmong l.action (actions_on name (delta w.0.node.id
-        (tables_taken w.0.table.node.id w.0.table.entry.1.set_id (knowledge w.0.table.node).config) f.view.seen
-        ev.taken (logged w.0.node)))) w.4
-        ((delta_read t w.0 f.view.seen ev.taken).all l
-        (subst (λ (m : Node). IsAmong l (logged m)) (sym w.2) e.among)
-        (record { on = sym w.4; seen = e.seen; unseen = e.unseen })))
+        (subst (λ name. IsAmong l.action (actions_on name (set_delta w.0 f.view.seen))) w.4
+        ((delta_read t w.0 f.view.seen).all l (subst (λ (m : Node). IsAmong l (logged m)) (sym w.2) e.among) (record {
+          on = sym w.4;
+          seen = ap (λ k. sees k l.action.xid) w.5 ∙ e.seen;
+          unseen = e.unseen;
+        })))
       where
-        rows_are : delta w.0.node.id
-            (tables_taken w.0.table.node.id w.0.table.entry.1.set_id (knowledge w.0.table.node).config) f.view.seen
-            ev.taken (logged w.0.node) ≡ sync.rows
+        rows_are : set_delta w.0 f.view.seen ≡ sync.rows
         rows_are =
-            ap (λ (m : Node). delta m.id
+            ap (λ k. delta w.0.node.id
+            (tables_taken w.0.table.node.id w.0.table.entry.1.set_id (knowledge w.0.table.node).config) f.view.seen
+            k (logged w.0.node)) w.5
+            ∙ ap (λ (m : Node). delta m.id
             (tables_taken w.0.table.node.id w.0.table.entry.1.set_id (knowledge w.0.table.node).config) f.view.seen
             ev.taken (logged m)) w.2
             ∙ ap (λ (m : Node). delta (leader f).id
@@ -464,6 +479,7 @@ keeping f =
       found = f.found;
       own = f.own;
       event = f.synced.at.work.event;
+      sync = ap is_sync f.synced.follows.body;
       next = f.synced.at.work.next;
     }
 

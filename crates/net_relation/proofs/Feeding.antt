@@ -1,5 +1,6 @@
 -- What is known of the events of subscriptions: the node that emits them is that which stored the set, it knows the
 -- receiver, which is another node, and the set is in its first era.
+use Rattle.stream_laws.proofs.Lists.{all_mapped}
 use Rattle.std.proofs.Common.{◌≡◌, ◌≢◌, inl, inr, ℕ, Bool, true, false, cond, List, [], ◌∷◌, Option, Some, None, refl}
 use Rattle.std.proofs.Common.{sym, ap, subst, ◌∙◌, length, suc}
 use Rattle.std.specs.Prelude.{◌+◌, ◌&&◌, ◌||◌, option_map, unwrap_or, ◌==◌}
@@ -33,7 +34,7 @@ use Rattle.view_laws.proofs.Moments.{regular_now}
 use Rattle.view_laws.proofs.Saying.{may_emitted}
 use Rattle.net_relation.proofs.Behind.{begun_node, heard_node, holds_now, taken_node, told_node}
 use Rattle.net_relation.proofs.Links.{Alone, Begins, CanLeave, Changes, Feeds, HearsSome, Leaves, Linked, MayTell}
-use Rattle.net_relation.proofs.Links.{TakesOne, Tells, leaving}
+use Rattle.net_relation.proofs.Links.{EndsSet, TakesOne, Tells, ending, leaving}
 use Rattle.net_relation.proofs.Links.{changing, giver, feeding}
 use Rattle.net_relation.proofs.Rowed.{AreRowed, IsRowed, has_row, tells_of}
 use Rattle.net_relation.proofs.Links.{is_plain, joined, joins, stores}
@@ -45,6 +46,8 @@ use Rattle.net_laws.specs.Subscriptions.{Event as Said, Subscribe, Enable, Unsub
 use Rattle.net_laws.specs.Subscriptions.{Subscription as Row}
 use Rattle.net_laws.specs.Subscriptions.{enabled, last_moment, readied, row, subscribed}
 use Rattle.slon_model.specs.Snapshots.{Snapshot}
+use Rattle.net_laws.specs.Subscriptions.{DropSet as Ends}
+use Rattle.view_laws.proofs.Told.{ended_first}
 use Rattle.slon_model.specs.Subscribing.{NewFeed}
 use Rattle.net_relation.specs.Reading.{read, said_by, unfed}
 
@@ -58,6 +61,7 @@ abbrev pub IsFeed : ℕ → List Event → Config → Body → Type 0
 IsFeed own es c (SubscribeSet set provider receiver forward) = FeedOf own es c set receiver
 IsFeed own es c (EnableSubscription set provider receiver forward era) = FeedOf own es c set receiver × (era ≡ 1)
 IsFeed own es c (UnsubscribeSet set receiver) = FeedOf own es c set receiver
+IsFeed own es c (DropSet set) = HasStored set es
 IsFeed own es c others = Unit {0}
 
 -- all events are such, and each set is in its first era
@@ -98,6 +102,7 @@ still_feed own e es c (EnableSubscription set provider receiver forward era) is 
 )
 still_feed own e es c (UnsubscribeSet set receiver) is =
     (still_stored set e es is.0, known_changed receiver e.origin e.number e.body c is.1, is.2)
+still_feed own e es c (DropSet set) is = still_stored set e es is
 still_feed own e es c others is = tt
 
 still_known : (own : ℕ) (e : Event) (es : List Event) (c : Config) (body : Body) → IsFeed own es c body →
@@ -108,12 +113,14 @@ still_known own e es c (EnableSubscription set provider receiver forward era) is
     ((is.0.0, known_changed receiver e.origin e.number e.body c is.0.1, is.0.2), is.1)
 still_known own e es c (UnsubscribeSet set receiver) is =
     (is.0, known_changed receiver e.origin e.number e.body c is.1, is.2)
+still_known own e es c (DropSet set) is = is
 still_known own e es c others is = tt
 
 eras_changed : (origin number : ℕ) (body : Body) (c : Config) → is_emitted body ≡ true →
     AllByRecursion (λ e. e.1.era ≡ 1) c.sets → AllByRecursion (λ e. e.1.era ≡ 1) (change_by origin number body c).sets
 eras_changed origin number (StoreSet set by comment) c may all = all_with (λ e. e.1.era ≡ 1) set _ c.sets refl all
-eras_changed origin number (DropSet set) c may all = absurd (false≢true may)
+eras_changed origin number (DropSet set) c may all =
+    all_mapped (λ e. e.1.era ≡ 1) (λ e. e.1.era ≡ 1) _ (ended_first set) c.sets all
 eras_changed origin number (MoveSet set old new era feeds) c may all = absurd (false≢true may)
 eras_changed origin number (FailoverSet failed limit sets) c may all = absurd (false≢true may)
 eras_changed origin number others c may all = all
@@ -148,12 +155,14 @@ pub plain_emitted : (body : Body) → is_plain body ≡ true → is_emitted body
 plain_emitted (SubscribeSet set provider receiver forward) is = refl
 plain_emitted (EnableSubscription set provider receiver forward era) is = refl
 plain_emitted (UnsubscribeSet set receiver) is = refl
+plain_emitted (DropSet set) is = refl
 plain_emitted others is = is
 
 plain_feed : (own : ℕ) (es : List Event) (c : Config) (body : Body) → is_plain body ≡ true → IsFeed own es c body
 plain_feed own es c (SubscribeSet set provider receiver forward) is = absurd (false≢true is)
 plain_feed own es c (EnableSubscription set provider receiver forward era) is = absurd (false≢true is)
 plain_feed own es c (UnsubscribeSet set receiver) is = absurd (false≢true is)
+plain_feed own es c (DropSet set) is = absurd (false≢true is)
 plain_feed own es c others is = tt
 
 -- the era of a set that has an origin
@@ -201,6 +210,7 @@ plain_row : (set : ℕ) (k : Snapshot) (body : Body) → is_plain body ≡ true 
 plain_row set k (SubscribeSet id provider receiver forward) is r z = absurd (false≢true is)
 plain_row set k (EnableSubscription id provider receiver forward era) is r z = absurd (false≢true is)
 plain_row set k (UnsubscribeSet id receiver) is r z = absurd (false≢true is)
+plain_row set k (DropSet id) is r z = absurd (false≢true is)
 plain_row set k Sync is r z = refl
 plain_row set k others is r z = refl
 
@@ -251,6 +261,12 @@ ready_left true receiver z r old u is = by (r == receiver) is
     by true none = absurd cc
     by false is = old u is
 
+-- of a set that ends there is none
+ready_ended : (b : Bool) (z : List Said) (r : ℕ) → ((u : Row) → row unfed r z ≡ Some u → u.ready ≡ true) → (u : Row) →
+    row unfed r (cond b Ends Unrelated ∷ z) ≡ Some u → u.ready ≡ true
+ready_ended false z r old u is = old u is
+ready_ended true z r old u is = absurd cc
+
 -- A node emits, which was ready.
 record Tell (t : Past) : Type 0 where
   seat : Seat
@@ -280,6 +296,9 @@ told_ready t d ms may = by may
     by (Leaves id receiver same can) =
         subst Ready (sym same)
         (λ set r u is. ready_left (id == set) receiver (read set (stream s.node)) r (d.ready set r) u is)
+    by (EndsSet id same can) =
+        subst Ready (sym same)
+        (λ set r u is. ready_ended (id == set) (read set (stream s.node)) r (d.ready set r) u is)
     by (Changes f same can had) =
         subst Ready (sym same) (λ set r u is. at set r u is (f.set_id == set) refl)
       where
@@ -432,6 +451,18 @@ told_feeds t s is ms (Leaves set receiver same can) was =
 
     feed : FeedOf s.node.id (stream s.node) (knowledge s.node).config set receiver
     feed = left_feed t s is was set receiver can
+told_feeds t s is ms (EndsSet set same can) was =
+    subst (λ ms. NodeFeeds (with_deeds (commit_of s ms).deeds s.node)) (sym same)
+    (node_feeds (with_deeds (commit_of s (ending set)).deeds s.node)
+    (feeds_more s.node.id e (stream s.node) (knowledge s.node).config refl
+    (still_stored set e (stream s.node)
+    (has_stored (nodes_in t.world.places) (regular_now t).nodes s.name s.node (seat_node t.world.places s is) set
+    can.leads)) tt (are_feeds s.node was))
+    (told_ready t (record { seat = s; is = is; rows = was.rows; ready = was.ready }) (ending set)
+    (EndsSet set refl can)))
+  where
+    e : Event
+    e = event_of s (next_event s) (DropSet set)
 
 -- ---- every session
 

@@ -17,17 +17,17 @@ use Rattle.slon_model.proofs.Names.{bytes_same}
 use Rattle.stream_laws.specs.Nodes.{IsAmong, nodes_in}
 use Rattle.stream_laws.proofs.Lists.{all_among, any_among}
 use Rattle.stream_laws.proofs.Streams.{one_node}
-use Rattle.image_laws.specs.Facts.{IsHeldBy}
 use Rattle.image_laws.proofs.Logging.{among_filtered, filtered_among}
 use Rattle.view_laws.specs.Past.{Past}
-use Rattle.view_laws.proofs.Agreeing.{tables_agree}
+use Rattle.view_laws.proofs.Agreeing.{table_known}
+use Rattle.view_laws.proofs.Tables.{one_table, table_of}
 use Rattle.view_laws.proofs.Moments.{NodeAt, regular_now, sound_now}
 use Rattle.view_laws.proofs.Numbered.{AreSorted, IsNumbered, among_map, are_numbered, mapped_among, numbered_all}
 use Rattle.view_laws.proofs.Numbered.{numbered_sorted, same_action, sorted_filter}
 use Rattle.view_laws.proofs.Owned.{owned_now}
 use Rattle.view_laws.proofs.Rising.{found_stands}
 use Rattle.net_relation.proofs.Origins.{logs_have_origins}
-use Rattle.net_relation.proofs.Stretches.{one_entry}
+use Rattle.net_relation.proofs.Stretches.{entry_table, one_entry}
 use Rattle.net_relation.specs.Laws.{IsAhead, Keeper}
 use Rattle.net_relation.proofs.Providing.{place_of}
 use Rattle.slon_model.specs.Events.{Event}
@@ -208,14 +208,19 @@ gives_the_same set t g =
     leader : NodeAt t
     leader = record { name = g.name; place = p.0; found = p.1; node = x; at = p.2 }
 
-    -- the origin has the table in the set
-    held : (l : Logged) → passes how l ≡ true → IsHeldBy x.id (knowledge x).config set l.action.table
-    held l is =
-        let q = place_of t k.name k.node k.is in
-        (tables_agree t.limit t.history t.world t.leads k.name g.name q.0 p.0 q.1 p.1 k.node x q.2 p.2 set k.view
-        k.keeps (sym k.own) l.action.table).0
+    -- an entry of the origin that passes is of the set
+    of_set : (l : Logged) → IsAmong l (logged x) → passes how l ≡ true → l.set_id ≡ set
+    of_set l among is =
+        let there = table_known set (knowledge k.node).config l.action.table
         (taken_named k.node.id set (knowledge k.node).config l
-        (and_parts (is_on_one how.tables l) (is_new how.old how.new l) is).0)
+        (and_parts (is_on_one how.tables l) (is_new how.old how.new l) is).0) in
+        (one_table t (entry_table t leader l among) (table_of t (record {
+          name = k.name;
+          node = k.node;
+          is = k.is;
+          entry = there.0;
+          among = there.1;
+        })) there.3).0 ∙ there.2
 
     -- an entry of it that the other one has
     of : (l : Logged) → IsAmong l (logged g.giver) → l.origin ≡ e.origin → IsAmong l (logged x)
@@ -229,9 +234,9 @@ gives_the_same set t g =
     one : (m l : Logged) → IsAmong m (logged x) → IsIn how (logged x) l → m.origin ≡ e.origin →
         m.action.number ≡ l.action.number → m ≡ l
     one m l among is of_x number =
-        (one_entry t leader set m l (held l is.is) (among, is.among)
+        one_entry t leader m l (among, is.among)
         (same_action p.0.actions l.action m.action (sound_now t g.name p.0 p.1).rising (owned l is.among is.own)
-        (owned m among of_x) (sym number))).0
+        (owned m among of_x) (sym number)) (of_x ∙ sym is.own)
       where
         owned : (j : Logged) → IsAmong j (logged x) → j.origin ≡ e.origin → IsAmong j.action p.0.actions
         owned j among of_x =
@@ -252,7 +257,7 @@ gives_the_same set t g =
         in_taken how (logged g.giver) l (record {
           among = g.serves l (record {
             among = is.among;
-            of = (one_entry t leader set l l (held l is.is) (is.among, is.among) refl).1;
+            of = of_set l is.among is.is;
             own = is.own ∙ g.own;
             seen = seen.0;
             unseen = not-true (sees k.view.seen l.action.xid) seen.1;

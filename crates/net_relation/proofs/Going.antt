@@ -5,8 +5,8 @@ use Rattle.std.specs.Prelude.{◌==◌, ◌&&◌, nat_lt, option_map}
 use Rattle.std.specs.List.{AllByRecursion}
 use Rattle.std.proofs.lemmas.Bool.{eqb-true}
 use Rattle.std.proofs.lemmas.List.{length-append}
-use Rattle.net_laws.specs.Subscriptions.{is_over, row, up_to}
-use Rattle.net_laws.specs.Net.{Net, Node as NetNode}
+use Rattle.net_laws.specs.Subscriptions.{row, up_to}
+use Rattle.net_laws.specs.Net.{Net, Node as NetNode, member as is_barred}
 use Rattle.slon_model.specs.Rows.{Action, member}
 use Rattle.slon_model.specs.Deeds.{Knowledge, Logged, Node, knowledge, progress, stream, view_of}
 use Rattle.slon_model.specs.Logs.{logged, own_logs}
@@ -22,11 +22,11 @@ use Rattle.image_laws.proofs.Logging.{among_right, filtered_among}
 use Rattle.image_laws.proofs.Orders.{order_in}
 use Rattle.image_laws.proofs.Ticking.{ClockAt, TickedAt}
 use Rattle.slon_laws.proofs.Spells.{own_logs_have}
-use Rattle.net_relation.specs.Matching.{HasRow, MatchesNode}
+use Rattle.net_relation.specs.Matching.{HasDropped, HasRow, IsWhole, MatchesNode}
 use Rattle.net_relation.specs.Reading.{moment_of, read, unfed}
 use Rattle.net_relation.proofs.Earlier.{IsOwn, LogsOn, then_later}
 use Rattle.net_relation.proofs.Moments.{count_is, none_ended, taken_more}
-use Rattle.net_relation.proofs.Nets.{Ticked, stays_on, ticks}
+use Rattle.net_relation.proofs.Nets.{Ticked, ticks}
 use Rattle.net_relation.proofs.Places.{NodeWent, Went}
 use Rattle.net_relation.proofs.Relating.{FitsNode, Frame, frame, Netted, Origin, node_later, nodes_of}
 use Rattle.net_relation.proofs.Relating.{nodes_same, nodes_with, origin_later, origin_placed, still}
@@ -139,6 +139,10 @@ origin_went {set} {ended} {all} {p} {x} n q y c on k =
             HasRow set r u j.config) (sym on.known)
             (n.origin.rows r u
             (sym (ap (λ s. row s r later.0.stream) t.start ∙ ap (row n.net.start r) t.stream) ∙ is));
+        bars = λ id barred.
+            subst (λ (j : Knowledge). HasDropped id j.config) (sym on.known)
+            (n.origin.bars id (sym (ap (λ (f : ℕ → NetNode). is_barred id (f y.id).barred) t.nodes
+            ∙ ap (λ i. is_barred id (n.net.nodes i).barred) on.id) ∙ barred));
       };
       now = now;
       events =
@@ -150,7 +154,7 @@ origin_went {set} {ended} {all} {p} {x} n q y c on k =
     })
   where
     later : (v : Net) × Ticked (length k.more) n.net v
-    later = ticks (length k.more) n.net (ap is_over n.origin.stream ∙ stays_on set (stream x)) n.origin.full
+    later = ticks (length k.more) n.net n.origin.full
 
     t : Ticked (length k.more) n.net later.0
     t = later.1
@@ -180,7 +184,7 @@ on_matches f {o = o} {m} on node old = record {
       (subst (λ i. HasRow f.set_id i u (knowledge o).config) (sym on.id)
       (old.row u (ap (λ i. row unfed i (up_to node.progress (read f.set_id (stream f.leader)))) (sym on.id) ∙ is)));
   logs = λ l moment e logs. on.kept l (old.logs l moment e logs);
-  whole = old.whole;
+  whole = subst (λ (j : Knowledge). IsWhole j.config node) (sym on.known) old.whole;
 }
 
 -- ---- every database

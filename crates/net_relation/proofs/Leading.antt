@@ -1,29 +1,34 @@
 -- The node that stored a set is its origin, and alone says who receives it. A receiver that is told to copies the set,
 -- unless it was told to give that up by then.
 use Rattle.std.proofs.Common.{◌≡◌, ℕ, Bool, true, false, cond, List, Option, Some, None, is_some}
-use Rattle.std.proofs.Common.{◌≢◌, inl, inr, ◌≤◌, suc}
+use Rattle.std.proofs.Common.{◌∷◌, [], ◌⊎◌, length, ◌≢◌, inl, inr, ◌≤◌, suc}
 use Rattle.std.proofs.Common.{refl, sym, ap, subst, ◌∙◌, arith}
-use Rattle.std.specs.Prelude.{◌==◌, ◌&&◌}
-use Rattle.std.proofs.lemmas.Bool.{and_from, eq-eqb, false≢true, cases_eq}
+use Rattle.std.specs.Prelude.{◌==◌, ◌&&◌, ◌+◌}
+use Rattle.std.proofs.lemmas.Bool.{and_from, eq-eqb, eqb-true, false≢true, true≢false, cases_eq}
 use Rattle.node_rows.specs.declared.rows.SetRow.{SetRow}
-use Rattle.node_rows.specs.declared.body.Body.TheVariants.{Sync, EnableSubscription}
+use Rattle.node_rows.specs.declared.body.Body.{Body}
+use Rattle.node_rows.specs.declared.body.Body.TheVariants.{DropSet as EndsSet, EnableSubscription, SubscribeSet, Sync}
+use Rattle.node_rows.specs.declared.body.Body.TheVariants.{UnsubscribeSet}
+use Rattle.net_laws.specs.Subscriptions.{DropSet, Enable, Event as Said, Subscribe, Subscription as Row, Unrelated}
+use Rattle.net_laws.specs.Subscriptions.{Unsubscribe, changed, last_moment, row}
 use Rattle.slon_model.specs.Names.{find_named}
 use Rattle.slon_model.specs.Maps.{entry_at}
 use Rattle.slon_model.specs.Events.{Event}
-use Rattle.slon_model.specs.Config.{era_of, is_origin, leads_row, live_set, forwards}
+use Rattle.slon_model.specs.Config.{era_of, is_origin, leads_row, set_row, forwards}
 use Rattle.slon_model.specs.Deeds.{Knowledge, Node, knowledge, stream, progress, view_of}
 use Rattle.slon_model.specs.Place.{Place, taken}
 use Rattle.slon_model.specs.Sessions.{Seat}
 use Rattle.slon_model.specs.Working.{Carried, Copying, Errand, ToCopy, errand_in, errand_of, receives_from}
 use Rattle.slon_model.specs.Working.{still_leads, forwarded, given_at}
 use Rattle.slon_model.proofs.Names.{one_found}
-use Rattle.stream_laws.specs.Nodes.{IsEvent, nodes_in, node_in}
+use Rattle.stream_laws.specs.Nodes.{IsAmong, IsEvent, nodes_in, node_in}
 use Rattle.stream_laws.specs.Facts.{Facts}
 use Rattle.stream_laws.specs.Laws.{AreMadeOnce}
 use Rattle.stream_laws.specs.Making.{HasStored, IsMade, OfSet}
+use Rattle.stream_laws.proofs.Applies.{IsSetOf}
 use Rattle.stream_laws.proofs.Copies.{IsVain, NoErrand, one_leader, GivenNoMore, HasReached}
 use Rattle.stream_laws.proofs.Laws.{marks_are_made_once}
-use Rattle.stream_laws.proofs.Lists.{all_among, all_entry}
+use Rattle.stream_laws.proofs.Lists.{all_among}
 use Rattle.stream_laws.proofs.Seats.{seat_node, IsSeat}
 use Rattle.stream_laws.proofs.Streams.{number_within, one_node}
 use Rattle.stream_laws.proofs.Works.{IsWork}
@@ -31,14 +36,19 @@ use Rattle.view_laws.specs.Past.{Past, Moment, WasUpTo}
 use Rattle.view_laws.proofs.Brought.{Brings, Copies, Finding, IsBrought, IsCopied, Nothing, same_id}
 use Rattle.view_laws.proofs.Doing.{IsTaken}
 use Rattle.view_laws.proofs.Moments.{regular_now, past_of, reached_up_to}
-use Rattle.view_laws.proofs.Tables.{told_now}
 use Rattle.net_relation.proofs.Feeding.{IsFeed, NodeFeeds, era_one, feeds_now}
-use Rattle.view_laws.specs.Known.{IsSeen}
+use Rattle.view_laws.specs.Known.{AreLive, IsLive, IsSeen, ends}
+use Rattle.view_laws.proofs.Copied.{live_or_over}
+use Rattle.view_laws.proofs.Ended.{Ending, ending_leader, ending_of}
+use Rattle.view_laws.proofs.Once.{live_now}
 use Rattle.view_laws.proofs.Viewed.{seen_now}
+use Rattle.image_laws.proofs.Staying.{IsOver}
+use Rattle.image_laws.proofs.Stretching.{owns_leads}
+use Rattle.std.specs.List.{AllByRecursion}
 use Rattle.slon_model.specs.Views.{View}
 use Rattle.net_relation.proofs.Earlier.{CopiesFind}
 use Rattle.net_relation.proofs.Readied.{IsReady}
-use Rattle.net_relation.specs.Reading.{read}
+use Rattle.net_relation.specs.Reading.{read, said_by, unfed}
 
 -- ---- who stored a set
 
@@ -46,11 +56,9 @@ some_entry : {X : Type 0} (o : Option X) → is_some o ≡ true → (x : X) × (
 some_entry None none = absurd (false≢true none)
 some_entry (Some x) some = (x, refl)
 
-pub stored_leads : (t : Past) (name : List ℕ) (n : Node) → nodes_in t.world.places name ≡ Some n → (set : ℕ) →
-    HasStored set (stream n) → is_origin n.id set (knowledge n).config ≡ true
-stored_leads t name n is set (e, among, makes) =
-    ap (λ o. leads_row n.id (live_set o)) row.1
-    ∙ ap (λ b. leads_row n.id (cond b (Some row.0) None)) live ∙ eq-eqb row.0.origin n.id (sym own)
+pub stored_owns : (t : Past) (name : List ℕ) (n : Node) → nodes_in t.world.places name ≡ Some n → (set : ℕ) →
+    HasStored set (stream n) → IsSetOf set n.id (knowledge n).config
+stored_owns t name n is set (e, among, makes) = (row.0, row.1, sym own)
   where
     laws : AreMadeOnce t.world
     laws = marks_are_made_once t.limit t.history t.world t.leads
@@ -71,9 +79,6 @@ stored_leads t name n is set (e, among, makes) =
               omega (arith, within.1, whole);
         }))
 
-    live : row.0.live ≡ true
-    live = all_entry (λ e. e.1.live ≡ true) set row.0 (knowledge n).config.sets (told_now t name n is).sets row.1
-
     own : n.id ≡ row.0.origin
     own =
         let by = laws.origins name n is set row.0 row.1 in
@@ -91,8 +96,8 @@ pub one_storer : (t : Past) (a b : Known t) (set : ℕ) → HasStored set (strea
     a.node.id ≡ b.node.id
 one_storer t a b set stored =
     one_leader (nodes_in t.world.places) (regular_now t).nodes set
-    (record { name = a.name; node = a.node; is = a.is; leads = stored_leads t a.name a.node a.is set stored.0 })
-    (record { name = b.name; node = b.node; is = b.is; leads = stored_leads t b.name b.node b.is set stored.1 })
+    (record { name = a.name; node = a.node; is = a.is; leads = stored_owns t a.name a.node a.is set stored.0 })
+    (record { name = b.name; node = b.node; is = b.is; leads = stored_owns t b.name b.node b.is set stored.1 })
 
 -- what is known of the events of subscriptions
 pub feeds_at : (t : Past) (name : List ℕ) (n : Node) → nodes_in t.world.places name ≡ Some n → NodeFeeds n
@@ -101,6 +106,79 @@ feeds_at t name n is = by (find_named name t.world.places) refl is
     by : (o : Option Place) → find_named name t.world.places ≡ o → node_in o ≡ Some n → NodeFeeds n
     by None found none = absurd cc
     by (Some p) found at = feeds_now t name p n found at
+
+-- ---- a set with a subscription
+
+-- it has not ended by these events
+abbrev Lasts : ℕ → List Event → Type 0
+Lasts set es = AllByRecursion (λ e. ends set e.body ≡ false) es
+
+-- no node subscribes to a set that has ended, and none stays subscribed
+row_lasts : (set r : ℕ) (es : List Event) → AreLive es → (u : Row) → row unfed r (read set es) ≡ Some u → Lasts set es
+row_lasts set r [] live u none = absurd cc
+row_lasts set r (e ∷ es) live u is = by e.body live.0 (row_lasts set r es live.1) is
+  where
+    z : List Said
+    z = read set es
+
+    changed_by : Said → Option Row
+    changed_by s = changed r (length z + 1) (last_moment z) s (row unfed r z)
+
+    by : (body : Body) → IsLive es body → ((v : Row) → row unfed r z ≡ Some v → Lasts set es) →
+        changed_by (said_by set e.taken body) ≡ Some u → (ends set body ≡ false) × Lasts set es
+    by (SubscribeSet id p n f) live rest is = (refl, at (id == set) refl is)
+      where
+        at : (b : Bool) → (id == set) ≡ b → changed_by (cond b (Subscribe n p f) Unrelated) ≡ Some u → Lasts set es
+        at true same is = subst (λ i. Lasts i es) (eqb-true id set same) live
+        at false other is = rest u is
+    by (EnableSubscription id p n f era) live rest is = (refl, at (id == set) refl is)
+      where
+        at : (b : Bool) → (id == set) ≡ b → changed_by (cond b (Enable n) Unrelated) ≡ Some u → Lasts set es
+        at true same is = subst (λ i. Lasts i es) (eqb-true id set same) live
+        at false other is = rest u is
+    by (UnsubscribeSet id n) live rest is = (refl, at (id == set) is)
+      where
+        here : (b : Bool) → cond b None (row unfed r z) ≡ Some u → Lasts set es
+        here true none = absurd cc
+        here false is = rest u is
+
+        at : (b : Bool) → changed_by (cond b (Unsubscribe n) Unrelated) ≡ Some u → Lasts set es
+        at true is = here (r == n) is
+        at false is = rest u is
+    by (EndsSet id) live rest is = at (id == set) is
+      where
+        at : (b : Bool) → changed_by (cond b DropSet Unrelated) ≡ Some u → (b ≡ false) × Lasts set es
+        at true none = absurd cc
+        at false is = (refl, rest u is)
+    by others live rest is = (refl, rest u is)
+
+-- so the node that stored it leads it
+row_leads : (t : Past) (x : Known t) (set r : ℕ) → HasStored set (stream x.node) → (u : Row) →
+    row unfed r (read set (stream x.node)) ≡ Some u → is_origin x.node.id set (knowledge x.node).config ≡ true
+row_leads t x set r stored u has = by (live_or_over set (knowledge n).config)
+  where
+    n : Node
+    n = x.node
+
+    owns : IsSetOf set n.id (knowledge n).config
+    owns = stored_owns t x.name n x.is set stored
+
+    never : (e : Ending t set) → ⊥
+    never e =
+        let own = ending_leader t set e (record { name = x.name; node = n; is = x.is; leads = owns }) in
+        let one = one_node (nodes_in t.world.places) (regular_now t).nodes e.is.name x.name e.is.node n e.is.is
+        (x.is, e.is.own ∙ own) in
+        true≢false (sym (ap (ends set) e.body ∙ eq-eqb set set refl)
+        ∙ all_among (λ e. ends set e.body ≡ false) e.event (stream n)
+        (row_lasts set r (stream n) (live_now t x.name n x.is) u has)
+        (subst (λ (m : Node). IsAmong e.event (stream m)) one e.is.among))
+
+    by : (is_some (set_row set (knowledge n).config) ≡ true) ⊎ IsOver set (knowledge n).config →
+        is_origin n.id set (knowledge n).config ≡ true
+    by (inl live) =
+        owns_leads n.id set (knowledge n).config
+        (ap (leads_row n.id) owns.1 ∙ eq-eqb owns.0.origin n.id owns.2) live
+    by (inr over) = absurd (never (ending_of t x.name n x.is set over (ap is_some owns.1)).0)
 
 -- ---- the copy
 
@@ -155,7 +233,9 @@ asked_leads u s e set a p at one =
     feed = asked_feed u s e set a
 
     leads : is_origin y.id set (knowledge y).config ≡ true
-    leads = stored_leads u a.work.event.name y a.work.event.is set feed.0.0
+    leads =
+        row_leads u (record { name = a.work.event.name; node = y; is = a.work.event.is }) set s.node.id feed.0.0
+        a.ready.0 a.ready.1
 
 -- a set is in its first era where a snapshot of it was taken
 seen_era : (u : Past) (n : Node) (set : ℕ) (v : View) → IsSeen (WasUpTo u) n set v → v.era ≡ 1

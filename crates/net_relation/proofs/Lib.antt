@@ -1,10 +1,12 @@
 pub mod Actions
 pub mod Applying
+pub mod Barring
 pub mod Beginning
 pub mod Behind
 pub mod Beside
 pub mod Coming
 pub mod Consequences
+pub mod Dropped
 pub mod Earlier
 pub mod Emitting
 pub mod Enabled

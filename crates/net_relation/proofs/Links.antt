@@ -8,8 +8,13 @@ use Rattle.slonik_script.specs.declared.script.Command.{Command as Order}
 use Rattle.slonik_script.specs.declared.script.Command.TheVariants as order
 use Rattle.node_rows.specs.declared.rows.NodeRow.{NodeRow}
 use Rattle.node_rows.specs.declared.body.Body.{Body}
-use Rattle.node_rows.specs.declared.body.Body.TheVariants.{Sync, StoreNode, StorePath, DropPath, StoreSet}
-use Rattle.node_rows.specs.declared.body.Body.TheVariants.{SubscribeSet, EnableSubscription, UnsubscribeSet}
+use Rattle.node_rows.specs.declared.body.Body.TheVariants.{Sync, StoreNode, DropNode, StorePath, DropPath, StoreSet}
+use Rattle.node_rows.specs.declared.body.Body.TheVariants.{DropSet, SubscribeSet, EnableSubscription, UnsubscribeSet}
+use Rattle.view_laws.specs.Known.{ends}
+use Rattle.view_laws.proofs.Once.{stream_live}
+use Rattle.slon_model.specs.Sets.{drop_set}
+use Rattle.slon_model.specs.Deeds.{stream}
+use Rattle.stream_laws.proofs.Seats.{seat_node}
 use Rattle.slon_model.specs.declared.command.Delivery.{Delivery}
 use Rattle.slon_model.specs.declared.command.Delivery.TheVariants.{Lost}
 use Rattle.slon_model.specs.declared.reply.Refusal.{Refusal}
@@ -22,7 +27,7 @@ use Rattle.slon_model.specs.Deeds.{Node, Knowledge, knowledge, with_deeds, told_
 use Rattle.slon_model.specs.Place.{Place}
 use Rattle.slon_model.specs.Sessions.{World, Running, Commit, Stated, Seat, Emission, bind, tells}
 use Rattle.slon_model.specs.Membership.{comment_of, already, first_node, init_cluster, store_node, store_path}
-use Rattle.slon_model.specs.Membership.{drop_path, becoming, first_of_cluster, joining, stored_by}
+use Rattle.slon_model.specs.Membership.{drop_node, drop_path, becoming, first_of_cluster, joining, stored_by}
 use Rattle.slon_model.specs.Reaching.{database_of_line, reach, down_among, claims}
 use Rattle.slon_model.specs.Reaching.{origin_of, owner, commit_of, emitting}
 use Rattle.slon_model.specs.Sets.{NewTable, adding, create_set, set_add_table}
@@ -58,11 +63,12 @@ use Rattle.node_rows.specs.declared.rows.Subscription.{Subscription}
 
 -- ---- what a node emits
 
--- an event that is of no subscription
+-- an event that is of no subscription, and by which no set ends
 abbrev pub is_plain : Body → Bool
 is_plain (SubscribeSet set provider receiver forward) = false
 is_plain (EnableSubscription set provider receiver forward era) = false
 is_plain (UnsubscribeSet set receiver) = false
+is_plain (DropSet set) = false
 is_plain others = is_emitted others
 
 -- The provider is another node than this one. It subscribes to the set and forwards it, and this node was told that it
@@ -87,6 +93,7 @@ pub record CanFeed (n : Node) (f : NewFeed) : Type 0 where
       pair_at f.set_id f.receiver (knowledge n).config.subscriptions ≡ Some row →
       row.mark ≤ told_of n.id n.id f.receiver (knowledge n)
   pub keeps : (f.forward ≡ true) ⊎ (is_provided f.receiver f.set_id (knowledge n).config ≡ false)
+  pub live : AllByRecursion (λ e. ends f.set_id e.body ≡ false) (stream n)
 
 -- The node may emit that a subscription ends: it is the origin of the set, the receiver subscribes to that, and no node
 -- has the set from it.
@@ -94,6 +101,12 @@ pub record CanLeave (n : Node) (set receiver : ℕ) : Type 0 where
   pub leads : is_origin n.id set (knowledge n).config ≡ true
   pub had : HasFeed set receiver (knowledge n).config
   pub provides : is_provided receiver set (knowledge n).config ≡ false
+  pub live : AllByRecursion (λ e. ends set e.body ≡ false) (stream n)
+
+-- The node may emit that a set ends: it is the origin of the set, and has not ended it before.
+pub record CanEnd (n : Node) (set : ℕ) : Type 0 where
+  pub leads : is_origin n.id set (knowledge n).config ≡ true
+  pub live : AllByRecursion (λ e. ends set e.body ≡ false) (stream n)
 
 abbrev pub feeding : Node → NewFeed → List Emission
 feeding n f = all_tell (feed_bodies (era_of f.set_id (knowledge n).config) f)
@@ -106,6 +119,10 @@ changing f = all_tell (changed_bodies f)
 abbrev pub leaving : ℕ → ℕ → List Emission
 leaving set receiver = tells (UnsubscribeSet set receiver) ∷ []
 
+-- the event by which a set ends
+abbrev pub ending : ℕ → List Emission
+ending set = tells (DropSet set) ∷ []
+
 pub data MayTell (n : Node) (ms : List Emission) : Type 0 where
   Alone : (m : Emission) → ms ≡ m ∷ [] → is_plain m.body ≡ true → MayTell n ms
   Feeds : (f : NewFeed) → ms ≡ feeding n f → CanFeed n f →
@@ -113,6 +130,7 @@ pub data MayTell (n : Node) (ms : List Emission) : Type 0 where
   Changes : (f : NewFeed) → ms ≡ changing f → CanFeed n f → HasFeed f.set_id f.receiver (knowledge n).config →
       MayTell n ms
   Leaves : (set receiver : ℕ) → ms ≡ leaving set receiver → CanLeave n set receiver → MayTell n ms
+  EndsSet : (set : ℕ) → ms ≡ ending set → CanEnd n set → MayTell n ms
 
 -- ---- one commit
 
@@ -231,6 +249,12 @@ table_link origin n run t =
     (origin_ok run origin n.set_id t.world)
     (λ s is. let done = tells_link t s (adding s n) is.0 refl in search (kept_ok (IsStated t), done))
 
+drop_node_link : (id event_node : ℕ) (run : Running) (t : Past) →
+    OnOk (IsStated t) (drop_node id event_node run t.world)
+drop_node_link id event_node run t =
+    reached t event_node run _
+    (λ s is. let done = tells_link t s (tells (DropNode id)) is.0 refl in search (kept_ok (IsStated t), done))
+
 path_link : (server client : ℕ) (conninfo : List ℕ) (run : Running) (t : Past) →
     OnOk (IsStated t) (store_path server client conninfo run t.world)
 path_link server client conninfo run t =
@@ -301,10 +325,11 @@ not_provider s f none = by f.forward refl none
     by true on none = inl on
     by false off none = inr none
 
-can_feed : (w : World) (s : Seat) (f : NewFeed) → IsSeat w.places s → claims f.set_id s ≡ true →
+can_feed : (t : Past) (s : Seat) (f : NewFeed) → IsSeat t.world.places s → claims f.set_id s ≡ true →
     AllByRecursion (λ o. o ≡ None) (feed_checks s f) → CanFeed s.node f
-can_feed w s f is claimed none = record {
-  leads = subst (λ (k : Knowledge). is_origin s.node.id f.set_id k.config ≡ true) is.known claimed;
+can_feed t s f is claimed none = record {
+  leads = leads;
+  live = stream_live t s.name s.node (seat_node t.world.places s is) f.set_id leads;
   knows = subst (λ (k : Knowledge). is_some (entry_at f.receiver k.config.nodes) ≡ true) is.known
       (known_there f.receiver s.known.config
       (not-false (is_known f.receiver s.known.config) (when_none _ (refused.NoNode f.receiver) none.0)));
@@ -322,6 +347,9 @@ can_feed w s f is claimed none = record {
       (not_provider s f (when_none _ (refused.HasReceivers f.receiver) none.1.1.1.1.1.1.0));
 }
   where
+    leads : is_origin s.node.id f.set_id (knowledge s.node).config ≡ true
+    leads = subst (λ (k : Knowledge). is_origin s.node.id f.set_id k.config ≡ true) is.known claimed
+
     others : ((f.receiver == s.node.id) ≡ false) × ((f.receiver == f.provider) ≡ false)
     others = or_parts (f.receiver == s.node.id) (f.receiver == f.provider)
         (when_none _ (refused.SameNode f.receiver) none.1.1.0)
@@ -343,7 +371,7 @@ feed_link f run t r =
     (λ none. subst (λ (k : Knowledge). IsStated t (emitting s (all_tell (told_bodies f k.config))))
     (sym is.0.known)
     (emits_link t s (all_tell (told_bodies f (knowledge s.node).config)) is.0
-    (feed_told s.node f (can_feed t.world s f is.0 is.1 (all_none (feed_checks s f) none))
+    (feed_told s.node f (can_feed t s f is.0 is.1 (all_none (feed_checks s f) none))
     (pair_at f.set_id f.receiver (knowledge s.node).config.subscriptions) refl))))
 
 -- ---- UNSUBSCRIBE SET
@@ -352,10 +380,11 @@ some_left : {X : Type 0} (o : Option X) → is_none o ≡ false → is_some o �
 some_left None never = absurd (true≢false never)
 some_left (Some x) is = refl
 
-can_leave : (w : World) (s : Seat) (set receiver : ℕ) → IsSeat w.places s → claims set s ≡ true →
+can_leave : (t : Past) (s : Seat) (set receiver : ℕ) → IsSeat t.world.places s → claims set s ≡ true →
     AllByRecursion (λ o. o ≡ None) (leave_checks set receiver s.known.config) → CanLeave s.node set receiver
-can_leave w s set receiver is claimed none = record {
-  leads = subst (λ (k : Knowledge). is_origin s.node.id set k.config ≡ true) is.known claimed;
+can_leave t s set receiver is claimed none = record {
+  leads = leads;
+  live = stream_live t s.name s.node (seat_node t.world.places s is) set leads;
   had =
       subst (λ (k : Knowledge). HasFeed set receiver k.config) is.known
       (some_left (pair_at set receiver s.known.config.subscriptions)
@@ -364,6 +393,9 @@ can_leave w s set receiver is claimed none = record {
       subst (λ (k : Knowledge). is_provided receiver set k.config ≡ false) is.known
       (when_none (is_provided receiver set s.known.config) (refused.HasReceivers receiver) none.1.0);
 }
+  where
+    leads : is_origin s.node.id set (knowledge s.node).config ≡ true
+    leads = subst (λ (k : Knowledge). is_origin s.node.id set k.config ≡ true) is.known claimed
 
 leave_link : (set receiver : ℕ) (run : Running) (t : Past) → IsRegular t.world →
     OnOk (IsStated t) (unsubscribe_set set receiver run t.world)
@@ -372,14 +404,27 @@ leave_link set receiver run t r =
     (λ s is. checked_ok (IsStated t) (leave_checks set receiver s.known.config)
     (emitting s (tells (UnsubscribeSet set receiver) ∷ []))
     (λ none. emits_link t s (tells (UnsubscribeSet set receiver) ∷ []) is.0 (Leaves set receiver refl
-    (can_leave t.world s set receiver is.0 is.1 (all_none (leave_checks set receiver s.known.config) none)))))
+    (can_leave t s set receiver is.0 is.1 (all_none (leave_checks set receiver s.known.config) none)))))
+
+-- ---- DROP SET
+
+drop_link : (id origin : ℕ) (run : Running) (t : Past) → OnOk (IsStated t) (drop_set id origin run t.world)
+drop_link id origin run t =
+    bind_ok (IsLeading t.world.places id) (IsStated t) (origin_of run origin id t.world) _
+    (origin_ok run origin id t.world)
+    (λ s is. emits_link t s (ending id) is.0 (EndsSet id refl (record {
+      leads = is.1;
+      live = stream_live t s.name s.node (seat_node t.world.places s is.0) id is.1;
+    })))
 
 ordered_link : (t : Past) → IsRegular t.world → (o : Order) (run : Running) → OnOk (IsStated t) (ordered o run t.world)
 ordered_link t r (order.InitCluster id comment) run = init_link id comment run t
 ordered_link t r (order.StoreNode id event_node comment) run = store_link id event_node comment run t
+ordered_link t r (order.DropNode id event_node) run = drop_node_link id event_node run t
 ordered_link t r (order.StorePath server client conninfo retry) run = path_link server client conninfo run t
 ordered_link t r (order.DropPath server client) run = no_path_link server client run t
 ordered_link t r (order.CreateSet id origin comment) run = create_link id origin comment run t
+ordered_link t r (order.DropSet id origin) run = drop_link id origin run t
 ordered_link t r (order.SetAddTable set origin id name key comment) run =
     table_link origin (record { set_id = set; id = id; name = name; comment = comment_of comment }) run t
 ordered_link t r (order.SubscribeSet set provider receiver forward) run =

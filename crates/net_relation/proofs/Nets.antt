@@ -1,19 +1,24 @@
 -- How a net goes on as far as it is needed here: transactions end, and a node comes to where it passes events by.
+use Rattle.net_laws.specs.Net.{Ticks}
+use Rattle.net_laws.specs.Net.{Leaves}
+use Rattle.net_laws.specs.Net.{Turn}
+use Rattle.std.proofs.Common.{true≢false}
 use Rattle.std.proofs.Common.{◌≡◌, ◌≢◌, ◌⊎◌, inl, inr, ℕ, zero, suc, ◌<◌, ◌≤◌, Bool, true, false, cond, List, [], ◌∷◌}
 use Rattle.std.proofs.Common.{◌++◌, length, Option, Some, None, refl, sym, ap, subst, ◌∙◌, arith}
 use mathlib.Core.Path.{fun_ext}
-use Rattle.std.specs.Prelude.{◌+◌, ◌==◌}
+use Rattle.std.specs.Prelude.{◌+◌, ◌==◌, ◌||◌}
 use Rattle.std.specs.List.{AllByRecursion}
 use Rattle.std.proofs.lemmas.Bool.{eqb-true, cases_lt}
 use Rattle.std.proofs.lemmas.List.{length-append, length-map, map-append}
 use Rattle.node_rows.specs.declared.body.Body.{Body}
 use Rattle.node_rows.specs.declared.body.Body.TheVariants.{Sync, SubscribeSet, EnableSubscription, UnsubscribeSet}
+use Rattle.node_rows.specs.declared.body.Body.TheVariants.{DropSet as EndsSet}
 use Rattle.net_laws.specs.Updates.{set_at}
 use Rattle.net_laws.specs.Subscriptions.{Event as Said, Sync as Syncs, Subscribe, Enable, Unsubscribe, DropSet}
-use Rattle.net_laws.specs.Subscriptions.{Unrelated}
+use Rattle.net_laws.specs.Subscriptions.{MoveSet, Unrelated}
 use Rattle.net_laws.specs.Subscriptions.{Subscription as Row, up_to, last_moment, over_with, is_over, changed, row}
 use Rattle.net_laws.specs.Subscriptions.{subscribed}
-use Rattle.net_laws.specs.Net.{Net, Node as NetNode, Commits, Applies, Passes, Here, More, Leads, IsQuiet, IsBegun}
+use Rattle.net_laws.specs.Net.{Net, Node as NetNode, Commits, Applies, Passes, Here, More, Leads, IsBegun}
 use Rattle.net_laws.specs.Net.{passed, with_node}
 use Rattle.net_laws.specs.Sound.{Sound}
 use Rattle.net_laws.proofs.Prefixes.{up_to_new, up_to_old, up_to_whole}
@@ -23,6 +28,7 @@ use Rattle.slon_model.specs.Snapshots.{Snapshot}
 use Rattle.slon_model.specs.Events.{Event}
 use Rattle.stream_laws.specs.Nodes.{IsAmong}
 use Rattle.stream_laws.proofs.Lists.{all_among}
+use Rattle.view_laws.specs.Known.{ends}
 use Rattle.net_relation.specs.Reading.{said, said_by, read, unfed, fresh, first_net}
 
 -- ---- the first net
@@ -50,30 +56,46 @@ leads_on a b c one (More {u = u} two step) = More (leads_on a b u one two) step
 
 -- ---- transactions end
 
-never_over : (set : ℕ) (taken : Snapshot) (body : Body) (b : Bool) → over_with (said_by set taken body) b ≡ b
-never_over set taken (SubscribeSet id provider receiver forward) b =
+over_said : (set : ℕ) (taken : Snapshot) (body : Body) (b : Bool) →
+    over_with (said_by set taken body) b ≡ (ends set body || b)
+over_said set taken (SubscribeSet id provider receiver forward) b =
     elim (id == set) as (λ c. over_with (cond c (Subscribe receiver provider forward) Unrelated) b ≡ b) [
       | true ↦ refl
       | false ↦ refl
     ]
-never_over set taken (EnableSubscription id provider receiver forward era) b =
+over_said set taken (EnableSubscription id provider receiver forward era) b =
     elim (id == set) as (λ c. over_with (cond c (Enable receiver) Unrelated) b ≡ b) [
       | true ↦ refl
       | false ↦ refl
     ]
-never_over set taken (UnsubscribeSet id receiver) b =
+over_said set taken (UnsubscribeSet id receiver) b =
     elim (id == set) as (λ c. over_with (cond c (Unsubscribe receiver) Unrelated) b ≡ b) [
       | true ↦ refl
       | false ↦ refl
     ]
-never_over set taken Sync b = refl
-never_over set taken others b = refl
+over_said set taken (EndsSet id) b =
+    elim (id == set) as (λ c. over_with (cond c DropSet Unrelated) b ≡ (c || b)) [
+      | true ↦ refl
+      | false ↦ refl
+    ]
+over_said set taken Sync b = refl
+over_said set taken others b = refl
 
-pub stays_on : (set : ℕ) (es : List Event) → is_over (read set es) ≡ false
-stays_on set [] = refl
-stays_on set (e ∷ es) = never_over set e.taken e.body (is_over (read set es)) ∙ stays_on set es
+-- a set of which no event says that it ends is not over
+pub on_live : (set : ℕ) (es : List Event) → AllByRecursion (λ e. ends set e.body ≡ false) es →
+    is_over (read set es) ≡ false
+on_live set [] all = refl
+on_live set (e ∷ es) all =
+    over_said set e.taken e.body (is_over (read set es))
+    ∙ ap (λ b. b || is_over (read set es)) all.0 ∙ on_live set es all.1
 
--- So many more transactions have ended.
+-- what is not over was not before
+pub over_back : (e : Said) (b : Bool) → over_with e b ≡ false → b ≡ false
+over_back DropSet b is = absurd (true≢false is)
+over_back MoveSet b is = absurd (true≢false is)
+over_back others b is = is
+
+-- So many more transactions have ended. They count as those of the era, if the set is not over.
 pub record Ticked (n : ℕ) (w v : Net) : Type 0 where
   pub leads : Leads w v
   pub origin : v.origin ≡ w.origin
@@ -81,10 +103,38 @@ pub record Ticked (n : ℕ) (w v : Net) : Type 0 where
   pub stream : v.stream ≡ w.stream
   pub nodes : v.nodes ≡ w.nodes
   pub now : v.now ≡ w.now + n
-  pub full : v.full ≡ v.now
+  pub full : is_over v.stream ≡ false → v.full ≡ v.now
 
-pub ticks : (n : ℕ) (w : Net) → is_over w.stream ≡ false → w.full ≡ w.now → (v : Net) × Ticked n w v
-ticks zero w on full = (
+-- one more has ended
+tick_more : (n : ℕ) (w : Net) (before : (v : Net) × Ticked n w v) (b : Bool) → is_over w.stream ≡ b →
+    (v : Net) × Ticked (suc n) w v
+tick_more n w (u, t) false on = (
+  record u { now = u.now + 1; full = u.now + 1 },
+  record {
+    leads = More t.leads (Commits (ap is_over t.stream ∙ on) refl);
+    origin = t.origin;
+    start = t.start;
+    stream = t.stream;
+    nodes = t.nodes;
+    now = let now = t.now in omega (arith, now);
+    full = λ still. refl;
+  },
+)
+tick_more n w (u, t) true over = (
+  record u { now = u.now + 1 },
+  record {
+    leads = More t.leads (Ticks refl);
+    origin = t.origin;
+    start = t.start;
+    stream = t.stream;
+    nodes = t.nodes;
+    now = let now = t.now in omega (arith, now);
+    full = λ on. absurd (true≢false (sym (ap is_over t.stream ∙ over) ∙ on));
+  },
+)
+
+pub ticks : (n : ℕ) (w : Net) → (is_over w.stream ≡ false → w.full ≡ w.now) → (v : Net) × Ticked n w v
+ticks zero w full = (
   w,
   record {
     leads = Here;
@@ -96,20 +146,7 @@ ticks zero w on full = (
     full = full;
   },
 )
-ticks (suc n) w on full =
-    let before = ticks n w on full in
-    let t = before.1 in (
-      record before.0 { now = before.0.now + 1; full = before.0.now + 1 },
-      record {
-        leads = More t.leads (Commits (ap is_over t.stream ∙ on) refl);
-        origin = t.origin;
-        start = t.start;
-        stream = t.stream;
-        nodes = t.nodes;
-        now = let now = t.now in omega (arith, now);
-        full = refl;
-      },
-    )
+ticks (suc n) w full = tick_more n w (ticks n w full) (is_over w.stream) refl
 
 -- ---- events that are not of a receiver
 
@@ -117,16 +154,17 @@ abbrev pub Spares : ℕ → Said → Type 0
 Spares r (Subscribe n p f) = n ≢ r
 Spares r (Enable n) = n ≢ r
 Spares r (Unsubscribe n) = n ≢ r
-Spares r DropSet = ⊥
 Spares r others = Unit {0}
 
-spared_quiet : (r : ℕ) (e : Said) → Spares r e → IsQuiet r None e
-spared_quiet r (Syncs m) spares = refl
-spared_quiet r (Subscribe n p f) spares = λ is. refl
-spared_quiet r (Enable n) spares = spares
-spared_quiet r (Unsubscribe n) spares = spares
-spared_quiet r DropSet spares = absurd spares
-spared_quiet r others spares = tt
+-- for a node that keeps no view nothing changes by it but how far it is
+spared_turn : (r : ℕ) (w : Net) (e : Said) (node : NetNode) → (w.nodes r).view ≡ None → Spares r e →
+    node ≡ passed (w.nodes r) → Turn w r e node
+spared_turn r w (Syncs m) node none spares is = Passes (inl none) is
+spared_turn r w (Subscribe n p f) node none spares is = Passes (inl (λ same. none)) is
+spared_turn r w (Enable n) node none spares is = Passes (inl spares) is
+spared_turn r w (Unsubscribe n) node none spares is = Passes (inl spares) is
+spared_turn r w DropSet node none spares is = Leaves tt (is ∙ (λ i. record (passed (w.nodes r)) { view = none i }))
+spared_turn r w others node none spares is = Passes (inl tt) is
 
 abbrev no_row : Option Row
 no_row = None
@@ -147,7 +185,7 @@ none_changed r k c (Unsubscribe n) spares = by (r == n)
     by : (b : Bool) → cond b no_row no_row ≡ no_row
     by true = refl
     by false = refl
-none_changed r k c DropSet spares = absurd spares
+none_changed r k c DropSet spares = refl
 none_changed r k c others spares = refl
 
 pub spared_none : (r : ℕ) (z : List Said) → AllByRecursion (Spares r) z → row unfed r z ≡ None
@@ -271,9 +309,8 @@ passes n (suc k) w new less all =
             next = ap (λ (o : NetNode). up_to (o.progress + 1) w.stream) at ∙ next.is
                 ∙ ap (λ (o : NetNode). next.event ∷ up_to o.progress w.stream) (sym at);
           };
-          turn = Passes (inl (subst (λ (o : NetNode). IsQuiet n o.view next.event) (sym at)
-              (spared_quiet n next.event (all_among (Spares n) next.event w.stream all next.among))))
-              (one_more k ∙ ap passed (sym at));
+          turn = spared_turn n v next.event (at_fresh (suc k)) (ap (λ (o : NetNode). o.view) at)
+              (all_among (Spares n) next.event w.stream all next.among) (one_more k ∙ ap passed (sym at));
         }) (sym (λ i. record w { nodes = set_twice n (at_fresh k) (at_fresh (suc k)) w.nodes i })));
         is = refl;
       },

@@ -9,10 +9,10 @@ use Rattle.node_rows.specs.declared.body.Body.TheVariants.{Sync}
 use Rattle.node_rows.specs.declared.rows.Subscription.{Subscription}
 use Rattle.net_laws.specs.Subscriptions.{Sync as Syncs, Enable, Unrelated, Subscription as Row}
 use Rattle.net_laws.specs.Subscriptions.{row, up_to}
-use Rattle.net_laws.specs.Laws.{CanServe, InLog, IsAwaited}
-use Rattle.net_laws.specs.Net.{IsNext, Logs, Net, configured, member}
+use Rattle.net_laws.specs.Laws.{CanServe, IsAwaited}
+use Rattle.net_laws.specs.Net.{IsNext, Logs, Net, configured}
 use Rattle.net_laws.specs.Sound.{Sound}
-use Rattle.net_laws.proofs.Laws.{copy_finds, logs_hold, view_has_row}
+use Rattle.net_laws.proofs.Laws.{copy_finds, provider_logs, view_has_row}
 use Rattle.slon_model.specs.Names.{find_named}
 use Rattle.slon_model.specs.Events.{Event, is_sync}
 use Rattle.slon_model.specs.Config.{forwards}
@@ -188,37 +188,31 @@ providers_have set t s k e p l ahead = elim (cases_eq p.node.id x.id) [
     provider = ap (λ (r : Subscription). r.provider) (one_found (plain v.row) p.row (sym v.known ∙ p.has)) ∙ p.own
 
     by_net : p.node.id ≢ x.id → IsAmong l (logged p.node)
-    by_net other = by (logs_hold n (stood_sound s) o.id (count_of e.taken) (record {
-      next = next;
-      view = count_of k.view.seen;
-      keeps = v.viewed;
-      row = v.row;
-      has = v.has;
-      reached =
-          inr (let reached = m.reached in let here = v.matches.reached in let applied = p.applied in
-          let next = p.next in let at = ap (λ i. (n.nodes i).progress) provider in
-          omega (arith, reached, here, applied, next, at));
-      may = record {
-        other = λ same. v.other (same ∙ s.netted.origin.origin);
-        keeps = ap (λ i. (n.nodes i).gave_up) provider ∙ m.whole.keeps;
-        known = ap (λ i. member o.id (n.nodes i).barred) provider ∙ ap (member o.id) m.whole.bars;
-      };
-    }) moment.0 (record {
-      from =
-          unseen_moment (order_in s.ended) (length s.ended) k.view.seen l.action.xid moment.0 v.kept.seen
-          (moment.1, ahead.unseen);
-      to = moment.2;
-    }))
+    by_net other =
+        m.logs l moment.0
+        (record { among = ahead.among; of = ahead.of; own = ahead.own; ended = moment.1 })
+        (subst (λ i. Logs (n.nodes i).log moment.0) provider
+        (provider_logs n (stood_sound s) o.id (count_of e.taken) (record {
+          next = next;
+          view = count_of k.view.seen;
+          keeps = v.viewed;
+          row = v.row;
+          has = v.has;
+          other = λ same. other (sym provider ∙ same ∙ s.netted.origin.origin);
+          far =
+              let reached = m.reached in let here = v.matches.reached in let applied = p.applied in
+              let next = p.next in let at = ap (λ i. (n.nodes i).progress) provider in
+              omega (arith, reached, here, applied, next, at);
+          stays = ap (λ i. (n.nodes i).gave_up) provider ∙ m.whole.keeps;
+        }) moment.0 (record {
+          from =
+              unseen_moment (order_in s.ended) (length s.ended) k.view.seen l.action.xid moment.0 v.kept.seen
+              (moment.1, ahead.unseen);
+          to = moment.2;
+        })))
       where
         m : MatchesNode set (order_in s.ended) (length s.ended) x p.node (n.nodes p.node.id)
         m = s.netted.nodes p.name p.node p.is other
-
-        by : InLog n v.row.provider moment.0 → IsAmong l (logged p.node)
-        by (inl same, low) = absurd (other (sym provider ∙ same ∙ s.netted.origin.origin))
-        by (inr logs, low) =
-            m.logs l moment.0
-            (record { among = ahead.among; of = ahead.of; own = ahead.own; ended = moment.1 })
-            (subst (λ i. Logs (n.nodes i).log moment.0) provider logs)
 
 -- ---- what is found for a copy
 

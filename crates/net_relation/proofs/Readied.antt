@@ -6,6 +6,7 @@ use Rattle.std.proofs.lemmas.Bool.{eqb-true, eq-eqb, false_from_ne_true, true≢
 use Rattle.std.proofs.lemmas.List.{length-append}
 use Rattle.node_rows.specs.declared.body.Body.{Body}
 use Rattle.node_rows.specs.declared.body.Body.TheVariants.{EnableSubscription, SubscribeSet, UnsubscribeSet}
+use Rattle.node_rows.specs.declared.body.Body.TheVariants.{DropSet as EndsSet}
 use Rattle.net_laws.specs.Subscriptions.{DropSet, Enable, Event as Said, Subscribe, Subscription as Row, Unrelated}
 use Rattle.net_laws.specs.Subscriptions.{Unsubscribe, enabled, last_moment, readied, row, subscribed, up_to}
 use Rattle.net_laws.specs.Sound.{IsExpected}
@@ -115,6 +116,11 @@ said_tame set r k (UnsubscribeSet id receiver) stays = by (id == set) stays
     by true other =
         false_from_ne_true (r == receiver) (λ same. true≢false (sym (eq-eqb receiver r
         (sym (eqb-true r receiver same))) ∙ other))
+    by false other = tt
+said_tame set r k (EndsSet id) stays = by (id == set) stays
+  where
+    by : (b : Bool) → b ≡ false → Tame r (cond b DropSet Unrelated)
+    by true never = absurd (true≢false never)
     by false other = tt
 said_tame set r k others stays = tt
 

@@ -7,7 +7,7 @@ use Rattle.std.specs.List.{AllByRecursion}
 use Rattle.std.specs.Str.{bytes_eq}
 use Rattle.std.proofs.lemmas.List.{map-append}
 use Rattle.net_laws.specs.Subscriptions.{up_to, row}
-use Rattle.net_laws.specs.Net.{Net, Node as NetNode, Here, Leads, Logs}
+use Rattle.net_laws.specs.Net.{Net, Node as NetNode, Here, Leads, Logs, member}
 use Rattle.net_laws.specs.Sound.{Sound}
 use Rattle.net_laws.proofs.Laws.{logs_are_committed}
 use Rattle.slon_model.specs.Events.{Event}
@@ -209,7 +209,8 @@ pub record NodeLater {set : ℕ} {ended : List ℕ} {all : Nodes} {p : Place} {x
     (name : List ℕ) (o : Node) : Type 0 where
   pub nodes : ℕ → NetNode
   pub leads : Leads n.net (record n.net { nodes = nodes })
-  -- the others are as they were
+  -- the others are as they were, and so is the origin
+  pub leader : nodes x.id ≡ n.net.nodes x.id
   pub rest : (k : List ℕ) (m : Node) → all k ≡ Some m → bytes_eq k name ≡ false → nodes m.id ≡ n.net.nodes m.id
   pub others : (id : ℕ) → id ≢ o.id → nodes id ≡ n.net.nodes id
   pub is : o.id ≢ x.id → MatchesNode set (order_in ended) (length ended) x o (nodes o.id)
@@ -227,6 +228,7 @@ node_later {set} {ended} {all} {p} {x} n name o was l = record {
     now = n.origin.now;
     full = n.origin.full;
     rows = n.origin.rows;
+    bars = λ id barred. n.origin.bars id (ap (λ (d : NetNode). member id d.barred) (sym l.leader) ∙ barred);
   };
   now = n.now;
   events = n.events;
@@ -259,6 +261,7 @@ still n name o is =
     record {
       nodes = n.net.nodes;
       leads = Here;
+      leader = refl;
       rest = λ k m there other. refl;
       others = λ id other. refl;
       is = is;

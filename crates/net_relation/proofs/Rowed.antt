@@ -5,7 +5,9 @@ use Rattle.std.specs.Prelude.{◌==◌, ◌&&◌, ◌||◌, ◌+◌}
 use Rattle.std.proofs.lemmas.Bool.{and_from, and_parts, eq-eqb, eqb-true, false≢true, not-true, or_cases}
 use Rattle.std.proofs.lemmas.Bool.{true≢false}
 use Rattle.node_rows.specs.declared.body.Body.{Body}
-use Rattle.node_rows.specs.declared.body.Body.TheVariants.{Sync, SubscribeSet, EnableSubscription, UnsubscribeSet}
+use Rattle.node_rows.specs.declared.body.Body.TheVariants.{Sync, DropSet, SubscribeSet, EnableSubscription}
+use Rattle.node_rows.specs.declared.body.Body.TheVariants.{UnsubscribeSet}
+use Rattle.net_laws.specs.Subscriptions.{DropSet as Ends}
 use Rattle.net_laws.specs.Subscriptions.{Enable, Subscribe, Unrelated, Unsubscribe, Event as Said}
 use Rattle.net_laws.specs.Subscriptions.{Subscription as Row}
 use Rattle.net_laws.specs.Subscriptions.{enabled, last_moment, row, subscribed}
@@ -15,6 +17,7 @@ use Rattle.slon_model.specs.Config.{is_origin}
 use Rattle.slon_model.specs.Deeds.{knowledge, stream}
 use Rattle.slon_model.specs.Sessions.{Seat}
 use Rattle.stream_laws.specs.Nodes.{IsAmong, nodes_in}
+use Rattle.stream_laws.proofs.Copies.{origin_row}
 use Rattle.stream_laws.proofs.Seats.{IsSeat, seat_node}
 use Rattle.stream_laws.proofs.Streams.{one_node}
 use Rattle.view_laws.specs.Known.{HasFeed, is_fed, is_on_feed, leaves}
@@ -72,6 +75,11 @@ some_stays set r k (UnsubscribeSet id receiver) z stays had = by (id == set) ref
 
     by : (b : Bool) → (id == set) ≡ b → is_some (row unfed r (cond b (Unsubscribe receiver) Unrelated ∷ z)) ≡ true
     by true own = at (r == receiver) refl own
+    by false other = had
+some_stays set r k (DropSet id) z stays had = by (id == set) refl
+  where
+    by : (b : Bool) → (id == set) ≡ b → is_some (row unfed r (cond b Ends Unrelated ∷ z)) ≡ true
+    by true own = absurd (true≢false (sym own ∙ stays))
     by false other = had
 some_stays set r k Sync z stays had = had
 some_stays set r k others z stays had = had
@@ -134,8 +142,11 @@ tells_of t s is set r leads had = record {
   event = fed.event;
   among =
       subst (λ n. IsAmong fed.event (stream n)) (one_node (nodes_in t.world.places) (regular_now t).nodes
-      fed.is.name s.name fed.is.node s.node fed.is.is
-      (own, sym (feeder_is t fed.event fed.is set fed.feeds s is leads))) fed.is.among;
+      fed.is.name s.name fed.is.node s.node fed.is.is (
+        own,
+        sym (feeder_is t fed.event fed.is set fed.feeds s is
+            (origin_row s.node.id set (knowledge s.node).config leads)),
+      )) fed.is.among;
   on = fed.on;
 }
   where

@@ -8,7 +8,7 @@ use Rattle.node_rows.specs.declared.body.Body.TheVariants.{SubscribeSet, EnableS
 use Rattle.node_rows.specs.declared.body.Body.TheVariants.{MoveSet, FailoverSet}
 use Rattle.node_rows.specs.declared.rows.Subscription.{Subscription}
 use Rattle.net_laws.specs.Subscriptions.{Event as Said, Subscribe, Enable, Unsubscribe, Unrelated, Subscription as Row}
-use Rattle.net_laws.specs.Subscriptions.{last_moment}
+use Rattle.net_laws.specs.Subscriptions.{last_moment, DropSet as Ends}
 use Rattle.net_laws.specs.Subscriptions.{changed, enabled as enabled_row, readied, row, subscribed}
 use Rattle.slon_model.specs.Maps.{Map2, pair_at}
 use Rattle.slon_model.specs.Events.{Event}
@@ -17,7 +17,7 @@ use Rattle.slon_model.proofs.Names.{one_found}
 use Rattle.stream_laws.specs.Making.{is_emitted}
 use Rattle.net_relation.specs.Reading.{said, said_by, unfed, plain}
 use Rattle.net_relation.specs.Matching.{HasRow}
-use Rattle.view_laws.proofs.Fed.{pair-with, pair-without}
+use Rattle.view_laws.proofs.Fed.{row-without, pair-with, pair-without}
 use Rattle.view_laws.proofs.Lasting.{both_same}
 
 -- ---- pairs
@@ -114,7 +114,14 @@ row_changed set r z e c may number old u is =
             ap (λ b. cond (b && r == n) (marked (pair_at id n c.subscriptions)) (pair_at set r c.subscriptions))
             (same_test id set false other)
             ∙ old u is
-    by (DropSet id) may is = absurd (false≢true may)
+    by (DropSet id) may is = row-without set r id c.subscriptions ∙ at (id == set) refl is
+      where
+        at : (a : Bool) → (id == set) ≡ a →
+            changed r k (last_moment z) (cond a Ends Unrelated) (row unfed r z) ≡ Some u →
+            cond (set == id) None (pair_at set r c.subscriptions) ≡ Some (plain u)
+        at true same none = absurd cc
+        at false other is =
+            ap (λ b. cond b None (pair_at set r c.subscriptions)) (same_test id set false other) ∙ old u is
     by (UnsubscribeSet id n) may is = pair-without set r id n c.subscriptions ∙ at (id == set) refl is
       where
         here : (b : Bool) → cond b None (row unfed r z) ≡ Some u →
@@ -142,6 +149,7 @@ abbrev pub IsBeside : ℕ → ℕ → Body → Type 0
 IsBeside set r (SubscribeSet id p n f) = id ≡ set → n ≡ r → ⊥
 IsBeside set r (EnableSubscription id p n f era) = id ≡ set → n ≡ r → ⊥
 IsBeside set r (UnsubscribeSet id n) = id ≡ set → n ≡ r → ⊥
+IsBeside set r (DropSet id) = id ≡ set → ⊥
 IsBeside set r others = Unit {0}
 
 beside_test : (set r id n : ℕ) → (id ≡ set → n ≡ r → ⊥) → (set == id && r == n) ≡ false
@@ -167,7 +175,10 @@ row_beside set r e c u may apart is = by e.body may apart
       where
         marked : Option Subscription
         marked = option_map (λ (s : Subscription). record s { mark = e.number }) (pair_at id n c.subscriptions)
-    by (DropSet id) may apart = absurd (false≢true may)
+    by (DropSet id) may apart =
+        row-without set r id c.subscriptions
+        ∙ ap (λ b. cond b None (pair_at set r c.subscriptions))
+        (false_from_ne_true (set == id) (λ same. apart (sym (eqb-true set id same)))) ∙ is
     by (UnsubscribeSet id n) may apart =
         pair-without set r id n c.subscriptions
         ∙ ap (λ b. cond b None (pair_at set r c.subscriptions)) (beside_test set r id n apart) ∙ is

@@ -4,7 +4,7 @@ use Rattle.std.proofs.Common.{None, refl, sym, ap, subst, ◌∙◌, arith}
 use Rattle.std.specs.Prelude.{option_map}
 use Rattle.std.specs.List.{AllByRecursion}
 use Rattle.std.specs.Str.{bytes_eq}
-use Rattle.std.proofs.lemmas.Bool.{true≢false}
+use Rattle.std.proofs.lemmas.Bool.{cases_eq, true≢false}
 use Rattle.std.proofs.lemmas.List.{length-map}
 use Rattle.net_laws.specs.Subscriptions.{row, up_to}
 use Rattle.slon_model.specs.Names.{find_named}
@@ -17,13 +17,15 @@ use Rattle.slon_model.proofs.Names.{bytes_itself, one_found}
 use Rattle.stream_laws.specs.Nodes.{IsAmong, nodes_in, node_in}
 use Rattle.stream_laws.proofs.Growing.{placed}
 use Rattle.stream_laws.proofs.Lists.{number_here}
+use Rattle.stream_laws.proofs.Streams.{one_node}
 use Rattle.image_laws.specs.Moments.{IsOrder, IsTaken, count_of}
 use Rattle.image_laws.proofs.Orders.{order_in, order_is}
 use Rattle.view_laws.specs.Past.{Moment, Past, WasBefore, WasUpTo, past}
 use Rattle.view_laws.proofs.Moments.{now_stays, regular_now, sound_now}
-use Rattle.net_relation.specs.Reading.{moment_of, read, said, unfed}
-use Rattle.net_relation.specs.Matching.{MatchesNode}
+use Rattle.net_relation.specs.Reading.{first_net, moment_of, read, said, unfed}
+use Rattle.net_relation.specs.Matching.{BarsExactly, BarsNoOther, MatchesNode}
 use Rattle.net_relation.specs.Laws.{SessionsHaveNets}
+use Rattle.net_relation.proofs.Barring.{all_barred, all_exactly, all_leads, barred_fits, pairs_in}
 use Rattle.net_relation.proofs.Beginning.{Joining, giver_none, giver_other, join_free, joined_later, joined_none}
 use Rattle.net_relation.proofs.Beginning.{joined_spared, new_net}
 use Rattle.net_relation.proofs.Behind.{holds_along}
@@ -32,9 +34,10 @@ use Rattle.net_relation.proofs.Emitting.{next_number}
 use Rattle.net_relation.proofs.Going.{NetAt, went_net}
 use Rattle.net_relation.proofs.Links.{Join, giver, joined, joins, stores}
 use Rattle.net_relation.proofs.Moments.{count_is, taken_now}
-use Rattle.net_relation.proofs.Nets.{Spares}
+use Rattle.net_relation.proofs.Nets.{Spares, leads_on}
 use Rattle.net_relation.proofs.Places.{Born, Shut, Went, shut_ticks}
-use Rattle.net_relation.proofs.Relating.{Netted, Origin, node_behind, node_later, nodes_of, nodes_same, nodes_with}
+use Rattle.net_relation.proofs.Relating.{Netted, Origin, frame, node_behind, node_later, nodes_of, nodes_same}
+use Rattle.net_relation.proofs.Relating.{nodes_with}
 use Rattle.net_relation.proofs.Relating.{origin_placed}
 use Rattle.net_relation.proofs.Stepping.{Does, Goes, Gone, Here, IsPut, Joins, Looks, Makes, Shuts, Stays, There}
 use Rattle.net_relation.proofs.Stepping.{is_put}
@@ -118,7 +121,13 @@ stored_joining set t j s =
     both : (progress s.leader.id (knowledge (giver j)) ≤ length (read set (stream s.leader)))
         × AllByRecursion (Spares j.new.id) (read set (stream s.leader)) →
         Joining set s.ended t j (nodes_of (stores_look j)) s.place s.leader
-    both is = record { netted = s.netted; free = stored_free t j; far = is.0; spares = is.1 }
+    both is = record {
+      netted = s.netted;
+      free = stored_free t j;
+      other = stored_free t j s.name s.leader (ap node_in s.found ∙ s.at);
+      far = is.0;
+      spares = is.1;
+    }
 
     by : IsPut j.seat.name (committing (stores j) j.seat.place) (look t.world) s.name s.place →
         Joining set s.ended t j (nodes_of (stores_look j)) s.place s.leader
@@ -303,15 +312,25 @@ sessions_have_nets limit history w leads name p found x at set = record {
   is = subst (IsOrder (order_in o.ended)) many (order_is o.ended o.clock.apart);
   now = subst (λ now. IsTaken (order_in o.ended) now (taken p)) many
       (taken_now p o.ended (sound_now (past limit history w leads) name p found) o.clock);
-  net = n.net;
-  leads = n.leads;
+  net = record n.net { nodes = all_barred dropped n.net.nodes };
+  leads = leads_on (first_net x.id) n.net _ n.leads (all_leads dropped n.net);
   matches = record {
-    origin = n.origin;
+    origin = record {
+      origin = n.origin.origin;
+      start = n.origin.start;
+      stream = n.origin.stream;
+      now = n.origin.now;
+      full = n.origin.full;
+      rows = n.origin.rows;
+      bars = no_other x (exactly name x (ap node_in found ∙ at) n.origin.bars);
+    };
     events =
         subst (λ now. AllByRecursion (λ e. IsTaken (order_in o.ended) now e.taken) (stream x)) (sym n.now) n.events;
     nodes = λ k i is other.
-        subst (λ now. MatchesNode set (order_in o.ended) now x i (n.net.nodes i.id)) (sym n.now)
-        (n.nodes k i is other);
+        subst (λ now. MatchesNode set (order_in o.ended) now x i (all_barred dropped n.net.nodes i.id)) (sym n.now)
+        (barred_fits (frame set o.ended x) i (n.net.nodes i.id) _ (n.nodes k i is other)
+        (no_other i (exactly k i is (n.nodes k i is other).whole.bars)));
+    bars = λ k i is. exactly k i is (bars_no_other k i is);
   };
 }
   where
@@ -326,3 +345,26 @@ sessions_have_nets limit history w leads name p found x at set = record {
 
     many : length o.ended ≡ count_of (taken p)
     many = sym (count_is p o.ended o.clock)
+
+    -- all that the nodes have as dropped
+    dropped : List (ℕ × ℕ)
+    dropped = pairs_in w.places
+
+    exactly : (k : List ℕ) (i : Node) → nodes_in w.places k ≡ Some i →
+        BarsNoOther (knowledge i).config (n.net.nodes i.id) →
+        BarsExactly (knowledge i).config (all_barred dropped n.net.nodes i.id)
+    exactly k i is =
+        all_exactly w.places (regular_now t).once (regular_now t).nodes n.net.nodes k i is
+
+    no_other : (i : Node) → BarsExactly (knowledge i).config (all_barred dropped n.net.nodes i.id) →
+        BarsNoOther (knowledge i).config (all_barred dropped n.net.nodes i.id)
+    no_other i is id barred = sym (is id) ∙ barred
+
+    bars_no_other : (k : List ℕ) (i : Node) → nodes_in w.places k ≡ Some i →
+        BarsNoOther (knowledge i).config (n.net.nodes i.id)
+    bars_no_other k i is = elim (cases_eq i.id x.id) [
+      | inl same ↦ subst (λ (m : Node). BarsNoOther (knowledge m).config (n.net.nodes m.id))
+          (one_node (nodes_in w.places) (regular_now t).nodes name k x i (ap node_in found ∙ at) (is, sym same))
+          n.origin.bars
+      | inr other ↦ (n.nodes k i is other).whole.bars
+    ]

@@ -6,11 +6,16 @@ use Rattle.std.proofs.lemmas.Bool.{and_from, eq-eqb, false≢true}
 use Rattle.node_rows.specs.declared.rows.Subscription.{Subscription}
 use Rattle.node_rows.specs.declared.body.Body.{Body}
 use Rattle.node_rows.specs.declared.body.Body.TheVariants.{Sync, SubscribeSet, UnsubscribeSet}
+use Rattle.node_rows.specs.declared.body.Body.TheVariants.{DropSet as EndsSet}
+use Rattle.net_laws.specs.Net.{Ends}
+use Rattle.net_laws.specs.Subscriptions.{DropSet}
+use Rattle.net_relation.proofs.Beside.{copy_stays}
+use Rattle.std.proofs.lemmas.Bool.{eqb-true}
 use Rattle.net_laws.specs.Subscriptions.{Subscribe, Unsubscribe, Unrelated}
 use Rattle.net_laws.specs.Subscriptions.{Subscription as Row}
 use Rattle.net_laws.specs.Net.{IsQuiet}
 use Rattle.net_laws.specs.Net.{Leaves, left}
-use Rattle.net_laws.specs.Net.{Passes, Turn, configured, passed}
+use Rattle.net_laws.specs.Net.{Passes, configured, passed}
 use Rattle.net_laws.specs.Net.{Turns as TurnsTurn, turned_by}
 use Rattle.net_laws.proofs.Laws.{view_has_row}
 use Rattle.slon_model.specs.Maps.{entry_at}
@@ -38,7 +43,8 @@ use Rattle.net_relation.proofs.Coming.{node_of}
 use Rattle.net_relation.proofs.Relating.{NodeLater, netted_sound}
 use Rattle.net_relation.proofs.Views.{Copied, Followed, Keeps, Left as LeftView, Turned as TurnedView, ViewTaken}
 use Rattle.net_relation.proofs.Views.{behind, view_taken}
-use Rattle.net_relation.proofs.Applying.{Concerns, IsOfOthers, TellsEnd, TellsHow, TellsOthers, Turned, concerned}
+use Rattle.net_relation.proofs.Applying.{Concerns, IsOfOthers, TellsDrop, TellsEnd, TellsHow, TellsOthers, Turned}
+use Rattle.net_relation.proofs.Applying.{concerned}
 use Rattle.net_relation.proofs.Applying.{copy_turned, moment_own, pass_turned, sync_turned, turned_later}
 
 -- ---- the node's own subscription
@@ -188,27 +194,23 @@ telling_later set t c k = by (view_of set (knowledge (worker c.work))) refl
 -- ---- the node gives the set up
 
 -- nothing comes with an event by which it does
-ending_none : (set : ℕ) (t : Past) (c : Coming set t) → (event_of c).body ≡ UnsubscribeSet set (worker c.work).id →
+ending_none : (set : ℕ) (t : Past) (c : Coming set t) → leaves set (worker c.work).id (event_of c).body ≡ true →
     c.work.carried.brought ≡ nothing_brought
-ending_none set t c body = by c.work.is.brings
+ending_none set t c left = by c.work.is.brings
   where
-    own : Body
-    own = UnsubscribeSet set (worker c.work).id
-
     by : IsBrought t c.work.carried.seat (event_of c) c.work.carried.brought →
         c.work.carried.brought ≡ nothing_brought
     by (Nothing n) = n.none
     by (Copies y) =
-        let enables = copy_asks y.at.to.world y.at.seat (event_of c) y.found y.copy in
-        absurd (false≢true (ap (enables_of y.copy.copying.set_id y.at.seat.node.id) (sym body) ∙ enables))
-    by (Brings y) =
-        let never : own ≡ Sync = sym body ∙ y.follows.body in absurd cc
+        absurd (false≢true (sym (copy_stays set y.copy.copying.set_id y.at.seat.node.id (worker c.work).id
+        (event_of c).body (copy_asks y.at.to.world y.at.seat (event_of c) y.found y.copy)) ∙ left))
+    by (Brings y) = absurd (false≢true (ap (leaves set (worker c.work).id) (sym y.follows.body) ∙ left))
 
-ending_later : (set : ℕ) (t : Past) (c : Coming set t) → (event_of c).body ≡ UnsubscribeSet set (worker c.work).id →
-    Turned set t c
-ending_later set t c body = record {
+ending_later : (set : ℕ) (t : Past) (c : Coming set t) → leaves set (worker c.work).id (event_of c).body ≡ true →
+    Ends (worker c.work).id (said set (event_of c)) → Turned set t c
+ending_later set t c gone ends = record {
   node = left (node_of c);
-  turn = subst (λ e. Turn c.work.netted.net o.id e (left (node_of c))) (sym says) (Leaves refl refl);
+  turn = Leaves ends refl;
   far = refl;
   view = sym (ap (moment_of c.work.leader.id) none);
   kept = λ v found own. let never : None ≡ Some v = sym none ∙ found in absurd cc;
@@ -223,18 +225,33 @@ ending_later set t c body = record {
     old : Before c.work
     old = worker_before c.work
 
-    says : said set (event_of c) ≡ Unsubscribe o.id
-    says =
-        ap (said_by set (event_of c).taken) body
-        ∙ ap (λ b. cond b (Unsubscribe o.id) Unrelated) (eq-eqb set set refl)
-
     none : view_of set (knowledge (behind c.work.carried)) ≡ None
     none =
         ap (λ (b : Brought). entry_at set (with_views b.views
-        (views_told o.id (event_of c).body (knowledge o).config (knowledge o).views))) (ending_none set t c body)
-        ∙ gone_told o.id set (event_of c).body (knowledge o).config (knowledge o).views
-        (ap (leaves set o.id) body
-        ∙ and_from (set == set) (o.id == o.id) (eq-eqb set set refl) (eq-eqb o.id o.id refl))
+        (views_told o.id (event_of c).body (knowledge o).config (knowledge o).views))) (ending_none set t c gone)
+        ∙ gone_told o.id set (event_of c).body (knowledge o).config (knowledge o).views gone
+
+-- by the end of its subscription
+left_later : (set : ℕ) (t : Past) (c : Coming set t) → (event_of c).body ≡ UnsubscribeSet set (worker c.work).id →
+    Turned set t c
+left_later set t c body =
+    ending_later set t c (ap (leaves set o) body
+    ∙ and_from (set == set) (o == o) (eq-eqb set set refl) (eq-eqb o o refl))
+    (subst (Ends o) (sym (ap (said_by set (event_of c).taken) body
+    ∙ ap (λ b. cond b (Unsubscribe o) Unrelated) (eq-eqb set set refl))) refl)
+  where
+    o : ℕ
+    o = (worker c.work).id
+
+-- or by that of the set
+dropped_later : (set : ℕ) (t : Past) (c : Coming set t) → (event_of c).body ≡ EndsSet set → Turned set t c
+dropped_later set t c body =
+    ending_later set t c (ap (leaves set o) body ∙ eq-eqb set set refl)
+    (subst (Ends o) (sym (ap (said_by set (event_of c).taken) body
+    ∙ ap (λ b. cond b DropSet Unrelated) (eq-eqb set set refl))) tt)
+  where
+    o : ℕ
+    o = (worker c.work).id
 
 -- ---- every event of the stream
 
@@ -251,6 +268,7 @@ coming_later set t c = turned_later set t c (told (concerned set (worker c.work)
     no_end : (body : Body) → IsOfOthers set (worker c.work).id body → leaves set (worker c.work).id body ≡ true → ⊥
     no_end (UnsubscribeSet id receiver) others left =
         let same = both_same id set receiver (worker c.work).id left in others same.0 same.1
+    no_end (EndsSet id) others left = others (eqb-true id set left)
     no_end others of left = absurd (false≢true left)
 
     by : IsOfOthers set (worker c.work).id (event_of c).body → ViewTaken t c.work.carried set → Turned set t c
@@ -265,5 +283,6 @@ coming_later set t c = turned_later set t c (told (concerned set (worker c.work)
     told : Concerns set (worker c.work).id (event_of c).body → Turned set t c
     told (TellsHow provider forward is) =
         telling_later set t c (record { provider = provider; forward = forward; body = is })
-    told (TellsEnd is) = ending_later set t c is
+    told (TellsEnd is) = left_later set t c is
+    told (TellsDrop is) = dropped_later set t c is
     told (TellsOthers others) = by others (view_taken t c.work.carried c.work.origin c.work.is set)

@@ -1,11 +1,11 @@
 -- Each set of each node of a session has a net, which goes on with every command.
-use Rattle.std.proofs.Common.{◌≡◌, ◌≢◌, ◌⊎◌, inl, inr, ℕ, false, List, [], ◌∷◌, length}
+use Rattle.std.proofs.Common.{◌≡◌, ◌≢◌, ◌⊎◌, inl, inr, ℕ, true, false, List, [], ◌∷◌, length}
 use Rattle.std.proofs.Common.{Some, None, refl, sym, ap, subst, ◌∙◌}
 use Rattle.std.specs.List.{AllByRecursion}
 use Rattle.std.specs.Str.{bytes_eq}
 use Rattle.std.proofs.lemmas.Bool.{cases_eq, true≢false}
 use Rattle.net_laws.specs.Subscriptions.{Subscription as Row, row}
-use Rattle.net_laws.specs.Net.{Here as HereNet}
+use Rattle.net_laws.specs.Net.{Here as HereNet, member}
 use Rattle.net_laws.proofs.Prefixes.{up_to_whole}
 use Rattle.slon_model.specs.Names.{find_named}
 use Rattle.slon_model.specs.Events.{Event}
@@ -17,9 +17,11 @@ use Rattle.slon_model.specs.Reaching.{commit_of}
 use Rattle.slon_model.specs.Sessions.{Commit, committing}
 use Rattle.slon_model.proofs.Names.{bytes_itself, one_found}
 use Rattle.stream_laws.specs.Nodes.{IsAmong, Nodes, nodes_in, node_in}
+use Rattle.stream_laws.specs.Making.{is_emitted}
 use Rattle.stream_laws.proofs.Growing.{placed}
 use Rattle.stream_laws.proofs.Lists.{all_among}
 use Rattle.stream_laws.proofs.Seats.{seat_node}
+use Rattle.stream_laws.proofs.Statements.{has_stored}
 use Rattle.image_laws.specs.Moments.{IsTaken, count_of}
 use Rattle.image_laws.proofs.Orders.{order_in}
 use Rattle.image_laws.proofs.Ticking.{ClockAt}
@@ -29,17 +31,18 @@ use Rattle.view_laws.proofs.Moments.{regular_now, sound_now}
 use Rattle.view_laws.proofs.Owned.{brought_own}
 use Rattle.view_laws.proofs.Saying.{may_emitted}
 use Rattle.net_relation.specs.Reading.{read, unfed}
-use Rattle.net_relation.specs.Matching.{HasRow, MatchesNode}
+use Rattle.net_relation.specs.Matching.{HasDropped, HasRow, MatchesNode}
 use Rattle.net_relation.proofs.Telling.{coming_later}
 use Rattle.net_relation.proofs.Beginning.{new_net}
 use Rattle.net_relation.proofs.Behind.{begun_node, heard_node, taken_node, told_logs, told_node}
 use Rattle.net_relation.proofs.Beside.{Work, beside_matches, other_row, row_stored}
+use Rattle.net_relation.proofs.Dropped.{dropped_stays}
 use Rattle.net_relation.proofs.Earlier.{IsOwn, WasThen, then_still}
 use Rattle.net_relation.proofs.Emitting.{next_number, told_matches, told_net}
 use Rattle.net_relation.proofs.Feeding.{left_feed}
 use Rattle.net_relation.proofs.Going.{NetAt, among_either}
-use Rattle.net_relation.proofs.Leading.{Known, feeds_at}
-use Rattle.net_relation.proofs.Links.{Begins, HearsSome, Linked, TakesOne, Telling, Tells}
+use Rattle.net_relation.proofs.Leading.{Known, feeds_at, one_storer}
+use Rattle.net_relation.proofs.Links.{Begins, CanLeave, HearsSome, Linked, TakesOne, Telling, Tells}
 use Rattle.net_relation.proofs.Relating.{Netted, NodeLater, Origin, frame, node_later, nodes_of, nodes_with}
 use Rattle.net_relation.proofs.Relating.{origin_later, origin_placed, still}
 use Rattle.net_relation.proofs.Rows.{row_beside}
@@ -63,6 +66,7 @@ retaken n same = record {
     now = n.origin.now ∙ sym same;
     full = n.origin.full;
     rows = n.origin.rows;
+    bars = n.origin.bars;
   };
   now = n.now;
   events = n.events;
@@ -82,8 +86,9 @@ leader_stays : {set : ℕ} {ended : List ℕ} {all : Nodes} {p : Place} {x : Nod
     (count_of (taken q) ≡ count_of (taken p)) →
     ((l : Logged) → IsAmong l (logged y) → l.origin ≡ y.id → IsAmong l (logged x)) →
     ((r : ℕ) (u : Row) → HasRow set r u (knowledge x).config → row unfed r (read set (stream x)) ≡ Some u →
-    HasRow set r u (knowledge y).config) → Netted set ended all q y
-leader_stays {set} {ended} {all} {p} {x} n q y clock same logs rows =
+    HasRow set r u (knowledge y).config) →
+    ((id : ℕ) → HasDropped id (knowledge x).config → HasDropped id (knowledge y).config) → Netted set ended all q y
+leader_stays {set} {ended} {all} {p} {x} n q y clock same logs rows drops =
     origin_later n [] q y (record {
       id = same.0;
       new = [];
@@ -103,6 +108,8 @@ leader_stays {set} {ended} {all} {p} {x} n q y clock same logs rows =
         rows = λ r u has.
             rows r u (n.origin.rows r u has)
             (sym (ap (λ s. row s r n.net.stream) n.origin.start ∙ ap (row unfed r) n.origin.stream) ∙ has);
+        bars = λ id barred.
+            drops id (n.origin.bars id (sym (ap (λ i. member id (n.net.nodes i).barred) same.0) ∙ barred));
       };
       now = n.now;
       events = subst (AllByRecursion (λ e. IsTaken (order_in ended) (length ended) e.taken))
@@ -139,17 +146,20 @@ taken_leader : (set : ℕ) (ended : List ℕ) (t : Past) (c : Commit) (p : Place
 taken_leader set ended t c p l d =
     leader_stays (l.netted x (ap (λ (q : Place). q.node) (sym d.at) ∙ d.is.work.seat.node)) (committing c p)
     (behind d.carried) l.clock (refl, refl, refl) (taken_own t d)
-    (λ r u has stands. row_beside set r e (knowledge x).config u
-    (may_emitted e.origin e.body (knowledge x).config d.is.work.may)
+    (λ r u has stands. row_beside set r e (knowledge x).config u emitted
     (other_row t d.carried d.is known d.is.work.other set r
     (row_stored t known set r (length (read set (stream x))) u
     (ap (row unfed r) (up_to_whole (read set (stream x))) ∙ stands))) has)
+    (λ id was. dropped_stays id (e.origin, e.number) e.body (knowledge x).config emitted was)
   where
     x : Node
     x = d.carried.seat.node
 
     e : Event
     e = d.carried.event
+
+    emitted : is_emitted e.body ≡ true
+    emitted = may_emitted e.origin e.body (knowledge x).config d.is.work.may
 
     known : Known t
     known =
@@ -161,7 +171,7 @@ heard_leader : (set : ℕ) (ended : List ℕ) (t : Past) (c : Commit) (p : Place
 heard_leader set ended t c p l d =
     leader_stays (l.netted d.seat.node (ap (λ (q : Place). q.node) (sym d.at) ∙ d.is.node)) (committing c p)
     (with_deeds (deed d.seat.place [] [] (HearsOf d.confirms) ∷ []) d.seat.node) l.clock (refl, refl, refl)
-    (λ l among own. among) (λ r u has stands. has)
+    (λ l among own. among) (λ r u has stands. has) (λ id was. was)
 
 -- ---- another node commits
 
@@ -198,12 +208,26 @@ told_follower : (set : ℕ) (t : Past) (c : Commit) (p : Place) (f : Following s
 told_follower set t c p f d =
     still f.netted c.name (with_deeds (commit_of d.seat d.emits).deeds d.seat.node)
     (λ apart. told_matches (frame set f.ended f.leader) d.seat d.emits
-    (f.netted.net.nodes d.seat.node.id) d.may (λ id receiver can. (left_feed t d.seat d.is (feeds_at t d.seat.name
-    d.seat.node (seat_node t.world.places d.seat d.is)) id receiver can).2) apart
-    (follower_matches set t c p f d.seat.node is))
+    (f.netted.net.nodes d.seat.node.id) d.may (
+      leave,
+      λ can rowed. follower_other set t c p f d.seat.node is
+          (one_storer t teller (record { name = f.name; node = f.leader; is = ap node_in f.found ∙ f.at }) set (
+            has_stored (nodes_in t.world.places) (regular_now t).nodes d.seat.name d.seat.node teller.is set can.leads,
+            row_stored t (record { name = f.name; node = f.leader; is = ap node_in f.found ∙ f.at }) set d.seat.node.id
+                (f.netted.net.nodes d.seat.node.id).progress rowed.0 rowed.1,
+          )),
+    ) apart (follower_matches set t c p f d.seat.node is))
   where
     is : p.node ≡ Some d.seat.node
     is = ap (λ (q : Place). q.node) (sym d.at) ∙ d.is.node
+
+    teller : Known t
+    teller =
+        record { name = d.seat.name; node = d.seat.node; is = seat_node t.world.places d.seat d.is }
+
+    leave : (id receiver : ℕ) → CanLeave d.seat.node id receiver → receiver ≢ d.seat.node.id
+    leave id receiver can =
+        (left_feed t d.seat d.is (feeds_at t d.seat.name d.seat.node teller.is) id receiver can).2
 
 taken_follower : (set : ℕ) (t : Past) (c : Commit) (p : Place) (f : Following set t c p) (d : Takes t c p) →
     NodeLater f.netted d.carried.seat.name (behind d.carried)

@@ -1,10 +1,11 @@
 -- How a session and the net of a set are related: the origin of the set, and each other node.
-use Rattle.std.specs.Prelude.{◌≡◌, ◌≢◌, ℕ, false, List, [], Option, Some}
+use Rattle.std.specs.Prelude.{◌≡◌, ◌≢◌, ℕ, true, false, List, Option, Some}
 use Rattle.std.specs.List.{AllByRecursion}
-use Rattle.net_laws.specs.Subscriptions.{Subscription as Row, up_to, row}
-use Rattle.net_laws.specs.Net.{Net, Node as NetNode, Logs, Leads as NetLeads, owned}
-use Rattle.slon_model.specs.Maps.{pair_at}
+use Rattle.net_laws.specs.Subscriptions.{Subscription as Row, is_over, up_to, row}
+use Rattle.net_laws.specs.Net.{Net, Node as NetNode, Logs, Leads as NetLeads, member, owned}
+use Rattle.slon_model.specs.Maps.{entry_at, pair_at}
 use Rattle.slon_model.specs.Config.{Config}
+use Rattle.slon_model.specs.Membership.{is_dropped}
 use Rattle.slon_model.specs.Views.{View}
 use Rattle.slon_model.specs.Deeds.{Node, Logged, knowledge, stream, progress, view_of}
 use Rattle.slon_model.specs.Logs.{logged}
@@ -19,17 +20,33 @@ use Rattle.net_relation.specs.Reading.{read, unfed, plain, first_net, moment_of}
 abbrev pub HasRow : ℕ → ℕ → Row → Config → Type 0
 HasRow set receiver u c = pair_at set receiver c.subscriptions ≡ Some (plain u)
 
+-- ---- nodes that are dropped
+
+-- the configuration has the node as dropped
+abbrev pub HasDropped : ℕ → Config → Type 0
+HasDropped id c = is_dropped (entry_at id c.nodes) ≡ true
+
+-- the node of the net has no other one as dropped
+abbrev pub BarsNoOther : Config → NetNode → Type 0
+BarsNoOther c node = (id : ℕ) → member id node.barred ≡ true → HasDropped id c
+
+-- it has exactly these as dropped
+abbrev pub BarsExactly : Config → NetNode → Type 0
+BarsExactly c node = (id : ℕ) → member id node.barred ≡ is_dropped (entry_at id c.nodes)
+
 -- ---- the origin
 
--- The net has the stream of the origin, and counts its transactions. Each one counts as one of the era.
+-- The net has the stream of the origin, and counts its transactions. Each one counts as one of the era, until the set
+-- ends.
 pub record MatchesOrigin (set : ℕ) (p : Place) (x : Node) (n : Net) : Type 0 where
   pub origin : n.origin ≡ x.id
   pub start : n.start ≡ unfed
   pub stream : n.stream ≡ read set (stream x)
   pub now : n.now ≡ count_of (taken p)
-  pub full : n.full ≡ n.now
+  pub full : is_over n.stream ≡ false → n.full ≡ n.now
   -- the subscriptions of the net are those that the origin has
   pub rows : (r : ℕ) (u : Row) → owned n r ≡ Some u → HasRow set r u (knowledge x).config
+  pub bars : BarsNoOther (knowledge x).config (n.nodes x.id)
 
 -- ---- the other nodes
 
@@ -46,10 +63,10 @@ pub record IsEntry (set : ℕ) (order : ℕ → Option ℕ) (x : Node) (l : Logg
   pub own : l.origin ≡ x.id
   pub ended : order l.action.xid ≡ Some moment
 
--- no node has given a set up so far, has another one as dropped or fenced, or has cleaned its logs
-pub record IsWhole (node : NetNode) : Type 0 where
+-- no node has given a set up so far, or has cleaned its logs, or has others as dropped than its configuration has
+pub record IsWhole (c : Config) (node : NetNode) : Type 0 where
   pub keeps : node.gave_up ≡ false
-  pub bars : node.barred ≡ []
+  pub bars : BarsNoOther c node
   pub has : node.cleaned ≡ 0
 
 -- Node o has made of the stream of x what the node of the net has made of it.
@@ -63,7 +80,7 @@ pub record MatchesNode (set : ℕ) (order : ℕ → Option ℕ) (now : ℕ) (x o
   -- what the net says that it logged is in its log
   pub logs : (l : Logged) (moment : ℕ) → IsEntry set order x l moment → Logs node.log moment →
       IsAmong l (logged o)
-  pub whole : IsWhole node
+  pub whole : IsWhole (knowledge o).config node
 
 -- ---- the whole
 
@@ -73,6 +90,8 @@ pub record Matches (set : ℕ) (order : ℕ → Option ℕ) (all : Nodes) (p : P
   pub events : AllByRecursion (λ e. IsTaken order n.now e.taken) (stream x)
   pub nodes : (name : List ℕ) (o : Node) → all name ≡ Some o → o.id ≢ x.id →
       MatchesNode set order n.now x o (n.nodes o.id)
+  -- each node, the origin too, has exactly those as dropped that its configuration has so
+  pub bars : (name : List ℕ) (o : Node) → all name ≡ Some o → BarsExactly (knowledge o).config (n.nodes o.id)
 
 -- There is a net of the set that has gone by steps to where the session is.
 pub record HasNet (set : ℕ) (all : Nodes) (p : Place) (x : Node) : Type 0 where

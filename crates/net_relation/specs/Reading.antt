@@ -1,11 +1,12 @@
 -- What the stream of the origin of a set says, as the laws of nets tell it.
 use Rattle.std.specs.Prelude.{ℕ, ◌==◌, if◌then◌else◌, false, List, [], map, Option, Some, None}
 use Rattle.net_laws.specs.Subscriptions.{Event as Said, Sync as Syncs, Subscribe, Enable, Unsubscribe, Unrelated}
-use Rattle.net_laws.specs.Subscriptions.{Start}
+use Rattle.net_laws.specs.Subscriptions.{DropSet as Ends, Start}
 use Rattle.net_laws.specs.Subscriptions.{Subscription as Row}
 use Rattle.net_laws.specs.Net.{Net, Node as NetNode}
 use Rattle.node_rows.specs.declared.body.Body.{Body}
-use Rattle.node_rows.specs.declared.body.Body.TheVariants.{Sync, SubscribeSet, EnableSubscription, UnsubscribeSet}
+use Rattle.node_rows.specs.declared.body.Body.TheVariants.{Sync, DropSet, SubscribeSet, EnableSubscription}
+use Rattle.node_rows.specs.declared.body.Body.TheVariants.{UnsubscribeSet}
 use Rattle.node_rows.specs.declared.rows.Subscription.{Subscription}
 use Rattle.slon_model.specs.Snapshots.{Snapshot}
 use Rattle.slon_model.specs.Events.{Event}
@@ -15,7 +16,7 @@ use Rattle.image_laws.specs.Moments.{count_of}
 -- ---- events
 
 -- What an event says of a set, by its body and its snapshot. A SYNC tells how many transactions had ended. No event
--- that is emitted so far takes the set away.
+-- that is emitted so far moves the set away.
 abbrev pub said_by : ℕ → Snapshot → Body → Said
 said_by set taken Sync = Syncs (count_of taken)
 said_by set taken (SubscribeSet id provider receiver forward) =
@@ -23,6 +24,7 @@ said_by set taken (SubscribeSet id provider receiver forward) =
 said_by set taken (EnableSubscription id provider receiver forward era) =
     if id == set then Enable receiver else Unrelated
 said_by set taken (UnsubscribeSet id receiver) = if id == set then Unsubscribe receiver else Unrelated
+said_by set taken (DropSet id) = if id == set then Ends else Unrelated
 said_by set taken others = Unrelated
 
 abbrev pub said : ℕ → Event → Said

@@ -80,7 +80,7 @@ first_made id comment run m can none = record { held = held; own = λ space own.
       cluster = can.1;
       config = first_known id comment m can.0 can.2 none;
       orderly = first_orderly id comment can.0;
-      homes = tt;
+      homes = (tt, tt);
       self = ap (λ b. is_some (cond b (Some (own_row comment)) None)) (eq-eqb id id refl);
       met = tt;
       streams = first_has_none id comment run (with_own id comment m)

@@ -5,6 +5,7 @@ pub mod Emitting
 pub mod Feeds
 pub mod FirstNodes
 pub mod Hearing
+pub mod Homes
 pub mod Keeping
 pub mod Lookups
 pub mod Meeting

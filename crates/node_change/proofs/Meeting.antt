@@ -28,7 +28,8 @@ use Rattle.node_state.specs.Held.{NodeHeld, items_of, IsMet}
 use Rattle.node_state.specs.Known.{IsHomed}
 use Rattle.node_change.specs.Done.{HasEmitted, HasApplied, CanApply}
 use Rattle.node_change.specs.Forwarding.{ShowsBoth}
-use Rattle.node_change.proofs.Orderly.{change_orderly, change_homed, change_known, change_met}
+use Rattle.node_change.proofs.Homes.{change_homed}
+use Rattle.node_change.proofs.Orderly.{change_orderly, change_known, change_met}
 use Rattle.node_change.proofs.Spaces.{IsElse, own_else, spare_else, no_config, no_stream}
 
 -- An event that a node meets: what the store held, what it held with the event and these views, and what it holds now.

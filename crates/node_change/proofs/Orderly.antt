@@ -1,27 +1,24 @@
 -- The ids of a configuration ascend still when an event has changed it.
 use Rattle.std.proofs.Common.{◌≡◌, ℕ, Bool, true, false, cond, [], ◌∷◌, Option, Some, None, refl}
 use Rattle.std.proofs.Common.{ap, ◌∙◌}
-use Rattle.std.specs.Prelude.{◌==◌, is_some}
-use Rattle.slon_base.specs.Codec.{AllAre}
+use Rattle.std.specs.Prelude.{◌==◌, is_some, not}
 use Rattle.store_rows.specs.Rows.{IsId}
 use Rattle.node_rows.specs.declared.body.Body.{Body}
 use Rattle.node_rows.specs.declared.body.Body.TheVariants.{StoreNode, DropNode, StorePath, DropPath, StoreSet}
 use Rattle.node_rows.specs.declared.body.Body.TheVariants.{DropSet, SetAddTable, SubscribeSet, EnableSubscription}
 use Rattle.node_rows.specs.declared.body.Body.TheVariants.{UnsubscribeSet, MoveSet, FailoverSet}
 use Rattle.node_rows.specs.declared.rows.NodeRow.{NodeRow}
-use Rattle.node_rows.specs.declared.rows.SetRow.{SetRow}
-use Rattle.node_rows.specs.declared.rows.TableRow.{TableRow}
 use Rattle.node_rows.specs.declared.rows.Subscription.{Subscription}
 use Rattle.node_rows.specs.Spellings.{CanBody}
-use Rattle.slon_model.specs.Maps.{Map, Map2, entry_at, with_entry, pair_at}
+use Rattle.slon_model.specs.Maps.{Map, Map2, entry_at, with_entry, without_entry, pair_at}
 use Rattle.slon_model.specs.Events.{Event}
 use Rattle.slon_model.specs.Config.{Config, named_node, enabled, change_by, change}
 use Rattle.event_store.specs.Keeping.{KeepsViews}
 use Rattle.set_config.proofs.Entries.{entry-with}
 use Rattle.event_store.specs.Ordered.{IsOrdered, AreOrdered}
-use Rattle.event_store.proofs.Ordered.{all_with, ordered_with, with_one, without_one}
-use Rattle.node_state.specs.Held.{IsOrderly, AreHomed, IsMet, AreMet}
-use Rattle.node_state.specs.Known.{IsHomed}
+use Rattle.event_store.proofs.Ordered.{all_filtered, all_with, ordered_mapped, ordered_with, ordered_without}
+use Rattle.event_store.proofs.Ordered.{with_one, without_one}
+use Rattle.node_state.specs.Held.{IsOrderly, IsMet, AreMet}
 
 -- ---- a configuration
 
@@ -49,6 +46,18 @@ enabled_ordered : (set receiver number : ℕ) (m : Map2 Subscription) (o : Optio
 enabled_ordered set receiver number m None one two are = are
 enabled_ordered set receiver number m (Some s) one two are = with_one set receiver _ m one two are
 
+-- a row keeps its id
+same_id : {X : Type 0} (x : X) (e : ℕ × X) (b : Bool) → (cond {A = ℕ × X} b (e.0, x) e).0 ≡ e.0
+same_id x e true = refl
+same_id x e false = refl
+
+-- nobody has one of the rows any more
+rows_without : {X : Type 0} (first : ℕ) (m : Map2 X) → AreOrdered m → AreOrdered (without_entry first m)
+rows_without first m are = record {
+  firsts = ordered_without first m are.firsts;
+  seconds = all_filtered (λ e. IsOrdered e.1) (λ e. not (first == e.0)) m are.seconds;
+}
+
 pub change_orderly : (origin number : ℕ) (body : Body) (c : Config) → KeepsViews body → CanBody body → IsOrderly c →
     IsOrderly (change_by origin number body c)
 change_orderly origin number (StoreNode node comment) c keeps can o =
@@ -61,7 +70,10 @@ change_orderly origin number (DropPath server client) c keeps can o =
     whole o.nodes (without_one client server c.paths can.1 o.paths) o.sets o.tables o.subscriptions o.fences
 change_orderly origin number (StoreSet set by comment) c keeps can o =
     whole o.nodes o.paths (ordered_with set _ c.sets can.0 o.sets) o.tables o.subscriptions o.fences
-change_orderly origin number (DropSet set) c keeps can o = absurd keeps
+change_orderly origin number (DropSet set) c keeps can o =
+    whole o.nodes o.paths (ordered_mapped _ c.sets (λ e. same_id (record e.1 { live = false }) e (e.0 == set)) o.sets)
+    (ordered_mapped _ c.tables (λ e. same_id (record e.1 { live = false }) e (e.1.set_id == set)) o.tables)
+    (rows_without set c.subscriptions o.subscriptions) o.fences
 change_orderly origin number (SetAddTable set table name comment) c keeps can o =
     whole o.nodes o.paths o.sets (ordered_with table _ c.tables can.1 o.tables) o.subscriptions o.fences
 change_orderly origin number (SubscribeSet set provider receiver forward) c keeps can o =
@@ -77,35 +89,16 @@ change_orderly origin number (MoveSet set old new era feeds) c keeps can o = abs
 change_orderly origin number (FailoverSet failed limit sets) c keeps can o = absurd keeps
 change_orderly origin number others c keeps can o = o
 
--- ---- each table is in a set that is known
+-- ---- the nodes that are known
 
 -- what is known is known still where an entry is put
-known_with : {X : Type 0} (q id : ℕ) (x : X) (es : Map X) → is_some (entry_at q es) ≡ true →
+pub known_with : {X : Type 0} (q id : ℕ) (x : X) (es : Map X) → is_some (entry_at q es) ≡ true →
     is_some (entry_at q (with_entry id x es)) ≡ true
 known_with q id x es is = ap is_some (entry-with q id x es) ∙ step (q == id)
   where
     step : (b : Bool) → is_some (cond b (Some x) (entry_at q es)) ≡ true
     step true = refl
     step false = is
-
-homes_with : (id : ℕ) (row : SetRow) (sets : Map SetRow) (tables : Map TableRow) →
-    AllAre (λ e. is_some (entry_at e.1.set_id sets) ≡ true) tables →
-    AllAre (λ e. is_some (entry_at e.1.set_id (with_entry id row sets)) ≡ true) tables
-homes_with id row sets [] homes = tt
-homes_with id row sets (e ∷ es) homes =
-    (known_with e.1.set_id id row sets homes.0, homes_with id row sets es homes.1)
-
-pub change_homed : (origin number : ℕ) (body : Body) (c : Config) → KeepsViews body → IsHomed body c → AreHomed c →
-    AreHomed (change_by origin number body c)
-change_homed origin number (StoreSet set by comment) c keeps home homes = homes_with set _ c.sets c.tables homes
-change_homed origin number (SetAddTable set table name comment) c keeps home homes =
-    all_with (λ e. is_some (entry_at e.1.set_id c.sets) ≡ true) table _ c.tables home homes
-change_homed origin number (DropSet set) c keeps home homes = absurd keeps
-change_homed origin number (MoveSet set old new era feeds) c keeps home homes = absurd keeps
-change_homed origin number (FailoverSet failed limit sets) c keeps home homes = absurd keeps
-change_homed origin number others c keeps home homes = homes
-
--- ---- the nodes that are known
 
 known_named : (q node : ℕ) (nodes : Map NodeRow) → is_some (entry_at q nodes) ≡ true →
     is_some (entry_at q (named_node node nodes)) ≡ true
@@ -125,7 +118,6 @@ change_known origin number q (StoreNode node comment) c keeps is = known_with q 
 change_known origin number q (DropNode node) c keeps is = known_with q node _ c.nodes is
 change_known origin number q (SubscribeSet set provider receiver forward) c keeps is =
     known_named q receiver c.nodes is
-change_known origin number q (DropSet set) c keeps is = absurd keeps
 change_known origin number q (MoveSet set old new era feeds) c keeps is = absurd keeps
 change_known origin number q (FailoverSet failed limit sets) c keeps is = absurd keeps
 change_known origin number q others c keeps is = is

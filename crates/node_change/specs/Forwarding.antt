@@ -3,7 +3,7 @@ use Rattle.std.specs.Prelude.{ℕ, ◌==◌, ◌&&◌, if◌then◌else◌}
 use Rattle.slon_base.specs.Keeper.{Store}
 use Rattle.store_rows.specs.Rows.{IsId}
 use Rattle.node_rows.specs.declared.body.Body.{Body}
-use Rattle.node_rows.specs.declared.body.Body.TheVariants.{Sync, SubscribeSet, UnsubscribeSet}
+use Rattle.node_rows.specs.declared.body.Body.TheVariants.{Sync, SubscribeSet, UnsubscribeSet, DropSet}
 use Rattle.slon_model.specs.Config.{Config}
 use Rattle.set_config.specs.Holds.{HoldsConfig}
 use Rattle.event_store.specs.Holds.{ShowsStreams}
@@ -21,6 +21,7 @@ told_of own Sync = Nothing
 told_of own (SubscribeSet set provider receiver forward) =
     if receiver == own && forward then Forwards set else Nothing
 told_of own (UnsubscribeSet set receiver) = if receiver == own then Leaves set else Nothing
+told_of own (DropSet set) = Leaves set
 told_of own others = Nothing
 
 -- the set has a name in a store

@@ -91,6 +91,7 @@ fn told_of(own: u32, body: &Body) -> Told
             }
             Told::Nothing
         }
+        Body::DropSet { set } => Told::Leaves(*set),
         _ => Told::Nothing,
     }
 }

@@ -12,6 +12,7 @@ mod layout;
 mod listening;
 mod lookup;
 mod side;
+mod using;
 
 pub use announcing::announce;
 pub use applying::{apply, apply_keeping, keep_set, log_rows};
@@ -24,3 +25,4 @@ pub use lookup::{
     has_subscription, has_table_row, receivers,
 };
 pub use side::{Failed, Side, sided};
+pub use using::set_used_by;

@@ -5,7 +5,7 @@ use Rattle.std.specs.Prelude.{◌&&◌, ◌||◌, ◌==◌, nat_lt, find}
 use Rattle.std.specs.List.{list_any}
 use Rattle.std.specs.Option.{option_map, option_or}
 use Rattle.std.specs.Str.{bytes_eq}
-use Rattle.std.proofs.lemmas.Bool.{eqb-true}
+use Rattle.std.proofs.lemmas.Bool.{eqb-true, false_from_ne_true, false≢true}
 use Rattle.std.proofs.lemmas.Slice.Eq.{bytes_eq-Decides}
 use Rattle.slon_base.specs.Codec.{AllAre}
 use Rattle.node_rows.specs.declared.body.Body.{Body}
@@ -22,6 +22,18 @@ use Rattle.node_state.specs.Held.{AreHomed}
 use Rattle.node_state.specs.Known.{LearnsAs, Learns, is_used, member_as}
 use Rattle.node_state.specs.Members.{config_of, member_in}
 use Rattle.node_state.proofs.Joining.{in_more}
+
+-- ---- names
+
+pub bytes_symmetric : (a b : List ℕ) → bytes_eq a b ≡ bytes_eq b a
+bytes_symmetric a b =
+    elim (bytes_eq a b) as (λ x. bytes_eq a b ≡ x → x ≡ bytes_eq b a) [
+      | true ↦ λ is. sym ((bytes_eq-Decides b a).1 (sym ((bytes_eq-Decides a b).0 is)))
+      | false ↦
+          λ is. sym
+          (false_from_ne_true _
+          (λ same. false≢true (sym is ∙ (bytes_eq-Decides a b).1 (sym ((bytes_eq-Decides b a).0 same)))))
+    ] refl
 
 -- ---- events that change neither sets nor tables
 
@@ -99,7 +111,7 @@ pub set_learns : {leads : Bool} {set by : ℕ} {comment : List ℕ} (n : Node) (
 set_learns {leads} {set} {by} {comment} n e is new =
     subst (λ body. LearnsAs leads n (with_body e body)) (sym is) (record {
       members = λ name. members_alike n.id c.sets (with_entry set row c.sets) c.tables name
-          (sets_alike set row c.sets c.tables new.free new.homes);
+          (sets_alike set row c.sets c.tables new.free new.homes.0);
       names = λ name. refl;
       home = tt;
     })
@@ -126,7 +138,7 @@ pub record IsNewTableOf (leads : Bool) (n : Node) (set table : ℕ) (name : List
   pub unused : is_used name (knowledge n).config ≡ false
 
 -- a test of the entries where one is put at an id that is free
-any_with : {X : Type 0} (p : ℕ × X → Bool) (id : ℕ) (x : X) (es : Map X) → is_some (entry_at id es) ≡ false →
+pub any_with : {X : Type 0} (p : ℕ × X → Bool) (id : ℕ) (x : X) (es : Map X) → is_some (entry_at id es) ≡ false →
     list_any p (with_entry id x es) ≡ (p (id, x) || list_any p es)
 any_with p id x [] free = refl
 any_with {X} p id x (e ∷ es) free = step (nat_lt id e.0) (id == e.0) free (any_with p id x es)
@@ -210,7 +222,7 @@ table_known {leads} {set} {table} {name} {comment} n e is new =
     subst (λ body. LearnsAs leads n (with_body e body)) (sym is) (record {
       members = λ q. at q (bytes_eq q name) refl;
       names = λ q. any_with (λ t. bytes_eq q t.1.name) table row c.tables new.free;
-      home = is_there (entry_at set c.sets) new.live;
+      home = (is_there (entry_at set c.sets) new.live, new.free, new.unused);
     })
   where
     c : Config

@@ -1,5 +1,6 @@
 pub mod Capturing
 pub mod Counting
+pub mod Dropping
 pub mod Formed
 pub mod Growing
 pub mod Joining

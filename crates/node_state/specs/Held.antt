@@ -1,11 +1,14 @@
 -- How a store holds the node that its database is.
 use Rattle.std.specs.Prelude.{◌≡◌, ℕ, ◌<◌, ◌≤◌, ◌==◌, ◌||◌, ◌&&◌, nat_le, Bool, true, false, List, [], ◌∷◌, ◌++◌, map}
 use Rattle.std.specs.Prelude.{Option, Some, None, is_some}
+use Rattle.std.specs.List.{list_any}
 use Rattle.std.specs.Option.{option_map}
+use Rattle.std.specs.Str.{bytes_eq}
 use Rattle.std.specs.FinMap.{get, empty}
 use Rattle.slon_base.specs.Codec.{number_bytes, text_bytes, IsText, AllAre}
 use Rattle.slon_base.specs.Keeper.{Store, Space}
 use Rattle.store_rows.specs.Rows.{IsId}
+use Rattle.node_rows.specs.declared.rows.TableRow.{TableRow}
 use Rattle.change_capture.specs.declared.action.Change.{Change}
 use Rattle.change_capture.specs.declared.action.Change.TheVariants as captured
 use Rattle.change_capture.specs.declared.action.Action.{Action}
@@ -59,9 +62,14 @@ pub record IsOrderly (c : Config) : Type 0 where
   pub subscriptions : AreOrdered c.subscriptions
   pub fences : IsOrdered c.fences
 
--- each table is in a set that is known
+-- no two tables have one name
+abbrev pub NamesDiffer : Map TableRow → Type 0
+NamesDiffer [] = Unit {0}
+NamesDiffer (e ∷ es) = (list_any (λ t. bytes_eq e.1.name t.1.name) es ≡ false) × NamesDiffer es
+
+-- each table is in a set that is known, and has its name alone
 abbrev pub AreHomed : Config → Type 0
-AreHomed c = AllAre (λ e. is_some (entry_at e.1.set_id c.sets) ≡ true) c.tables
+AreHomed c = AllAre (λ e. is_some (entry_at e.1.set_id c.sets) ≡ true) c.tables × NamesDiffer c.tables
 
 -- a node of this id is known
 abbrev pub IsMet : ℕ → Config → Type 0

@@ -1,6 +1,6 @@
 -- What a database keeps in memory of the node that it is.
-use Rattle.std.specs.Prelude.{◌≡◌, ℕ, ◌^◌, ◌&&◌, ◌||◌, nat_lt, nat_le, if◌then◌else◌, Bool, true, false, List, length}
-use Rattle.std.specs.Prelude.{filter_map, Option, Some, None, is_some}
+use Rattle.std.specs.Prelude.{◌≡◌, ℕ, ◌^◌, ◌==◌, ◌&&◌, ◌||◌, nat_lt, nat_le, if◌then◌else◌, Bool, true, false, List}
+use Rattle.std.specs.Prelude.{length, filter_map, Option, Some, None, is_some}
 use Rattle.std.specs.List.{list_all, list_any}
 use Rattle.std.specs.Str.{bytes_eq}
 use Rattle.std.specs.Option.{option_map}
@@ -16,7 +16,7 @@ use Rattle.change_capture.specs.Capture.{log_row}
 use Rattle.slon_model.specs.Forms.{is_table_name, is_value}
 use Rattle.slon_model.specs.Spoken.{greatest_column}
 use Rattle.node_rows.specs.declared.body.Body.{Body}
-use Rattle.node_rows.specs.declared.body.Body.TheVariants.{SetAddTable}
+use Rattle.node_rows.specs.declared.body.Body.TheVariants.{DropSet, SetAddTable}
 use Rattle.slon_model.specs.Events.{Event}
 use Rattle.slon_model.specs.Maps.{entry_at}
 use Rattle.slon_model.specs.Config.{Config, is_origin, member_of, change}
@@ -52,9 +52,15 @@ pub record IsKnown (node : Option Node) (identity : Option Identity) (members : 
   pub members_are : (name : List ℕ) → get members.live name ≡ member_at node name
   pub names_are : (name : List ℕ) → is_some (get members.names name) ≡ is_named name node
 
+-- the member, unless it is one of this set
+abbrev pub outside : ℕ → Option Member → Option Member
+outside set None = None
+outside set (Some member) = if member.set == set then None else Some member
+
 -- what is kept of the table of a name, once the node met an event with this body: whether it leads the set of a table
 -- that is put into one is told
 abbrev pub learned_as : Bool → Body → List ℕ → Option Member → Option Member
+learned_as leads (DropSet set) other before = outside set before
 learned_as leads (SetAddTable set table name comment) other before =
     if bytes_eq other name then Some (record { table = table; set = set; leads = leads }) else before
 learned_as leads others other before = before
@@ -68,9 +74,10 @@ abbrev pub learned_name : Body → List ℕ → Bool → Bool
 learned_name (SetAddTable set table name comment) other before = bytes_eq other name || before
 learned_name others other before = before
 
--- a table that is put into a set is put into one that is known
+-- a table that is put into a set is put into one that is known, and neither its id nor its name was used
 abbrev pub IsHomed : Body → Config → Type 0
-IsHomed (SetAddTable set table name comment) c = is_some (entry_at set c.sets) ≡ true
+IsHomed (SetAddTable set table name comment) c =
+    (is_some (entry_at set c.sets) ≡ true) × (is_some (entry_at table c.tables) ≡ false) × (is_used name c ≡ false)
 IsHomed others c = Unit {0}
 
 -- An event changes the tables of sets and their names in no other way.

@@ -1,9 +1,13 @@
 // What a database keeps in memory of the node that it is.
+ghost use Rattle.std.specs.Prelude.{◌≡◌, ℕ, List, IfOk};
+ghost use Rattle.std.specs.FinMap.{get};
+ghost use Rattle.node_state.specs.Known as known;
 ghost use Rattle.node_state.specs.Known.{IsIdentified, AreMembers};
 
 use node_rows::Body;
 use slon_base::{ByteMap, Text};
 use std::alloc::{AllocError, Global};
+use std::mem;
 
 /// Which node a database is.
 #[derive(Drop)]
@@ -42,6 +46,19 @@ pub struct NodeMemory {
     pub members: Members,
     ghost identified: { IsIdentified identity },
     ghost numbered: { AreMembers members },
+}
+
+/// The tables that are in another set than this one.
+fn outside(alloc: Global, live: ByteMap<Member>, set: u32) -> Result<ByteMap<Member>, AllocError>
+    ensures { IfOk result (λ left. (name : List ℕ) → get left name ≡ known.outside set (get live name)) }
+{
+    let mut left = ByteMap::new(alloc);
+    for (name, member) in live.into_entries() {
+        if member.set != set {
+            left.insert(name, member)?;
+        }
+    }
+    Ok(left)
 }
 
 impl NodeMemory {
@@ -91,6 +108,11 @@ impl NodeMemory {
                 let name = Vec::from_slice(alloc, name.as_slice())?;
                 self.members.live.insert(live, member)?;
                 self.members.names.insert(name, ())
+            }
+            Body::DropSet { set } => {
+                let live = mem::replace(&mut self.members.live, ByteMap::new(alloc));
+                self.members.live = outside(alloc, live, *set)?;
+                Ok(())
             }
             _ => Ok(()),
         }

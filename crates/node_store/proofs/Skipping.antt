@@ -21,7 +21,7 @@ use Rattle.change_capture.specs.Capture.{log_row}
 use Rattle.node_state.specs.Held.{action_as, items_of}
 use Rattle.node_state.specs.declared.memory.Identity.{Identity}
 use Rattle.node_state.specs.Known.{identity_of}
-use Rattle.app_store.specs.Begun.{AreOlder}
+use Rattle.slon_laws.specs.Older.{AreOlder}
 use Rattle.node_store.specs.Logged.{HaveEnded}
 
 -- a snapshot sees what ended before its first transaction that runs

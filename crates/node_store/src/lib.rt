@@ -27,8 +27,9 @@ pub use hearing::hear;
 pub use joining::{Fell, Joined, join};
 pub use logged::{LoggedRows, read_log};
 pub use looking::{
-    Reign, first_receiver, has_table, is_dropped, knows_forwarder, knows_live, knows_node,
-    knows_path, knows_receiver, knows_set, knows_table, names_table, set_reign, width, writer,
+    Reign, first_receiver, has_live, has_table, is_dropped, knows_forwarder, knows_live,
+    knows_node, knows_path, knows_receiver, knows_set, knows_table, names_table, set_reign,
+    set_used_by, width, writer,
 };
 pub use node_change::Side;
 pub use polling::news_among;

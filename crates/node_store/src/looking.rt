@@ -163,6 +163,54 @@ pub fn set_reign<K: Keeper>(database: &mut Database<K>, set: u32) -> Result<Opti
     }
 }
 
+/// Whether the row of a node says that it is live.
+fn is_there(row: &Option<NodeRow>) -> bool
+    ensures { result ≡ config.is_live_row row.now }
+{
+    match row {
+        None => false,
+        Some(row) => row.live,
+    }
+}
+
+/// Whether the node knows that a node is live, whatever fence it knows against it.
+///
+/// # Errors
+///
+/// What stopped the store; the database is down then.
+pub fn has_live<K: Keeper>(database: &mut Database<K>, id: u32) -> Result<bool, DbFault>
+    requires up { database.old.state.up ≡ true }
+    requires id { IsId id }
+    ensures acts { Acts (halts result) (base_of K.kept database.old) (base_of K.kept database.new) }
+    ensures looks { Looks (OfConfig (λ c found. found ≡ config.is_live id c))
+        (base_of K.kept database.old) result (base_of K.kept database.new) }
+    ensures same { Remembers (base_of K.kept database.old) result (base_of K.kept database.new) }
+{
+    match find_node_row(database.alloc, &mut database.keeper, id) {
+        Ok(found) => Ok(is_there(&found)),
+        Err(stop) => Err(fall(database.alloc, &mut database.state, &database.keeper, stop)),
+    }
+}
+
+/// The least live set that a node has a part in, as far as this one knows: the other one is the origin of the set,
+/// receives it, or provides it.
+///
+/// # Errors
+///
+/// What stopped the store; the database is down then.
+pub fn set_used_by<K: Keeper>(database: &mut Database<K>, id: u32) -> Result<Option<u32>, DbFault>
+    requires up { database.old.state.up ≡ true }
+    ensures acts { Acts (halts result) (base_of K.kept database.old) (base_of K.kept database.new) }
+    ensures looks { Looks (OfConfig (λ c found. found ≡ membership.set_used_by id c))
+        (base_of K.kept database.old) result (base_of K.kept database.new) }
+    ensures same { Remembers (base_of K.kept database.old) result (base_of K.kept database.new) }
+{
+    match node_change::set_used_by(database.alloc, &mut database.keeper, id) {
+        Ok(found) => Ok(found),
+        Err(stop) => Err(fall(database.alloc, &mut database.state, &database.keeper, stop)),
+    }
+}
+
 /// Whether the node knows that a node is live, and knows no fence against it.
 ///
 /// # Errors

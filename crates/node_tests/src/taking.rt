@@ -21,7 +21,7 @@ fn require_kind(body: &Body) -> Result<(), Fail>
     ensures { OnOk result (KeepsViews body.now) }
 {
     match body {
-        Body::DropSet { .. } | Body::MoveSet { .. } | Body::FailoverSet { .. } => {
+        Body::MoveSet { .. } | Body::FailoverSet { .. } => {
             Err(Fail::new("a kind that is not applied"))
         }
         _ => Ok(()),

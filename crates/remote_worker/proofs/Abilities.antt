@@ -6,7 +6,7 @@ use Rattle.std.specs.Prelude.{◌==◌, ◌&&◌, if◌then◌else◌, not, opti
 use Rattle.std.specs.List.{find, list_all}
 use Rattle.store_rows.specs.Rows.{IsId}
 use Rattle.node_rows.specs.declared.body.Body.{Body}
-use Rattle.node_rows.specs.declared.body.Body.TheVariants.{DropSet, EnableSubscription, MoveSet, FailoverSet, Sync}
+use Rattle.node_rows.specs.declared.body.Body.TheVariants.{EnableSubscription, MoveSet, FailoverSet, Sync}
 use Rattle.node_rows.specs.Spellings.{CanBody}
 use Rattle.slon_model.specs.declared.fault.DbFault.{DbFault}
 use Rattle.slon_model.specs.declared.reply.Answered.{Answered}
@@ -31,7 +31,6 @@ use Rattle.remote_worker.specs.Fetching.{CanCopy}
 use Rattle.remote_worker.specs.Working.{Applies, IsAble, IsDue, seen_errand, waits_as}
 
 pub keeps : (body : Body) → can_carry_out body ≡ true → KeepsViews body
-keeps (DropSet set) can = absurd (false≢true can)
 keeps (MoveSet set old new era feeds) can = absurd (false≢true can)
 keeps (FailoverSet failed limit sets) can = absurd (false≢true can)
 keeps others can = tt

@@ -34,7 +34,6 @@ pub fn can_carry_out(body: &Body) -> bool
     ensures { result ≡ rules.can_carry_out body.now }
 {
     match body {
-        Body::DropSet { .. } => false,
         Body::MoveSet { .. } => false,
         Body::AcceptSet { .. } => false,
         Body::FailoverSet { .. } => false,

@@ -11,9 +11,9 @@ use Rattle.slon_model.specs.declared.reply.Refusal.TheVariants as refused
 use Rattle.slon_model.specs.Names.{Named, find_named}
 use Rattle.slon_model.specs.Maps.{Map, entry_at, pair_at}
 use Rattle.slon_model.specs.Spoken.{IsName, IsLine, IsOrder, AreNodeLines}
-use Rattle.node_rows.specs.declared.body.Body.TheVariants.{Sync, StoreNode, StorePath, DropPath, StoreSet}
-use Rattle.node_rows.specs.declared.body.Body.TheVariants.{UnsubscribeSet}
-use Rattle.slon_model.specs.Config.{era_of, has_path}
+use Rattle.node_rows.specs.declared.body.Body.TheVariants.{Sync, StoreNode, DropNode, StorePath, DropPath, StoreSet}
+use Rattle.node_rows.specs.declared.body.Body.TheVariants.{DropSet, UnsubscribeSet}
+use Rattle.slon_model.specs.Config.{era_of, has_path, is_live}
 use Rattle.slon_model.specs.Deeds.{Node}
 use Rattle.slon_model.specs.Place.{Place, is_running, node_id}
 use Rattle.slon_model.specs.Sessions.{World, Running, Commit, Emission, Stated, Seat, bind, when, first_refusal}
@@ -23,8 +23,8 @@ use Rattle.slon_model.specs.Reaching.{database_in, database_up, database_by, dat
 use Rattle.slon_model.specs.Reaching.{nodes_of, down_among, any_down, known_somewhere, origin_checks, origin_of}
 use Rattle.slon_model.specs.Reaching.{receiver_with, best_of, emitting, found_owner, owner}
 use Rattle.slon_model.specs.Membership.{comment_of, already, first_node, stored_by, init_cluster, store_node}
-use Rattle.slon_model.specs.Membership.{is_dropped, store_path, drop_path, sync_node}
-use Rattle.slon_model.specs.Sets.{adding, create_set, NewTable, set_add_table}
+use Rattle.slon_model.specs.Membership.{drop_node, is_dropped, set_used_by, store_path, drop_path, sync_node}
+use Rattle.slon_model.specs.Sets.{adding, create_set, drop_set, NewTable, set_add_table}
 use Rattle.slon_model.specs.Subscribing.{NewFeed, subscribing, all_tell, bodies_of, feed_checks, subscribe_set}
 use Rattle.slon_model.specs.Subscribing.{leave_checks, told_bodies, unsubscribe_set}
 use Rattle.node_rows.specs.declared.rows.Subscription.{Subscription}
@@ -223,6 +223,18 @@ node_gives id event_node comment run w runs =
       ),
     )))
 
+drop_node_gives : (id event_node : ℕ) (run : Running) (w : World) → Runs run w →
+    Gives StatedReads (drop_node id event_node run w)
+drop_node_gives id event_node run w runs =
+    bind_gives IsSeat StatedReads (reach run event_node w) _ (reach_gives run event_node w runs) (λ s named.
+    checked_gives StatedReads (when (id == event_node) (refused.SameNode id)
+    ∷ when (not (is_live id s.known.config)) (refused.NoNode id)
+    ∷ option_map refused.StillUsed (set_used_by id s.known.config) ∷ []) _ (
+      when_tells _ _ tt,
+      (when_tells _ _ tt, (option_tells refused.StillUsed (set_used_by id s.known.config) (λ x. tt), tt)),
+    )
+    (emitting_reads s (tells (DropNode id) ∷ []) named (tt, tt)))
+
 path_gives : (server client : ℕ) (conninfo : List ℕ) (run : Running) (w : World) → Runs run w →
     Gives StatedReads (store_path server client conninfo run w)
 path_gives server client conninfo run w runs =
@@ -301,6 +313,11 @@ leave_gives set receiver run w runs =
     checked_gives StatedReads (leave_checks set receiver s.known.config) _ (when_tells _ _ tt, (when_tells _ _ tt, tt))
     (emitting_reads s (tells (UnsubscribeSet set receiver) ∷ []) named (tt, tt)))
 
+ends_gives : (id origin : ℕ) (run : Running) (w : World) → Runs run w → Gives StatedReads (drop_set id origin run w)
+ends_gives id origin run w runs =
+    bind_gives IsSeat StatedReads (origin_of run origin id w) _ (origin_gives run origin id w runs)
+    (λ s named. emitting_reads s (tells (DropSet id) ∷ []) named (tt, tt))
+
 sync_gives : (id : ℕ) (run : Running) (w : World) → Runs run w → Gives StatedReads (sync_node id run w)
 sync_gives id run w runs =
     bind_gives IsSeat StatedReads (reach run id w) _ (reach_gives run id w runs)
@@ -316,10 +333,12 @@ pub ordered_gives : (o : Order) (run : Running) (w : World) → IsOrder o → Ru
     Gives StatedReads (ordered o run w)
 ordered_gives (order.InitCluster id comment) run w texts runs = init_gives id comment run w runs
 ordered_gives (order.StoreNode id event_node comment) run w texts runs = node_gives id event_node comment run w runs
+ordered_gives (order.DropNode id event_node) run w texts runs = drop_node_gives id event_node run w runs
 ordered_gives (order.StorePath server client conninfo retry) run w texts runs =
     path_gives server client conninfo run w runs
 ordered_gives (order.DropPath server client) run w texts runs = drop_gives server client run w runs
 ordered_gives (order.CreateSet id origin comment) run w texts runs = set_gives id origin comment run w runs
+ordered_gives (order.DropSet id origin) run w texts runs = ends_gives id origin run w runs
 ordered_gives (order.SetAddTable set origin id name key comment) run w texts runs =
     table_gives origin (record { set_id = set; id = id; name = name; comment = comment_of comment }) run w texts runs
 ordered_gives (order.SubscribeSet set provider receiver forward) run w texts runs =

@@ -134,6 +134,32 @@ fn fetched_events_are_printed(rt: HostRuntime) -> Result<(), Fail> {
     expect_answer(&rt, fetched, "ok fetched 7 rows 3")
 }
 
+/// The refusal of this code, from 60 on, with the number 7 where it has one.
+fn later(code: u32) -> Refusal {
+    match code {
+        60 => Refusal::Nothing,
+        61 => Refusal::NotListed { server: 7 },
+        62 => Refusal::NotKnown { node: 7 },
+        63 => Refusal::Behind {
+            provider: 7,
+            progress: 8,
+            number: 9,
+        },
+        66 => Refusal::Busy { xid: 7 },
+        67 => Refusal::Off { node: 7 },
+        68 => Refusal::Severed { node: 7, other: 7 },
+        72 => Refusal::NotActive { node: 7 },
+        73 => Refusal::NotForwarding { node: 7 },
+        75 => Refusal::NoPath { node: 7 },
+        76 => Refusal::StillUsed { set: 7 },
+        78 => Refusal::SameNode { node: 7 },
+        80 => Refusal::Script(ScriptRefusal::BadToken { line: 7 }),
+        81 => Refusal::Script(ScriptRefusal::BadSyntax { place: 7 }),
+        84 => Refusal::Script(ScriptRefusal::NoPreamble),
+        _ => Refusal::Script(ScriptRefusal::TooMany),
+    }
+}
+
 /// The refusal of this code, with the number 7 where it has one.
 fn numbered(code: u32) -> Refusal {
     match code {
@@ -154,25 +180,7 @@ fn numbered(code: u32) -> Refusal {
         56 => Refusal::SetLocked { set: 7 },
         57 => Refusal::BadWidth { columns: 7 },
         59 => Refusal::Loop { set: 7 },
-        60 => Refusal::Nothing,
-        61 => Refusal::NotListed { server: 7 },
-        62 => Refusal::NotKnown { node: 7 },
-        63 => Refusal::Behind {
-            provider: 7,
-            progress: 8,
-            number: 9,
-        },
-        66 => Refusal::Busy { xid: 7 },
-        67 => Refusal::Off { node: 7 },
-        68 => Refusal::Severed { node: 7, other: 7 },
-        72 => Refusal::NotActive { node: 7 },
-        73 => Refusal::NotForwarding { node: 7 },
-        75 => Refusal::NoPath { node: 7 },
-        78 => Refusal::SameNode { node: 7 },
-        80 => Refusal::Script(ScriptRefusal::BadToken { line: 7 }),
-        81 => Refusal::Script(ScriptRefusal::BadSyntax { place: 7 }),
-        84 => Refusal::Script(ScriptRefusal::NoPreamble),
-        _ => Refusal::Script(ScriptRefusal::TooMany),
+        _ => later(code),
     }
 }
 
@@ -205,6 +213,7 @@ const NUMBERED: &[(u32, &str)] = &[
     (72, "no 72 notactive 7"),
     (73, "no 73 notforwarding 7"),
     (75, "no 75 nopath 7"),
+    (76, "no 76 stillused 7"),
     (78, "no 78 samenode 7"),
     (80, "no 80 badtoken 7"),
     (81, "no 81 badsyntax 7"),

@@ -16,7 +16,7 @@ use Rattle.slon_model.specs.declared.reply.Refusal.TheVariants.{TableExists, Nam
 use Rattle.slon_model.specs.declared.reply.Refusal.TheVariants.{Duplicate, NotOrigin, SetLocked, BadWidth, TableUsed}
 use Rattle.slon_model.specs.declared.reply.Refusal.TheVariants.{Busy, NoPath, SameNode, Script, ScriptUsed, NoScript}
 use Rattle.slon_model.specs.declared.reply.Refusal.TheVariants.{Loop, Nothing, NotListed, NotKnown, Off, Severed}
-use Rattle.slon_model.specs.declared.reply.Refusal.TheVariants.{Behind, NotActive, NotForwarding, NotBuilt}
+use Rattle.slon_model.specs.declared.reply.Refusal.TheVariants.{Behind, NotActive, NotForwarding, StillUsed, NotBuilt}
 use Rattle.slon_model.specs.Printed.{refusal_text}
 use Rattle.session_text.specs.Replies.{ScriptHasForm, RefusalHasForm}
 use Rattle.slon_lemmas.proofs.Splitting.{lacks, lacks-append, lacks-decimal}
@@ -65,7 +65,7 @@ readings =
     ∷ (codes "61", by_number NotListed) ∷ (codes "62", by_number NotKnown) ∷ (codes "63", behind_of)
     ∷ (codes "66", by_number Busy) ∷ (codes "67", by_number Off) ∷ (codes "68", severed_of)
     ∷ (codes "72", by_number NotActive) ∷ (codes "73", by_number NotForwarding)
-    ∷ (codes "75", by_number NoPath) ∷ (codes "78", by_number SameNode)
+    ∷ (codes "75", by_number NoPath) ∷ (codes "76", by_number StillUsed) ∷ (codes "78", by_number SameNode)
     ∷ (codes "80", by_number (λ n. Script (BadToken n))) ∷ (codes "81", by_number (λ n. Script (BadSyntax n)))
     ∷ (codes "82", by_text (λ t. Script (UnknownOption t))) ∷ (codes "83", by_text (λ t. Script (MissingOption t)))
     ∷ (codes "84", λ _. Script NoPreamble) ∷ (codes "85", by_text (λ t. Script (NotInProfile t)))
@@ -233,6 +233,7 @@ refusal_back (Behind provider progress number) h = behind_back provider progress
 refusal_back (NotActive node) h = numbered NotActive _ node (below_half node h) refl refl refl
 refusal_back (NotForwarding node) h = numbered NotForwarding _ node (below_half node h) refl refl refl
 refusal_back (NoPath node) h = numbered NoPath _ node (below_half node h) refl refl refl
+refusal_back (StillUsed set) h = numbered StillUsed _ set (below_half set h) refl refl refl
 refusal_back (SameNode node) h = numbered SameNode _ node (below_half node h) refl refl refl
 refusal_back (Script refusal) h = script_back refusal h
 refusal_back (ScriptUsed name) h = worded ScriptUsed _ name (name_lacks 10 name refl h) refl refl refl

@@ -15,7 +15,7 @@ use Rattle.slon_model.specs.declared.reply.Refusal.TheVariants.{IdUsed, IsUp, To
 use Rattle.slon_model.specs.declared.reply.Refusal.TheVariants.{AlreadyNode, NoNode, NoConninfo, HasReceivers, NoSet}
 use Rattle.slon_model.specs.declared.reply.Refusal.TheVariants.{TableExists, NameUsed, NoTable, NoTransaction}
 use Rattle.slon_model.specs.declared.reply.Refusal.TheVariants.{NotOrigin, SetLocked, BadWidth, TableUsed, Busy, NoPath}
-use Rattle.slon_model.specs.declared.reply.Refusal.TheVariants.{Loop, Behind, NotActive, NotForwarding}
+use Rattle.slon_model.specs.declared.reply.Refusal.TheVariants.{Loop, Behind, NotActive, NotForwarding, StillUsed}
 use Rattle.slon_model.specs.declared.reply.Refusal.TheVariants.{NotListed, NotKnown, Off, Severed}
 use Rattle.slon_model.specs.declared.reply.Refusal.TheVariants.{SameNode, Script, ScriptUsed, NoScript, NotBuilt}
 use Rattle.slon_model.specs.declared.reply.Reply.{Reply}
@@ -82,6 +82,7 @@ RefusalFits (Behind provider progress number) = (provider < 2 ^ 32) × (progress
 RefusalFits (NotActive node) = node < 2 ^ 32
 RefusalFits (NotForwarding node) = node < 2 ^ 32
 RefusalFits (NoPath node) = node < 2 ^ 32
+RefusalFits (StillUsed set) = set < 2 ^ 32
 RefusalFits (SameNode node) = node < 2 ^ 32
 RefusalFits (Script refusal) = ScriptFits refusal
 RefusalFits others = Unit {0}

@@ -129,7 +129,8 @@ fn refusal_fits(refusal: &Refusal)
         Refusal::NoSet { set }
         | Refusal::NotOrigin { set }
         | Refusal::SetLocked { set }
-        | Refusal::Loop { set } => id_fits(set),
+        | Refusal::Loop { set }
+        | Refusal::StillUsed { set } => id_fits(set),
         Refusal::BadRow { space } | Refusal::TooBig { space } => space_fits(space),
         Refusal::Script(script) => script_fits(script),
         _ => {}

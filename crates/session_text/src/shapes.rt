@@ -133,6 +133,7 @@ pub fn refusal_shape(refusal: &Refusal) -> Shape<'_>
         Refusal::NotActive { node } => Shape::Id("no 72 notactive ", *node),
         Refusal::NotForwarding { node } => Shape::Id("no 73 notforwarding ", *node),
         Refusal::NoPath { node } => Shape::Id("no 75 nopath ", *node),
+        Refusal::StillUsed { set } => Shape::Id("no 76 stillused ", *set),
         Refusal::SameNode { node } => Shape::Id("no 78 samenode ", *node),
         Refusal::Script(script) => script_shape(script),
         Refusal::ScriptUsed { name } => Shape::Named("no 93 scriptused ", name),

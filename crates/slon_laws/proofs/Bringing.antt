@@ -27,8 +27,8 @@ use Rattle.slon_model.specs.Membership.{init_cluster, joining, store_node, store
 use Rattle.slon_model.specs.Sets.{NewTable, adding}
 use Rattle.slon_model.specs.Subscribing.{all_tell, subscribing, told_bodies}
 use Rattle.slon_model.specs.Scripts.{ordered}
-use Rattle.node_rows.specs.declared.body.Body.TheVariants.{Sync, StoreNode, StorePath, DropPath, StoreSet}
-use Rattle.node_rows.specs.declared.body.Body.TheVariants.{UnsubscribeSet}
+use Rattle.node_rows.specs.declared.body.Body.TheVariants.{Sync, StoreNode, DropNode, StorePath, DropPath, StoreSet}
+use Rattle.node_rows.specs.declared.body.Body.TheVariants.{DropSet, UnsubscribeSet}
 use Rattle.slon_model.specs.Turns.{at_node, is_cut, is_synced, on_turn, seat_at}
 use Rattle.slon_model.specs.Polls.{Poll, brings_nothing, hearing, poll_of, served, stated_by}
 use Rattle.slon_model.specs.Following.{Found, FoundCopy, FoundNothing, FoundSyncs, brought_of, content, kept_from}
@@ -218,6 +218,10 @@ store_formed id event_node comment run w =
 ordered_formed : (o : Order) (run : Running) (w : World) → OnOk (IsFormedStated w) (ordered o run w)
 ordered_formed (order.InitCluster id comment) run w = init_formed id comment run w
 ordered_formed (order.StoreNode id event_node comment) run w = store_formed id event_node comment run w
+ordered_formed (order.DropNode id event_node) run w =
+    any_bind (IsFormedStated w) (reach run event_node w) _
+    (λ s. let done = emitting_formed w s (tells (DropNode id) ∷ []) in
+    search (kept_ok (IsFormedStated w), done))
 ordered_formed (order.StorePath server client conninfo retry) run w =
     any_bind (IsFormedStated w) (reach run client w) _
     (λ s. let done = emitting_formed w s (tells (StorePath server client conninfo) ∷ []) in
@@ -230,6 +234,9 @@ ordered_formed (order.CreateSet id origin comment) run w =
     any_bind (IsFormedStated w) (reach run origin w) _
     (λ s. let done = emitting_formed w s (tells (StoreSet id origin (comment_of comment)) ∷ []) in
     search (kept_ok (IsFormedStated w), done))
+ordered_formed (order.DropSet id origin) run w =
+    any_bind (IsFormedStated w) (origin_of run origin id w) _
+    (λ s. emitting_formed w s (tells (DropSet id) ∷ []))
 ordered_formed (order.SetAddTable set origin id name key comment) run w =
     any_bind (IsFormedStated w) (origin_of run origin set w) _
     (λ s. let t : NewTable = record { set_id = set; id = id; name = name; comment = comment_of comment } in

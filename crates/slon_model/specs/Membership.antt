@@ -1,13 +1,16 @@
--- Statements about nodes and paths: INIT CLUSTER, STORE NODE, STORE PATH, DROP PATH; and SYNC.
-use Rattle.std.specs.Prelude.{ℕ, ◌==◌, not, is_some, Bool, false, List, [], ◌∷◌, filter_map, Option, Some, None, Result}
-use Rattle.std.specs.Prelude.{Ok, option_map, unwrap_or}
+-- Statements about nodes and paths: INIT CLUSTER, STORE NODE, DROP NODE, STORE PATH, DROP PATH; and SYNC.
+use Rattle.std.specs.Prelude.{ℕ, ◌==◌, ◌&&◌, ◌||◌, not, is_some, Bool, false, List, [], ◌∷◌, filter_map, find, Option}
+use Rattle.std.specs.Prelude.{Some, None, Result, Ok, option_map, unwrap_or}
+use Rattle.std.specs.List.{list_any}
 use Rattle.slon_model.specs.declared.reply.Answer.TheVariants.{Done}
 use Rattle.slon_model.specs.declared.reply.Refusal.{Refusal}
 use Rattle.slon_model.specs.declared.reply.Refusal.TheVariants as refused
 use Rattle.slon_model.specs.Maps.{entry_at}
 use Rattle.node_rows.specs.declared.rows.NodeRow.{NodeRow}
-use Rattle.node_rows.specs.declared.body.Body.TheVariants.{Sync, StoreNode, StorePath, DropPath}
-use Rattle.slon_model.specs.Config.{has_path}
+use Rattle.node_rows.specs.declared.rows.SetRow.{SetRow}
+use Rattle.node_rows.specs.declared.rows.Subscription.{Subscription}
+use Rattle.node_rows.specs.declared.body.Body.TheVariants.{Sync, StoreNode, DropNode, StorePath, DropPath}
+use Rattle.slon_model.specs.Config.{Config, has_path, is_live, receivers}
 use Rattle.slon_model.specs.Deeds.{Node, knowledge, with_deeds, held, first_knowledge, given_to}
 use Rattle.slon_model.specs.Place.{node_id}
 use Rattle.slon_model.specs.Sessions.{World, Running, Seat, Stated, Commit, bind, when, checked, tells}
@@ -69,6 +72,29 @@ store_node id event_node comment run w =
     ∷ any_down w
     ∷ when (known_somewhere (λ c. is_some (entry_at id c.nodes)) w) (refused.IdUsed id) ∷ [])
     (stored_by s e.0 id (comment_of comment) run)))
+
+-- ---- DROP NODE
+
+-- the subscription is of the node: it receives the set, or another node has the set from it
+abbrev pub is_feed_of : ℕ → ℕ × Subscription → Bool
+is_feed_of node e = e.0 == node || e.1.provider == node
+
+-- the set is live, and the node is its origin, or a subscription to it is of the node
+abbrev pub uses : ℕ → Config → ℕ × SetRow → Bool
+uses node c e = e.1.live && (e.1.origin == node || list_any (is_feed_of node) (receivers e.0 c))
+
+-- the first such set
+abbrev pub set_used_by : ℕ → Config → Option ℕ
+set_used_by node c = option_map (λ e. e.0) (find (uses node c) c.sets)
+
+-- reach the event node; 78; 44 the node is not live there; 76 the first set that the node has a part in
+abbrev pub drop_node : ℕ → ℕ → Running → World → Result Stated Refusal
+drop_node id event_node run w =
+    bind (reach run event_node w) (λ s.
+    checked (when (id == event_node) (refused.SameNode id)
+    ∷ when (not (is_live id s.known.config)) (refused.NoNode id)
+    ∷ option_map refused.StillUsed (set_used_by id s.known.config) ∷ [])
+    (emitting s (tells (DropNode id) ∷ [])))
 
 -- ---- paths
 

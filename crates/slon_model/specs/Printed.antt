@@ -18,7 +18,7 @@ use Rattle.slon_model.specs.declared.reply.Refusal.TheVariants.{AlreadyNode, NoN
 use Rattle.slon_model.specs.declared.reply.Refusal.TheVariants.{TableExists, NameUsed, NoTable, NoTransaction}
 use Rattle.slon_model.specs.declared.reply.Refusal.TheVariants.{Duplicate, NotOrigin, SetLocked, BadWidth, TableUsed}
 use Rattle.slon_model.specs.declared.reply.Refusal.TheVariants.{Loop, Nothing, NotListed, NotKnown, Busy, Off, Severed}
-use Rattle.slon_model.specs.declared.reply.Refusal.TheVariants.{Behind, NotActive, NotForwarding, NoPath}
+use Rattle.slon_model.specs.declared.reply.Refusal.TheVariants.{Behind, NotActive, NotForwarding, NoPath, StillUsed}
 use Rattle.slon_model.specs.declared.reply.Refusal.TheVariants.{SameNode, Script, ScriptUsed, NoScript}
 use Rattle.slon_model.specs.declared.reply.Refusal.TheVariants.{NotBuilt}
 use Rattle.slon_model.specs.declared.reply.Reply.{Reply}
@@ -141,6 +141,7 @@ refusal_text (Severed node other) = codes "no 68 cut " ++ decimal node ++ codes 
 refusal_text (NotActive node) = codes "no 72 notactive " ++ decimal node
 refusal_text (NotForwarding node) = codes "no 73 notforwarding " ++ decimal node
 refusal_text (NoPath node) = codes "no 75 nopath " ++ decimal node
+refusal_text (StillUsed set) = codes "no 76 stillused " ++ decimal set
 refusal_text (SameNode node) = codes "no 78 samenode " ++ decimal node
 refusal_text (Script refusal) = script_text refusal
 refusal_text (ScriptUsed name) = codes "no 93 scriptused " ++ name

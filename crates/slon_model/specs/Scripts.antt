@@ -19,16 +19,15 @@ use Rattle.slon_model.specs.Maps.{Map, with_entry, number_at}
 use Rattle.slon_model.specs.Events.{Event}
 use Rattle.slon_model.specs.Deeds.{Deed, emitted_by}
 use Rattle.slon_model.specs.Sessions.{World, Memory, Running, Commit, Stated, Outcome, Excess, no_change, excess_of}
-use Rattle.slon_model.specs.Membership.{comment_of, init_cluster, store_node, store_path, drop_path, sync_node}
-use Rattle.slon_model.specs.Sets.{create_set, set_add_table}
+use Rattle.slon_model.specs.Membership.{comment_of, init_cluster, store_node, drop_node, store_path, drop_path}
+use Rattle.slon_model.specs.Membership.{sync_node}
+use Rattle.slon_model.specs.Sets.{create_set, drop_set, set_add_table}
 use Rattle.slon_model.specs.Subscribing.{subscribing, subscribe_set, unsubscribe_set}
 
 -- ---- one statement
 
 -- the first word of a statement that cannot be run yet
 abbrev pub first_word : Order → List ℕ
-first_word (order.DropNode id event_node) = codes "drop"
-first_word (order.DropSet id origin) = codes "drop"
 first_word (order.LockSet id origin) = codes "lock"
 first_word (order.UnlockSet id origin) = codes "unlock"
 first_word (order.MoveSet set old new) = codes "move"
@@ -40,9 +39,11 @@ first_word others = codes "sleep"
 abbrev pub ordered : Order → Running → World → Result Stated Refusal
 ordered (order.InitCluster id comment) = init_cluster id comment
 ordered (order.StoreNode id event_node comment) = store_node id event_node comment
+ordered (order.DropNode id event_node) = drop_node id event_node
 ordered (order.StorePath server client conninfo retry) = store_path server client conninfo
 ordered (order.DropPath server client) = drop_path server client
 ordered (order.CreateSet id origin comment) = create_set id origin comment
+ordered (order.DropSet id origin) = drop_set id origin
 ordered (order.SetAddTable set origin id name key comment) =
     set_add_table origin (record { set_id = set; id = id; name = name; comment = comment_of comment })
 ordered (order.SubscribeSet set provider receiver forward) = subscribe_set (subscribing set provider receiver forward)

@@ -1,12 +1,12 @@
--- Statements about sets: CREATE SET, SET ADD TABLE.
-use Rattle.std.specs.Prelude.{ℕ, is_some, is_none, true, List, [], ◌∷◌, Option, option_map, Result}
+-- Statements about sets: CREATE SET, DROP SET, SET ADD TABLE.
+use Rattle.std.specs.Prelude.{ℕ, is_some, is_none, true, List, [], ◌∷◌, Option, option_map, Result, Ok}
 use Rattle.std.specs.Str.{bytes_eq}
 use Rattle.std.specs.List.{list_any}
 use Rattle.slon_model.specs.declared.reply.Refusal.{Refusal}
 use Rattle.slon_model.specs.declared.reply.Refusal.TheVariants as refused
 use Rattle.slon_model.specs.Names.{find_named}
 use Rattle.slon_model.specs.Maps.{entry_at}
-use Rattle.node_rows.specs.declared.body.Body.TheVariants.{StoreSet, SetAddTable}
+use Rattle.node_rows.specs.declared.body.Body.TheVariants.{StoreSet, DropSet, SetAddTable}
 use Rattle.slon_model.specs.Place.{standing_rows}
 use Rattle.slon_model.specs.Sessions.{World, Running, Seat, Stated, Emission, bind, when, checked, writer_of}
 use Rattle.slon_model.specs.Sessions.{tells}
@@ -19,6 +19,10 @@ create_set id origin comment run w =
     bind (reach run origin w) (λ s.
     checked (any_down w ∷ when (known_somewhere (λ c. is_some (entry_at id c.sets)) w) (refused.IdUsed id) ∷ [])
     (emitting s (tells (StoreSet id origin (comment_of comment)) ∷ [])))
+
+-- DROP SET: reach the origin; 47; 55
+abbrev pub drop_set : ℕ → ℕ → Running → World → Result Stated Refusal
+drop_set id origin run w = bind (origin_of run origin id w) (λ s. Ok (emitting s (tells (DropSet id) ∷ [])))
 
 -- A table that a statement puts into a set.
 pub record NewTable : Type 0 where

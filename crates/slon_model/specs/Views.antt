@@ -3,7 +3,7 @@ use Rattle.std.specs.Prelude.{ℕ, ◌==◌, ◌&&◌, pred, if◌then◌else◌
 use Rattle.slon_model.specs.Maps.{Map, with_entry, without_entry}
 use Rattle.slon_model.specs.Snapshots.{Snapshot, covers}
 use Rattle.node_rows.specs.declared.body.Body.{Body}
-use Rattle.node_rows.specs.declared.body.Body.TheVariants.{SubscribeSet, UnsubscribeSet, MoveSet, FailoverSet}
+use Rattle.node_rows.specs.declared.body.Body.TheVariants.{SubscribeSet, UnsubscribeSet, DropSet, MoveSet, FailoverSet}
 use Rattle.slon_model.specs.Events.{Event, Taken}
 use Rattle.slon_model.specs.Config.{Config, forwards}
 
@@ -63,4 +63,5 @@ abbrev pub views_told : ℕ → Body → Config → Views → Views
 views_told own (SubscribeSet set provider receiver forward) c views =
     if receiver == own && (forward && not (forwards set own c)) then based_at set views else views
 views_told own (UnsubscribeSet set receiver) c views = if receiver == own then without_entry set views else views
+views_told own (DropSet set) c views = without_entry set views
 views_told own others c views = views

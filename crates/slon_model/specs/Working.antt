@@ -4,7 +4,7 @@ use Rattle.std.specs.Prelude.{ℕ, ◌+◌, ◌==◌, ◌&&◌, if◌then◌else
 use Rattle.std.specs.Prelude.{codes, filter, find, map, Option, Some, None, option_map, unwrap_or, Result, Ok, Err}
 use Rattle.std.specs.List.{list_any}
 use Rattle.node_rows.specs.declared.body.Body.{Body}
-use Rattle.node_rows.specs.declared.body.Body.TheVariants.{Sync, DropSet, EnableSubscription, MoveSet, AcceptSet}
+use Rattle.node_rows.specs.declared.body.Body.TheVariants.{Sync, EnableSubscription, MoveSet, AcceptSet}
 use Rattle.node_rows.specs.declared.body.Body.TheVariants.{FailoverSet}
 use Rattle.slon_model.specs.declared.reply.Answer.TheVariants.{Applied, Fetched as FetchedRows}
 use Rattle.slon_model.specs.declared.reply.Refusal.{Refusal}
@@ -35,7 +35,6 @@ next_at m s origin = find (λ e. e.number == progress origin s.known + 1) (line_
 
 -- A node takes over no set yet.
 abbrev pub can_carry_out : Body → Bool
-can_carry_out (DropSet set) = false
 can_carry_out (MoveSet set old new era feeds) = false
 can_carry_out (AcceptSet set old new era moved) = false
 can_carry_out (FailoverSet failed limit sets) = false

@@ -316,6 +316,10 @@ pub enum Refusal {
     NoPath {
         node: u32,
     },
+    /// 76: the node is the origin, a provider or a receiver of this set.
+    StillUsed {
+        set: u32,
+    },
     /// 78: this node is named twice.
     SameNode {
         node: u32,

@@ -8,9 +8,13 @@ mod copies;
 #[cfg(test)]
 mod crashes;
 #[cfg(test)]
+mod dropping;
+#[cfg(test)]
 mod fetches;
 #[cfg(test)]
 mod known;
+#[cfg(test)]
+mod leaving;
 #[cfg(test)]
 mod outside;
 #[cfg(test)]

@@ -51,8 +51,8 @@ use Rattle.slon_turns.specs.Applying.{seat_in}
 use Rattle.slon_turns.specs.Bounds.{AreBounds}
 use Rattle.slon_turns.specs.Fetching.{post_of}
 use Rattle.slon_turns.specs.Following.{Arrives, BrokenSo, EndsLook, FollowsAll, FollowsFrom, FollowsSets, Onward}
-use Rattle.slon_turns.specs.Following.{Heeds, RefusedSo, Way, due_onward, followed_each, followed_kept, goal_of, onward_post}
-use Rattle.slon_turns.specs.Following.{sets_kept}
+use Rattle.slon_turns.specs.Following.{Heeds, RefusedSo, Way, due_onward, followed_each, followed_kept, goal_of}
+use Rattle.slon_turns.specs.Following.{onward_post, sets_kept}
 use Rattle.slon_turns.specs.Holding.{Holds, Keeps}
 use Rattle.slon_turns.specs.Planning.{IsPlannedAnew}
 use Rattle.slon_turns.specs.Polling.{Waits}

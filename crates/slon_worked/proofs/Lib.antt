@@ -4,8 +4,10 @@ pub mod Cascades
 pub mod Changes
 pub mod Copies
 pub mod Doubts
+pub mod Drops
 pub mod Ends
 pub mod Fetches
+pub mod Leavers
 pub mod Polls
 pub mod Refusals
 pub mod Running

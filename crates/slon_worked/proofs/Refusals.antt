@@ -204,9 +204,7 @@ scripts : replies (start 16)
     }))))
     ∷ step (codes "s")
     ∷ refused_each (codes "r") head
-    (order.DropNode 2 1
-    ∷ order.DropSet 1 1
-    ∷ order.LockSet 1 1
+    (order.LockSet 1 1
     ∷ order.UnlockSet 1 1
     ∷ order.Failover 1 2
     ∷ order.WaitForEvent choice.All choice.All 1 None
@@ -225,9 +223,7 @@ scripts : replies (start 16)
     ∷ Accepted (answer.Statements 1)
     ∷ Refused (refused.NotBuilt (codes "try"))
     ∷ each_refused
-    (refused.NotBuilt (codes "drop")
-    ∷ refused.NotBuilt (codes "drop")
-    ∷ refused.NotBuilt (codes "lock")
+    (refused.NotBuilt (codes "lock")
     ∷ refused.NotBuilt (codes "unlock")
     ∷ refused.NotBuilt (codes "failover")
     ∷ refused.NotBuilt (codes "wait")

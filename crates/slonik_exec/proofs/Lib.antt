@@ -3,6 +3,7 @@ pub mod Chains
 pub mod Couples
 pub mod Distinct
 pub mod Downs
+pub mod Ending
 pub mod Events
 pub mod Feeding
 pub mod Founding

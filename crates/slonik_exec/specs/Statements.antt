@@ -7,14 +7,14 @@ use Rattle.slon_model.specs.declared.reply.Answer.TheVariants.{Done}
 use Rattle.slon_model.specs.declared.reply.Reply.{Reply}
 use Rattle.slon_model.specs.declared.reply.Refusal.{Refusal}
 use Rattle.slon_model.specs.declared.reply.Refusal.TheVariants as refused
-use Rattle.node_rows.specs.declared.body.Body.TheVariants.{StorePath, DropPath}
+use Rattle.node_rows.specs.declared.body.Body.TheVariants.{DropNode, StorePath, DropPath, DropSet}
 use Rattle.slon_model.specs.Maps.{entry_at}
 use Rattle.slon_model.specs.Names.{find_named}
-use Rattle.slon_model.specs.Config.{era_of, forwards, has_path, is_origin, set_row}
+use Rattle.slon_model.specs.Config.{era_of, forwards, has_path, is_live, is_origin, set_row}
 use Rattle.slon_model.specs.Deeds.{Node, knowledge}
 use Rattle.slon_model.specs.Place.{Place}
-use Rattle.slon_model.specs.Membership.{is_dropped, becoming, first_of_cluster}
-use Rattle.slon_model.specs.Reaching.{emitting, known_somewhere, receiver_with}
+use Rattle.slon_model.specs.Membership.{is_dropped, becoming, first_of_cluster, set_used_by}
+use Rattle.slon_model.specs.Reaching.{emitting, known_somewhere, origin_checks, receiver_with}
 use Rattle.slon_model.specs.Sessions.{World, Running, Seat, Stated, seat, when, checked, tells, writer_of}
 use Rattle.slon_model.specs.Sets.{NewTable, adding}
 use Rattle.slon_model.specs.Subscribing as subscribing
@@ -38,6 +38,9 @@ path_dropped client server s =
     (emitting s (tells (DropPath server client) ∷ []))
 
 -- ---- sets
+
+abbrev pub set_dropped : ℕ → Seat → Result Stated Refusal
+set_dropped set s = checked (origin_checks s set) (emitting s (tells (DropSet set) ∷ []))
 
 -- what is checked of a table at the origin of its set, before other nodes are asked
 abbrev pub set_checks : ℕ → List ℕ → Seat → List (Option Refusal)
@@ -99,6 +102,17 @@ abbrev pub told_said : subscribing.NewFeed → Seat → Stated
 told_said f s = emitting s (all_tell (told_bodies f s.known.config))
 
 -- ---- nodes
+
+-- what is checked of a node before it is dropped
+abbrev pub leaver_checks : ℕ → Seat → List (Option Refusal)
+leaver_checks node s =
+    when (not (is_live node s.known.config)) (refused.NoNode node)
+    ∷ option_map refused.StillUsed (set_used_by node s.known.config) ∷ []
+
+abbrev pub node_dropped : ℕ → ℕ → Seat → Result Stated Refusal
+node_dropped node event_node s =
+    checked (when (node == event_node) (refused.SameNode node) ∷ leaver_checks node s)
+    (emitting s (tells (DropNode node) ∷ []))
 
 -- A database that is no node becomes the first one of a cluster.
 abbrev pub FoundsAt : List ℕ → NewNode → Base → Reply → Base → Type 0

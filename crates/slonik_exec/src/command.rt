@@ -4,13 +4,15 @@ ghost use Rattle.slon_base.specs.Codec.{IsText};
 ghost use Rattle.slon_model.specs.Membership as membership;
 ghost use Rattle.slon_model.specs.Scripts as rules;
 ghost use Rattle.store_rows.specs.Rows.{IsId};
-ghost use Rattle.slonik_exec.specs.Commands.{IsOnSets, IsRunnable, comment_in};
+ghost use Rattle.slonik_exec.specs.Commands.{IsOnReceivers, IsOnSets, IsRunnable, comment_in};
 ghost use Rattle.slonik_exec.specs.Databases.{bases_of, Runs};
 ghost use Rattle.slonik_exec.specs.Executing.{Executes};
 ghost use Rattle.slonik_exec.specs.Heard.{AreDistinct};
 
 use crate::caller::Caller;
 use crate::databases::Named;
+use crate::dropping::drop_set;
+use crate::leaving::drop_node;
 use crate::membership::{init_cluster, store_node};
 use crate::paths::{drop_path, store_path};
 use crate::sets::{NewTable, create_set, set_add_table};
@@ -60,7 +62,6 @@ fn first_word(command: &Command) -> &'static str
     ensures { result.now ≡ rules.first_word command.now }
 {
     match command {
-        Command::DropNode { .. } | Command::DropSet { .. } => "drop",
         Command::LockSet { .. } => "lock",
         Command::UnlockSet { .. } => "unlock",
         Command::MoveSet { .. } => "move",
@@ -91,7 +92,9 @@ fn is_runnable(command: &Command) -> bool
 {
     match command {
         Command::InitCluster { id, .. } => is_id(*id),
-        Command::StoreNode { id, event_node, .. } => is_id(*id) && is_id(*event_node),
+        Command::StoreNode { id, event_node, .. } | Command::DropNode { id, event_node } => {
+            is_id(*id) && is_id(*event_node)
+        }
         Command::StorePath {
             server,
             client,
@@ -100,6 +103,7 @@ fn is_runnable(command: &Command) -> bool
         } => is_id(*server) && is_id(*client) && is_short(conninfo),
         Command::DropPath { server, client } => is_id(*server) && is_id(*client),
         Command::CreateSet { id, origin, .. } => is_id(*id) && is_id(*origin),
+        Command::DropSet { id, origin } => is_id(*id) && is_id(*origin),
         Command::SetAddTable {
             set_id,
             origin,
@@ -119,17 +123,15 @@ fn is_runnable(command: &Command) -> bool
     }
 }
 
-/// Runs a command on a set, or refuses one that is not run yet.
-fn run_on_set<K: Keeper>(
+/// Runs a command on the receivers of a set, or refuses one that is not run yet.
+fn run_on_receivers<K: Keeper>(
     alloc: Global,
     databases: &mut [Named<K>],
     caller: Caller<'_>,
     command: &Command,
-    comment: &Text,
 ) -> Result<Reply, NoMemory>
-    requires on_sets { IsOnSets command.now }
-    requires can { IsRunnable command.now × IsText comment.now }
-    requires said { comment.now ≡ membership.comment_of (comment_in command.now) }
+    requires on_receivers { IsOnReceivers command.now }
+    requires can { IsRunnable command.now }
     requires distinct { AreDistinct (bases_of K.kept databases.old) }
     ensures runs { IfOk result (λ reply. Runs (bases_of K.kept databases.old) reply
         (bases_of K.kept databases.new)) }
@@ -138,24 +140,6 @@ fn run_on_set<K: Keeper>(
         (bases_of K.kept databases.old) reply (bases_of K.kept databases.new)) }
 {
     match command {
-        Command::CreateSet { id, origin, .. } => {
-            create_set(alloc, databases, caller, *id, *origin, comment)
-        }
-        Command::SetAddTable {
-            set_id,
-            origin,
-            id,
-            fully_qualified_name,
-            ..
-        } => {
-            let table = NewTable {
-                set_id: *set_id,
-                id: *id,
-                name: fully_qualified_name,
-                comment,
-            };
-            set_add_table(alloc, databases, caller, *origin, table)
-        }
         Command::SubscribeSet {
             id,
             provider,
@@ -177,6 +161,48 @@ fn run_on_set<K: Keeper>(
             let word = Text::from_str(alloc, first_word(command))?;
             Ok(Reply::Refused(Refusal::NotBuilt { word }))
         }
+    }
+}
+
+/// Runs a command on a set or its receivers, or refuses one that is not run yet.
+fn run_on_set<K: Keeper>(
+    alloc: Global,
+    databases: &mut [Named<K>],
+    caller: Caller<'_>,
+    command: &Command,
+    comment: &Text,
+) -> Result<Reply, NoMemory>
+    requires on_sets { IsOnSets command.now }
+    requires can { IsRunnable command.now × IsText comment.now }
+    requires said { comment.now ≡ membership.comment_of (comment_in command.now) }
+    requires distinct { AreDistinct (bases_of K.kept databases.old) }
+    ensures runs { IfOk result (λ reply. Runs (bases_of K.kept databases.old) reply
+        (bases_of K.kept databases.new)) }
+    ensures executes { IfOk result (λ reply. Executes
+        (record { lines = caller.entry.lines.now; cluster = caller.entry.cluster.now }) (rules.ordered command.now)
+        (bases_of K.kept databases.old) reply (bases_of K.kept databases.new)) }
+{
+    match command {
+        Command::CreateSet { id, origin, .. } => {
+            create_set(alloc, databases, caller, *id, *origin, comment)
+        }
+        Command::DropSet { id, origin } => drop_set(alloc, databases, caller, *id, *origin),
+        Command::SetAddTable {
+            set_id,
+            origin,
+            id,
+            fully_qualified_name,
+            ..
+        } => {
+            let table = NewTable {
+                set_id: *set_id,
+                id: *id,
+                name: fully_qualified_name,
+                comment,
+            };
+            set_add_table(alloc, databases, caller, *origin, table)
+        }
+        _ => run_on_receivers(alloc, databases, caller, command),
     }
 }
 
@@ -208,6 +234,9 @@ pub fn run_command<K: Keeper>(
         Command::InitCluster { id, .. } => init_cluster(alloc, databases, caller, *id, &comment),
         Command::StoreNode { id, event_node, .. } => {
             store_node(alloc, databases, caller, *id, *event_node, &comment)
+        }
+        Command::DropNode { id, event_node } => {
+            drop_node(alloc, databases, caller, *id, *event_node)
         }
         Command::StorePath {
             server,

@@ -94,8 +94,8 @@ fn check_leave<K: Keeper>(
     check_feeds_none(alloc, seat, set, receiver)
 }
 
-/// The owner of the set emits the event by which the receiver gives it up, unless 72 it is no receiver of the set, or 46
-/// another one has the set from it.
+/// The owner of the set emits the event by which the receiver gives it up, unless 72 it is no receiver of the set, or
+/// 46 another one has the set from it.
 fn leave_at<K: Keeper>(
     alloc: Global,
     seat: &mut Named<K>,

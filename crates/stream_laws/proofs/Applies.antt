@@ -1,34 +1,35 @@
 -- A node that applies the next event of another one holds as much as before, and knows what that event makes known.
-use Rattle.std.proofs.Common.{◌≡◌, ◌≢◌, inr, ℕ, true, List, [], ◌∷◌, Option, Some, None, is_some, refl}
+use Rattle.std.proofs.Common.{◌≡◌, ◌≢◌, ◌≤◌, inl, inr, ℕ, true, false, List, [], ◌∷◌, Option, Some, None, is_some, refl}
 use Rattle.std.proofs.Common.{sym, ap, subst, ◌∙◌, arith}
-use Rattle.std.proofs.lemmas.Bool.{false≢true, false_from_ne_true}
+use Rattle.std.proofs.lemmas.Bool.{eqb-true, false≢true, false_from_ne_true, true≢false}
 use Rattle.node_rows.specs.declared.rows.SetRow.{SetRow}
 use Rattle.node_rows.specs.declared.body.Body.{Body}
-use Rattle.node_rows.specs.declared.body.Body.TheVariants.{StoreSet, SetAddTable}
+use Rattle.node_rows.specs.declared.body.Body.TheVariants.{StoreSet, DropSet, SetAddTable}
 use Rattle.slon_model.specs.Maps.{Map, entry_at, number_at}
 use Rattle.slon_model.specs.Events.{Event}
 use Rattle.slon_model.specs.Config.{Config}
 use Rattle.slon_model.specs.Deeds.{Node, Deed, Brought, Applies, knowledge, with_deeds, stream, met, progress}
 use Rattle.slon_model.proofs.Names.{one_found}
 use Rattle.stream_laws.specs.Nodes.{IsAmong, Nodes, IsEvent}
-use Rattle.stream_laws.specs.Making.{Mark, OfSet, tells_of, IsMade, HasStored, is_emitted, MayFollow}
+use Rattle.stream_laws.specs.Making.{Mark, OfSet, OfEnd, tells_of, has_mark, IsMade, IsMet, HasLasted, HasStored}
+use Rattle.stream_laws.specs.Making.{AreEmitted, is_emitted, MayFollow}
 use Rattle.stream_laws.specs.Applied.{applied_events}
 use Rattle.stream_laws.specs.Facts.{Facts, AreRegular}
-use Rattle.stream_laws.proofs.Lists.{among_behind, number_beside}
+use Rattle.stream_laws.proofs.Lists.{all_among, among_behind, number_beside}
 use Rattle.stream_laws.proofs.Growing.{Grow, GoOn, placed, staying, event_grown, marked_grown, told_grown, events_grown}
-use Rattle.stream_laws.proofs.Streams.{applied_next, Found, among_found, number_within, own_is, one_node, has_told}
+use Rattle.stream_laws.proofs.Streams.{applied_next, Found, among_earlier, among_found, number_within, own_is}
+use Rattle.stream_laws.proofs.Streams.{one_node, has_told}
+pub use Rattle.stream_laws.proofs.Marks.{IsSetOf}
 use Rattle.stream_laws.proofs.Marks.{IsNext, further, first_with, Meeting, meets}
 use Rattle.stream_laws.proofs.Emits.{known_changed}
 
--- the set is known, with this origin
-abbrev pub IsSetOf : ℕ → ℕ → Config → Type 0
-IsSetOf set origin c = (row : SetRow) × (entry_at set c.sets ≡ Some row) × (row.origin ≡ origin)
-
 -- An event of this origin may be of this body, for one who knows so much: a set begins at the origin, and a table comes
--- into a set that is known, and began there. All others are of kinds that are emitted.
+-- into a set that is known as live, and began there; a set ends that is known, and began there. All others are of kinds
+-- that are emitted.
 abbrev pub MayCome : ℕ → Body → Config → Type 0
 MayCome own (StoreSet set origin comment) c = origin ≡ own
-MayCome own (SetAddTable set table name comment) c = IsSetOf set own c
+MayCome own (SetAddTable set table name comment) c = IsSetOf set own c × (has_mark (OfEnd set) c ≡ false)
+MayCome own (DropSet set) c = IsSetOf set own c
 MayCome own others c = is_emitted others ≡ true
 
 -- A node of these that applies an event of one of them, the next one of its origin, and what it brings with that.
@@ -108,6 +109,52 @@ meeting {nodes} a regular = record {
       makes = makes;
     }
 
+-- ---- the end of a set
+
+-- an event by which a set ends says so of this one
+pub ends_of : (id : ℕ) (body : Body) → tells_of body (OfEnd id) ≡ true → body ≡ DropSet id
+ends_of id (DropSet set) makes = ap DropSet (sym (eqb-true id set makes))
+ends_of id others makes = absurd (false≢true makes)
+
+-- who has emitted that a set ends had stored it
+pub end_stored : (nodes : Nodes) → AreRegular nodes → (set : ℕ) (made : IsMade nodes (OfEnd set)) →
+    (stored : IsMade nodes (OfSet set)) × (stored.node ≡ made.node)
+end_stored nodes regular set made =
+    let f = among_found made.node.id (stream made.node) made.event
+    (regular.each made.name made.node made.is).emitted made.among in
+    let stored : HasStored set f.earlier =
+    subst (MayFollow made.node.id f.earlier) (ends_of set made.event.body made.makes) f.are.2 in (
+      record {
+        name = made.name;
+        node = made.node;
+        is = made.is;
+        event = stored.0;
+        among =
+            subst (IsAmong stored.0) (sym f.all)
+            (among_behind stored.0 f.later (made.event ∷ f.earlier) (inr stored.1));
+        makes = stored.2;
+      },
+      refl,
+    )
+
+-- ---- what the node knows of the set of the event
+
+-- the origin of the event made the set known
+abbrev stored_by : {nodes : Nodes} (a : Applying nodes) → (regular : AreRegular nodes) → (set : ℕ) →
+    HasStored set (meeting a regular).earlier → IsMade nodes (OfSet set)
+stored_by a regular set stored =
+    let m = meeting a regular in
+    record {
+      name = m.name;
+      node = m.node;
+      is = m.is;
+      event = stored.0;
+      among =
+          subst (IsAmong stored.0) (sym m.all)
+          (among_behind stored.0 m.later (a.event ∷ m.earlier) (inr stored.1));
+      makes = stored.2;
+    }
+
 -- the node knows the set that an earlier event of the same origin stored
 set_known : {nodes : Nodes} (a : Applying nodes) → (regular : AreRegular nodes) → (set : ℕ) →
     HasStored set (meeting a regular).earlier → IsSetOf set a.event.origin (knowledge a.node).config
@@ -124,18 +171,56 @@ set_known {nodes} a regular set stored =
     by None none known = absurd (false≢true known)
     by (Some row) found known =
         let made = (regular.each a.name a.node a.is).marked.origins set row found in
-        let first = regular.once (OfSet set) made.0 (record {
-          name = m.name;
-          node = m.node;
-          is = m.is;
-          event = stored.0;
-          among =
-              subst (IsAmong stored.0) (sym m.all)
-              (among_behind stored.0 m.later (a.event ∷ m.earlier) (inr stored.1));
-          makes = stored.2;
-        }) in
+        let first = regular.once (OfSet set) made.0 (stored_by a regular set stored) in
         let node = one_found _ _ (sym made.0.is ∙ ap nodes first.0 ∙ m.is) in
         (row, found, sym made.1 ∙ ap (λ (n : Node). n.id) node ∙ m.own)
+
+-- and knows it as live, where that one has not emitted before that it has ended
+set_lasts : {nodes : Nodes} (a : Applying nodes) → (regular : AreRegular nodes) → (set : ℕ) →
+    HasStored set (meeting a regular).earlier × HasLasted set (meeting a regular).earlier →
+    has_mark (OfEnd set) (knowledge a.node).config ≡ false
+set_lasts {nodes} a regular set (stored, lasted) =
+    false_from_ne_true (has_mark (OfEnd set) c) (λ ended.
+    never ((regular.each a.name a.node a.is).marked.met (OfEnd set) ended))
+  where
+    c : Config
+    c = (knowledge a.node).config
+
+    reached : Map ℕ
+    reached = (knowledge a.node).progress
+
+    m : Meeting nodes c reached a.event
+    m = meeting a regular
+
+    never : IsMet nodes reached (OfEnd set) → ⊥
+    never met = by (among_earlier m.node.id m.later (a.event ∷ m.earlier) d
+        (subst (AreEmitted m.node.id) m.all (regular.each m.name m.node m.is).emitted)
+        (subst (IsAmong d) m.all (subst (λ (n : Node). IsAmong d (stream n)) one met.made.among))
+        (omega (arith, within, at, m.next, m.far)))
+      where
+        d : Event
+        d = met.made.event
+
+        by_end : (made : IsMade nodes (OfSet set)) × (made.node ≡ met.made.node)
+        by_end = end_stored nodes regular set met.made
+
+        one : met.made.node ≡ m.node
+        one =
+            let once = regular.once (OfSet set) by_end.0 (stored_by a regular set stored) in
+            sym by_end.1 ∙ one_found by_end.0.node m.node (sym by_end.0.is ∙ ap nodes once.0 ∙ m.is)
+
+        within : d.number ≤ number_at met.made.node.id reached
+        within = met.within
+
+        at : number_at met.made.node.id reached ≡ number_at a.event.origin reached
+        at = ap (λ (n : Node). number_at n.id reached) one ∙ ap (λ id. number_at id reached) m.own
+
+        by : IsAmong d (a.event ∷ m.earlier) → ⊥
+        by (inl same) =
+            let number = ap (λ (e : Event). e.number) same in absurd (omega (arith, number, within, at, m.next))
+        by (inr early) =
+            true≢false (sym met.made.makes
+            ∙ all_among (λ e. tells_of e.body (OfEnd set) ≡ false) d m.earlier lasted early)
 
 pub may_come : {nodes : Nodes} (a : Applying nodes) → AreRegular nodes →
     MayCome a.event.origin a.event.body (knowledge a.node).config
@@ -144,7 +229,8 @@ may_come a regular = by a.event.body (meeting a regular).may
     by : (body : Body) → MayFollow a.event.origin (meeting a regular).earlier body →
         MayCome a.event.origin body (knowledge a.node).config
     by (StoreSet set origin comment) may = may
-    by (SetAddTable set table name comment) may = set_known a regular set may
+    by (SetAddTable set table name comment) may = (set_known a regular set may.0, set_lasts a regular set may)
+    by (DropSet set) may = set_known a regular set may
     by others may = may
 
 applied_facts : {old : Nodes} (a : Applying old) → AreRegular old → (new : Nodes) → Grow old new →

@@ -50,18 +50,18 @@ origin_row own set c leads = by (entry_at set c.sets) refl leads
     by None found leads = absurd (false≢true leads)
     by (Some row) found leads = live row found row.live leads
 
--- A node of these that is the origin of the set, as it knows it.
+-- A node of these that is the origin of the set, as it knows it, whether that is live or not.
 pub record Leading (nodes : Nodes) (set : ℕ) : Type 0 where
   pub name : List ℕ
   pub node : Node
   pub is : nodes name ≡ Some node
-  pub leads : is_origin node.id set (knowledge node).config ≡ true
+  pub leads : IsSetOf set node.id (knowledge node).config
 
 -- no two nodes are the origin of one set
 pub one_leader : (nodes : Nodes) → AreRegular nodes → (set : ℕ) (a b : Leading nodes set) → a.node.id ≡ b.node.id
 one_leader nodes regular set a b =
-    let row_a = origin_row a.node.id set (knowledge a.node).config a.leads in
-    let row_b = origin_row b.node.id set (knowledge b.node).config b.leads in
+    let row_a = a.leads in
+    let row_b = b.leads in
     let made_a = (regular.each a.name a.node a.is).marked.origins set row_a.0 row_a.1 in
     let made_b = (regular.each b.name b.node b.is).marked.origins set row_b.0 row_b.1 in
     let names = regular.once (OfSet set) made_a.0 made_b.0 in

@@ -9,7 +9,7 @@ use Rattle.std.proofs.lemmas.List.{append_assoc}
 use Rattle.node_rows.specs.declared.rows.NodeRow.{NodeRow}
 use Rattle.node_rows.specs.declared.body.Body.{Body}
 use Rattle.node_rows.specs.declared.body.Body.TheVariants.{StoreNode, DropNode, StoreSet, SetAddTable, SubscribeSet}
-use Rattle.node_rows.specs.declared.body.Body.TheVariants.{FailoverSet}
+use Rattle.node_rows.specs.declared.body.Body.TheVariants.{DropSet, FailoverSet}
 use Rattle.slon_model.specs.Maps.{Map, entry_at, with_entry, number_at}
 use Rattle.slon_model.specs.Events.{Event, Taken}
 use Rattle.slon_model.specs.Config.{Config, change_by, named_node, set_row, taken_over, handed}
@@ -165,10 +165,11 @@ emitting_of {s = s} {number = number} r m may = record {
   may = may;
 }
 
--- a body of a kind that is emitted, which makes nothing known for good
+-- a body of a kind that each node may emit at any time
 abbrev pub is_free : Body → Bool
 is_free (StoreSet set origin comment) = false
 is_free (SetAddTable set table name comment) = false
+is_free (DropSet set) = false
 is_free others = is_emitted others
 
 abbrev pub AreFree : List Emission → Type 0
@@ -177,6 +178,7 @@ AreFree ms = AllByRecursion (λ m. is_free m.body ≡ true) ms
 free_may : (nodes : Nodes) (n : Node) (body : Body) → is_free body ≡ true → MayEmit nodes n body
 free_may nodes n (StoreSet set origin comment) free = absurd (false≢true free)
 free_may nodes n (SetAddTable set table name comment) free = absurd (false≢true free)
+free_may nodes n (DropSet set) free = absurd (false≢true free)
 free_may nodes n others free = record { may = free; unmade = λ mark makes made. absurd (false≢true makes) }
 
 -- the first of these may be emitted, and those behind it make nothing known for good

@@ -12,7 +12,7 @@ use Rattle.slon_model.specs.Deeds.{Node, first_config, knowledge, held, told_to,
 use Rattle.slon_model.specs.Sessions.{Running}
 use Rattle.slon_model.specs.Membership.{first_of_cluster, joining}
 use Rattle.stream_laws.specs.Nodes.{Nodes, HasConfirmed}
-use Rattle.stream_laws.specs.Making.{Mark, OfSet, OfTable, OfName, has_mark, HasEmitted}
+use Rattle.stream_laws.specs.Making.{Mark, OfSet, OfTable, OfName, OfEnd, has_mark, HasEmitted}
 use Rattle.stream_laws.specs.Applied.{HasApplied}
 use Rattle.stream_laws.specs.Facts.{Facts, AreRegular, RowConfirmed}
 use Rattle.stream_laws.proofs.Lists.{all_filtered, all_mapped, all_entry}
@@ -96,6 +96,7 @@ first_unmarked : (id : ℕ) (comment : List ℕ) (mark : Mark) → has_mark mark
 first_unmarked id comment (OfSet set) = refl
 first_unmarked id comment (OfTable table) = refl
 first_unmarked id comment (OfName name) = refl
+first_unmarked id comment (OfEnd set) = refl
 
 first_facts : (id : ℕ) (comment : List ℕ) (run : Running) (new : Nodes) → Facts new (first_of_cluster id comment run)
 first_facts id comment run new = record {

@@ -1,28 +1,31 @@
 -- The laws, for every session that a legal history leads to.
-use Rattle.std.proofs.Common.{◌≡◌, ◌≤◌, inr, ℕ, Bool, true, false, cond, List, [], ◌∷◌, ◌++◌, Option, Some, None, refl}
+use Rattle.std.proofs.Common.{◌≡◌, ◌≤◌, inl, inr, ℕ, Bool, true, false, cond, List, [], ◌∷◌, ◌++◌, Option, Some, None}
+use Rattle.std.proofs.Common.{refl}
 use Rattle.std.proofs.Common.{sym, ap, subst, arith, unwrap_or}
 use Rattle.std.specs.Prelude.{◌==◌, filter_map}
 use Rattle.std.specs.List.{cons_option, AllByRecursion}
 use Rattle.std.proofs.lemmas.Bool.{eqb-true}
 use Rattle.node_rows.specs.declared.body.Body.{Body}
-use Rattle.node_rows.specs.declared.body.Body.TheVariants.{StoreSet, SetAddTable}
+use Rattle.node_rows.specs.declared.body.Body.TheVariants.{StoreSet, DropSet, SetAddTable}
 use Rattle.slon_model.specs.Maps.{Map, entry_at, number_at, row_at}
 use Rattle.slon_model.specs.Events.{Event}
 use Rattle.slon_model.specs.Deeds.{Node, Deed, Doing, Emits, Applies, knowledge, stream, met_by, held, progress}
 use Rattle.slon_model.specs.World.{World}
 use Rattle.stream_laws.specs.Nodes.{IsAmong, Nodes, IsEvent, HasConfirmed, WaitsAt}
 use Rattle.stream_laws.specs.Applied.{applied_in, applied_events}
-use Rattle.stream_laws.specs.Making.{HasStored, MayFollow, AreEmitted}
+use Rattle.stream_laws.specs.Making.{HasLasted, HasStored, MayFollow, AreEmitted, OfEnd, tells_of}
 use Rattle.stream_laws.specs.Facts.{AreRegular, WaitsIn, LinesAre, IsRegular}
 use Rattle.stream_laws.specs.Laws.{HoldsOfSessions, node_of, HaveOrigins, EventsAreTheStream, AreInOrder}
 use Rattle.stream_laws.specs.Laws.{StreamsAreNumbered, AreBehind, ConfirmationsAreBehind, NodesAreDistinct}
-use Rattle.stream_laws.specs.Laws.{AreApplied, EventsAreAppliedOnce, StoredBefore, IsProper, AreMadeOnce}
+use Rattle.stream_laws.specs.Laws.{AreApplied, EventsAreAppliedOnce, LastedBefore, StoredBefore, IsProper}
+use Rattle.stream_laws.specs.Laws.{AreMadeOnce}
 use Rattle.stream_laws.specs.Laws.{MarksAreMadeOnce}
 use Rattle.stream_laws.proofs.Lists.{all_among, among_behind, all_entry}
 use Rattle.stream_laws.proofs.Hears.{held_events, row_confirmed}
 use Rattle.stream_laws.proofs.Seats.{OnOk}
 use Rattle.stream_laws.proofs.Steps.{regular_world}
-use Rattle.stream_laws.proofs.Streams.{number_within, emitted_before, Found, among_found, own_is, one_node, reached_of}
+use Rattle.stream_laws.proofs.Streams.{among_earlier, number_within, emitted_before, Found, among_found, own_is}
+use Rattle.stream_laws.proofs.Streams.{one_node, reached_of}
 use Rattle.stream_laws.proofs.Streams.{has_told}
 use Rattle.stream_laws.proofs.Waiting.{IsPoll, polled_ok}
 
@@ -143,11 +146,23 @@ stored_before n e set f one =
       one.2,
     )
 
-proper : (n : Node) (e : Event) (f : Found n.id (stream n) e) (body : Body) → MayFollow n.id f.earlier body →
-    IsProper n e.number body
-proper n e f (StoreSet set origin comment) may = may
-proper n e f (SetAddTable set table name comment) may = stored_before n e set f may
-proper n e f others may = may
+lasted_before : (n : Node) (e : Event) (set : ℕ) (f : Found n.id (stream n) e) → AreEmitted n.id (stream n) →
+    HasLasted set f.earlier → LastedBefore n e.number set
+lasted_before n e set f are lasted d among less =
+    by (among_earlier n.id f.later (e ∷ f.earlier) d (subst (AreEmitted n.id) f.all are)
+    (subst (IsAmong d) f.all among) (omega (arith, f.are.1, less)))
+  where
+    by : IsAmong d (e ∷ f.earlier) → tells_of d.body (OfEnd set) ≡ false
+    by (inl same) = let number = ap (λ (x : Event). x.number) same in absurd (omega (arith, number, less))
+    by (inr early) = all_among (λ x. tells_of x.body (OfEnd set) ≡ false) d f.earlier lasted early
+
+proper : (n : Node) (e : Event) (f : Found n.id (stream n) e) → AreEmitted n.id (stream n) → (body : Body) →
+    MayFollow n.id f.earlier body → IsProper n e.number body
+proper n e f are (StoreSet set origin comment) may = may
+proper n e f are (SetAddTable set table name comment) may =
+    (stored_before n e set f may.0, lasted_before n e set f are may.1)
+proper n e f are (DropSet set) may = stored_before n e set f may
+proper n e f are others may = may
 
 made_once : (w : World) → IsRegular w → AreMadeOnce w
 made_once w regular = record {
@@ -161,8 +176,9 @@ made_once w regular = record {
       (own_is (node_of w) made.name made.node made.is maker made.event made.among) met.within mark made.makes;
   origins = λ name n is. (regular.nodes.each name n is).marked.origins;
   bodies = λ name n is e among.
-      let f = among_found n.id (stream n) e (regular.nodes.each name n is).emitted among in
-      proper n e f e.body f.are.2;
+      let are = (regular.nodes.each name n is).emitted in
+      let f = among_found n.id (stream n) e are among in
+      proper n e f are e.body f.are.2;
   waits = waiting w regular;
   polls = λ node server b is e among.
       all_among (WaitsAt (node_of w) b.seat.name) e b.events

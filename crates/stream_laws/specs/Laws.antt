@@ -1,8 +1,10 @@
 -- The laws of what nodes hold of one another's streams, in every session that a legal history leads to.
+use Rattle.std.specs.Prelude.{false}
+use Rattle.stream_laws.specs.Making.{OfEnd}
 use Rattle.std.specs.Prelude.{◌≡◌, ℕ, suc, ◌≤◌, ◌<◌, true, List, ◌∷◌, ◌++◌, length, Option, Some, Ok}
 use Rattle.node_rows.specs.declared.rows.SetRow.{SetRow}
 use Rattle.node_rows.specs.declared.body.Body.{Body}
-use Rattle.node_rows.specs.declared.body.Body.TheVariants.{StoreSet, SetAddTable}
+use Rattle.node_rows.specs.declared.body.Body.TheVariants.{StoreSet, DropSet, SetAddTable}
 use Rattle.slon_model.specs.Names.{find_named}
 use Rattle.slon_model.specs.Maps.{Map, entry_at, number_at}
 use Rattle.slon_model.specs.Events.{Event}
@@ -89,15 +91,22 @@ abbrev pub StoredBefore : Node → ℕ → ℕ → Type 0
 StoredBefore n number set =
     (e : Event) × IsAmong e (stream n) × (e.number < number) × (tells_of e.body (OfSet set) ≡ true)
 
+-- the node has not emitted before the event of this number that the set has ended
+abbrev pub LastedBefore : Node → ℕ → ℕ → Type 0
+LastedBefore n number set =
+    (e : Event) → IsAmong e (stream n) → e.number < number → tells_of e.body (OfEnd set) ≡ false
+
 -- What an event of the node with this number may be, by its body: a set begins at the node itself, and a table comes
--- into a set that began there before. All others are of kinds that are emitted.
+-- into a set that began there before and has not ended; a set ends that began there before. All others are of kinds
+-- that are emitted.
 abbrev pub IsProper : Node → ℕ → Body → Type 0
 IsProper n number (StoreSet set origin comment) = origin ≡ n.id
-IsProper n number (SetAddTable set table name comment) = StoredBefore n number set
+IsProper n number (SetAddTable set table name comment) = StoredBefore n number set × LastedBefore n number set
+IsProper n number (DropSet set) = StoredBefore n number set
 IsProper n number others = is_emitted others ≡ true
 
--- A set, a table, and that a table has a name, is made known by one event of one node, and a node knows it that is as
--- far as that event, and no other.
+-- A set, a table, that a table has a name, and that a set has ended, is made known by one event of one node, and a node
+-- knows it that is as far as that event, and no other.
 pub record AreMadeOnce (w : World) : Type 0 where
   pub once : (mark : Mark) (x y : IsMade (node_of w) mark) → (x.name ≡ y.name) × (x.event.number ≡ y.event.number)
   pub met : OfEachNode w (λ n. (mark : Mark) → has_mark mark (knowledge n).config ≡ true →

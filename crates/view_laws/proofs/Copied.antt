@@ -1,6 +1,7 @@
 -- What a node copies is a set of the origin of the event by which it does: that origin leads the set, and gives it, or
 -- another node does that forwards it.
-use Rattle.std.proofs.Common.{◌≡◌, ℕ, Bool, true, false, cond, Option, Some, None, refl, sym, ap, subst, ◌∙◌, not}
+use Rattle.std.proofs.Common.{◌≡◌, ◌⊎◌, inl, inr, ℕ, Bool, true, false, cond, Option, Some, None, refl, sym, ap, subst}
+use Rattle.std.proofs.Common.{◌∙◌, not, is_some}
 use Rattle.std.specs.Prelude.{◌==◌, ◌&&◌, option_map, unwrap_or}
 use Rattle.std.proofs.lemmas.Bool.{and_from, and_parts, eq-eqb, eqb-true, false≢true}
 use Rattle.node_rows.specs.declared.body.Body.{Body}
@@ -9,7 +10,7 @@ use Rattle.node_rows.specs.declared.rows.SetRow.{SetRow}
 use Rattle.slon_model.specs.Maps.{entry_at}
 use Rattle.slon_model.specs.Snapshots.{Snapshot}
 use Rattle.slon_model.specs.Events.{Event}
-use Rattle.slon_model.specs.Config.{era_of, forwards, is_origin, leads_row, live_set}
+use Rattle.slon_model.specs.Config.{Config, era_of, forwards, is_origin, leads_row, live_set, set_row}
 use Rattle.slon_model.specs.Views.{View}
 use Rattle.slon_model.specs.Deeds.{Node, Brought, Knowledge, knowledge, view_of}
 use Rattle.slon_model.specs.Place.{Place, taken}
@@ -23,7 +24,8 @@ use Rattle.stream_laws.specs.Nodes.{nodes_in, node_in, IsEvent}
 use Rattle.stream_laws.proofs.Applies.{IsSetOf}
 use Rattle.stream_laws.proofs.Copies.{IsCopy, Leading, one_leader, origin_row}
 use Rattle.stream_laws.proofs.Streams.{one_node}
-use Rattle.image_laws.proofs.Staying.{Stays}
+use Rattle.image_laws.proofs.Dropping.{over}
+use Rattle.image_laws.proofs.Staying.{IsOver, IsRowOf, Stays}
 use Rattle.view_laws.specs.Known.{IsEmitted, IsSeen, enables, feeds}
 use Rattle.view_laws.specs.Past.{Moment, Past, WasUpTo}
 use Rattle.view_laws.proofs.Brought.{IsCopied, was_then}
@@ -33,34 +35,63 @@ use Rattle.stream_laws.proofs.Seats.{IsSeat, seat_node}
 
 -- ---- the origin of a set
 
--- the set is led as before
+-- the row of a set that a node led, as it has it later
+stays_row : (a : Node) (q : Place) (b : Node) → Stays a q → q.node ≡ Some b → (set : ℕ) (row : SetRow) →
+    entry_at set (knowledge a).config.sets ≡ Some row → (b.id ≡ a.id) × IsRowOf set row (knowledge b).config
+stays_row a q b stays is set row found = (
+  ap (λ (n : Node). n.id) (sym one) ∙ stays.id,
+  subst (λ (n : Node). IsRowOf set row (knowledge n).config) one (stays.rows set row found),
+)
+  where
+    one : stays.node ≡ b
+    one = one_found stays.node b (sym stays.is ∙ is)
+
+-- it is the origin of the set still, whether that is live or not
+pub stays_owner : (a : Node) (q : Place) (b : Node) → Stays a q → q.node ≡ Some b → (set : ℕ) →
+    is_origin a.id set (knowledge a).config ≡ true → IsSetOf set b.id (knowledge b).config
+stays_owner a q b stays is set leads = by (origin_row a.id set (knowledge a).config leads)
+  where
+    by : IsSetOf set a.id (knowledge a).config → IsSetOf set b.id (knowledge b).config
+    by (row, found, own) =
+        let there = stays_row a q b stays is set row found in
+        elim there.1 [
+          | inl same ↦ (row, same, own ∙ sym there.0)
+          | inr ended ↦ (over row, ended, own ∙ sym there.0)
+        ]
+
+-- a set is live or not
+pub live_or_over : (set : ℕ) (c : Config) → (is_some (set_row set c) ≡ true) ⊎ IsOver set c
+live_or_over set c = by (set_row set c)
+  where
+    by : (o : Option SetRow) → (is_some o ≡ true) ⊎ (o ≡ None)
+    by None = inr refl
+    by (Some row) = inl refl
+
+-- the set is led as before, if it is live
 pub stays_leading : (a : Node) (q : Place) (b : Node) → Stays a q → q.node ≡ Some b → (set : ℕ) →
-    is_origin a.id set (knowledge a).config ≡ true →
+    is_origin a.id set (knowledge a).config ≡ true → is_some (set_row set (knowledge b).config) ≡ true →
     (is_origin b.id set (knowledge b).config ≡ true)
     × (era_of set (knowledge b).config ≡ era_of set (knowledge a).config)
-stays_leading a q b stays is set leads = (
-  ap (λ o. leads_row b.id (live_set o)) row ∙ ap (λ id. leads_row id (live_set (Some found.0))) (id)
-      ∙ ap (λ o. leads_row a.id (live_set o)) (sym found.1) ∙ leads,
-  ap era_by row ∙ sym (ap era_by found.1),
-)
+stays_leading a q b stays is set leads live =
+    let there = stays_row a q b stays is set found.0 found.1 in by there.0 there.1
   where
     found : IsSetOf set a.id (knowledge a).config
     found = origin_row a.id set (knowledge a).config leads
 
-    one : stays.node ≡ b
-    one = one_found stays.node b (sym stays.is ∙ is)
-
-    id : b.id ≡ a.id
-    id = ap (λ (n : Node). n.id) (sym one) ∙ stays.id
-
-    row : entry_at set (knowledge b).config.sets ≡ Some found.0
-    row =
-        ap (λ (n : Node). entry_at set (knowledge n).config.sets) (sym one) ∙ stays.rows set found.0 found.1
-
     era_by : Option SetRow → ℕ
     era_by o = unwrap_or (option_map (λ row. row.era) (live_set o)) 0
 
--- the node of a moment that led a set leads it now
+    by : b.id ≡ a.id → IsRowOf set found.0 (knowledge b).config →
+        (is_origin b.id set (knowledge b).config ≡ true)
+        × (era_of set (knowledge b).config ≡ era_of set (knowledge a).config)
+    by id (inl row) = (
+      ap (λ o. leads_row b.id (live_set o)) row ∙ ap (λ id. leads_row id (live_set (Some found.0))) id
+          ∙ ap (λ o. leads_row a.id (live_set o)) (sym found.1) ∙ leads,
+      ap era_by row ∙ sym (ap era_by found.1),
+    )
+    by id (inr ended) = absurd (false≢true (sym (ap (λ o. is_some (live_set o)) ended) ∙ live))
+
+-- the node of a moment that led a set is its origin now
 abbrev pub leading_now : (t : Past) (m : Moment (WasUpTo t)) (set : ℕ) →
     is_origin m.node.id set (knowledge m.node).config ≡ true →
     (y : Leading (nodes_in t.world.places) set) × (y.node.id ≡ m.node.id)
@@ -71,16 +102,16 @@ leading_now t m set leads =
         name = m.name;
         node = now.2.node;
         is = ap node_in now.1 ∙ now.2.is;
-        leads = (stays_leading m.node now.0 now.2.node now.2 now.2.is set leads).0;
+        leads = stays_owner m.node now.0 now.2.node now.2 now.2.is set leads;
       },
       now.2.id,
     )
 
--- who says that a node subscribes to a set leads the set
+-- who says that a node subscribes to a set is the origin of the set
 pub feeder_leads : (t : Past) (e : Event) (is : IsEvent (nodes_in t.world.places) e) (set : ℕ) →
-    feeds set e.body ≡ true → is_origin is.node.id set (knowledge is.node).config ≡ true
+    feeds set e.body ≡ true → IsSetOf set is.node.id (knowledge is.node).config
 feeder_leads t e is set feed =
-    subst (λ n. is_origin n.id set (knowledge n).config ≡ true) (one_node (nodes_in t.world.places)
+    subst (λ n. IsSetOf set n.id (knowledge n).config) (one_node (nodes_in t.world.places)
     (regular_now t).nodes now.0.name is.name now.0.node is.node now.0.is
     (is.is, now.1 ∙ emitted.own ∙ sym is.own)) now.0.leads
   where
@@ -100,7 +131,7 @@ seen_leads t n set v seen y =
 -- the node that leads the set is the one that says so
 pub feeder_is : (t : Past) (e : Event) (is : IsEvent (nodes_in t.world.places) e) (set : ℕ) →
     feeds set e.body ≡ true → (p : Seat) → IsSeat t.world.places p →
-    is_origin p.node.id set (knowledge p.node).config ≡ true → p.node.id ≡ is.node.id
+    IsSetOf set p.node.id (knowledge p.node).config → p.node.id ≡ is.node.id
 feeder_is t e is set feed p seat leads =
     one_leader (nodes_in t.world.places) (regular_now t).nodes set
     (record { name = p.name; node = p.node; is = seat_node t.world.places p seat; leads = leads })

@@ -15,7 +15,7 @@ use Rattle.view_laws.proofs.Emitted.{emitted_in}
 use Rattle.view_laws.proofs.Moments.{NodeAt, node_now, now_stays, one_name, reached_up_to}
 
 -- the snapshot of a moment was taken in the history
-pub was_taken : (t : Past) (m : Moment (WasUpTo t)) (name : List ℕ) → m.name ≡ name → (k : Snapshot) →
+abbrev pub was_taken : (t : Past) (m : Moment (WasUpTo t)) (name : List ℕ) → m.name ≡ name → (k : Snapshot) →
     k ≡ taken m.place →
     WasTaken t.limit name t.world k
 was_taken t m name same k is =

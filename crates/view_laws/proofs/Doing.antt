@@ -2,7 +2,7 @@
 use Rattle.std.specs.Prelude.{◌≡◌, ℕ, true, List, [], ◌∷◌, Some, None}
 use Rattle.node_rows.specs.declared.body.Body.{Body}
 use Rattle.node_rows.specs.declared.body.Body.TheVariants.{SetAddTable, SubscribeSet, EnableSubscription}
-use Rattle.node_rows.specs.declared.body.Body.TheVariants.{UnsubscribeSet}
+use Rattle.node_rows.specs.declared.body.Body.TheVariants.{DropSet, UnsubscribeSet}
 use Rattle.slon_model.specs.Names.{find_named}
 use Rattle.slon_model.specs.Config.{is_origin}
 use Rattle.slon_model.specs.Maps.{pair_at}
@@ -22,7 +22,8 @@ use Rattle.view_laws.specs.Past.{Past}
 use Rattle.view_laws.proofs.Brought.{IsBrought}
 
 -- The node at its seat may emit an event of this body alone: a table comes into a set of the node only while no node
--- receives it, a node gives up a set of that one, and no node receives a set but by the events of a subscription.
+-- receives it, a node gives up a set of that one, such a set ends, and no node receives a set but by the events of a
+-- subscription.
 abbrev pub IsAllowed : Seat → Body → Type 0
 IsAllowed s (SetAddTable set table name comment) =
     (receiver_with (λ e. true) set (knowledge s.node).config ≡ None)
@@ -30,6 +31,7 @@ IsAllowed s (SetAddTable set table name comment) =
 IsAllowed s (SubscribeSet set provider receiver forward) = ⊥
 IsAllowed s (EnableSubscription set provider receiver forward era) = ⊥
 IsAllowed s (UnsubscribeSet set receiver) = is_origin s.node.id set (knowledge s.node).config ≡ true
+IsAllowed s (DropSet set) = is_origin s.node.id set (knowledge s.node).config ≡ true
 IsAllowed s others = is_emitted others ≡ true
 
 -- The node at its seat is the origin of the set, and the receiver does not subscribe to that yet.

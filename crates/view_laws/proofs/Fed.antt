@@ -61,6 +61,15 @@ pair-without {X} q r a b m =
     by true same = entry-without r b (row_at a m) ∙ here (r == b) (eqb-true q a same)
     by false other = refl
 
+-- all of one row
+pub row-without : {X : Type 0} (q r a : ℕ) (m : Map2 X) →
+    pair_at q r (without_entry a m) ≡ cond (q == a) None (pair_at q r m)
+row-without q r a m = ap (λ o. entry_at r (unwrap_or o [])) (entry-without q a m) ∙ by (q == a)
+  where
+    by : (c : Bool) → entry_at r (unwrap_or (cond c None (entry_at q m)) []) ≡ cond c None (pair_at q r m)
+    by true = refl
+    by false = refl
+
 -- ---- one event
 
 -- either way round
@@ -105,6 +114,22 @@ there_gone q r a b m = ap is_some (pair-without q r a b m) ∙ by (q == a && r =
     by true = refl
     by false = refl
 
+either_way : (q a : ℕ) → (q == a) ≡ (a == q)
+either_way q a = by (q == a) (a == q) refl refl
+  where
+    by : (c d : Bool) → (q == a) ≡ c → (a == q) ≡ d → c ≡ d
+    by true d one other = sym (eq-eqb a q (sym (eqb-true q a one))) ∙ other
+    by false true one other = sym one ∙ eq-eqb q a (sym (eqb-true a q other))
+    by false false one other = refl
+
+all_gone : (q r a : ℕ) (m : Map2 Subscription) →
+    is_some (pair_at q r (without_entry a m)) ≡ (not (q == a) && is_some (pair_at q r m))
+all_gone q r a m = ap is_some (row-without q r a m) ∙ by (q == a)
+  where
+    by : (c : Bool) → is_some (cond c None (pair_at q r m)) ≡ (not c && is_some (pair_at q r m))
+    by true = refl
+    by false = refl
+
 -- whether a subscription is there behind an event
 pub feed-changed : (set receiver origin number : ℕ) (body : Body) (c : Config) → is_emitted body ≡ true →
     is_some (pair_at set receiver (change_by origin number body c).subscriptions)
@@ -118,7 +143,9 @@ feed-changed set receiver origin number (EnableSubscription id provider node for
 feed-changed set receiver origin number (UnsubscribeSet id node) c may =
     there_gone set receiver id node c.subscriptions
     ∙ ap (λ b. not b && is_some (pair_at set receiver c.subscriptions)) (turned_test set receiver id node)
-feed-changed set receiver origin number (DropSet id) c may = absurd (false≢true may)
+feed-changed set receiver origin number (DropSet id) c may =
+    all_gone set receiver id c.subscriptions
+    ∙ ap (λ b. not b && is_some (pair_at set receiver c.subscriptions)) (either_way set id)
 feed-changed set receiver origin number (MoveSet id old new era feeds) c may = absurd (false≢true may)
 feed-changed set receiver origin number (FailoverSet failed limit sets) c may = absurd (false≢true may)
 feed-changed set receiver origin number others c may = refl
@@ -127,6 +154,7 @@ feed-changed set receiver origin number others c may = refl
 
 pub left_feeds : (set receiver : ℕ) (body : Body) → leaves set receiver body ≡ true → feeds set body ≡ true
 left_feeds set receiver (UnsubscribeSet id node) is = (and_parts (id == set) (node == receiver) is).0
+left_feeds set receiver (DropSet id) is = is
 left_feeds set receiver others is = absurd (false≢true is)
 
 pub on_feeds : (set receiver : ℕ) (body : Body) → is_on_feed set receiver body ≡ true → feeds set body ≡ true

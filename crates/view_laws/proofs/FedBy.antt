@@ -19,7 +19,7 @@ use Rattle.view_laws.specs.Known.{AreFedBy, HasFeed, IsFedBy, IsHeard, feeds, is
 use Rattle.view_laws.specs.Past.{Past, WasBefore, WasUpTo}
 use Rattle.view_laws.proofs.Doing.{KnowsFrom, KnowsNone, KnowsGiven}
 use Rattle.view_laws.proofs.Living.{Knew, NodeLives, deed_of, event_of, knew, node_lives}
-use Rattle.view_laws.proofs.Fed.{on_feeds, pair-with, pair-without}
+use Rattle.view_laws.proofs.Fed.{on_feeds, pair-with, pair-without, row-without}
 use Rattle.view_laws.proofs.Lasting.{both_same}
 use Rattle.view_laws.proofs.Reached.{event_now}
 use Rattle.view_laws.proofs.Told.{HearsToo, heard_later, heard_was, more_heard}
@@ -62,7 +62,12 @@ feed_back set receiver origin number (EnableSubscription id provider node forwar
       | inl same ↦ inl (turned set receiver id node same)
       | inr old ↦ inr old
     ]
-feed_back set receiver origin number (DropSet id) c may has = absurd (false≢true may)
+feed_back set receiver origin number (DropSet id) c may has =
+    inr (by (set == id) (sym (ap is_some (row-without set receiver id c.subscriptions)) ∙ has))
+  where
+    by : (b : Bool) → is_some (cond b None (pair_at set receiver c.subscriptions)) ≡ true → HasFeed set receiver c
+    by true none = absurd (false≢true none)
+    by false had = had
 feed_back set receiver origin number (UnsubscribeSet id node) c may has =
     inr (by (set == id && receiver == node)
     (sym (ap is_some (pair-without set receiver id node c.subscriptions)) ∙ has))

@@ -213,15 +213,12 @@ goes_on t set before n = record {
   logs = λ m p xid on. keeps_same set before n m (with_commit xid p m) (refl, refl, refl) on;
   does = record {
     tells = λ s is number e m says on.
-        keeps_same set before n m (with_deeds (deed_of s number e ∷ []) m) (
-          refl,
-          refl,
-          same_views (event_of s number e.body) e.body (knowledge m).views (says_emitted s m e says),
-        ) on;
+        let views = same_views (event_of s number e.body) e.body (knowledge m).views (says_emitted s m e says) in
+        keeps_same set before n m (with_deeds (deed_of s number e ∷ []) m) (refl, refl, views) on;
     takes = λ x origin is on. keeps_taken t x origin is set before n on;
     hears = λ s confirms on.
-        keeps_same set before n s.node (with_deeds (deed s.place [] [] (HearsOf confirms) ∷ []) s.node) (refl, refl, refl)
-        on;
+        let heard = with_deeds (deed s.place [] [] (HearsOf confirms) ∷ []) s.node in
+        keeps_same set before n s.node heard (refl, refl, refl) on;
   };
 }
 

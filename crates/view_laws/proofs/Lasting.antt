@@ -100,7 +100,8 @@ closed_between : (opens closes : Body → Bool) (own : ℕ) (es : List Event) (p
     opens p.first.body ≡ true → (f : Found own es p.second) → lasts opens closes f.earlier ≡ false →
     Between closes es p.first p.second
 closed_between opens closes own es p opened f over = record {
-  closed = closed_more closes es f.earlier p.first c (subst (IsAmong c.event) (sym f.all) (behind f.later c.event c.among));
+  closed = let among = subst (IsAmong c.event) (sym f.all) (behind f.later c.event c.among) in
+      closed_more closes es f.earlier p.first c among;
   earlier = let within = number_within own f.earlier c.event f.are.3 c.among in
       let number = f.are.1 in
       omega (arith, within.1, number);

@@ -7,6 +7,7 @@ pub mod Copied
 pub mod Divided
 pub mod Doing
 pub mod Emitted
+pub mod Ended
 pub mod Fed
 pub mod FedBy
 pub mod Going
@@ -18,6 +19,7 @@ pub mod Numbered
 pub mod Once
 pub mod Owned
 pub mod Reached
+pub mod Readings
 pub mod Reaching
 pub mod Rising
 pub mod Saying

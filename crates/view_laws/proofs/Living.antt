@@ -44,11 +44,17 @@ pub record HasSubscribed (set receiver : ℕ) (s : Seat) (n : Node) : Type 0 whe
   pub body : sync.body ≡ Sync
   pub new : pair_at set receiver (knowledge s.node).config.subscriptions ≡ None
 
+-- The node at its seat has emitted a SYNC.
+pub record HasSynced (s : Seat) (n : Node) : Type 0 where
+  pub sync : Event
+  pub all : stream n ≡ sync ∷ stream s.node
+  pub body : sync.body ≡ Sync
+
 -- An event of a subscription to a set of which the node at its seat is the origin, which is this one by now.
 abbrev pub IsOfFeed : Seat → Node → Body → Type 0
-IsOfFeed s n Sync = Unit {0}
+IsOfFeed s n Sync = n ≡ s.node
 IsOfFeed s n (SubscribeSet set provider receiver forward) =
-    is_origin s.node.id set (knowledge s.node).config ≡ true
+    (is_origin s.node.id set (knowledge s.node).config ≡ true) × HasSynced s n
 IsOfFeed s n (EnableSubscription set provider receiver forward era) =
     (is_origin s.node.id set (knowledge s.node).config ≡ true) × HasSubscribed set receiver s n
 IsOfFeed s n others = ⊥
@@ -122,8 +128,9 @@ tells_lives T s tell ms (AreFeeds era f same may) was =
         new = may.new;
       },
     ))
-    (tell (next_event s + 1) (tells first) one (inr may.leads)
-    (tell (next_event s) (tells Sync) s.node (inr tt) was)))
+    (tell (next_event s + 1) (tells first) one
+    (inr (may.leads, record { sync = event_of s (next_event s) Sync; all = refl; body = refl }))
+    (tell (next_event s) (tells Sync) s.node (inr refl) was)))
   where
     first : Body
     first = SubscribeSet f.set_id f.provider f.receiver f.forward
@@ -139,8 +146,9 @@ tells_lives T s tell ms (AreFeeds era f same may) was =
 tells_lives T s tell ms (AreChanges f same leads) was =
     subst (λ ms. T (with_deeds (emissions s (next_event s) ms) s.node)) (sym same)
     (tell (next_event s + 1) (tells (SubscribeSet f.set_id f.provider f.receiver f.forward))
-    (with_deeds (deed_of s (next_event s) (tells Sync) ∷ []) s.node) (inr leads)
-    (tell (next_event s) (tells Sync) s.node (inr tt) was))
+    (with_deeds (deed_of s (next_event s) (tells Sync) ∷ []) s.node)
+    (inr (leads, record { sync = event_of s (next_event s) Sync; all = refl; body = refl }))
+    (tell (next_event s) (tells Sync) s.node (inr refl) was))
 
 commits_live : {J : (World → Type 0) → Node → Type 0} → NodeLives J → (t : Past) → KnewAll J t → (c : Commit)
     (p : Place) → Does t c p → OfNode J (WasUpTo t) p → OfNode J (WasUpTo t) (committing c p)

@@ -12,24 +12,12 @@ use Rattle.slon_model.proofs.Names.{all_map}
 use Rattle.slon_laws.specs.Sound.{Pairs}
 use Rattle.stream_laws.specs.Nodes.{IsAmong}
 use Rattle.stream_laws.proofs.Lists.{all_among, all_mapped, all_passed, all_with, entry-with}
+pub use Rattle.stream_laws.proofs.Lists.{among_map, mapped_among}
 use Rattle.image_laws.specs.Deltas.{AreInOrder}
 use Rattle.view_laws.specs.Known.{AreRising}
 use Rattle.view_laws.proofs.Rising.{with_rising}
 
 -- ---- lists
-
--- what is made of one of a list
-pub mapped_among : {X Y : Type 0} (f : X → Y) (y : Y) (xs : List X) → IsAmong y (map f xs) →
-    (x : X) × IsAmong x xs × (y ≡ f x)
-mapped_among f y [] among = absurd among
-mapped_among f y (x ∷ xs) (inl is) = (x, inl refl, is)
-mapped_among f y (x ∷ xs) (inr later) =
-    let there = mapped_among f y xs later in (there.0, inr there.1, there.2)
-
-pub among_map : {X Y : Type 0} (f : X → Y) (x : X) (xs : List X) → IsAmong x xs → IsAmong (f x) (map f xs)
-among_map f x [] among = absurd among
-among_map f x (y ∷ ys) (inl is) = inl (ap f is)
-among_map f x (y ∷ ys) (inr later) = inr (among_map f x ys later)
 
 -- two actions with one number
 pub same_action : (actions : List Action) (a b : Action) → Pairs (λ a b. a.number < b.number) actions →

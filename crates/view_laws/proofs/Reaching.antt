@@ -1,4 +1,5 @@
 -- The snapshot of a view sees all that each SYNC of its origin saw which the node has applied.
+use Rattle.stream_laws.proofs.Copies.{origin_row}
 use Rattle.std.proofs.Common.{◌≡◌, ◌≢◌, ◌⊎◌, inl, inr, ℕ, Bool, true, false, cond, List, [], ◌∷◌, Some}
 use Rattle.std.proofs.Common.{refl, sym, ap, subst, ◌∙◌, arith, ◌<◌, ◌≤◌, not}
 use Rattle.std.specs.Prelude.{◌==◌, ◌&&◌}
@@ -230,7 +231,7 @@ copy_sees {s} {e} {b} t k knew f among before = by (copy_source u.world k.at.sea
     by : CopySource k.copy.copying p k.copy.seen → Covers k.copy.seen f.taken
     by (FromOrigin leads era same) =
         subst (λ seen. Covers seen f.taken) (sym same) (own_covered u p seat f (emitted_in u f event)
-        (from ∙ sym (feeder_is u e y set feed p seat leads)))
+        (from ∙ sym (feeder_is u e y set feed p seat (origin_row p.node.id set (knowledge p.node).config leads))))
     by (FromForwarder v found era forward same) =
         subst (λ seen. Covers seen f.taken) (sym same) (keeper_sees u (record {
           name = p.name;

@@ -2,7 +2,7 @@
 use Rattle.std.proofs.Common.{◌≡◌, ◌⊎◌, inl, inr, ℕ, Bool, true, false, refl}
 use Rattle.node_rows.specs.declared.body.Body.{Body}
 use Rattle.node_rows.specs.declared.body.Body.TheVariants.{Sync, StoreSet, SetAddTable, SubscribeSet}
-use Rattle.node_rows.specs.declared.body.Body.TheVariants.{EnableSubscription, UnsubscribeSet}
+use Rattle.node_rows.specs.declared.body.Body.TheVariants.{DropSet, EnableSubscription, UnsubscribeSet}
 use Rattle.slon_model.specs.Config.{Config}
 use Rattle.slon_model.specs.Deeds.{Node}
 use Rattle.slon_model.specs.Sessions.{Seat, Emission}
@@ -18,6 +18,7 @@ allowed_emitted s (SetAddTable set table name comment) may = refl
 allowed_emitted s (SubscribeSet set provider receiver forward) may = absurd may
 allowed_emitted s (EnableSubscription set provider receiver forward era) may = absurd may
 allowed_emitted s (UnsubscribeSet set receiver) may = refl
+allowed_emitted s (DropSet set) may = refl
 allowed_emitted s others may = may
 
 feed_emitted : (s : Seat) (n : Node) (body : Body) → IsOfFeed s n body → is_emitted body ≡ true
@@ -49,4 +50,5 @@ says_emitted s n m (inr feed) = feed_emitted s n m.body feed
 pub may_emitted : (own : ℕ) (body : Body) (c : Config) → MayCome own body c → is_emitted body ≡ true
 may_emitted own (StoreSet set origin comment) c may = refl
 may_emitted own (SetAddTable set table name comment) c may = refl
+may_emitted own (DropSet set) c may = refl
 may_emitted own others c may = may

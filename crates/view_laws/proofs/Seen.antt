@@ -1,10 +1,18 @@
 -- The snapshot of each view that a node keeps was taken at the origin of the set, in a session of the history.
+use Rattle.view_laws.proofs.Emitted.{sync_emitted}
+use Rattle.view_laws.proofs.Emitted.{sync_in}
+use Rattle.view_laws.proofs.Emitted.{SyncAt}
+use Rattle.std.proofs.Common.{suc}
+use Rattle.std.proofs.Common.{◌≤◌}
+use Rattle.slon_model.specs.Events.{is_sync}
+use Rattle.view_laws.proofs.Standing.{Viewer}
+use Rattle.slon_model.specs.Config.{era_of}
 use Rattle.std.proofs.Common.{◌≡◌, ◌≢◌, inl, inr, ℕ, Bool, true, false, cond, List, [], ◌∷◌, Some, refl}
 use Rattle.std.proofs.Common.{sym, ap, subst, ◌∙◌, ◌<◌, arith}
 use Rattle.std.specs.List.{AllByRecursion}
 use Rattle.std.proofs.lemmas.Bool.{false≢true, true≢false}
 use Rattle.node_rows.specs.declared.body.Body.{Body}
-use Rattle.node_rows.specs.declared.body.Body.TheVariants.{UnsubscribeSet, MoveSet, FailoverSet}
+use Rattle.node_rows.specs.declared.body.Body.TheVariants.{DropSet, UnsubscribeSet, MoveSet, FailoverSet}
 use Rattle.slon_model.specs.Maps.{Map}
 use Rattle.slon_model.specs.Snapshots.{Covers, Snapshot, covers}
 use Rattle.slon_model.specs.Events.{Event}
@@ -30,13 +38,17 @@ use Rattle.view_laws.proofs.Doing.{taking}
 use Rattle.view_laws.specs.Past.{Past, WasBefore, WasUpTo}
 use Rattle.view_laws.proofs.Brought.{IsBrought, IsCopied, IsKept, IsSynced, Nothing, Copies, Brings, same_id}
 use Rattle.view_laws.proofs.Brought.{copied_view, earlier, was_then}
-use Rattle.view_laws.proofs.Emitted.{moment_later, emitted_in, moment_of}
+use Rattle.view_laws.proofs.Emitted.{moment_later, moment_of}
 use Rattle.view_laws.proofs.Living.{NodeLives, deed_of, event_of, knew, KnewAll}
 use Rattle.view_laws.proofs.Moments.{IsLater, covers_passes, regular_now, two_moments}
 use Rattle.image_laws.proofs.Staying.{Stays}
 use Rattle.view_laws.proofs.Saying.{says_emitted}
 use Rattle.view_laws.proofs.Applied.{applied_before}
-use Rattle.view_laws.proofs.Standing.{before_first}
+use Rattle.view_laws.proofs.Standing.{Viewer, before_first}
+use Rattle.view_laws.proofs.Ended.{sync_live}
+use Rattle.stream_laws.proofs.Copies.{origin_row}
+use Rattle.stream_laws.proofs.Works.{IsWork}
+use Rattle.view_laws.proofs.Emitted.{SyncAt, sync_emitted, sync_in}
 use Rattle.view_laws.proofs.Copied.{CopySource, FromOrigin, FromForwarder, copy_asks, copy_moment, copy_source}
 use Rattle.view_laws.proofs.Copied.{enables_feeds}
 use Rattle.view_laws.proofs.Copied.{feeder_leads, seen_leads, stays_leading, feeder_is}
@@ -166,9 +178,10 @@ copier_apart c same = c.copied.at.work.other (same ∙ sym (copier_at c))
 pub copier_led : {t : Past} (c : Copier t) →
     is_origin c.copied.copy.provider.node.id (set_of c) (knowledge c.copied.copy.provider.node).config ≡ true →
     c.copied.copy.provider.node.id ≡ c.copied.at.work.event.node.id
-copier_led c =
-    feeder_is (then_of c) c.event c.copied.at.work.event (set_of c) (copier_feed c) c.copied.copy.provider
-    c.copied.copy.reached.0.0.0
+copier_led c leads =
+    let p = c.copied.copy.provider in
+    feeder_is (then_of c) c.event c.copied.at.work.event (set_of c) (copier_feed c) p c.copied.copy.reached.0.0.0
+    (origin_row p.node.id (set_of c) (knowledge p.node).config leads)
 
 pub copier_before : {t : Past} (c : Copier t) →
     is_origin c.copied.copy.provider.node.id (set_of c) (knowledge c.copied.copy.provider.node).config ≡ true →
@@ -325,21 +338,26 @@ abbrev pub same_seen : (Was : World → Type 0) (n : Node) (set : ℕ) (v : View
     IsSeen Was n set (record v { number = number })
 same_seen Was n set v number is = seen_with Was n set v number (v.base_era, v.base) is
 
+-- the set is led in the session in which the event was emitted
+abbrev LedThen : {Was : World → Type 0} {n : Node} {set : ℕ} {v : View} {e : Event} → IsSeen Was n set v →
+    IsEmitted Was e → Type 0
+LedThen {set = set} is emitted =
+    (is_origin emitted.moment.node.id set (knowledge emitted.moment.node).config ≡ true)
+    × (era_of set (knowledge emitted.moment.node).config ≡ era_of set (knowledge is.moment.node).config)
+
 -- one whose snapshot is older
 abbrev pub newer_seen : (Was : World → Type 0) (n : Node) (set : ℕ) (v : View) (e : Event)
     (from : IsEmitted Was e × (e.origin ≡ v.origin)) → (is : IsSeen Was n set v) →
-    IsLater is.moment from.0.moment → IsSeen Was n set (record v { number = e.number; seen = e.taken })
+    IsLater is.moment from.0.moment × LedThen is from.0 →
+    IsSeen Was n set (record v { number = e.number; seen = e.taken })
 newer_seen Was n set v e from is later =
     record {
       moment = from.0.moment;
       own = from.0.own ∙ from.1;
       apart = is.apart;
       seen = from.0.taken;
-      era =
-          is.era ∙ sym (stays_leading is.moment.node from.0.moment.place from.0.moment.node later.stays
-          from.0.moment.at set is.leads).1;
-      leads = (stays_leading is.moment.node from.0.moment.place from.0.moment.node later.stays from.0.moment.at set
-          is.leads).0;
+      era = is.era ∙ sym later.1.1;
+      leads = later.1.0;
       enabled = is.enabled;
       applied = is.applied;
       enables = is.enables;
@@ -348,7 +366,7 @@ newer_seen Was n set v e from is later =
       first = is.first;
       from = is.from;
       tables = is.tables;
-      before = stays_streaming is.moment.node from.0.moment.place from.0.moment.node later.stays
+      before = stays_streaming is.moment.node from.0.moment.place from.0.moment.node later.0.stays
           from.0.moment.at is.first is.before;
     }
 
@@ -365,16 +383,41 @@ is_older t n set v e from is differ =
           (subst (Covers (taken is.moment.place)) (sym from.0.taken) earlier.covers))) ∙ differ))
     ]
 
--- the view behind a SYNC of its origin
-seen_after : (t : Past) (n : Node) (set : ℕ) (v : View) (e : Event) → IsEmitted (WasUpTo t) e →
-    e.origin ≡ v.origin → IsSeen (WasUpTo t) n set v → IsSeen (WasUpTo t) n set (view_after e v)
-seen_after t n set v e emitted origin is = by (covers v.seen e.taken) refl
+-- the view behind a SYNC of its origin, which the node may apply next
+seen_after : (t : Past) (k : Viewer t) (e : Event) → IsEvent (nodes_in t.world.places) e → is_sync e.body ≡ true →
+    (e.origin ≡ k.view.origin) × (e.number ≤ suc (progress k.view.origin (knowledge k.node))) →
+    IsSeen (WasUpTo t) k.node k.set_id (view_after e k.view)
+seen_after t k e event sync of = by (covers v.seen e.taken) refl
   where
+    n : Node
+    n = k.node
+
+    set : ℕ
+    set = k.set_id
+
+    v : View
+    v = k.view
+
+    is : IsSeen (WasUpTo t) n set v
+    is = k.seen
+
+    at : SyncAt t e
+    at = sync_in t e event sync
+
+    emitted : IsEmitted (WasUpTo t) e
+    emitted = sync_emitted t e sync at
+
+    led : IsLater is.moment emitted.moment → LedThen is emitted
+    led later =
+        stays_leading is.moment.node at.moment.place at.moment.node later.stays at.moment.at set is.leads
+        (sync_live t k e event at of later)
+
     by : (b : Bool) → covers v.seen e.taken ≡ b →
         IsSeen (WasUpTo t) n set (record v { number = e.number; seen = cond b v.seen e.taken })
     by true same = same_seen (WasUpTo t) n set v e.number is
     by false differ =
-        newer_seen (WasUpTo t) n set v e (emitted, origin) is (is_older t n set v e (emitted, origin) is differ)
+        let later = is_older t n set v e (emitted, of.0) is differ in
+        newer_seen (WasUpTo t) n set v e (emitted, of.0) is (later, led later)
 
 pub syncs_seen : (P : ℕ × View → Type 0) (here : Place) (ts : List SetSync) (b : Brought) →
     AllByRecursion (λ t. P (t.set_id, t.view)) ts → AllByRecursion P b.views →
@@ -382,21 +425,34 @@ pub syncs_seen : (P : ℕ × View → Type 0) (here : Place) (ts : List SetSync)
 syncs_seen P here [] b all old = old
 syncs_seen P here (t ∷ more) b all old = syncs_seen P here more (with_sync here t b) all.1 (all.0, old)
 
-synced_seen : (t : Past) (s : Seat) (e : Event) (b : Brought) → IsEvent (nodes_in t.world.places) e →
-    IsSeat t.world.places s → IsSynced t s e b →
-    AllByRecursion (λ v. IsSeen (WasUpTo t) s.node v.0 v.1) (knowledge s.node).views →
+synced_seen : (t : Past) (origin : ℕ) (s : Seat) (e : Event) (b : Brought) → IsWork t.world origin s e →
+    IsSynced t s e b → AllByRecursion (λ v. IsSeen (WasUpTo t) s.node v.0 v.1) (knowledge s.node).views →
     AllByRecursion (λ v. IsSeen (WasUpTo t) s.node v.0 v.1) b.views
-synced_seen t s e b is seat y all =
+synced_seen t origin s e b work y all =
     subst (λ (c : Brought). AllByRecursion P c.views) (sym y.is)
     (syncs_seen P s.place y.syncs nothing_brought
     (all_map (IsKept s.known e) (λ (z : SetSync). P (z.set_id, z.view))
     (λ z k. subst (IsSeen (WasUpTo t) s.node z.set_id) (sym k.view)
-    (seen_after t s.node z.set_id z.before e (emitted_in t e is) (sym k.origin)
-    (all_among P (z.set_id, z.before) (knowledge s.node).views all
-    (subst (λ (j : Knowledge). IsAmong (z.set_id, z.before) j.views) seat.known k.among)))) y.syncs y.kept) tt)
+    (seen_after t (viewer z k) e work.event (ap is_sync y.follows.body) (
+      sym k.origin,
+      (let next = work.next in
+          let at = ap (λ i. progress i (knowledge s.node)) k.origin in
+          omega (arith, next, at)),
+    ))) y.syncs y.kept) tt)
   where
     P : ℕ × View → Type 0
     P v = IsSeen (WasUpTo t) s.node v.0 v.1
+
+    viewer : (z : SetSync) → IsKept s.known e z → Viewer t
+    viewer z k = record {
+      name = s.name;
+      node = s.node;
+      is = seat_node t.world.places s work.seat;
+      set_id = z.set_id;
+      view = z.before;
+      seen = all_among P (z.set_id, z.before) (knowledge s.node).views all
+          (subst (λ (j : Knowledge). IsAmong (z.set_id, z.before) j.views) work.seat.known k.among);
+    }
 
 -- ---- all views
 
@@ -423,6 +479,7 @@ copied_since t x origin is k e (inl same) own left =
   where
     enables_stays : (set node own : ℕ) (body : Body) → enables set node body ≡ true → leaves set own body ≡ true → ⊥
     enables_stays set node own (UnsubscribeSet id receiver) on left = absurd (false≢true on)
+    enables_stays set node own (DropSet id) on left = absurd (false≢true on)
     enables_stays set node own others on left = absurd (false≢true left)
 copied_since t x origin is k e (inr old) own left = applied_before t x origin is e old own
 
@@ -460,7 +517,7 @@ brought_seen t knew x origin is all (Brings y) =
     all_map (λ v. IsSeen (WasUpTo t) x.seat.node v.0 v.1)
     (λ v. IsSeen (WasUpTo t) (with_deeds (taking x).deeds x.seat.node) v.0 v.1)
     (λ v. seen_taken t x v.0 v.1 (ap (leaves v.0 x.seat.node.id) y.follows.body)) x.brought.views
-    (synced_seen t x.seat x.event x.brought is.work.event is.work.seat y all)
+    (synced_seen t origin x.seat x.event x.brought is.work y all)
 
 pub views_seen : NodeLives AreSeen
 views_seen = record {

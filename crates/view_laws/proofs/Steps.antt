@@ -5,8 +5,8 @@ use Rattle.std.specs.Prelude.{option_map}
 use Rattle.slonik_script.specs.declared.script.Command.{Command as Order}
 use Rattle.slonik_script.specs.declared.script.Command.TheVariants as order
 use Rattle.node_rows.specs.declared.body.Body.{Body}
-use Rattle.node_rows.specs.declared.body.Body.TheVariants.{Sync, StoreNode, StorePath, DropPath, StoreSet}
-use Rattle.node_rows.specs.declared.body.Body.TheVariants.{UnsubscribeSet}
+use Rattle.node_rows.specs.declared.body.Body.TheVariants.{Sync, StoreNode, DropNode, StorePath, DropPath, StoreSet}
+use Rattle.node_rows.specs.declared.body.Body.TheVariants.{DropSet, UnsubscribeSet}
 use Rattle.node_rows.specs.declared.rows.Subscription.{Subscription}
 use Rattle.slon_model.specs.declared.command.Delivery.{Delivery}
 use Rattle.slon_model.specs.declared.command.Delivery.TheVariants.{Lost}
@@ -20,10 +20,10 @@ use Rattle.slon_model.specs.Sessions.{World, Running, Commit, Stated, Seat, Emis
 use Rattle.slon_model.specs.Sessions.{stood_at}
 use Rattle.slon_model.specs.Maps.{pair_at}
 use Rattle.slon_model.specs.Membership.{comment_of, already, first_node, init_cluster, store_node, store_path}
-use Rattle.slon_model.specs.Membership.{drop_path, becoming, first_of_cluster, joining, stored_by}
+use Rattle.slon_model.specs.Membership.{drop_node, drop_path, becoming, first_of_cluster, joining, stored_by}
 use Rattle.slon_model.specs.Reaching.{database_of_line, reach, down_among, receiver_with}
 use Rattle.slon_model.specs.Reaching.{origin_of, owner, commit_of, emitting}
-use Rattle.slon_model.specs.Sets.{NewTable, adding, create_set, set_add_table}
+use Rattle.slon_model.specs.Sets.{NewTable, adding, create_set, drop_set, set_add_table}
 use Rattle.slon_model.specs.Subscribing.{NewFeed, subscribing, feed_checks, bodies_of, told_bodies, all_tell}
 use Rattle.slon_model.specs.Subscribing.{subscribe_set, unsubscribe_set}
 use Rattle.slon_model.specs.Scripts.{ordered}
@@ -172,6 +172,11 @@ create_step id origin comment run t =
     (emitting s (tells (StoreSet id origin (comment_of comment)) ∷ []))
     (tells_step t s (StoreSet id origin (comment_of comment)) is.0 refl))
 
+drop_step : (id origin : ℕ) (run : Running) (t : Past) → OnOk (IsStated t) (drop_set id origin run t.world)
+drop_step id origin run t =
+    bind_ok (IsLeading t.world.places id) (IsStated t) (origin_of run origin id t.world) _
+    (origin_ok run origin id t.world) (λ s is. tells_step t s (DropSet id) is.0 is.1)
+
 none_receives : (o : Option ℕ) → option_map refused.HasReceivers o ≡ None → o ≡ None
 none_receives None none = refl
 none_receives (Some node) none = absurd cc
@@ -187,6 +192,12 @@ table_step origin new run t =
           ∙ none_receives _ (all_none (table_checks new t.world s) none).0,
       is.1,
     ))))
+
+drop_node_step : (id event_node : ℕ) (run : Running) (t : Past) →
+    OnOk (IsStated t) (drop_node id event_node run t.world)
+drop_node_step id event_node run t =
+    reached t event_node run _
+    (λ s is. let done = tells_step t s (DropNode id) is.0 refl in search (kept_ok (IsStated t), done))
 
 path_step : (server client : ℕ) (conninfo : List ℕ) (run : Running) (t : Past) →
     OnOk (IsStated t) (store_path server client conninfo run t.world)
@@ -231,9 +242,11 @@ leave_step set receiver run t =
 ordered_step : (t : Past) → (o : Order) (run : Running) → OnOk (IsStated t) (ordered o run t.world)
 ordered_step t (order.InitCluster id comment) run = init_step id comment run t
 ordered_step t (order.StoreNode id event_node comment) run = store_step id event_node comment run t
+ordered_step t (order.DropNode id event_node) run = drop_node_step id event_node run t
 ordered_step t (order.StorePath server client conninfo retry) run = path_step server client conninfo run t
 ordered_step t (order.DropPath server client) run = no_path_step server client run t
 ordered_step t (order.CreateSet id origin comment) run = create_step id origin comment run t
+ordered_step t (order.DropSet id origin) run = drop_step id origin run t
 ordered_step t (order.SetAddTable set origin id name key comment) run =
     table_step origin (record { set_id = set; id = id; name = name; comment = comment_of comment }) run t
 ordered_step t (order.SubscribeSet set provider receiver forward) run =

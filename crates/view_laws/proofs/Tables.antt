@@ -1,17 +1,16 @@
 -- Nodes agree on the tables of sets, and the origin of a set knew all of them as a node copied the set, and has them
 -- still.
-use Rattle.std.proofs.Common.{◌≡◌, inr, ℕ, Bool, true, false, cond, List, ◌∷◌, ◌≤◌, Option, Some, None}
+use Rattle.std.proofs.Common.{◌≡◌, ◌⊎◌, inl, inr, ℕ, true, List, ◌∷◌, ◌≤◌, Option, Some, None}
 use Rattle.std.proofs.Common.{refl, sym, ap, subst, ◌∙◌, arith, is_some}
-use Rattle.std.specs.Prelude.{◌&&◌, option_map}
+use Rattle.std.specs.Prelude.{◌&&◌}
 use Rattle.std.specs.Str.{bytes_eq}
-use Rattle.std.proofs.lemmas.Bool.{false≢true, true≢false, and_parts, and_from, eq-eqb}
+use Rattle.std.proofs.lemmas.Bool.{false≢true, and_from, eq-eqb}
 use Rattle.node_rows.specs.declared.body.Body.TheVariants.{SetAddTable}
-use Rattle.node_rows.specs.declared.rows.SetRow.{SetRow}
 use Rattle.node_rows.specs.declared.rows.TableRow.{TableRow}
 use Rattle.slon_model.specs.Names.{find_named}
 use Rattle.slon_model.specs.Maps.{entry_at}
 use Rattle.slon_model.specs.Events.{Event}
-use Rattle.slon_model.specs.Config.{Config, live_set, member_of, set_of, set_row, era_of}
+use Rattle.slon_model.specs.Config.{Config, set_of, set_row, era_of}
 use Rattle.slon_model.specs.Deeds.{Node, Logged, knowledge, progress, stream}
 use Rattle.slon_model.specs.Place.{Place}
 use Rattle.slon_model.specs.Views.{View}
@@ -20,20 +19,20 @@ use Rattle.slon_laws.proofs.Later.{HoldsOf}
 use Rattle.stream_laws.specs.Nodes.{IsAmong, nodes_in, node_in, IsEvent}
 use Rattle.stream_laws.specs.Making.{AreEmitted as AreNumbered, IsMet, Mark, OfSet, OfName, tells_of, IsMade, MayFollow}
 use Rattle.stream_laws.specs.Facts.{AreRegular, Facts}
-use Rattle.stream_laws.proofs.Copies.{Leading, origin_row}
+use Rattle.stream_laws.proofs.Copies.{Leading}
 use Rattle.stream_laws.proofs.Laws.{marks_are_made_once}
-use Rattle.stream_laws.proofs.Lists.{all_among, all_entry, among_all, among_any, among_behind, any_among, found_all}
+use Rattle.stream_laws.proofs.Lists.{all_among, among_any, among_behind, any_among}
 use Rattle.stream_laws.proofs.Streams.{among_earlier, among_found, number_within, one_node, same_number}
 use Rattle.image_laws.specs.Facts.{Holds, IsHeldBy}
 use Rattle.image_laws.specs.Fits.{IsWhole}
-use Rattle.image_laws.proofs.Found.{find_none}
 use Rattle.image_laws.proofs.Images.{ready_world}
 use Rattle.view_laws.specs.Known.{AreTold, IsLoggedAs, IsSeen, IsTold, adds as adds_to}
 use Rattle.view_laws.specs.Past.{Past, WasBefore, WasUpTo, Moment}
 use Rattle.view_laws.proofs.Living.{knew, node_lives}
 use Rattle.view_laws.proofs.Moments.{Reached, event_now, now_stays, past_of, reached_up_to, regular_now}
 use Rattle.view_laws.proofs.Standing.{Viewer, before_first}
-use Rattle.image_laws.proofs.Staying.{Stays}
+use Rattle.image_laws.proofs.Dropping.{found_member, lead_is_live}
+use Rattle.image_laws.proofs.Staying.{IsOver, Stays}
 use Rattle.view_laws.proofs.Told.{heard_was, tables_told}
 use Rattle.view_laws.proofs.Walking.{lives_in}
 use Rattle.view_laws.proofs.Copied.{leading_now, stays_leading}
@@ -134,66 +133,42 @@ entry_told t k =
 abbrev pub table_of : (t : Past) → KnownTable t → Table t
 table_of t k = known_table t k.name k.node k.is k.entry (entry_told t k)
 
--- its set is live
-set_live : (t : Past) (k : KnownTable t) → is_some (set_row k.entry.1.set_id (knowledge k.node).config) ≡ true
-set_live t k = by (entry_at k.entry.1.set_id c.sets) refl known
+-- what is known of the configuration of each node
+pub whole_now : (t : Past) (name : List ℕ) (n : Node) → nodes_in t.world.places name ≡ Some n →
+    IsWhole n.id (knowledge n).config
+whole_now t name n is = by (find_named name t.world.places) refl is
+  where
+    by : (o : Option Place) → find_named name t.world.places ≡ o → node_in o ≡ Some n →
+        IsWhole n.id (knowledge n).config
+    by None found none = absurd cc
+    by (Some p) found at =
+        ((all_found Holds name p t.world.places (ready_world t.limit t.history t.world t.leads).holds found).1 n
+        at).whole
+
+-- the set of each known table is known
+pub set_known : (t : Past) (k : KnownTable t) →
+    is_some (entry_at k.entry.1.set_id (knowledge k.node).config.sets) ≡ true
+set_known t k =
+    let c = (knowledge k.node).config in
+    all_among (λ e. is_some (entry_at e.1.set_id c.sets) ≡ true) k.entry c.tables
+    (whole_now t k.name k.node k.is).tables
+    k.among
+
+-- a node finds each table that it knows in its set, if that is live
+pub found_in_set : (t : Past) (k : KnownTable t) →
+    is_some (set_row k.entry.1.set_id (knowledge k.node).config) ≡ true →
+    set_of k.entry.1.name (knowledge k.node).config ≡ Some k.entry.1.set_id
+found_in_set t k live =
+    found_member k.node.id c k.entry.1.name k.entry whole k.among
+    (and_from (k.entry.1.live && bytes_eq k.entry.1.name k.entry.1.name) (is_some (set_row k.entry.1.set_id c))
+    (and_from k.entry.1.live (bytes_eq k.entry.1.name k.entry.1.name) (whole.live k.entry k.among live)
+    (bytes_itself k.entry.1.name)) live)
   where
     c : Config
     c = (knowledge k.node).config
 
     whole : IsWhole k.node.id c
-    whole = by (find_named k.name t.world.places) refl k.is
-      where
-        by : (o : Option Place) → find_named k.name t.world.places ≡ o → node_in o ≡ Some k.node →
-            IsWhole k.node.id c
-        by None found none = absurd cc
-        by (Some p) found at =
-            ((all_found Holds k.name p t.world.places (ready_world t.limit t.history t.world t.leads).holds found).1
-            k.node at).whole
-
-    known : is_some (entry_at k.entry.1.set_id c.sets) ≡ true
-    known =
-        all_among (λ e. is_some (entry_at e.1.set_id c.sets) ≡ true) k.entry c.tables whole.tables k.among
-
-    by : (o : Option SetRow) → entry_at k.entry.1.set_id c.sets ≡ o → is_some o ≡ true → is_some (live_set o) ≡ true
-    by None found none = absurd (false≢true none)
-    by (Some row) found some =
-        let live : row.live ≡ true =
-        all_entry (λ e. e.1.live ≡ true) k.entry.1.set_id row c.sets (told_now t k.name k.node k.is).sets found in
-        ap (λ b. is_some (cond b (Some row) None)) live
-
--- a node finds each table that it knows in its set
-pub found_in_set : (t : Past) (k : KnownTable t) →
-    set_of k.entry.1.name (knowledge k.node).config ≡ Some k.entry.1.set_id
-found_in_set t k = by (member_of k.entry.1.name c) refl
-  where
-    c : Config
-    c = (knowledge k.node).config
-
-    test : ℕ × TableRow → Bool
-    test e = e.1.live && bytes_eq k.entry.1.name e.1.name && is_some (set_row e.1.set_id c)
-
-    passes : test k.entry ≡ true
-    passes =
-        and_from (k.entry.1.live && bytes_eq k.entry.1.name k.entry.1.name) (is_some (set_row k.entry.1.set_id c))
-        (and_from k.entry.1.live (bytes_eq k.entry.1.name k.entry.1.name) (entry_told t k).live
-        (bytes_itself k.entry.1.name)) (set_live t k)
-
-    by : (o : Option (ℕ × TableRow)) → member_of k.entry.1.name c ≡ o →
-        option_map (λ e. e.1.set_id) o ≡ Some k.entry.1.set_id
-    by None none =
-        absurd (true≢false (sym passes
-        ∙ all_among (λ e. test e ≡ false) k.entry c.tables (find_none test c.tables none) k.among))
-    by (Some f) found =
-        let both = found_all (λ e. IsAmong e c.tables) test c.tables f
-        (among_all (λ e. IsAmong e c.tables) c.tables (λ e among. among)) found in
-        let named = (and_parts (f.1.live && bytes_eq k.entry.1.name f.1.name) (is_some (set_row f.1.set_id c)) both.1).0
-        in
-        let other : KnownTable t =
-        record { name = k.name; node = k.node; is = k.is; entry = f; among = both.0 } in
-        ap Some (one_table t (table_of t other) (table_of t k)
-        (sym (bytes_same k.entry.1.name f.1.name
-        (and_parts f.1.live (bytes_eq k.entry.1.name f.1.name) named).1))).0
+    whole = whole_now t k.name k.node k.is
 
 -- ---- the tables of a set that a node keeps
 
@@ -202,7 +177,7 @@ abbrev pub set_made : (t : Past) (table : Table t) → IsMade (nodes_in t.world.
 set_made t table =
     let found = among_found table.is.node.id (stream table.is.node) table.event
     ((regular_now t).nodes.each table.is.name table.is.node table.is.is).emitted table.is.among in
-    let stored = subst (MayFollow table.is.node.id found.earlier) table.body found.are.2 in
+    let stored = (subst (MayFollow table.is.node.id found.earlier) table.body found.are.2).0 in
     record {
       name = table.is.name;
       node = table.is.node;
@@ -218,7 +193,7 @@ set_made t table =
 pub made_by_leader : (t : Past) (table : Table t) (leader : Leading (nodes_in t.world.places) table.set_id) →
     table.is.node.id ≡ leader.node.id
 made_by_leader t table leader =
-    let row = origin_row leader.node.id table.set_id (knowledge leader.node).config leader.leads in
+    let row = leader.leads in
     let by = ((regular_now t).nodes.each leader.name leader.node leader.is).marked.origins table.set_id row.0 row.1 in
     let once = (regular_now t).nodes.once (OfSet table.set_id) by.0 (set_made t table) in
     let node = one_found by.0.node table.is.node
@@ -315,21 +290,9 @@ pub held_then : (t : Past) (k : KnownTable t) (v : View) (seen : IsSeen (WasUpTo
 held_then t k v seen = (
   ap (λ name. set_of name (knowledge then).config) (bytes_same k.entry.1.name mark.0.1.name mark.2)
       ∙ found_in_set s other
-      ∙ ap Some (one_table s (table_of s other) (record {
-        event = table.event;
-        is = record {
-          name = seen.moment.name;
-          node = then;
-          is = there;
-          own = sym (among_found then.id (stream then) table.event facts.emitted among).are.0;
-          among = among;
-        };
-        set_id = table.set_id;
-        id = table.id;
-        name = table.name;
-        comment = table.comment;
-        body = table.body;
-      }) (sym (bytes_same k.entry.1.name mark.0.1.name mark.2))).0,
+      (subst (λ i. is_some (set_row i (knowledge then).config) ≡ true) (sym one_set.0)
+      (lead_is_live then.id k.entry.1.set_id (knowledge then).config seen.leads))
+      ∙ ap Some one_set.0,
   seen.leads,
 )
   where
@@ -377,6 +340,23 @@ held_then t k v seen = (
     other : KnownTable s
     other = record { name = seen.moment.name; node = then; is = there; entry = mark.0; among = mark.1 }
 
+    one_set : (mark.0.1.set_id ≡ table.set_id) × (mark.0.0 ≡ table.id) × (mark.0.1.comment ≡ table.comment)
+    one_set = one_table s (table_of s other) (record {
+      event = table.event;
+      is = record {
+        name = seen.moment.name;
+        node = then;
+        is = there;
+        own = sym (among_found then.id (stream then) table.event facts.emitted among).are.0;
+        among = among;
+      };
+      set_id = table.set_id;
+      id = table.id;
+      name = table.name;
+      comment = table.comment;
+      body = table.body;
+    }) (sym (bytes_same k.entry.1.name mark.0.1.name mark.2))
+
 -- ---- the origin now
 
 -- The database of a moment, as it is now.
@@ -394,21 +374,26 @@ moment_today t m =
     let now = now_stays t m.session m.was m.name m.place m.node m.found m.at in
     record { name = m.name; same = refl; place = now.0; found = now.1; node = now.2.node; at = now.2.is }
 
--- it holds the table now as it did then
+-- it holds the table now as it did then, if the set is live
 pub held_today : (t : Past) (m : Moment (WasUpTo t)) (d : Today t m) (set : ℕ) (table : List ℕ) →
-    IsHeldBy m.node.id (knowledge m.node).config set table →
+    IsHeldBy m.node.id (knowledge m.node).config set table → is_some (set_row set (knowledge d.node).config) ≡ true →
     IsHeldBy d.node.id (knowledge d.node).config set table
     × (era_of set (knowledge d.node).config ≡ era_of set (knowledge m.node).config)
-held_today t m d set table held =
-    let leads = stays_leading m.node now.0 d.node now.2 node set held.1 in (
+held_today t m d set table held live =
+    let leads = stays_leading m.node now.0 d.node now.2 node set held.1 live in (
       (
-        ap (λ (n : Node). set_of table (knowledge n).config) (one_found d.node now.2.node (sym node ∙ now.2.is))
-            ∙ now.2.members table set held.0,
+        by (subst (λ (n : Node). (set_of table (knowledge n).config ≡ Some set) ⊎ IsOver set (knowledge n).config)
+            (one_found now.2.node d.node (sym now.2.is ∙ node)) (now.2.members table set held.0)),
         leads.0,
       ),
       leads.1,
     )
   where
+    by : (set_of table (knowledge d.node).config ≡ Some set) ⊎ IsOver set (knowledge d.node).config →
+        set_of table (knowledge d.node).config ≡ Some set
+    by (inl there) = there
+    by (inr over) = absurd (false≢true (sym (ap is_some over) ∙ live))
+
     now : HoldsOf (Stays m.node) m.name t.world.places
     now = now_stays t m.session m.was m.name m.place m.node m.found m.at
 

@@ -1,7 +1,13 @@
 -- Each table that a node knows, and each action that it logged, is of an event that says just so.
+use Rattle.slon_laws.proofs.Lists.{all_entry}
+use Rattle.slon_model.specs.Config.{live_set}
+use Rattle.slon_model.specs.Maps.{entry_at}
+use Rattle.std.proofs.Common.{option_map}
+use Rattle.std.proofs.Common.{unwrap_or}
+use Rattle.slon_model.specs.Config.{leads_row}
 use Rattle.std.proofs.Common.{◌≡◌, inl, inr, ℕ, Bool, true, false, cond, List, [], ◌∷◌, ◌++◌, Option, Some, None}
 use Rattle.std.proofs.Common.{refl, sym, ap, subst, ◌∙◌}
-use Rattle.std.specs.Prelude.{◌&&◌, is_some, filter_map}
+use Rattle.std.specs.Prelude.{◌&&◌, ◌==◌, is_some, filter_map}
 use Rattle.std.specs.Str.{bytes_eq}
 use Rattle.std.specs.List.{AllByRecursion, cons_option}
 use Rattle.std.proofs.lemmas.Bool.{false≢true, and_parts}
@@ -29,7 +35,8 @@ use Rattle.stream_laws.specs.Nodes.{IsAmong, nodes_in, node_in, IsEvent}
 use Rattle.stream_laws.specs.Making.{is_emitted}
 use Rattle.image_laws.proofs.Staying.{Stays}
 use Rattle.slon_laws.proofs.Later.{HoldsOf}
-use Rattle.stream_laws.proofs.Lists.{all_among, all_appended, all_each, all_with, found_all}
+use Rattle.image_laws.proofs.Dropping.{dropped}
+use Rattle.stream_laws.proofs.Lists.{all_among, all_appended, all_each, all_mapped, all_with, found_all}
 use Rattle.view_laws.specs.Known.{WasEvent, IsHeard, IsTold, IsLoggedAs, AreTold}
 use Rattle.view_laws.specs.Past.{Past, WasBefore, WasUpTo}
 use Rattle.view_laws.proofs.Doing.{KnowsFrom, KnowsNone, KnowsGiven, taking}
@@ -70,7 +77,7 @@ HearsToo Was n Now m = (e : Event) → IsHeard Was n e → IsHeard Now m e
 one_told : (Was Now : World → Type 0) (n m : Node) → HearsToo Was n Now m → (t : ℕ × TableRow) → IsTold Was n t →
     IsTold Now m t
 one_told Was Now n m hears t is =
-    record { event = is.event; heard = hears is.event is.heard; body = is.body; live = is.live }
+    record { event = is.event; heard = hears is.event is.heard; body = is.body }
 
 all_told : (Was Now : World → Type 0) (n m : Node) → HearsToo Was n Now m → (ts : Map TableRow) →
     AllByRecursion (IsTold Was n) ts → AllByRecursion (IsTold Now m) ts
@@ -80,7 +87,13 @@ all_logged : (Was Now : World → Type 0) (n m : Node) → HearsToo Was n Now m 
     AllByRecursion (IsLoggedAs Was n) ls → AllByRecursion (IsLoggedAs Now m) ls
 all_logged Was Now n m hears ls all =
     all_map (IsLoggedAs Was n) (IsLoggedAs Now m)
-    (λ l is. record { event = is.event; heard = hears is.event is.heard; comment = is.comment; body = is.body }) ls all
+    (λ l is. record {
+      event = is.event;
+      heard = hears is.event is.heard;
+      comment = is.comment;
+      body = is.body;
+      first = is.first;
+    }) ls all
 
 -- ---- an event
 
@@ -92,21 +105,46 @@ more_heard Was n d e is f (inl among) =
     (inr among))
 more_heard Was n d e is f (inr was) = inr was
 
+-- all sets are in their first eras
+abbrev AreFirst : Map SetRow → Type 0
+AreFirst sets = AllByRecursion (λ e. e.1.era ≡ 1) sets
+
 -- What is known of sets and tables.
 abbrev TellsOf : (World → Type 0) → Node → Config → Type 0
-TellsOf Was n c = AllByRecursion (IsTold Was n) c.tables × AllByRecursion (λ e. e.1.live ≡ true) c.sets
+TellsOf Was n c = AllByRecursion (IsTold Was n) c.tables × AreFirst c.sets
+
+-- a set that ends stays in its era
+pub ended_first : (set : ℕ) (e : ℕ × SetRow) → e.1.era ≡ 1 →
+    (cond (e.0 == set) (e.0, record e.1 { live = false }) e).1.era ≡ 1
+ended_first set e is = by (e.0 == set)
+  where
+    by : (b : Bool) → (cond b (e.0, record e.1 { live = false }) e).1.era ≡ 1
+    by true = is
+    by false = is
+
+-- a table that is dropped is known by the same event
+dropped_told : (Was : World → Type 0) (n : Node) (set : ℕ) (t : ℕ × TableRow) → IsTold Was n t →
+    IsTold Was n (dropped set t)
+dropped_told Was n set t is = by (t.1.set_id == set)
+  where
+    by : (b : Bool) → IsTold Was n (cond b (t.0, record t.1 { live = false }) t)
+    by true = record { event = is.event; heard = is.heard; body = is.body }
+    by false = is
 
 changed_told : (Was : World → Type 0) (n : Node) (e : Event) → IsHeard Was n e → (body : Body) →
     (e.body ≡ body) × (is_emitted body ≡ true) → (c : Config) → TellsOf Was n c →
     TellsOf Was n (change_by e.origin e.number body c)
 changed_told Was n e heard (SetAddTable set table name comment) is c told = (
   all_with (IsTold Was n) table (record { set_id = set; name = name; live = true; comment = comment }) c.tables
-      (record { event = e; heard = heard; body = is.0; live = refl }) told.0,
+      (record { event = e; heard = heard; body = is.0 }) told.0,
   told.1,
 )
 changed_told Was n e heard (StoreSet set by comment) is c told =
-    (told.0, all_with (λ e. e.1.live ≡ true) set _ c.sets refl told.1)
-changed_told Was n e heard (DropSet set) is c told = absurd (false≢true is.1)
+    (told.0, all_with (λ e. e.1.era ≡ 1) set _ c.sets refl told.1)
+changed_told Was n e heard (DropSet set) is c told = (
+  all_mapped (IsTold Was n) (IsTold Was n) (dropped set) (dropped_told Was n set) c.tables told.0,
+  all_mapped (λ e. e.1.era ≡ 1) (λ e. e.1.era ≡ 1) _ (ended_first set) c.sets told.1,
+)
 changed_told Was n e heard (MoveSet set old new era feeds) is c told = absurd (false≢true is.1)
 changed_told Was n e heard (FailoverSet failed limit sets) is c told = absurd (false≢true is.1)
 changed_told Was n e heard others is c told = told
@@ -114,7 +152,7 @@ changed_told Was n e heard others is c told = told
 -- ---- a commit of rows
 
 own_told : (Was : World → Type 0) (n m : Node) → HearsToo Was n Was m → (own : ℕ) →
-    AllByRecursion (IsTold Was n) (knowledge n).config.tables → (actions : List Action) →
+    TellsOf Was n (knowledge n).config → (actions : List Action) →
     AllByRecursion (IsLoggedAs Was m) (own_logs own (knowledge n) actions)
 own_told Was n m hears own told actions =
     all_given (λ a. Unit {0}) (IsLoggedAs Was m) (λ a. logged_on own k a (member_of a.table k.config)) one actions
@@ -123,25 +161,40 @@ own_told Was n m hears own told actions =
     k : Knowledge
     k = knowledge n
 
+    first : (set : ℕ) → is_origin own set k.config ≡ true → era_of set k.config ≡ 1
+    first set leads = by (entry_at set k.config.sets) refl leads
+      where
+        live : (row : SetRow) → row.era ≡ 1 → (b : Bool) → leads_row own (cond b (Some row) None) ≡ true →
+            unwrap_or (option_map (λ (r : SetRow). r.era) (cond b (Some row) None)) 0 ≡ 1
+        live row is true leads = is
+        live row is false leads = absurd (false≢true leads)
+
+        by : (o : Option SetRow) → entry_at set k.config.sets ≡ o → leads_row own (live_set o) ≡ true →
+            unwrap_or (option_map (λ (r : SetRow). r.era) (live_set o)) 0 ≡ 1
+        by None found leads = absurd (false≢true leads)
+        by (Some row) found leads =
+            live row (all_entry (λ e. e.1.era ≡ 1) set row k.config.sets told.1 found) row.live leads
+
     made : (a : Action) (e : ℕ × TableRow) → IsTold Was n e → a.table ≡ e.1.name → (b : Bool) →
         OnSome (IsLoggedAs Was m) (logged_on own k a (Some e))
     made a e is name b =
         elim (is_origin own e.1.set_id k.config)
-        as (λ b. OnSome (IsLoggedAs Was m) (cond b (Some (record {
+        as (λ b. is_origin own e.1.set_id k.config ≡ b → OnSome (IsLoggedAs Was m) (cond b (Some (record {
           set_id = e.1.set_id;
           table_id = e.0;
           era = era_of e.1.set_id k.config;
           origin = own;
           action = a;
         })) None)) [
-          | true ↦ record {
+          | true ↦ λ leads. record {
             event = is.event;
             heard = hears is.event is.heard;
             comment = e.1.comment;
             body = is.body ∙ ap (λ name. SetAddTable e.1.set_id e.0 name e.1.comment) (sym name);
+            first = first e.1.set_id leads;
           }
-          | false ↦ tt
-        ]
+          | false ↦ λ other. tt
+        ] refl
 
     one : (a : Action) → Unit {0} → OnSome (IsLoggedAs Was m) (logged_on own k a (member_of a.table k.config))
     one a any = by (member_of a.table k.config) refl
@@ -150,7 +203,7 @@ own_told Was n m hears own told actions =
             OnSome (IsLoggedAs Was m) (logged_on own k a o)
         by None none = tt
         by (Some e) found =
-            let both = found_all (IsTold Was n) _ k.config.tables e told found in
+            let both = found_all (IsTold Was n) _ k.config.tables e told.0 found in
             let named =
             (and_parts (e.1.live && bytes_eq a.table e.1.name) (is_some (set_row e.1.set_id k.config)) both.1).0 in
             made a e both.0 (bytes_same a.table e.1.name (and_parts e.1.live (bytes_eq a.table e.1.name) named).1)
@@ -210,15 +263,13 @@ brought_logs t knew s e b (Brings y) m =
 -- ---- a new node
 
 new_told : (t : Past) → Knew AreTold t → (n m : Node) → KnowsFrom t.world n → TellsOf (WasUpTo t) m n.given.config
-new_told t knew n m (KnowsNone none) = (
-  subst (AllByRecursion (IsTold (WasUpTo t) m)) (sym none.1) tt,
-  subst (AllByRecursion (λ (e : ℕ × SetRow). e.1.live ≡ true)) (sym none.0) tt,
-)
+new_told t knew n m (KnowsNone none) =
+    (subst (AllByRecursion (IsTold (WasUpTo t) m)) (sym none.1) tt, subst AreFirst (sym none.0) tt)
 new_told t knew n m (KnowsGiven g) = (
   subst (AllByRecursion (IsTold (WasUpTo t) m)) (sym g.tables)
       (all_told (WasBefore t) (WasUpTo t) g.giver m (λ e heard. inr (heard_was t g.name g.giver g.is e heard))
       (knowledge g.giver).config.tables (knew g.name g.giver g.is).tables),
-  subst (AllByRecursion (λ (e : ℕ × SetRow). e.1.live ≡ true)) (sym g.sets) (knew g.name g.giver g.is).sets,
+  subst AreFirst (sym g.sets) (knew g.name g.giver g.is).sets,
 )
 
 -- who meets an event, and logs this
@@ -229,8 +280,7 @@ met_told : (t : Past) (n : Node) (d : Deed) (e : Event) → (met_by d.doing ≡ 
 met_told t n d e is changes brings was =
     record {
       tables = subst (λ (c : Config). AllByRecursion (IsTold (WasUpTo t) m) c.tables) (sym changes) both.0;
-      sets =
-          subst (λ (c : Config). AllByRecursion (λ (e : ℕ × SetRow). e.1.live ≡ true) c.sets) (sym changes) both.1;
+      sets = subst (λ (c : Config). AreFirst c.sets) (sym changes) both.1;
       logs =
           all_appended (IsLoggedAs (WasUpTo t) m) d.logs (logged n) brings
           (all_logged (WasUpTo t) (WasUpTo t) n m more (logged n) was.logs);
@@ -266,7 +316,8 @@ tables_told = record {
     logs =
         all_appended (IsLoggedAs (WasUpTo t) (with_commit xid p n))
         (own_logs n.id (knowledge n) (own_actions xid p)) (logged n)
-        (own_told (WasUpTo t) n (with_commit xid p n) (λ e heard. heard) n.id was.tables (own_actions xid p))
+        (own_told (WasUpTo t) n (with_commit xid p n) (λ e heard. heard) n.id (was.tables, was.sets)
+        (own_actions xid p))
         (all_logged (WasUpTo t) (WasUpTo t) n (with_commit xid p n) (λ e heard. heard) (logged n) was.logs);
   };
   tells = λ t s is number m n says was.

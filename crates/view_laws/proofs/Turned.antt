@@ -7,14 +7,15 @@ use Rattle.std.specs.List.{AllByRecursion}
 use Rattle.std.proofs.lemmas.Bool.{and_from, and_left, and_parts, and_right, eq-eqb, eqb-true, false≢true}
 use Rattle.std.proofs.lemmas.Bool.{false_from_ne_true, not-true, true≢false}
 use Rattle.node_rows.specs.declared.body.Body.{Body}
-use Rattle.node_rows.specs.declared.body.Body.TheVariants.{Sync, SubscribeSet, EnableSubscription, UnsubscribeSet}
+use Rattle.node_rows.specs.declared.body.Body.TheVariants.{Sync, DropSet, SubscribeSet, EnableSubscription}
+use Rattle.node_rows.specs.declared.body.Body.TheVariants.{UnsubscribeSet}
 use Rattle.slon_model.specs.Maps.{Map, entry_at, without_entry}
 use Rattle.slon_model.specs.Config.{Config, forwards}
 use Rattle.slon_model.specs.Views.{View, based, based_at, views_told}
 use Rattle.slon_model.proofs.Names.{all_map, one_found}
 use Rattle.view_laws.specs.Known.{AreRising, enables, feeds, leaves}
 use Rattle.view_laws.proofs.Rising.{entry-without, without_rising}
-use Rattle.stream_laws.proofs.Lists.{all_passed}
+use Rattle.stream_laws.proofs.Lists.{all_passed, entry-changed}
 
 -- by the event the node of this id, which knows this, begins to forward the set
 abbrev pub Turns : ℕ → ℕ → Body → Config → Type 0
@@ -64,33 +65,7 @@ enables_told own set node others c vs is = absurd (false≢true is)
 
 pub entry-based : (set id : ℕ) (vs : Map View) →
     entry_at id (based_at set vs) ≡ cond (id == set) (option_map based (entry_at id vs)) (entry_at id vs)
-entry-based set id [] = by (id == set)
-  where
-    by : (b : Bool) → None ≡ cond b (option_map based None) None
-    by true = refl
-    by false = refl
-entry-based set id (e ∷ es) = at (e.0 == set) refl (entry-based set id es)
-  where
-    Later : Type 0
-    Later = entry_at id (based_at set es) ≡ cond (id == set) (option_map based (entry_at id es)) (entry_at id es)
-
-    push : (b : Bool) → Some (cond b (based e.1) e.1) ≡ cond b (Some (based e.1)) (Some e.1)
-    push true = refl
-    push false = refl
-
-    hit : (b : Bool) → (e.0 == set) ≡ b → (c : Bool) → (id == e.0) ≡ c → Later →
-        cond c (Some (cond b (based e.1) e.1)) (entry_at id (based_at set es))
-        ≡ cond (id == set) (option_map based (cond c (Some e.1) (entry_at id es))) (cond c (Some e.1) (entry_at id es))
-    hit b same true here later =
-        push b
-        ∙ ap (λ d. cond d (Some (based e.1)) (Some e.1)) (sym (ap (λ i. i == set) (eqb-true id e.0 here) ∙ same))
-    hit b same false other later = later
-
-    at : (b : Bool) → (e.0 == set) ≡ b → Later →
-        entry_at id (cond b (e.0, based e.1) e ∷ based_at set es)
-        ≡ cond (id == set) (option_map based (entry_at id (e ∷ es))) (entry_at id (e ∷ es))
-    at true same later = hit true same (id == e.0) refl later
-    at false other later = hit false other (id == e.0) refl later
+entry-based set id vs = entry-changed based set id vs
 
 -- the node itself is told how it receives the set
 pub own_told : (own set provider : ℕ) (forward : Bool) (c : Config) (vs : Map View) →
@@ -127,11 +102,15 @@ left_test : (own set receiver : ℕ) → (receiver == own) ≡ true → (id : �
 left_test own set receiver here id same =
     and_from (set == id) (receiver == own) (eq-eqb set id (sym (eqb-true id set same))) here
 
+-- either way round
+other_way : (id set : ℕ) → (id == set) ≡ false → (set == id) ≡ false
+other_way id set other =
+    false_from_ne_true (set == id) (λ same. true≢false (sym (eq-eqb id set (sym (eqb-true set id same))) ∙ other))
+
 -- and no other one
 stays_test : (own set receiver id : ℕ) → (id == set) ≡ false → leaves id own (UnsubscribeSet set receiver) ≡ false
 stays_test own set receiver id other =
-    and_left (set == id) (receiver == own)
-    (false_from_ne_true (set == id) (λ same. true≢false (sym (eq-eqb id set (sym (eqb-true set id same))) ∙ other)))
+    and_left (set == id) (receiver == own) (other_way id set other)
 
 elsewhere_test : (own set receiver : ℕ) → (receiver == own) ≡ false → (id : ℕ) →
     leaves id own (UnsubscribeSet set receiver) ≡ false
@@ -177,6 +156,12 @@ found_told own id (UnsubscribeSet set receiver) c vs y found = by (receiver == o
         at true none = absurd cc
         at false is = (y, is, IsSame refl)
     by false found = (y, found, IsSame refl)
+found_told own id (DropSet set) c vs y found = by (id == set) (sym (entry-without id set vs) ∙ found)
+  where
+    by : (b : Bool) → cond b None (entry_at id vs) ≡ Some y →
+        (v : View) × (entry_at id vs ≡ Some v) × IsToldAs own id (DropSet set) c v y
+    by true none = absurd cc
+    by false is = (y, is, IsSame refl)
 found_told own id others c vs y found = (y, found, IsSame refl)
 
 -- and the node was not told to give it up
@@ -193,6 +178,11 @@ found_stays own id (UnsubscribeSet set receiver) c vs y found = by (receiver == 
         at true same none = absurd cc
         at false other is = stays_test own set receiver id other
     by false other found = elsewhere_test own set receiver other id
+found_stays own id (DropSet set) c vs y found = by (id == set) refl (sym (entry-without id set vs) ∙ found)
+  where
+    by : (b : Bool) → (id == set) ≡ b → cond b None (entry_at id vs) ≡ Some y → (set == id) ≡ false
+    by true same none = absurd cc
+    by false other is = other_way id set other
 found_stays own id others c vs y found = refl
 
 -- what it was told to give up is found no more
@@ -202,6 +192,8 @@ gone_told own id (UnsubscribeSet set receiver) c vs is =
     let both = and_parts (set == id) (receiver == own) is in
     ap (λ b. entry_at id (cond b (without_entry set vs) vs)) both.1 ∙ entry-without id set vs
     ∙ ap (λ b. cond b None (entry_at id vs)) (eq-eqb id set (sym (eqb-true set id both.0)))
+gone_told own id (DropSet set) c vs is =
+    entry-without id set vs ∙ ap (λ b. cond b None (entry_at id vs)) (eq-eqb id set (sym (eqb-true set id is)))
 gone_told own id others c vs is = absurd (false≢true is)
 
 -- what was found is found then, unless the node was told to give it up
@@ -248,6 +240,11 @@ there_told own id (UnsubscribeSet set receiver) c vs v found stays = by (receive
       IsSame refl,
     )
     by false other = (v, found, IsSame refl)
+there_told own id (DropSet set) c vs v found stays = (
+  v,
+  entry-without id set vs ∙ ap (λ b. cond b None (entry_at id vs)) (other_way set id stays) ∙ found,
+  IsSame refl,
+)
 there_told own id others c vs v found stays = (v, found, IsSame refl)
 
 -- ---- all views
@@ -287,6 +284,9 @@ all_told P own (UnsubscribeSet set receiver) c vs on all = by (receiver == own) 
     by true here =
         all_passed Stays P (λ e. not (set == e.0)) (λ e is passes. is (other_one e passes)) vs all
     by false other = all_map Stays P (λ e is. is (elsewhere_test own set receiver other e.0)) vs all
+all_told P own (DropSet set) c vs on all =
+    all_passed (λ e. leaves e.0 own (DropSet set) ≡ false → P e) P (λ e. not (set == e.0))
+    (λ e is passes. is (not-true (set == e.0) passes)) vs all
 all_told P own others c vs on all = all_map (λ e. leaves e.0 own others ≡ false → P e) P (λ e is. is refl) vs all
 
 rising_based : (set : ℕ) (vs : Map View) → AreRising vs → AreRising (based_at set vs)
@@ -313,6 +313,7 @@ rising_told own (UnsubscribeSet set receiver) c vs rising = by (receiver == own)
     by : (b : Bool) → AreRising (cond b (without_entry set vs) vs)
     by true = without_rising set vs rising
     by false = rising
+rising_told own (DropSet set) c vs rising = without_rising set vs rising
 rising_told own others c vs rising = rising
 
 -- ---- those of an origin
@@ -381,4 +382,8 @@ filter_told origin own (UnsubscribeSet set receiver) c vs all = by (receiver == 
         (λ e. (set == e.0) ≡ true → (e.1.origin == origin) ≡ false)
         (λ e other same. other (inr (and_from (set == e.0) (receiver == own) same here))) vs all)
     by false elsewhere = refl
+filter_told origin own (DropSet set) c vs all =
+    filter_without origin set vs
+    (all_map (λ e. Touches own e.0 (DropSet set) c → (e.1.origin == origin) ≡ false)
+    (λ e. (set == e.0) ≡ true → (e.1.origin == origin) ≡ false) (λ e other same. other (inr same)) vs all)
 filter_told origin own others c vs all = refl

@@ -3,11 +3,11 @@ use Rattle.std.specs.Prelude.{◌≡◌, ◌≢◌, ℕ, ◌<◌, ◌⊎◌, ◌
 use Rattle.std.specs.Prelude.{◌∷◌}
 use Rattle.std.specs.List.{AllByRecursion}
 use Rattle.node_rows.specs.declared.body.Body.{Body}
-use Rattle.node_rows.specs.declared.body.Body.TheVariants.{SetAddTable, SubscribeSet, EnableSubscription}
+use Rattle.node_rows.specs.declared.body.Body.TheVariants.{DropSet, SetAddTable, SubscribeSet, EnableSubscription}
 use Rattle.node_rows.specs.declared.body.Body.TheVariants.{UnsubscribeSet}
 use Rattle.node_rows.specs.declared.rows.TableRow.{TableRow}
 use Rattle.slon_model.specs.Maps.{Map, pair_at}
-use Rattle.slon_model.specs.Events.{Event}
+use Rattle.slon_model.specs.Events.{Event, is_sync}
 use Rattle.slon_model.specs.Config.{Config, era_of, is_origin}
 use Rattle.slon_model.specs.Deeds.{Node, Logged, knowledge, stream, met}
 use Rattle.slon_model.specs.Logs.{logged}
@@ -20,11 +20,12 @@ use Rattle.view_laws.specs.Past.{Moment}
 
 -- ---- when events were emitted
 
--- an event of this body is of a subscription to the set
+-- an event of this body is of a subscription to the set, or of all of them
 abbrev pub feeds : ℕ → Body → Bool
 feeds set (SubscribeSet id provider receiver forward) = id == set
 feeds set (EnableSubscription id provider receiver forward era) = id == set
 feeds set (UnsubscribeSet id receiver) = id == set
+feeds set (DropSet id) = id == set
 feeds set others = false
 
 -- The event was emitted in such a session, with the snapshot that was taken there. Who tells of a subscription to a set
@@ -52,10 +53,16 @@ abbrev pub enables : ℕ → ℕ → Body → Bool
 enables set node (EnableSubscription id provider receiver forward era) = id == set && receiver == node
 enables set node others = false
 
--- it is to give the set up
+-- it is to give the set up, which may end
 abbrev pub leaves : ℕ → ℕ → Body → Bool
 leaves set node (UnsubscribeSet id receiver) = id == set && receiver == node
+leaves set node (DropSet id) = id == set
 leaves set node others = false
+
+-- the set ends
+abbrev pub ends : ℕ → Body → Bool
+ends set (DropSet id) = id == set
+ends set others = false
 
 abbrev pub is_on_feed : ℕ → ℕ → Body → Bool
 is_on_feed set node body = subscribes set node body || enables set node body
@@ -97,6 +104,39 @@ AreOnce (e ∷ es) = IsOnce es e.body × AreOnce es
 -- so it is of the stream of a node
 abbrev pub IsFedOnce : (World → Type 0) → Node → Type 0
 IsFedOnce Was n = AreOnce (stream n)
+
+-- ---- no node subscribes to a set that has ended, or copies it
+
+abbrev pub IsLive : List Event → Body → Type 0
+IsLive earlier (SubscribeSet set provider receiver forward) = AllByRecursion (λ e. ends set e.body ≡ false) earlier
+IsLive earlier (EnableSubscription set provider receiver forward era) =
+    AllByRecursion (λ e. ends set e.body ≡ false) earlier
+IsLive earlier others = Unit {0}
+
+abbrev pub AreLive : List Event → Type 0
+AreLive [] = Unit {0}
+AreLive (e ∷ es) = IsLive es e.body × AreLive es
+
+-- so it is of the stream of a node
+abbrev pub IsFedLive : (World → Type 0) → Node → Type 0
+IsFedLive Was n = AreLive (stream n)
+
+-- ---- when SYNCs were emitted
+
+-- A node of this id was in such a session, had emitted these events there, and took the snapshot of the event there.
+pub record IsTakenAt (Was : World → Type 0) (own : ℕ) (earlier : List Event) (e : Event) : Type 0 where
+  pub moment : Moment Was
+  pub is_own : moment.node.id ≡ own
+  pub taken : e.taken ≡ taken moment.place
+  pub before : stream moment.node ≡ earlier
+
+-- so it is with each SYNC of a stream
+abbrev pub AllTaken : (World → Type 0) → ℕ → List Event → Type 0
+AllTaken Was own [] = Unit {0}
+AllTaken Was own (e ∷ es) = (is_sync e.body ≡ true → IsTakenAt Was own es e) × AllTaken Was own es
+
+abbrev pub AreTaken : (World → Type 0) → Node → Type 0
+AreTaken Was n = AllTaken Was n.id (stream n)
 
 -- ---- tables come into a set while it has no receivers
 
@@ -148,24 +188,24 @@ pub record WasEvent (Was : World → Type 0) (e : Event) : Type 0 where
 abbrev pub IsHeard : (World → Type 0) → Node → Event → Type 0
 IsHeard Was n e = IsAmong e (met n) ⊎ WasEvent Was e
 
--- The live table is known by an event that says just so.
+-- The table is known by an event that says just so.
 pub record IsTold (Was : World → Type 0) (n : Node) (t : ℕ × TableRow) : Type 0 where
   pub event : Event
   pub heard : IsHeard Was n event
   pub body : event.body ≡ SetAddTable t.1.set_id t.0 t.1.name t.1.comment
-  pub live : t.1.live ≡ true
 
--- The action was logged as one of a table that is known by an event that says just so.
+-- The action was logged as one of a table that is known by an event that says just so, in the first era of the set.
 pub record IsLoggedAs (Was : World → Type 0) (n : Node) (l : Logged) : Type 0 where
   pub event : Event
   pub heard : IsHeard Was n event
   pub comment : List ℕ
   pub body : event.body ≡ SetAddTable l.set_id l.table_id l.action.table comment
+  pub first : l.era ≡ 1
 
--- All tables are known so, all actions are logged so, and all sets are live.
+-- All tables are known so, all actions are logged so, and all sets are in their first eras.
 pub record AreTold (Was : World → Type 0) (n : Node) : Type 0 where
+  pub sets : AllByRecursion (λ e. e.1.era ≡ 1) (knowledge n).config.sets
   pub tables : AllByRecursion (IsTold Was n) (knowledge n).config.tables
-  pub sets : AllByRecursion (λ e. e.1.live ≡ true) (knowledge n).config.sets
   pub logs : AllByRecursion (IsLoggedAs Was n) (logged n)
 
 -- The subscription of a receiver is known by an event on it.

@@ -1,5 +1,6 @@
 -- The laws of what nodes that subscribe know of sets, in every session that a legal history leads to.
 use Rattle.std.specs.Prelude.{◌≡◌, ◌⊎◌, ℕ, ◌<◌, suc, true, List, Some}
+use Rattle.node_rows.specs.declared.body.Body.TheVariants.{DropSet}
 use Rattle.slon_model.specs.Names.{find_named}
 use Rattle.slon_model.specs.Snapshots.{Covers, sees}
 use Rattle.slon_model.specs.Events.{Event, is_sync}
@@ -80,6 +81,13 @@ ViewsReach =
 
 -- ---- tables
 
+-- The origin of the set has ended it, which the node has not applied yet.
+pub record IsEnding (set : ℕ) (n origin : Node) : Type 0 where
+  pub event : Event
+  pub among : IsAmong event (stream origin)
+  pub ends : event.body ≡ DropSet set
+  pub later : progress origin.id (knowledge n) < event.number
+
 -- The origin of the set has told the node to give it up, which the node has not applied yet.
 pub record IsLeaving (set : ℕ) (n origin : Node) : Type 0 where
   pub event : Event
@@ -87,14 +95,15 @@ pub record IsLeaving (set : ℕ) (n origin : Node) : Type 0 where
   pub leaves : leaves set n.id event.body ≡ true
   pub later : progress origin.id (knowledge n) < event.number
 
--- Each table that a node knows in a set which it keeps, the origin has in the set; and the node knows each that the
--- origin has, unless it is to give the set up.
+-- Each table that a node knows in a set which it keeps, the origin has in the set, unless it has ended that; and the
+-- node knows each that the origin has, unless it is to give the set up.
 abbrev pub TablesAgree : Type 0
 TablesAgree =
     (limit : ℕ) (history : List Happening) (w : World) → Leads (start limit) history w →
     (a b : List ℕ) (p q : Place) → find_named a w.places ≡ Some p → find_named b w.places ≡ Some q →
     (n m : Node) → p.node ≡ Some n → q.node ≡ Some m →
     (set : ℕ) (v : View) → view_of set (knowledge n) ≡ Some v → m.id ≡ v.origin → (table : List ℕ) →
-    (IsAmong table (names_of set (knowledge n).config) → IsHeldBy m.id (knowledge m).config set table)
+    (IsAmong table (names_of set (knowledge n).config) →
+    IsHeldBy m.id (knowledge m).config set table ⊎ IsEnding set n m)
     × (IsHeldBy m.id (knowledge m).config set table →
     IsAmong table (names_of set (knowledge n).config) ⊎ IsLeaving set n m)

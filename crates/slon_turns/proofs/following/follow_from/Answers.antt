@@ -122,5 +122,6 @@ returns-in-Gives g c =
       follows = IfOk-weaker c.follow_sets.result _ _ (λ reply follows.
           onward_passed {t = t} {r = r} {ks = ks} news (d, keeps.0) sets follows) c.follow_sets.ensures.follows;
       learns = IfOk-weaker c.follow_sets.result _ _ (λ reply learns.
-          learns_passed {t = t} {r = r} {ks = ks} c.follow_sets.new.held (d, keeps.0) sets learns) c.follow_sets.ensures.learns;
+          learns_passed {t = t} {r = r} {ks = ks} c.follow_sets.new.held (d, keeps.0) sets learns)
+          c.follow_sets.ensures.learns;
     }

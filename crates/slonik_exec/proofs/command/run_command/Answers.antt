@@ -44,6 +44,19 @@ returns-in-StoreNode-clause-executes g c =
     (λ reply. Executes a (membership.store_node c.in-StoreNode.id c.in-StoreNode.event_node (Some t)) old reply new))
     (c.in_ok-comment.ensures ∙ ap (λ o. comment_of (comment_in o)) c.in-StoreNode.is) c.store_node.ensures.executes)
 
+pub drop_node-requires : goal.drop_node-requires
+drop_node-requires g c = record {
+  can = subst IsRunnable c.in-DropNode.is (c.is_runnable.ensures c.if-not-is_runnable.false);
+}
+
+pub returns-in-DropNode-clause-executes : goal.returns-in-DropNode-clause-executes
+returns-in-DropNode-clause-executes g c =
+    let a : Addresses = record { lines = c.args.caller.lines.now; cluster = c.args.caller.cluster.now } in
+    let old = bases_of g.K.Keeper.kept c.args.databases.now in
+    let new = bases_of g.K.Keeper.kept c.drop_node.new.databases in
+    subst (λ o. IfOk c.drop_node.result (λ reply. Executes a (ordered o) old reply new)) (sym c.in-DropNode.is)
+    c.drop_node.ensures.executes
+
 pub store_path-requires : goal.store_path-requires
 store_path-requires g c =
     let all = subst IsRunnable c.in-StorePath.is (c.is_runnable.ensures c.if-not-is_runnable.false) in
@@ -83,6 +96,7 @@ run_on_set-requires g c = record {
   on_sets = on_sets c.args.command.now (record {
     init = c.in_default.not-InitCluster;
     node = c.in_default.not-StoreNode;
+    leaves = c.in_default.not-DropNode;
     path = c.in_default.not-StorePath;
     drop = c.in_default.not-DropPath;
     sync = c.in_default.not-Sync;

@@ -1,5 +1,6 @@
 use Rattle.std.proofs.Common.{◌∙◌, ap, sym, subst}
-use Rattle.app_store.specs.Begun.{AreOlder, start_at}
+use Rattle.slon_laws.specs.Older.{AreOlder}
+use Rattle.app_store.specs.Begun.{start_at}
 use Rattle.app_store.proofs.Starting.{start_older}
 use Rattle.app_store.proofs.Upright.{running, up_at}
 use Rattle.app_store.proofs.database.Database.first_number.Goals as goal

@@ -1,4 +1,4 @@
-use Rattle.std.proofs.Common.{◌∙◌, true, cond, Some, ap, sym, is_some}
+use Rattle.std.proofs.Common.{◌∙◌, cond, Some, ap, sym, subst, is_some}
 use Rattle.std.specs.Prelude.{◌||◌}
 use Rattle.std.specs.FinMap.{get}
 use Rattle.std.specs.Str.{bytes_eq}
@@ -7,7 +7,8 @@ use Rattle.node_state.specs.Known.{learned_as, learned_name}
 use Rattle.node_state.specs.Members.{MemberMap, NameMap}
 use Rattle.node_state.proofs.Formed.{on_ok, on_any}
 use Rattle.node_state.proofs.Joining.{name_learned}
-use Rattle.node_state.proofs.Nobody.{put_member, members_stay}
+use Rattle.node_state.proofs.Dropping.{left_live}
+use Rattle.node_state.proofs.Nobody.{AreLive, put_member, members_stay, no_members}
 use Rattle.node_state.proofs.memory.NodeMemory.learn.Goals as goal
 
 pub invariant_of-self-in-SetAddTable : goal.invariant_of-self-in-SetAddTable
@@ -39,3 +40,16 @@ returns-in_ok-insert-in-SetAddTable-clause-names c =
     ∙ name_learned old c.in_ok-name-in-SetAddTable.name.items q
     ∙ ap (λ k. bytes_eq q k || is_some (get old q)) named
     ∙ ap (λ b. learned_name b q (is_some (get old q))) (sym c.in-SetAddTable.is)) c.insert-in-SetAddTable.ensures.ok
+
+pub invariant_of-self-in-Break-branch-4 : goal.invariant_of-self-in-Break-branch-4
+invariant_of-self-in-Break-branch-4 c = record {
+  identified = c.args.self.now.identified;
+  numbered = no_members c.replace-live.new.dest (c.replace-live.ensures.after ∙ c.new.ensures);
+}
+
+pub invariant_of-self-in-DropSet : goal.invariant_of-self-in-DropSet
+invariant_of-self-in-DropSet c = record {
+  identified = c.args.self.now.identified;
+  numbered = left_live c.in-DropSet.set c.replace-live.result c.in_ok-self-in-DropSet.field-0
+      c.in_ok-self-in-DropSet.ensures (subst AreLive (sym c.replace-live.ensures.value) c.args.self.now.numbered);
+}
