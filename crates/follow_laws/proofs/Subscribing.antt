@@ -5,6 +5,9 @@ use Rattle.stream_laws.proofs.Laws.{events_are_applied_once}
 use Rattle.follow_laws.proofs.Earlier.{sets_were_so}
 use Rattle.view_laws.proofs.Going.{views_go_on}
 use Rattle.view_laws.proofs.Viewed.{views_begin}
+use Rattle.net_relation.proofs.Consequences.{laws_apply}
+use Rattle.net_relation.proofs.Serving.{providers_give_the_same}
+use Rattle.net_relation.proofs.Sessions.{sessions_have_nets}
 use Rattle.follow_laws.proofs.Holding.{tables_follow}
 use Rattle.follow_laws.specs.Subscribed.{Subscribed}
 
@@ -19,4 +22,7 @@ subscribed limit history w leads = record {
       k.keeps;
   begins = λ k. views_begin limit history w leads k.name k.place k.found k.node k.at k.set_id k.view k.keeps;
   events = events_are_applied_once limit history w leads;
+  nets = λ name p found x at set.
+      let n = sessions_have_nets limit history w leads name p found x at set in (n, laws_apply w p x set n);
+  provided = providers_give_the_same limit history w leads;
 }

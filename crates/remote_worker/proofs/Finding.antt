@@ -1,6 +1,6 @@
 -- What a node finds of what it is to bring.
 use Rattle.std.proofs.Common.{◌≡◌, ◌∙◌, ℕ, Bool, true, false, List, [], ◌∷◌, Option, Some, None, Result}
-use Rattle.std.proofs.Common.{Ok, Err, nat_lt, refl, sym, ap, subst}
+use Rattle.std.proofs.Common.{nat_lt, refl, sym, ap, subst}
 use Rattle.std.specs.Prelude.{◌==◌, ◌&&◌, if◌then◌else◌, not, is_none, unwrap_or, option_map}
 use Rattle.node_rows.specs.declared.rows.SetRow.{SetRow}
 use Rattle.slon_model.specs.declared.reply.Refusal.{Refusal}

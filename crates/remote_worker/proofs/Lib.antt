@@ -6,3 +6,4 @@ pub mod Taking
 mod Naming
 mod Finding
 mod Keys
+pub mod Together

@@ -3,6 +3,7 @@ pub mod Keeping
 pub mod Kept
 pub mod Loading
 pub mod Looking
+pub mod Running
 pub mod Spelled
 pub mod Standing
 pub mod Working

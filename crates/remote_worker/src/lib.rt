@@ -10,13 +10,16 @@ mod following;
 mod keeping;
 mod loading;
 mod reading;
+mod running;
+mod sharing;
 mod standing;
 mod worker;
 
 pub use carrying::{Copying, Errand, can_carry_out, errand_in, kind_of};
 pub use fetches::{Fetches, Kept};
 pub use fetching::{Found, check_provider};
-pub use following::{fetch_of, sets_of};
+pub use following::{fetch_run, sets_of};
 pub use keeping::KeptSet;
 pub use loading::{Load, SetFetch, last_logged};
+pub use running::{Run, runs_of};
 pub use worker::{Fetched, Next, Ready, Settled, Taken, Worker};

@@ -36,6 +36,8 @@ mod syncs;
 #[cfg(test)]
 mod system;
 #[cfg(test)]
+mod together;
+#[cfg(test)]
 mod unsubscribing;
 #[cfg(test)]
 mod wanted;

@@ -1,4 +1,4 @@
--- What a node reads of one of its sets, at its own database and at that of the provider.
+-- What a node reads of sets with one provider, at its own database and at that of the provider.
 use Rattle.std.proofs.Common.{◌≡◌, ◌∙◌, ◌<◌, ◌||◌, ℕ, zero, suc, nat_lt, Bool, true, false, cond, not, List, [], ◌∷◌}
 use Rattle.std.proofs.Common.{length, get_or, set, Option, Some, None, Result, Ok, Err, refl, sym, ap, subst, arith}
 use Rattle.std.proofs.Common.{is_some}
@@ -26,7 +26,7 @@ use Rattle.app_store.specs.Base.{Base, base_of}
 use Rattle.node_store.proofs.Chaining.{acts_then}
 use Rattle.remote_worker.specs.declared.loading.SetFetch.{SetFetch}
 use Rattle.remote_worker.specs.Fetching.{is_loud, provider_checks}
-use Rattle.remote_worker.specs.Keeping.{Kept, taken_of}
+use Rattle.remote_worker.specs.Running.{taken_run}
 use Rattle.slonik_exec.specs.declared.databases.Named.{Named as NamedDatabase}
 use Rattle.slonik_exec.specs.declared.reaching.Reached.TheVariants.{At}
 use Rattle.slonik_exec.specs.Answering.{BrokenAt, EndsAt, RefusedAt}
@@ -41,14 +41,14 @@ use Rattle.slonik_exec.proofs.Works.{Checked, answers_then, ready_still}
 use Rattle.slon_turns.specs.declared.following.Looked.{Looked as Taken}
 use Rattle.slon_turns.specs.declared.following.Looked.TheVariants.{Told, Gives}
 use Rattle.slon_turns.specs.Applying.{provided_in}
-use Rattle.slon_turns.specs.Following.{BrokenSo, EndsLook, GivesAt, Reader, RefusedSo, TakesAt}
+use Rattle.slon_turns.specs.Following.{BrokenSo, EndsLook, GivesAt, Group, Reader, RefusedSo, TakesAt}
 use Rattle.slon_turns.specs.Planning.{link_checks}
 use Rattle.slon_turns.proofs.Mids.{LookedAt, found_here, worked_here}
 
 -- ---- at the provider
 
-abbrev pub Due : Reader → Kept → Seat → List (Option Refusal)
-Due r k s = provider_checks r.node k.provider r.event s.node
+abbrev pub Due : Reader → Group → Seat → List (Option Refusal)
+Due r k s = provider_checks r.node k.first.provider r.event s.node
 
 -- where nothing is checked the store failed
 ends_any : {name : List ℕ} {p : Place} {reply : Reply} {new : Base} (checks : List (Option Refusal)) →
@@ -57,7 +57,8 @@ ends_any checks (RefusedAt refusal first is fits) = absurd cc
 ends_any checks (BrokenAt count is rose fits) = BrokenAt count is rose fits
 
 -- it can be read, and gives what it has logged, or its store fails
-pub takes_behind : {name : List ℕ} {old mid : Base} (r : Reader) (k : Kept) (new : Base) (given : Taken SetFetch) →
+pub takes_behind : {name : List ℕ} {old mid : Base} (r : Reader) (k : Group) (new : Base)
+    (given : Taken (List SetFetch)) →
     Checked name (Due r k) old None mid → GivesAt r.event r.known k name mid given new → TakesAt r k name old given new
 takes_behind {name} r k new (Told reply) first gives = (
   answers_then first.checks.0 gives.0,
@@ -65,18 +66,18 @@ takes_behind {name} r k new (Told reply) first gives = (
       let here = first.refuses p n ready is in
       ends_any (Due r k (seat name p n)) (gives.1 p n (ready_still ready here.1) is past),
 )
-takes_behind r k new (Gives fetch) first gives = (
+takes_behind r k new (Gives fetches) first gives = (
   (acts_then None _ _ _ first.checks.0 gives.0.0, gives.0.1 ∙ first.checks.1),
   λ p n ready is past.
       let here = first.refuses p n ready is in
       let given = gives.1 p n (ready_still ready here.1) is past in (here.0, given.1, given.0),
 )
 
--- ---- what is due of a set
+-- ---- what is due of sets
 
 -- where the provider is found so
-abbrev pub kept_due : Memory → Seat → Event → Kept → Option (List ℕ × Place) → Result SetSync Refusal
-kept_due m s e k found = bind (provided_in k.provider m s e found) (λ p. Ok (taken_of e (logged p.node) k))
+abbrev pub kept_due : Memory → Seat → Event → Group → Option (List ℕ × Place) → Result (List SetSync) Refusal
+kept_due m s e k found = bind (provided_in k.first.provider m s e found) (λ p. Ok (taken_run e (logged p.node) k.all))
 
 -- 62, 63
 abbrev known_at : ℕ → ℕ → Event → Seat → Result Seat Refusal
@@ -84,62 +85,63 @@ known_at own provider e p =
     checked (when (not (is_known own p.known.config)) (refused.NotKnown own)
     ∷ when (nat_lt (progress_in e p) e.number) (refused.Behind provider (progress_in e p) e.number) ∷ []) p
 
-abbrev seated_kept : Seat → Event → Kept → Result Seat Refusal → Result SetSync Refusal
+abbrev seated_kept : Seat → Event → Group → Result Seat Refusal → Result (List SetSync) Refusal
 seated_kept s e k seated =
-    bind (bind seated (known_at s.node.id k.provider e)) (λ p. Ok (taken_of e (logged p.node) k))
+    bind (bind seated (known_at s.node.id k.first.provider e)) (λ p. Ok (taken_run e (logged p.node) k.all))
 
-abbrev linked_kept : Seat → Event → Kept → Option (List ℕ × Place) → Option Refusal → Result SetSync Refusal
-linked_kept s e k found refusal = seated_kept s e k (bind (unless_refused refusal found) (λ f. seat_at k.provider f))
+abbrev linked_kept : Seat → Event → Group → Option (List ℕ × Place) → Option Refusal → Result (List SetSync) Refusal
+linked_kept s e k found refusal =
+    seated_kept s e k (bind (unless_refused refusal found) (λ f. seat_at k.first.provider f))
 
 -- What is asked for at a seat, and whether the provider can be reached.
 pub record Asking : Type 0 where
   pub memory : Memory
   pub seat : Seat
   pub event : Event
-  pub set_kept : Kept
+  pub sets : Group
 
 abbrev pub link_of : Asking → List (Option Refusal)
-link_of a = link_checks a.seat.node.id a.set_kept.provider a.memory.cuts a.seat
+link_of a = link_checks a.seat.node.id a.sets.first.provider a.memory.cuts a.seat
 
-abbrev pub due_of : Asking → Option (List ℕ × Place) → Result SetSync Refusal
-due_of a found = kept_due a.memory a.seat a.event a.set_kept found
+abbrev pub due_of : Asking → Option (List ℕ × Place) → Result (List SetSync) Refusal
+due_of a found = kept_due a.memory a.seat a.event a.sets found
 
 pub kept_refused : (a : Asking) (found : Option (List ℕ × Place)) (refusal : Refusal) →
     first_refusal (link_of a) ≡ Some refusal → due_of a found ≡ Err refusal
-kept_refused a found refusal first = ap (linked_kept a.seat a.event a.set_kept found) first
+kept_refused a found refusal first = ap (linked_kept a.seat a.event a.sets found) first
 
 -- no database is the provider
 pub kept_missed : (a : Asking) (found : Option (List ℕ × Place)) → first_refusal (link_of a) ≡ None → found ≡ None →
-    due_of a found ≡ Err (refused.NoNode a.set_kept.provider)
+    due_of a found ≡ Err (refused.NoNode a.sets.first.provider)
 kept_missed a found none is =
-    ap (linked_kept a.seat a.event a.set_kept found) none
-    ∙ ap (λ f. seated_kept a.seat a.event a.set_kept (seat_at a.set_kept.provider f)) is
+    ap (linked_kept a.seat a.event a.sets found) none
+    ∙ ap (λ f. seated_kept a.seat a.event a.sets (seat_at a.sets.first.provider f)) is
 
 -- it is down
 pub kept_down : (a : Asking) (found : Option (List ℕ × Place)) (at : List ℕ × Place) →
     first_refusal (link_of a) ≡ None → found ≡ Some at → is_running at.1.standing ≡ false →
     due_of a found ≡ Err (refused.Down at.0)
 kept_down a found at none is down =
-    ap (linked_kept a.seat a.event a.set_kept found) none
-    ∙ ap (λ f. seated_kept a.seat a.event a.set_kept (seat_at a.set_kept.provider f)) is
-    ∙ ap (λ b. seated_kept a.seat a.event a.set_kept
-    (cond b (seat_of (refused.NoNode a.set_kept.provider) at at.1.node) (Err (refused.Down at.0)))) down
+    ap (linked_kept a.seat a.event a.sets found) none
+    ∙ ap (λ f. seated_kept a.seat a.event a.sets (seat_at a.sets.first.provider f)) is
+    ∙ ap (λ b. seated_kept a.seat a.event a.sets
+    (cond b (seat_of (refused.NoNode a.sets.first.provider) at at.1.node) (Err (refused.Down at.0)))) down
 
 -- it is up, and this node
-abbrev pub kept_by : Asking → Seat → Option Refusal → Result SetSync Refusal
+abbrev pub kept_by : Asking → Seat → Option Refusal → Result (List SetSync) Refusal
 kept_by a p refusal =
-    bind (unless_refused refusal p) (λ q. Ok (taken_of a.event (logged q.node) a.set_kept))
+    bind (unless_refused refusal p) (λ q. Ok (taken_run a.event (logged q.node) a.sets.all))
 
 pub kept_reached : (a : Asking) (found : Option (List ℕ × Place)) (at : List ℕ × Place) (n : Node) →
     first_refusal (link_of a) ≡ None → found ≡ Some at → (is_running at.1.standing ≡ true) × (at.1.node ≡ Some n) →
     due_of a found ≡ kept_by a (seat at.0 at.1 n)
-    (first_refusal (provider_checks a.seat.node.id a.set_kept.provider a.event n))
+    (first_refusal (provider_checks a.seat.node.id a.sets.first.provider a.event n))
 kept_reached a found at n none is (up, own) =
-    ap (linked_kept a.seat a.event a.set_kept found) none
-    ∙ ap (λ f. seated_kept a.seat a.event a.set_kept (seat_at a.set_kept.provider f)) is
-    ∙ ap (λ b. seated_kept a.seat a.event a.set_kept
-    (cond b (seat_of (refused.NoNode a.set_kept.provider) at at.1.node) (Err (refused.Down at.0)))) up
-    ∙ ap (λ o. seated_kept a.seat a.event a.set_kept (seat_of (refused.NoNode a.set_kept.provider) at o)) own
+    ap (linked_kept a.seat a.event a.sets found) none
+    ∙ ap (λ f. seated_kept a.seat a.event a.sets (seat_at a.sets.first.provider f)) is
+    ∙ ap (λ b. seated_kept a.seat a.event a.sets
+    (cond b (seat_of (refused.NoNode a.sets.first.provider) at at.1.node) (Err (refused.Down at.0)))) up
+    ∙ ap (λ o. seated_kept a.seat a.event a.sets (seat_of (refused.NoNode a.sets.first.provider) at o)) own
 
 -- a refusal of the provider tells of no store
 pub calm_provider : (own provider : ℕ) (e : Event) (n : Node) (refusal : Refusal) →

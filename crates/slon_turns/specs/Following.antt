@@ -25,8 +25,10 @@ use Rattle.remote_worker.specs.declared.loading.SetFetch.{SetFetch}
 use Rattle.remote_worker.specs.declared.worker.Taken.{Taken}
 use Rattle.remote_worker.specs.declared.worker.Worker.{Worker}
 use Rattle.remote_worker.specs.Fetching.{is_loud, provider_checks}
+use Rattle.remote_worker.specs.declared.running.Run.{Run}
 use Rattle.remote_worker.specs.Keeping.{HaveEndedBy, Kept, kept_among, seen_kept, taken_of}
-use Rattle.remote_worker.specs.Loading.{HasFetch, HaveFetches}
+use Rattle.remote_worker.specs.Loading.{HaveFetches}
+use Rattle.remote_worker.specs.Running.{seen_run, taken_run}
 use Rattle.slonik_exec.specs.declared.databases.Named.{Named as NamedDatabase}
 use Rattle.slonik_exec.specs.Answering.{AtSeat, Checks, EndsAt}
 use Rattle.slonik_exec.specs.Databases.{AreReady, FitsAll, Runs, TriesAll, bases_of, told_by}
@@ -64,6 +66,14 @@ RunsLooked old (Gives x) new = TriesAll true None old new × AreSame old new
 abbrev pub sets_kept : Node → Event → List Kept
 sets_kept n e = kept_among n.id (knowledge n).config e (knowledge n).views
 
+-- Sets that are read together: they have the provider of the first one, and the node is as far in each of them.
+pub record Group : Type 0 where
+  pub first : Kept
+  pub all : List Kept
+
+abbrev pub group_of : Run → Group
+group_of r = record { first = seen_kept r.first; all = seen_run r }
+
 -- Who reads, with which event, and from which number of an action on.
 pub record Reader : Type 0 where
   pub node : ℕ
@@ -76,13 +86,13 @@ abbrev pub AtProvider : Event → ℕ → Kept → Base → (Place → Node → 
 AtProvider e known k old says =
     (p : Place) (n : Node) → Ready p old → p.node ≡ Some n → HaveEndedBy e.origin known k p → says p n
 
--- what a provider has logged for a set, or its store failed
-abbrev pub GivesAt : Event → ℕ → Kept → List ℕ → Base → Looked SetFetch → Base → Type 0
+-- what a provider has logged for sets, or its store failed
+abbrev pub GivesAt : Event → ℕ → Group → List ℕ → Base → Looked (List SetFetch) → Base → Type 0
 GivesAt e known k name old (Told reply) new =
-    Checks name old (Some reply) new × AtProvider e known k old (λ p n. EndsAt name p [] reply new)
-GivesAt e known k name old (Gives fetch) new =
+    Checks name old (Some reply) new × AtProvider e known k.first old (λ p n. EndsAt name p [] reply new)
+GivesAt e known k name old (Gives fetches) new =
     Checks name old None new
-    × AtProvider e known k old (λ p n. HasFetch e.origin (taken_of e (logged n) k) fetch × Fits p new)
+    × AtProvider e known k.first old (λ p n. HaveFetches e.origin (taken_run e (logged n) k.all) fetches × Fits p new)
 
 -- the sets that the node keeps, or its store failed
 abbrev pub KeepsAt : ℕ → Event → List ℕ → Base → Looked (List KeptSet) → Base → Type 0
@@ -93,15 +103,17 @@ KeepsAt node e name old (Gives sets) new =
     × ((p : Place) (n : Node) → Ready p old → p.node ≡ Some n →
     (n.id ≡ node → map seen_kept sets ≡ sets_kept n e) × Fits p new)
 
--- 62, 63, or what the provider has logged for the set
-abbrev pub TakesAt : Reader → Kept → List ℕ → Base → Looked SetFetch → Base → Type 0
+-- 62, 63, or what the provider has logged for the sets
+abbrev pub TakesAt : Reader → Group → List ℕ → Base → Looked (List SetFetch) → Base → Type 0
 TakesAt r k name old (Told reply) new =
     Checks name old (Some reply) new
-    × AtProvider r.event r.known k old (λ p n. EndsAt name p (provider_checks r.node k.provider r.event n) reply new)
-TakesAt r k name old (Gives fetch) new =
+    × AtProvider r.event r.known k.first old
+    (λ p n. EndsAt name p (provider_checks r.node k.first.provider r.event n) reply new)
+TakesAt r k name old (Gives fetches) new =
     Checks name old None new
-    × AtProvider r.event r.known k old (λ p n. (first_refusal (provider_checks r.node k.provider r.event n) ≡ None)
-    × Fits p new × HasFetch r.event.origin (taken_of r.event (logged n) k) fetch)
+    × AtProvider r.event r.known k.first old
+    (λ p n. (first_refusal (provider_checks r.node k.first.provider r.event n) ≡ None)
+    × Fits p new × HaveFetches r.event.origin (taken_run r.event (logged n) k.all) fetches)
 
 -- ---- under the rules
 
@@ -114,6 +126,12 @@ abbrev pub followed_each : Memory → Seat → Event → Finder → List Kept �
 followed_each m s e find [] = Ok []
 followed_each m s e find (k ∷ ks) =
     bind (followed_kept m s e find k) (λ t. bind (followed_each m s e find ks) (λ ts. Ok (t ∷ ts)))
+
+-- what is taken of sets that are read together
+abbrev pub followed_group : Memory → Seat → Event → Finder → Group → Result (List SetSync) Refusal
+followed_group m s e find k =
+    bind (provided_in k.first.provider m s e (find k.first.provider))
+    (λ p. Ok (taken_run e (logged p.node) k.all))
 
 -- It is refused, and tells of no store; or the store of the node or of one of its providers failed, which is told, and
 -- all others agree as before.
@@ -136,13 +154,13 @@ HadEnded w r k =
     (name : List ℕ) (p : Place) → find_named name w.places ≡ Some p → HaveEndedBy r.event.origin r.known k p
 
 -- from all databases that agree, at a node that reaches the provider
-abbrev pub FollowsAt : {K : Type 0} {g : Ghosts K} → (K → KeptStore) → Reader → Kept →
-    List (NamedDatabase K g) → Looked SetFetch → List (NamedDatabase K g) → Type 0
+abbrev pub FollowsAt : {K : Type 0} {g : Ghosts K} → (K → KeptStore) → Reader → Group →
+    List (NamedDatabase K g) → Looked (List SetFetch) → List (NamedDatabase K g) → Type 0
 FollowsAt kept r k old given new =
     (w : World) (s : Seat) → AreReady w (bases_of kept old) → s.node.id ≡ r.node →
-    first_refusal (link_checks s.node.id k.provider w.memory.cuts s) ≡ None → HadEnded w r k →
-    LooksTo (HasFetch r.event.origin) w s.name (k.provider ∷ [])
-    (followed_kept w.memory s r.event (nodes_at w) k) given (bases_of kept new)
+    first_refusal (link_checks s.node.id k.first.provider w.memory.cuts s) ≡ None → HadEnded w r k.first →
+    LooksTo (HaveFetches r.event.origin) w s.name (k.first.provider ∷ [])
+    (followed_group w.memory s r.event (nodes_at w) k) given (bases_of kept new)
 
 -- A node that reads: its id, the index of its database, the pairs of nodes that are cut off, and what it knows of the
 -- transactions of other nodes.
@@ -158,13 +176,13 @@ pub record Heeds (t : Way) (w : World) : Type 0 where
   pub bounds : AreBounds w t.bounds
 
 -- from all databases that agree, at the node, which has its turn
-abbrev pub FollowsOne : {K : Type 0} {g : Ghosts K} → (K → KeptStore) → Way → Event → Kept →
-    List (NamedDatabase K g) → Looked SetFetch → List (NamedDatabase K g) → Type 0
-FollowsOne {K} {g} kept t e k old given new =
+abbrev pub FollowsGroup : {K : Type 0} {g : Ghosts K} → (K → KeptStore) → Way → Event → Group →
+    List (NamedDatabase K g) → Looked (List SetFetch) → List (NamedDatabase K g) → Type 0
+FollowsGroup {K} {g} kept t e k old given new =
     (w : World) (d : NamedDatabase K g) → AreReady w (bases_of kept old) → Heeds t w →
     d ≡ get_or old t.index d → (s : SitsOn t.node w d.name) →
-    LooksTo (HasFetch e.origin) w d.name (k.provider ∷ [])
-    (followed_kept w.memory (seat d.name s.place s.own) e (nodes_at w) k) given (bases_of kept new)
+    LooksTo (HaveFetches e.origin) w d.name (k.first.provider ∷ [])
+    (followed_group w.memory (seat d.name s.place s.own) e (nodes_at w) k) given (bases_of kept new)
 
 abbrev pub FollowsAll : {K : Type 0} {g : Ghosts K} → (K → KeptStore) → Way → Event → List Kept →
     List (NamedDatabase K g) → Looked (List SetFetch) → List (NamedDatabase K g) → Type 0

@@ -1,5 +1,5 @@
 // A node reads what was logged for the sets that it keeps, each set at its provider.
-ghost use Rattle.std.specs.Prelude.{◌≡◌, ℕ, true, is_some, IfOk, map};
+ghost use Rattle.std.specs.Prelude.{◌≡◌, ◌++◌, ℕ, true, is_some, IfOk, OnOk, map};
 ghost use Rattle.std.specs.List.{AllByRecursion};
 ghost use Rattle.slon_base.specs.Codec.{AllAre};
 ghost use Rattle.store_rows.specs.Rows.{IsId};
@@ -11,9 +11,10 @@ ghost use Rattle.slonik_exec.specs.Turning.{IsSeatHere};
 ghost use Rattle.slonik_exec.specs.declared.reaching.Reached.TheVariants.{At};
 ghost use Rattle.remote_worker.specs.Keeping.{CanFollow, seen_kept};
 ghost use Rattle.remote_worker.specs.Loading.{CanFetch};
+ghost use Rattle.remote_worker.specs.Running.{CanRun};
 ghost use Rattle.slon_turns.specs.declared.planning.Plan.TheVariants.{Follow as ToFollow};
-ghost use Rattle.slon_turns.specs.Following.{CanGive, FollowsAll, FollowsAt, FollowsFrom, FollowsOne, FollowsSets};
-ghost use Rattle.slon_turns.specs.Following.{GivesAt, KeepsAt, LearnsFrom, LearnsSets, RunsLooked, TakesAt};
+ghost use Rattle.slon_turns.specs.Following.{CanGive, FollowsAll, FollowsAt, FollowsFrom, FollowsGroup, FollowsSets};
+ghost use Rattle.slon_turns.specs.Following.{GivesAt, KeepsAt, LearnsFrom, LearnsSets, RunsLooked, TakesAt, group_of};
 ghost use Rattle.slon_turns.specs.Planning.{CanPlan};
 
 use crate::bounds::{Bound, known_by, learn, start_of};
@@ -23,12 +24,13 @@ use crate::working::{Aim, end_at};
 use event_store::Event;
 use node_keeper::Keeper;
 use remote_worker::{
-    KeptSet, Load, SetFetch, Taken, Worker, check_provider, fetch_of, last_logged, sets_of,
+    KeptSet, Load, Run, SetFetch, Taken, Worker, check_provider, fetch_run, last_logged, runs_of,
+    sets_of,
 };
 use slon_base::Many;
 use slon_model::{Refusal, Reply};
 use slonik_exec::{Named, NoMemory, index_of_node, told};
-use std::alloc::Global;
+use std::alloc::{AllocError, Global};
 
 /// A node that reads at others: the index of its database, its id, and the pairs of nodes that are cut off.
 #[derive(Clone, Copy)]
@@ -47,52 +49,52 @@ pub(crate) enum Looked<T: Drop> {
     Gives(T),
 }
 
-/// What the node takes of a set, from a provider whose database this is, by what that logged from the number `known`
-/// on.
+/// What the node takes of sets that are read together, from a provider whose database this is, by what that logged from
+/// the number `known` on.
 fn take_log<K: Keeper>(
     alloc: Global,
     provider: &mut Named<K>,
     event: &Event,
-    kept: KeptSet,
+    run: Run,
     known: u64,
-) -> Result<Looked<SetFetch>, NoMemory>
+) -> Result<Looked<Many<SetFetch>>, NoMemory>
     requires up { provider.old.database.state.up ≡ true }
-    requires can { CanFollow kept }
-    ensures can { IfOk result (CanGive CanFetch) }
-    ensures gives { IfOk result (λ given. GivesAt (seen_event event.now) known (seen_kept kept) provider.old.name
+    requires can { CanRun run }
+    ensures can { IfOk result (CanGive (AllByRecursion CanFetch)) }
+    ensures gives { IfOk result (λ given. GivesAt (seen_event event.now) known (group_of run) provider.old.name
         (base_of K.kept provider.old.database) given (base_of K.kept provider.new.database)) }
     ensures name { provider.new.name ≡ provider.old.name }
 {
-    match fetch_of(&mut provider.database, event, kept, known) {
-        Ok(fetch) => Ok(Looked::Gives(fetch)),
+    match fetch_run(&mut provider.database, event, run, known) {
+        Ok(fetches) => Ok(Looked::Gives(fetches)),
         Err(fault) => Ok(Looked::Told(told(alloc, &provider.name, fault)?)),
     }
 }
 
-/// What the node takes of a set, from the provider whose database this is, unless 62 that does not know the node, or 63
-/// it has not met the event.
-fn take_set<K: Keeper>(
+/// What the node takes of these sets, from the provider whose database this is, unless 62 that does not know the node,
+/// or 63 it has not met the event.
+fn take_sets<K: Keeper>(
     alloc: Global,
     provider: &mut Named<K>,
     node: u32,
     event: &Event,
-    kept: KeptSet,
+    run: Run,
     known: u64,
-) -> Result<Looked<SetFetch>, NoMemory>
+) -> Result<Looked<Many<SetFetch>>, NoMemory>
     requires up { provider.old.database.state.up ≡ true }
     requires node { is_some provider.old.database.state.node.identity ≡ true }
-    requires can { IsId node × CanFollow kept }
-    ensures can { IfOk result (CanGive CanFetch) }
+    requires can { IsId node × CanRun run }
+    ensures can { IfOk result (CanGive (AllByRecursion CanFetch)) }
     ensures takes { IfOk result (λ given. TakesAt
         (record { node = node; event = seen_event event.now; known = known })
-        (seen_kept kept) provider.old.name (base_of K.kept provider.old.database) given
+        (group_of run) provider.old.name (base_of K.kept provider.old.database) given
         (base_of K.kept provider.new.database)) }
     ensures name { provider.new.name ≡ provider.old.name }
 {
-    match check_provider(&mut provider.database, node, kept.provider, event) {
+    match check_provider(&mut provider.database, node, run.first.provider, event) {
         Ok(refusal) => match refusal {
             Some(refusal) => Ok(Looked::Told(Reply::Refused(refusal))),
-            None => take_log(alloc, provider, event, kept, known),
+            None => take_log(alloc, provider, event, run, known),
         },
         Err(fault) => Ok(Looked::Told(told(alloc, &provider.name, fault)?)),
     }
@@ -104,20 +106,20 @@ fn follow_at<K: Keeper>(
     databases: &mut [Named<K>],
     node: u32,
     event: &Event,
-    kept: KeptSet,
+    run: Run,
     known: u64,
-) -> Result<Looked<SetFetch>, NoMemory>
+) -> Result<Looked<Many<SetFetch>>, NoMemory>
     requires distinct { AreDistinct (bases_of K.kept databases.old) }
-    requires can { IsId node × CanFollow kept }
-    ensures can { IfOk result (CanGive CanFetch) }
+    requires can { IsId node × CanRun run }
+    ensures can { IfOk result (CanGive (AllByRecursion CanFetch)) }
     ensures runs { IfOk result (λ given. RunsLooked (bases_of K.kept databases.old) given
         (bases_of K.kept databases.new)) }
     ensures follows { IfOk result (λ given. FollowsAt K.kept
-        (record { node = node; event = seen_event event.now; known = known }) (seen_kept kept) databases.old given
+        (record { node = node; event = seen_event event.now; known = known }) (group_of run) databases.old given
         databases.new) }
 {
-    let Some(to) = index_of_node(databases, kept.provider) else {
-        let node = kept.provider;
+    let Some(to) = index_of_node(databases, run.first.provider) else {
+        let node = run.first.provider;
         return Ok(Looked::Told(Reply::Refused(Refusal::NoNode { node })));
     };
     let provider = &mut databases[to];
@@ -125,38 +127,49 @@ fn follow_at<K: Keeper>(
         let database = provider.name.copy(alloc)?;
         return Ok(Looked::Told(Reply::Refused(Refusal::Down { database })));
     }
-    take_set(alloc, provider, node, event, kept, known)
+    take_sets(alloc, provider, node, event, run, known)
 }
 
 /// The same, unless 75 the node has no path to the provider, 68 it is cut off from it, or 44 it is the provider itself.
 /// The log of the provider is read from where it is known to have what the node has not seen.
-fn follow_one<K: Keeper>(
+fn follow_run<K: Keeper>(
     alloc: Global,
     databases: &mut [Named<K>],
     way: Way<'_>,
     bounds: &[Bound],
     event: &Event,
-    kept: KeptSet,
-) -> Result<Looked<SetFetch>, NoMemory>
+    run: Run,
+) -> Result<Looked<Many<SetFetch>>, NoMemory>
     requires distinct { AreDistinct (bases_of K.kept databases.old) }
     requires seat { IsSeatHere databases.old (At way.index) }
-    requires can { IsId way.node × CanFollow kept }
-    ensures can { IfOk result (CanGive CanFetch) }
+    requires can { IsId way.node × CanRun run }
+    ensures can { IfOk result (CanGive (AllByRecursion CanFetch)) }
     ensures runs { IfOk result (λ given. RunsLooked (bases_of K.kept databases.old) given
         (bases_of K.kept databases.new)) }
-    ensures follows { IfOk result (λ given. FollowsOne K.kept
+    ensures follows { IfOk result (λ given. FollowsGroup K.kept
         (record { node = way.entry.node; index = way.entry.index; cuts = way.entry.cuts.now; bounds = bounds.now })
-        (seen_event event.now) (seen_kept kept) databases.old given databases.new) }
+        (seen_event event.now) (group_of run) databases.old given databases.new) }
 {
     let own = &mut databases[way.index];
-    if let Some(reply) = check_link(alloc, own, way.cuts, way.node, kept.provider)? {
+    if let Some(reply) = check_link(alloc, own, way.cuts, way.node, run.first.provider)? {
         return Ok(Looked::Told(reply));
     }
-    let known = start_of(bounds, event.origin, kept.before.seen.xmin);
-    follow_at(alloc, databases, way.node, event, kept, known)
+    let known = start_of(bounds, event.origin, run.first.before.seen.xmin);
+    follow_at(alloc, databases, way.node, event, run, known)
 }
 
-/// The same of each of these sets, the first one first.
+/// Adds all of these.
+fn push_all(fetches: &mut Many<SetFetch>, more: Many<SetFetch>) -> Result<(), AllocError>
+    ensures { OnOk result (fetches.new ≡ fetches.old ++ more) }
+{
+    for fetch in more.into_vec() {
+        fetches.push(fetch)?;
+    }
+    Ok(())
+}
+
+/// The same of each of these sets, the first one first. Sets that follow one another and have one provider are read
+/// together where the node is as far in each of them.
 fn follow_all<K: Keeper>(
     alloc: Global,
     databases: &mut [Named<K>],
@@ -176,10 +189,10 @@ fn follow_all<K: Keeper>(
         (seen_event event.now) (map seen_kept sets) databases.old given databases.new) }
 {
     let mut fetches = Many::new(alloc);
-    for kept in sets.into_vec() {
-        match follow_one(alloc, databases, way, bounds, event, kept)? {
+    for run in runs_of(alloc, sets)?.into_vec() {
+        match follow_run(alloc, databases, way, bounds, event, run)? {
             Looked::Told(reply) => return Ok(Looked::Told(reply)),
-            Looked::Gives(fetch) => fetches.push(fetch)?,
+            Looked::Gives(more) => push_all(&mut fetches, more)?,
         }
     }
     Ok(Looked::Gives(fetches))

@@ -1,4 +1,4 @@
-use Rattle.std.proofs.Common.{◌≡◌, ◌∙◌, ap, Bool, Option, Some, None, Ok, Err, sym, subst}
+use Rattle.std.proofs.Common.{◌≡◌, ◌∙◌, ap, Bool, Option, Ok, Err, sym}
 use Rattle.std.specs.Prelude.{option_map}
 use Rattle.slon_model.specs.Config.{forwards}
 use Rattle.slon_model.specs.Deeds.{knowledge, view_of}

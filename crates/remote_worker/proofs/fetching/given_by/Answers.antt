@@ -1,8 +1,7 @@
-use Rattle.std.proofs.Common.{◌≡◌, ◌∙◌, ap, Some, Ok, Err, subst}
+use Rattle.std.proofs.Common.{◌∙◌, ap, Some, subst}
 use Rattle.slon_model.specs.Deeds.{knowledge}
 use Rattle.slon_model.specs.Place.{is_running}
 use Rattle.app_store.proofs.Upright.{up_at, running}
-use Rattle.node_store.specs.Looking.{OfConfig}
 use Rattle.remote_worker.specs.Fetching.{IsLed}
 use Rattle.remote_worker.specs.Working.{seen_copying}
 use Rattle.remote_worker.proofs.Finding.{given_led, given_other}

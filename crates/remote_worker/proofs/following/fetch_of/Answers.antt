@@ -11,17 +11,10 @@ returns-in-Ok-clause-looks g c p ready memory ended =
     let kept = c.args.kept in
     let found = c.in-Ok.found in
     let read = c.in-Ok.ensures.looks p ready refl ended in (
-      λ n is. record {
-        before = refl;
-        tables = refl;
-        sync = record {
-          set_id = refl;
-          view = refl;
-          logged = subst (λ ts. HasLogged e.origin
-              (delta e.origin ts (seen_as kept.before.seen) (seen_as e.taken) (logged n)) found.rows found.actions)
-              c.as_slice.ensures.value (read.0 n is);
-          forwards = refl;
-        };
-      },
+      λ n is. c.fetch_with.ensures.has e.origin
+          (delta e.origin kept.tables (seen_as kept.before.seen) (seen_as e.taken) (logged n))
+          (subst (λ ts. HasLogged e.origin
+          (delta e.origin ts (seen_as kept.before.seen) (seen_as e.taken) (logged n)) found.rows found.actions)
+          c.as_slice.ensures.value (read.0 n is)),
       read.1,
     )

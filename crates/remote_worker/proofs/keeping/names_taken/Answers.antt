@@ -1,4 +1,4 @@
-use Rattle.std.proofs.Common.{◌≡◌, ◌∙◌, sym, ap}
+use Rattle.std.proofs.Common.{◌∙◌, ap}
 use Rattle.std.proofs.lemmas.Result.{err_from_is_err_and}
 use Rattle.store_rows.proofs.Spaces.{looked_none, looked_on, sight_same}
 use Rattle.slon_model.specs.Config.{leads_row, live_set}

@@ -1,4 +1,4 @@
-use Rattle.std.proofs.Common.{◌≡◌, ◌∙◌, Bool, false, ap}
+use Rattle.std.proofs.Common.{◌∙◌, false, ap}
 use Rattle.std.specs.Prelude.{option_map, unwrap_or}
 use Rattle.node_rows.specs.declared.rows.Subscription.{Subscription}
 use Rattle.remote_worker.proofs.Taking.{forwards_same, provider_same}

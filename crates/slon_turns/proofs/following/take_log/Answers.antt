@@ -21,7 +21,7 @@ returns-in_ok-told-in-Err g c =
     record {
       can = tt;
       gives = (
-        replied (Err fault) (base_of kept c.args.provider.now.database) (base_of kept c.fetch_of.new.provider) told
+        replied (Err fault) (base_of kept c.args.provider.now.database) (base_of kept c.fetch_run.new.provider) told
             c.in-Err.ensures.acts,
         λ p n ready is past. fell_ends (c.in-Err.ensures.looks p ready full past) told,
       );

@@ -1,4 +1,4 @@
-use Rattle.std.proofs.Common.{◌≡◌, ◌∙◌, ap, map, refl, List, ℕ, Ok, Err, sym, subst}
+use Rattle.std.proofs.Common.{◌≡◌, ◌∙◌, map, refl, List, ℕ, Ok, Err, sym, subst}
 use Rattle.std.proofs.lemmas.Result.{err_from_is_err_and}
 use Rattle.slon_model.specs.Place.{Place, standing_rows}
 use Rattle.slon_model.specs.Views.{first_view}

@@ -1,4 +1,4 @@
-use Rattle.std.proofs.Common.{Option, None, Some, Ok, Err, subst}
+use Rattle.std.proofs.Common.{Ok, Err, subst}
 use Rattle.std.proofs.lemmas.Result.{err_from_is_err_and}
 use Rattle.event_store.specs.Seen.{seen_event}
 use Rattle.app_store.specs.Base.{base_of}

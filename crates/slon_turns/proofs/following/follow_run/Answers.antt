@@ -3,24 +3,23 @@ use Rattle.std.proofs.lemmas.List.{get_or_default}
 use Rattle.std.proofs.lemmas.Result.{IfOk-weaker}
 use Rattle.event_store.specs.Seen.{seen_event}
 use Rattle.app_store.specs.Base.{base_of}
-use Rattle.remote_worker.specs.Keeping.{seen_kept}
 use Rattle.slonik_exec.specs.Answering.{AtSeat, Checks}
 use Rattle.slonik_exec.proofs.Lifting.{runs_worked}
-use Rattle.slon_turns.specs.Following.{FollowsAt, Way}
+use Rattle.slon_turns.specs.Following.{FollowsAt, Way, group_of}
 use Rattle.slon_turns.specs.Planning.{link_checks}
 use Rattle.slon_turns.proofs.Mids.{mids_distinct, worked_here}
 use Rattle.slon_turns.proofs.Providers.{DoneAt, Linked, link_ended, link_passed, look_done, runs_behind}
-use Rattle.slon_turns.proofs.following.follow_one.Goals as goal
+use Rattle.slon_turns.proofs.following.follow_run.Goals as goal
 
 pub check_link-requires-clause-ids : goal.check_link-requires-clause-ids
-check_link-requires-clause-ids g c = (c.requires.can.0, c.requires.can.1.provider)
+check_link-requires-clause-ids g c = (c.requires.can.0, c.requires.can.1.can.0.provider)
 
 pub returns-in-Some : goal.returns-in-Some
 returns-in-Some g c =
     let kept = g.K.Keeper.kept in
     let items = c.args.databases.now in
     let way = c.args.way in
-    let k = seen_kept c.args.kept in
+    let k = group_of c.args.run in
     let e = seen_event c.args.event.now in
     let reply = c.in-Some.reply in
     let x = get_or items way.index c.index-databases-way.result in
@@ -37,8 +36,8 @@ returns-in-Some g c =
       };
       checks = subst (λ o. Checks x.name (base_of kept x.database) o (base_of kept y.database)) c.in-Some.is
           c.in_ok-reply.ensures.checks;
-      refuses = subst (λ o. AtSeat x.name (link_checks way.node k.provider way.cuts.now) (base_of kept x.database) o
-          (base_of kept y.database)) c.in-Some.is c.in_ok-reply.ensures.refuses;
+      refuses = subst (λ o. AtSeat x.name (link_checks way.node k.first.provider way.cuts.now)
+          (base_of kept x.database) o (base_of kept y.database)) c.in-Some.is c.in_ok-reply.ensures.refuses;
     } in
     record {
       can = tt;
@@ -68,7 +67,7 @@ returns g c =
     let kept = g.K.Keeper.kept in
     let items = c.args.databases.now in
     let way = c.args.way in
-    let k = seen_kept c.args.kept in
+    let k = group_of c.args.run in
     let e = seen_event c.args.event.now in
     let t : Way =
     record { node = way.node; index = way.index; cuts = way.cuts.now; bounds = c.args.bounds.now } in
@@ -83,8 +82,8 @@ returns g c =
       };
       checks = subst (λ o. Checks x.name (base_of kept x.database) o (base_of kept y.database)) c.in_default.is
           c.in_ok-reply.ensures.checks;
-      refuses = subst (λ o. AtSeat x.name (link_checks way.node k.provider way.cuts.now) (base_of kept x.database) o
-          (base_of kept y.database)) c.in_default.is c.in_ok-reply.ensures.refuses;
+      refuses = subst (λ o. AtSeat x.name (link_checks way.node k.first.provider way.cuts.now)
+          (base_of kept x.database) o (base_of kept y.database)) c.in_default.is c.in_ok-reply.ensures.refuses;
     } in
     let news = c.follow_at.new.databases in
     record {

@@ -7,23 +7,22 @@ use Rattle.event_store.specs.Seen.{seen_event}
 use Rattle.app_store.specs.Base.{base_of}
 use Rattle.node_store.specs.Polling.{OfNode}
 use Rattle.remote_worker.specs.Fetching.{IsCalm, provider_checks}
-use Rattle.remote_worker.specs.Keeping.{Kept, seen_kept}
 use Rattle.slonik_exec.proofs.Telling.{not_short}
 use Rattle.slonik_exec.proofs.Works.{looked_by, passes, refuses, stops}
-use Rattle.slon_turns.specs.Following.{Reader}
+use Rattle.slon_turns.specs.Following.{Group, Reader, group_of}
 use Rattle.slon_turns.proofs.Follows.{Due, takes_behind}
 use Rattle.slon_turns.proofs.Visits.{calm_quiet}
-use Rattle.slon_turns.proofs.following.take_set.Goals as goal
+use Rattle.slon_turns.proofs.following.take_sets.Goals as goal
 
 -- what is found of the provider
-abbrev SaysAt : Reader → Kept → Place → Option Refusal → Type 0
-SaysAt r k = OfNode (λ n refusal. first_refusal (provider_checks r.node k.provider r.event n) ≡ refusal)
+abbrev SaysAt : Reader → Group → Place → Option Refusal → Type 0
+SaysAt r k = OfNode (λ n refusal. first_refusal (provider_checks r.node k.first.provider r.event n) ≡ refusal)
 
 pub returns-in-Some-clause-takes : goal.returns-in-Some-clause-takes
 returns-in-Some-clause-takes g c =
     let r : Reader =
     record { node = c.args.node; event = seen_event c.args.event.now; known = c.args.known } in
-    let k = seen_kept c.args.kept in
+    let k = group_of c.args.run in
     let refusal = c.in-Some.refusal in
     let looks = c.in-Ok.ensures.looks in
     let done = refuses c.args.provider.now.name (Due r k) refusal
@@ -36,7 +35,7 @@ pub returns-in-None-clause-takes : goal.returns-in-None-clause-takes
 returns-in-None-clause-takes g c =
     let r : Reader =
     record { node = c.args.node; event = seen_event c.args.event.now; known = c.args.known } in
-    let k = seen_kept c.args.kept in
+    let k = group_of c.args.run in
     let looks = c.in-Ok.ensures.looks in
     let new = base_of g.K.Keeper.kept c.take_log.new.provider.database in
     let first = passes c.args.provider.now.name (Due r k)
@@ -50,7 +49,7 @@ returns-in_ok-told-in-Err g c =
     let fault = c.in-Err.fault in
     let r : Reader =
     record { node = c.args.node; event = seen_event c.args.event.now; known = c.args.known } in
-    let k = seen_kept c.args.kept in
+    let k = group_of c.args.run in
     let looks = c.in-Err.ensures.looks in
     let done = stops c.args.provider.now.name (Due r k)
     (looked_by (SaysAt r k) {was = Err fault} refl looks.acts (looks.looks, looks.same)) (record {
