@@ -1,5 +1,5 @@
 // The open transactions of a database.
-ghost use Rattle.std.specs.Prelude.{◌≡◌, ◌<◌, ◌^◌, OnOk, IfOk, Some, None, true, [], slice_get};
+ghost use Rattle.std.specs.Prelude.{◌≡◌, ◌<◌, ◌^◌, OnOk, OnErr, IfOk, Some, None, true, [], slice_get};
 ghost use Rattle.std.specs.FinMap.{get, insert, remove, empty, entries};
 ghost use Rattle.node_state.specs.Known.{is_captured};
 ghost use Rattle.slon_model.specs.Logs.{named};
@@ -44,6 +44,69 @@ pub(crate) fn open(
     opens.insert(Vec::from_slice(alloc, name)?, transaction)
 }
 
+/// Writes a row of this key.
+fn write_row(
+    alloc: Global,
+    writes: &mut ByteMap<Option<Bytes>>,
+    key: &[u8],
+    value: Option<Bytes>,
+) -> Result<(), AllocError>
+    ensures { OnOk result (writes.new ≡ insert writes.old key.now value) }
+{
+    match Vec::from_slice(alloc, key) {
+        Ok(key) => writes.insert(key, value),
+        Err(fault) => {
+            drop(value);
+            Err(fault)
+        }
+    }
+}
+
+/// The transaction with this action behind the others, which writes the row of this key. Values with owned parts are
+/// let go by name: where they fall out of scope, the check of the function opens all their variants.
+fn with_action(
+    alloc: Global,
+    mut transaction: Transaction,
+    key: &[u8],
+    value: Option<Bytes>,
+    action: Action,
+) -> Result<Transaction, AllocError>
+    ensures { IfOk result (λ written. written ≡ with_write key.now value action transaction) }
+{
+    match write_row(alloc, &mut transaction.writes, key, value) {
+        Ok(()) => match transaction.actions.push(action) {
+            Ok(()) => Ok(transaction),
+            Err(fault) => {
+                drop(transaction);
+                Err(fault)
+            }
+        },
+        Err(fault) => {
+            drop((transaction, action));
+            Err(fault)
+        }
+    }
+}
+
+/// Puts a transaction under its name.
+fn put(
+    alloc: Global,
+    opens: &mut Opens,
+    name: &[u8],
+    transaction: Transaction,
+) -> Result<(), AllocError>
+    ensures ok { OnOk result (opens.new ≡ insert opens.old name.now transaction) }
+    ensures err { OnErr result (opens.new ≡ opens.old) }
+{
+    match Vec::from_slice(alloc, name) {
+        Ok(name) => opens.insert(name, transaction),
+        Err(fault) => {
+            drop(transaction);
+            Err(fault)
+        }
+    }
+}
+
 /// Adds an action of the transaction of this name, which writes the row of this key.
 pub(crate) fn write(
     alloc: Global,
@@ -57,13 +120,16 @@ pub(crate) fn write(
         OnOk result (opens.new ≡ insert (remove opens.old name.now) name.now (with_write key.now value action t)) }
     ensures kept { AreWritten opens.old → IsWritten value → is_captured action ≡ true → AreWritten opens.new }
 {
-    let Some(mut transaction) = opens.remove(name) else {
-        return Ok(());
-    };
-    let key = Vec::from_slice(alloc, key)?;
-    transaction.writes.insert(key, value)?;
-    transaction.actions.push(action)?;
-    opens.insert(Vec::from_slice(alloc, name)?, transaction)
+    match opens.remove(name) {
+        None => {
+            drop((value, action));
+            Ok(())
+        }
+        Some(transaction) => match with_action(alloc, transaction, key, value, action) {
+            Ok(written) => put(alloc, opens, name, written),
+            Err(fault) => Err(fault),
+        },
+    }
 }
 
 /// What the transaction of this name wrote at this key, if it wrote there.

@@ -47,7 +47,7 @@ use Rattle.cluster_engine.specs.Agreed.{Scripts, Remembered, Clustered, FitsRun,
 use Rattle.cluster_engine.specs.Agreed.{AllKnown, Follows, Matches}
 use Rattle.cluster_engine.specs.Calls.{ActsOn, IsActed}
 use Rattle.cluster_engine.specs.Walking.{IsQuietly, KeepsTo, Keeps, Fares, Stood, Broke, Wavered, Walks, stepping}
-use Rattle.cluster_engine.specs.Walking.{WalksOn}
+use Rattle.cluster_engine.specs.Walking.{IsPutBack, WalksOn}
 use Rattle.cluster_engine.specs.declared.scripts.Started.{Started}
 use Rattle.cluster_engine.specs.declared.scripts.Walked.{Walked}
 use Rattle.cluster_engine.proofs.Rising.{WereUp, downed_stops, fares_up}
@@ -702,3 +702,46 @@ goes_acted name old went left news scripts s (on, put) =
     (put ∙ ap (λ m. insert m name (record { script = s.started.script; done = s.started.done + 1 }))
     (sym (took_map name s.key (Some s.started) old.memory.scripts left s.took))
     ∙ sym (ap (λ b. scripts_behind b name s.started old.memory.scripts) on))
+
+-- this script was taken out, and its next statement run
+pub record SteppedAs (started : Started) (name : List ℕ) (old : Clustered) (went : Walked) (left : Scripts)
+    (news : Named Base) : Type 0 where
+  pub stepped : Stepped name old went left news
+  pub same : stepped.started ≡ started
+
+-- what stands behind a statement of a script that was taken out
+pub record PutBack (E : Type 0) (name : List ℕ) (started : Started) (left scripts : Scripts) : Type 0 where
+  pub walked : Result Walked E
+  pub reply : Reply
+  pub is : IsPutBack name started left walked reply scripts
+
+-- the script was put back where it goes on
+pub put_acted : {E : Type 0} {name : List ℕ} {started : Started} {left scripts : Scripts} (old : Clustered)
+    (news : Named Base) (p : PutBack E name started left scripts) → ((went : Walked) → p.walked ≡ Ok went →
+    SteppedAs started name old went left news) →
+    IsActed (ToStep name) old p.reply (record (with_scripts scripts old) { bases = news })
+put_acted {E} {name} {started} {left} {scripts} old news p steps = by p.walked refl p.is
+  where
+    new : Scripts → Clustered
+    new kept = record (with_scripts kept old) { bases = news }
+
+    gone : (went : Walked) (s : Stepped name old went left news) → s.started ≡ started →
+        (went.goes_on ≡ false → scripts ≡ left) × (went.goes_on ≡ true →
+        scripts ≡ insert left name (record { script = started.script; done = started.done + 1 })) →
+        IsActed (ToStep name) old went.reply (new scripts)
+    gone went s same (stops, goes) =
+        elim went.goes_on as (λ b. went.goes_on ≡ b → IsActed (ToStep name) old went.reply (new scripts)) [
+          | true ↦ λ on. goes_acted name old went left news scripts s (
+            on,
+            goes on ∙ ap (λ (x : Started). insert left name (record { script = x.script; done = x.done + 1 })) (sym same),
+          )
+          | false ↦ λ off. subst (λ kept. IsActed (ToStep name) old went.reply (new kept)) (sym (stops off))
+              (stops_acted name old went left news s off)
+        ] refl
+
+    by : (r : Result Walked E) → p.walked ≡ r → IsPutBack name started left r p.reply scripts →
+        IsActed (ToStep name) old p.reply (new scripts)
+    by (Ok went) at (told, stops, goes) =
+        let s = steps went at in
+        subst (λ reply. IsActed (ToStep name) old reply (new scripts)) (sym told) (gone went s.stepped s.same (stops, goes))
+    by (Err short) at none = absurd none

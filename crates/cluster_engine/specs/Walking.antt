@@ -1,6 +1,7 @@
 -- What a step of a script comes to.
 use Rattle.std.specs.Prelude.{◌≡◌, ◌+◌, ◌<◌, ℕ, if◌then◌else◌, Bool, true, false, List, [], ◌∷◌, length, take, drop}
-use Rattle.std.specs.Prelude.{None}
+use Rattle.std.specs.Prelude.{None, Result, IsOkAnd}
+use Rattle.std.specs.FinMap.{insert}
 use Rattle.slonik_script.specs.declared.script.Script.{Script}
 use Rattle.slonik_script.specs.declared.script.Statement.{Statement}
 use Rattle.slon_model.specs.declared.reply.Refusal.TheVariants as refused
@@ -80,3 +81,10 @@ abbrev pub WalksOn : Started → Named Base → Walked → Named Base → Type 0
 WalksOn started old walked new =
     (w : World) (name : List ℕ) (run : Running) → AreReady w old → FitsRun run started →
     Fares (stepping name run started) w (step_todo name run run.todo w) walked new
+
+-- A script was taken out of these, and its next statement came to that: where the script goes on, it stands among them
+-- again with one statement more that was run.
+abbrev pub IsPutBack : {E : Type 0} → List ℕ → Started → Scripts → Result Walked E → Reply → Scripts → Type 0
+IsPutBack name started old walked reply new =
+    IsOkAnd walked (λ went. (reply ≡ went.reply) × (went.goes_on ≡ false → new ≡ old) × (went.goes_on ≡ true →
+    new ≡ insert old name (record { script = started.script; done = started.done + 1 })))

@@ -20,7 +20,7 @@ ghost use Rattle.cluster_engine.specs.Calls.{Makes, MakingReplyCaused, MakesCert
 ghost use Rattle.cluster_engine.specs.Clustered.{cluster_of};
 ghost use Rattle.cluster_engine.specs.Subscribing.{Subscribes, SubscribesMade};
 
-use crate::scripts::{Started, Walked, end_script, key_of, run_next, start_script};
+use crate::scripts::{Started, end_script, put_back, run_next, start_script};
 use crate::slons::{add_cut, add_slon, came_up, forget, remove_cut, remove_slon};
 use app_store::Database;
 use node_keeper::{Fuse, Keeper};
@@ -157,17 +157,12 @@ impl<K: Keeper> Cluster<K> {
         ensures { IfOk result (λ reply. IsActed (ToStep name.now) (cluster_of K.kept self.old) reply
             (cluster_of K.kept self.new)) }
     {
-        let Some(mut started) = self.scripts.remove(name.as_slice()) else {
+        let Some(started) = self.scripts.remove(name.as_slice()) else {
             let name = name.copy(self.alloc)?;
             return Ok(Reply::Refused(Refusal::NoScript { name }));
         };
-        let Walked { reply, goes_on } = run_next(self.alloc, &mut self.databases, &started)?;
-        if !goes_on {
-            return Ok(reply);
-        }
-        started.done += 1;
-        self.scripts.insert(key_of(self.alloc, name)?, started)?;
-        Ok(reply)
+        let walked = run_next(self.alloc, &mut self.databases, &started);
+        put_back(self.alloc, &mut self.scripts, name, started, walked)
     }
 
     /// Begins a script.

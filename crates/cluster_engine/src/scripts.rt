@@ -1,10 +1,11 @@
 // The scripts of a session: they begin, run a statement at a time, and end.
-ghost use Rattle.std.specs.Prelude.{◌≡◌, ◌<◌, length, true, None, IfOk};
+ghost use Rattle.std.specs.Prelude.{◌≡◌, ◌<◌, ◌+◌, length, true, None, IfOk, OnOk};
+ghost use Rattle.std.specs.FinMap.{insert};
 ghost use Rattle.slon_model.specs.Tasks.{ToRead, ToForget};
 ghost use Rattle.slon_model.specs.World as world;
 ghost use Rattle.slonik_exec.specs.Databases.{bases_of, Runs, told_by};
 ghost use Rattle.slonik_exec.specs.Heard.{AreDistinct};
-ghost use Rattle.cluster_engine.specs.Walking.{Keeps, Walks, WalksOn};
+ghost use Rattle.cluster_engine.specs.Walking.{IsPutBack, Keeps, Walks, WalksOn};
 
 use node_keeper::Keeper;
 use slon_base::{ByteMap, Text};
@@ -181,6 +182,60 @@ pub(crate) fn run_next<K: Keeper>(
                 reply,
                 goes_on: false,
             })
+        }
+    }
+}
+
+/// Puts a script back with one statement more that was run.
+fn put_next(
+    alloc: Global,
+    scripts: &mut ByteMap<Started>,
+    name: &Text,
+    mut started: Started,
+) -> Result<(), NoMemory>
+    requires { started.done < length started.script.statements }
+    ensures { OnOk result (scripts.new ≡ insert scripts.old name.now
+        (record { script = started.script; done = started.done + 1 })) }
+{
+    started.done += 1;
+    match key_of(alloc, name) {
+        Ok(key) => Ok(scripts.insert(key, started)?),
+        Err(_) => {
+            drop(started);
+            Err(NoMemory)
+        }
+    }
+}
+
+/// Puts a script back behind a statement where it goes on, and hands on the reply.
+pub(crate) fn put_back(
+    alloc: Global,
+    scripts: &mut ByteMap<Started>,
+    name: &Text,
+    started: Started,
+    walked: Result<Walked, NoMemory>,
+) -> Result<Reply, NoMemory>
+    requires inside { IfOk walked (λ went. went.goes_on ≡ true →
+        started.done < length started.script.statements) }
+    ensures { IfOk result (λ reply. IsPutBack name.now started scripts.old walked reply scripts.new) }
+{
+    match walked {
+        Ok(Walked { reply, goes_on }) => {
+            if !goes_on {
+                drop(started);
+                return Ok(reply);
+            }
+            match put_next(alloc, scripts, name, started) {
+                Ok(()) => Ok(reply),
+                Err(short) => {
+                    drop(reply);
+                    Err(short)
+                }
+            }
+        }
+        Err(short) => {
+            drop(started);
+            Err(short)
         }
     }
 }

@@ -7,6 +7,7 @@ pub mod Fetched
 pub mod Follows
 pub mod Due
 pub mod Entries
+pub mod Handed
 pub mod Known
 pub mod Learning
 pub mod Left

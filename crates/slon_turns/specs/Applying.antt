@@ -39,7 +39,7 @@ use Rattle.slon_turns.specs.Holding.{Holds, KeepsBut, Stays}
 use Rattle.slon_turns.specs.Polling.{GoesAt, Waits}
 use Rattle.slon_turns.specs.Working.{CanCarry, CanTurn, Due, Goal, ToApply, end_by, left_after, recalled, stated_turn}
 
--- what is answered where an event was applied, with so many rows
+-- what is answered where an event was applied, with this number of rows
 abbrev pub applied_as : EventKind → ℕ → ℕ → Bool → Answered
 applied_as kind number rows true = InDoubt (Applied kind number rows)
 applied_as kind number rows false = Sure (Applied kind number rows)

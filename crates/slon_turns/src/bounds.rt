@@ -1,11 +1,13 @@
 // What a node knows of the transactions of other nodes, by what it read of the logs.
-ghost use Rattle.std.specs.Prelude.{◌≡◌, nat_le, filter, OnOk};
+ghost use Rattle.std.specs.Prelude.{◌≡◌, nat_le, filter, IfOk, Ok, OnOk};
 ghost use Rattle.store_rows.specs.Space.{AllOf};
 ghost use Rattle.event_store.specs.Seen.{seen_event};
 ghost use Rattle.slon_turns.specs.Bounds as rules;
 ghost use Rattle.slon_turns.specs.Bounds.{IsKnownBy};
 
 use event_store::Event;
+use slon_model::Reply;
+use slonik_exec::NoMemory;
 use std::alloc::AllocError;
 
 /// All actions of the origin with a number below this one are of transactions with an id below this one.
@@ -118,15 +120,33 @@ fn add_bound(bounds: &mut Vec<Bound>, known: Bound, xmin: u64) -> Result<(), All
 }
 
 /// The same of what is known, if anything is.
-pub(crate) fn learn(
-    bounds: &mut Vec<Bound>,
-    known: Option<Bound>,
-    xmin: u64,
-) -> Result<(), AllocError>
+fn learn(bounds: &mut Vec<Bound>, known: Option<Bound>, xmin: u64) -> Result<(), AllocError>
     ensures { OnOk result (bounds.new.items ≡ rules.learned xmin known bounds.old.items) }
 {
     match known {
         Some(known) => add_bound(bounds, known, xmin),
         None => Ok(()),
+    }
+}
+
+/// The same behind a turn, whose reply is handed on.
+pub(crate) fn learn_behind(
+    bounds: &mut Vec<Bound>,
+    known: Option<Bound>,
+    xmin: u64,
+    turned: Result<Reply, NoMemory>,
+) -> Result<Reply, NoMemory>
+    ensures { IfOk result (λ reply.
+        (turned ≡ Ok reply) × (bounds.new.items ≡ rules.learned xmin known bounds.old.items)) }
+{
+    match turned {
+        Ok(reply) => match learn(bounds, known, xmin) {
+            Ok(()) => Ok(reply),
+            Err(_) => {
+                drop(reply);
+                Err(NoMemory)
+            }
+        },
+        Err(short) => Err(short),
     }
 }

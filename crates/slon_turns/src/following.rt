@@ -17,7 +17,7 @@ ghost use Rattle.slon_turns.specs.Following.{CanGive, FollowsAll, FollowsAt, Fol
 ghost use Rattle.slon_turns.specs.Following.{GivesAt, KeepsAt, LearnsFrom, LearnsSets, RunsLooked, TakesAt, group_of};
 ghost use Rattle.slon_turns.specs.Planning.{CanPlan};
 
-use crate::bounds::{Bound, known_by, learn, start_of};
+use crate::bounds::{Bound, known_by, learn_behind, start_of};
 use crate::held::Held;
 use crate::planning::check_link;
 use crate::working::{Aim, end_at};
@@ -265,9 +265,8 @@ fn follow_sets<K: Keeper>(
             let known = known_by(event, last_logged(fetches.as_slice()));
             let xmin = event.taken.xmin;
             let fetched = taken.with(Some(Load::Syncs(fetches)));
-            let reply = end_at(alloc, &mut databases[way.index], held, fetched, aim)?;
-            learn(&mut held.bounds, known, xmin)?;
-            Ok(reply)
+            let ended = end_at(alloc, &mut databases[way.index], held, fetched, aim);
+            learn_behind(&mut held.bounds, known, xmin, ended)
         }
     }
 }

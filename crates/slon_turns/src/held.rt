@@ -1,11 +1,13 @@
 // What the node of a database has in memory.
-ghost use Rattle.std.specs.Prelude.{◌≡◌};
-ghost use Rattle.std.specs.FinMap.{get, remove};
+ghost use Rattle.std.specs.Prelude.{◌≡◌, IfOk, Ok};
+ghost use Rattle.std.specs.FinMap.{get, insert, remove};
 
 use crate::bounds::Bound;
 use event_store::Queue;
 use remote_worker::Fetches;
 use slon_base::ByteMap;
+use slon_model::Reply;
+use slonik_exec::NoMemory;
 use std::alloc::Global;
 
 /// What the node of a database has in memory: the events that wait there, what it fetched of them and keeps, and what
@@ -36,6 +38,31 @@ impl Held {
                 fetches: Fetches::new(alloc),
                 bounds: Vec::new(alloc),
             },
+        }
+    }
+}
+
+/// Puts what is held back under its name behind a turn, and hands on the reply. Values with owned parts are let go by
+/// name: where they fall out of scope, the check of the function opens all their variants.
+pub(crate) fn put_back(
+    held: &mut ByteMap<Held>,
+    key: Vec<u8>,
+    own: Held,
+    turned: Result<Reply, NoMemory>,
+) -> Result<Reply, NoMemory>
+    ensures { IfOk result (λ reply. (turned ≡ Ok reply) × (held.new ≡ insert held.old key.items own)) }
+{
+    match turned {
+        Ok(reply) => match held.insert(key, own) {
+            Ok(()) => Ok(reply),
+            Err(_) => {
+                drop(reply);
+                Err(NoMemory)
+            }
+        },
+        Err(short) => {
+            drop((key, own));
+            Err(short)
         }
     }
 }

@@ -7,7 +7,7 @@ ghost use Rattle.slon_turns.specs.Holding.{KeepBounds};
 ghost use Rattle.slon_turns.specs.Pairing.{AreMeeting, PolledAt};
 ghost use Rattle.slon_turns.specs.Turning.{Polls};
 
-use crate::held::Held;
+use crate::held::{Held, put_back};
 use crate::polling::{Listen, poll_between};
 use event_store::Queue;
 use node_keeper::Keeper;
@@ -84,7 +84,6 @@ pub fn take_poll<K: Keeper>(
     let key = key_of(alloc, &databases[from].name)?;
     let mut own = Held::take(alloc, held, key.as_slice());
     let spots = Spots { from, to };
-    let reply = poll_both(alloc, databases, spots, &mut own.queue, listen)?;
-    held.insert(key, own)?;
-    Ok(reply)
+    let polled = poll_both(alloc, databases, spots, &mut own.queue, listen);
+    put_back(held, key, own, polled)
 }

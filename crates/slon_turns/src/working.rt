@@ -17,7 +17,7 @@ ghost use Rattle.slon_turns.specs.Working.{CarriesOut, Learns, LearnsAt, Works};
 
 use crate::fetching::{Trip, fetch_from};
 use crate::following::{Round, Way, follow_from};
-use crate::held::Held;
+use crate::held::{Held, put_back};
 use crate::planning::{Plan, plan_at};
 use crate::turn::key_of;
 use node_keeper::Keeper;
@@ -249,7 +249,6 @@ pub fn take_work<K: Keeper>(
     };
     let key = key_of(alloc, &databases[index].name)?;
     let mut own = Held::take(alloc, held, key.as_slice());
-    let reply = work_at(alloc, databases, index, &mut own, on.cuts, work)?;
-    held.insert(key, own)?;
-    Ok(reply)
+    let worked = work_at(alloc, databases, index, &mut own, on.cuts, work);
+    put_back(held, key, own, worked)
 }
