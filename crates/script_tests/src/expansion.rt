@@ -103,7 +103,7 @@ fn expect_out(
     expect(script, line.as_str(), wanted)
 }
 
-/// This comes out of a script over a file, and the file is left. A read hands over so many bytes, and so many reads
+/// This comes out of a script over a file, and the file is left. A read hands over `piece` bytes, and `reads` of them
 /// succeed.
 fn expect_over(
     rt: &HostRuntime,

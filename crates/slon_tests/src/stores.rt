@@ -194,7 +194,7 @@ const FAILING: &[(
     (&[8], false, [FAILED, MADE, MADE], A, (1, 0), 3),
 ];
 
-/// Whether the store counted so many failures of calls and of commits, and holds just these pairs.
+/// Whether the store counted these numbers of failures of calls and of commits, and holds just these pairs.
 fn ends<K: Keeper>(keeper: &mut K, counts: (u64, u64), pairs: &[Pair]) -> Result<bool, KeepFault>
     ensures { is_some (K.kept keeper.new).pending ≡ is_some (K.kept keeper.old).pending }
 {
