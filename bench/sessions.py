@@ -65,26 +65,31 @@ def spent():
     return usage.ru_utime + usage.ru_stime
 
 
-def counted(program, folder):
+def counted(words, folder):
     """The instructions of one run, a thousand million as a second, and what it printed."""
-    words = ["valgrind", "--tool=callgrind", "--callgrind-out-file=/dev/null", program, "s"]
+    words = ["valgrind", "--tool=callgrind", "--callgrind-out-file=/dev/null", *words]
     done = subprocess.run(words, cwd=folder, capture_output=True, check=True)
     return int(re.search(rb"Collected : (\d+)", done.stderr).group(1)) / 1e9, done.stdout
 
 
-def timed(program, folder, times):
+def timed(words, folder, times):
     """The processor seconds of the fastest run, and what the last one printed."""
     took = []
     for _ in range(times):
         before = spent()
-        done = subprocess.run([program, "s"], cwd=folder, capture_output=True, check=True)
+        done = subprocess.run(words, cwd=folder, capture_output=True, check=True)
         took.append(spent() - before)
     return min(took), done.stdout
+
+
+def run_words(args, words, folder):
+    """What a run of a program with these words takes, and the lines that it prints."""
+    took, printed = counted(words, folder) if args.count else timed(words, folder, args.times)
+    return took, printed.decode().splitlines()
 
 
 def run(args, program, text):
     """What a run of the session takes, and its replies."""
     with tempfile.TemporaryDirectory() as folder:
         (pathlib.Path(folder) / "s").write_text(text)
-        took, printed = counted(program, folder) if args.count else timed(program, folder, args.times)
-    return took, printed.decode().splitlines()
+        return run_words(args, [program, "s"], folder)

@@ -1,7 +1,8 @@
 //! What a session costs a plain Rust program: one ordered map a table, the open transactions with their own
 //! writes, and the locks on rows. It reads the lines of `database`, `table`, `begin`, `insert`, `commit`, `abort` and
 //! `rows` by the forms of their words, and prints the same replies as `slonrun`. It keeps nothing in a store, counts no
-//! calls and never goes down.
+//! calls and never goes down. With `--put N` it reads no session: it makes the keys and values of N rows and puts them
+//! into one ordered map, and with `--make N` it makes them and puts none.
 use std::collections::{BTreeMap, HashMap};
 use std::env;
 use std::fmt::{self, Display, Formatter};
@@ -313,10 +314,37 @@ fn run(mut lines: impl BufRead, out: &mut impl Write) -> io::Result<Option<u64>>
     Ok(None)
 }
 
+/// Makes the keys and values of this number of rows, puts them into one ordered map if `puts`, and answers how many the
+/// map has.
+fn put_rows(count: usize, puts: bool) -> usize {
+    let made: Vec<(String, String)> = (0..count)
+        .map(|row| (format!("k{row}"), format!("v{row}")))
+        .collect();
+    let mut rows: BTreeMap<String, Vec<String>> = BTreeMap::new();
+    if puts {
+        for (key, value) in &made {
+            rows.insert(key.clone(), vec![value.clone()]);
+        }
+    }
+    let count = rows.len();
+    // letting go of them is no part of what is measured
+    std::mem::forget((rows, made));
+    count
+}
+
 fn main() -> io::Result<ExitCode> {
-    let Some(path) = env::args_os().nth(1) else {
-        eprintln!("usage: bare SESSION");
-        return Ok(ExitCode::from(2));
+    let words: Vec<String> = env::args().skip(1).collect();
+    let path = match words.iter().map(String::as_str).collect::<Vec<_>>()[..] {
+        [path] => path,
+        ["--put" | "--make", count] => {
+            let count = count.parse().unwrap_or(0);
+            println!("{}", put_rows(count, words[0] == "--put"));
+            return Ok(ExitCode::from(0));
+        }
+        _ => {
+            eprintln!("usage: bare SESSION | --put N | --make N");
+            return Ok(ExitCode::from(2));
+        }
     };
     let mut out = BufWriter::new(io::stdout().lock());
     let bad = run(BufReader::new(File::open(path)?), &mut out)?;
