@@ -5,12 +5,16 @@ ghost use Rattle.change_capture.specs.Reading.{IsPrinted, AreNamed, AreValues, I
 ghost use Rattle.change_capture.specs.Reading.{IsReadFault, Gives, Reads};
 
 use crate::{Action, Change, LogCommand, LogRow};
+use arrayvec::ArrayString;
 use slon_base::{RowFault, Text, TextList};
 use slon_model::{ColumnList, is_part};
 use std::alloc::{AllocError, Global};
 
 /// The number of the column of the first value behind the key.
 pub(crate) const FIRST_VALUE_COLUMN: u64 = 2;
+
+/// The greatest length of a table's name: two parts of at most 31 bytes, and a dot.
+const NAME_LEN: usize = 63;
 
 /// Whether the text is this digit.
 fn is_digit(text: &Text, digit: u8) -> bool
@@ -61,14 +65,12 @@ fn table_of(alloc: Global, namespace: &Text, name: &Text) -> Result<Text, RowFau
     if !is_part(namespace.as_slice()) || !is_part(name.as_slice()) {
         return Err(RowFault::NotCanonical);
     }
-    let mut text = String::with_capacity(
-        alloc,
-        namespace.as_slice().len() + 1 + name.as_slice().len(),
-    )?;
-    text.push_str(namespace.as_str())?;
-    text.push_str(".")?;
-    text.push_str(name.as_str())?;
-    Ok(Text::from_string(text))
+    // No name is longer, so that a short one needs no allocation.
+    let mut text = ArrayString::<NAME_LEN>::new();
+    text.push_str(namespace.as_str());
+    text.push_str(".");
+    text.push_str(name.as_str());
+    Ok(Text::from_str(alloc, text.as_str())?)
 }
 
 /// The columns that are named one after another.

@@ -6,22 +6,20 @@ use Rattle.std.specs.List.{AllByRecursion, starts_with}
 use Rattle.std.specs.Option.{option_map}
 use Rattle.std.specs.Cmp.{tied_itself}
 use Rattle.std.specs.Cmp.Lexicographic.{nat_list_cmp_total}
-use Rattle.std.specs.Ordering.{is_eq, is_lt, ordering_reverse}
+use Rattle.std.specs.Ordering.{ordering_reverse}
 use Rattle.std.specs.declared.cmp.Ordering.TheVariants.{Less, Equal, Greater}
-use Rattle.std.specs.FinMap.{get, entries, entries_sorted, get-entries}
+use Rattle.std.specs.FinMap.{get, entries, entries_sorted}
 use Rattle.std.specs.FinMap.Entries.{find, is_sorted, below_all}
 use Rattle.std.proofs.lemmas.Bool.{cases_lt}
 use Rattle.std.proofs.lemmas.Bool.Decides.{nat_tests}
-use Rattle.std.proofs.lemmas.List.{append-nil, take_at}
-use Rattle.std.proofs.lemmas.Slice.Eq.{bytes_eq-Decides}
 use Rattle.slon_base.specs.Codec.{number_bytes, AllAre}
-use Rattle.slon_base.specs.Keeper.{Space, Store, key_cmp, after}
-use Rattle.slon_base.proofs.Order.{Entries, tied, less_of, front_of, back_of, behind, prefixed, find-after}
+use Rattle.slon_base.specs.Keeper.{Store, key_cmp, after}
+use Rattle.slon_base.proofs.Order.{Entries, less_of, front_of, back_of, behind, prefixed}
 use Rattle.slon_base.proofs.Spelled.{number_front, length-number_bytes}
 use Rattle.store_rows.specs.Rows.{IsId}
 use Rattle.store_rows.specs.Scan.{ranged, spelled_rows}
 use Rattle.store_rows.specs.Space.{AllOf}
-use Rattle.store_rows.proofs.Listing.{AllHave, have_ranged, after_sorted, after_below, sorted_ranged, find-ranged}
+use Rattle.store_rows.proofs.Listing.{AllHave, have_ranged, after_sorted, after_below, sorted_ranged}
 use Rattle.slon_base.proofs.Numbers.{numbers_ordered}
 use Rattle.change_capture.specs.declared.log_row.LogRow.{LogRow}
 use Rattle.change_capture.specs.Spellings.{log_row_bytes, CanLogRow}
@@ -183,11 +181,11 @@ entry_stands origin items n (r ∷ rs) stand x is =
         ap (λ k. logged_at items (origin, k)) number ∙ stand.0 ∙ is
     step false other is later = later is
 
-entries_are : (origin first : ℕ) (items : List Logged) (m : Store) → IsId origin → HoldsLog items m →
-    (read : AreRead origin items (range_of origin first m)) → (n : ℕ) → first ≤ n → n < 2 ^ 63 →
+entries_are : (origin first : ℕ) (items : List Logged) (m : Store) → IsId origin × HoldsLog items m →
+    (read : AreRead origin items (range_of origin first m)) → (n : ℕ) → (first ≤ n) × (n < 2 ^ 63) →
     entry_at n read.rows ≡ logged_at items (origin, n)
 unfolding range_of
-entries_are origin first items m id held read n from small =
+entries_are origin first items m (id, held) read n (from, small) =
     by (entry_at n read.rows) refl (logged_at items (origin, n)) refl
   where
     look : option_map log_row_bytes (entry_at n read.rows) ≡ option_map log_row_bytes (logged_at items (origin, n))
@@ -309,10 +307,11 @@ pub record IsSelected (p : LogRow → Bool) (origin first : ℕ) (items : List L
   pub are_of : AreOf origin first m all
   pub are_passed : ArePassed p origin items (passed p all)
 
-pub selected : (p : LogRow → Bool) (origin first : ℕ) (items : List Logged) (m : Store) → IsId origin → first < 2 ^ 63 →
-    HoldsLog items m → NonePass p origin first items → IsSelected p origin first items m
+pub selected : (p : LogRow → Bool) (origin first : ℕ) (items : List Logged) (m : Store) →
+    IsId origin × (first < 2 ^ 63) → HoldsLog items m → NonePass p origin first items →
+    IsSelected p origin first items m
 unfolding range_of
-selected p origin first items m id fits held none =
+selected p origin first items m (id, fits) held none =
     let read = read_log origin first items m id held in
     let front = number_bytes origin in
     let key = front ++ bound first in
@@ -336,7 +335,7 @@ selected p origin first items m id fits held none =
     by read n little (inl less) =
         ap (if_passes p) (none_read origin first items m fits read n less)
         ∙ sym (none_passes p origin first items none n less)
-    by read n little (inr from) = ap (if_passes p) (entries_are origin first items m id held read n from little)
+    by read n little (inr from) = ap (if_passes p) (entries_are origin first items m (id, held) read n (from, little))
 
 -- a row that the old snapshot sees is not between the two
 pub none_between : (tables : List ℕ) (old new : Snapshot) (origin first : ℕ) (items : List Logged) →

@@ -33,24 +33,18 @@ fn is_between(tables: &[u32], old: &Snapshot, new: &Snapshot, row: &LogRow) -> b
 }
 
 /// Those of these rows that are of one of these tables, and whose transaction the new snapshot sees and the old one
-/// does not.
+/// does not. They stay where they are, since a row is large.
 fn keep_between(
-    alloc: Global,
     rows: Many<(u64, LogRow)>,
     tables: &[u32],
     old: &Snapshot,
     new: &Snapshot,
-) -> Result<Many<(u64, LogRow)>, AllocError>
-    ensures { IfOk result (λ kept.
-        kept ≡ passed (is_between tables.now (seen_as old.now) (seen_as new.now)) rows) }
+) -> Many<(u64, LogRow)>
+    ensures { result ≡ passed (is_between tables.now (seen_as old.now) (seen_as new.now)) rows }
 {
-    let mut kept = Many::new(alloc);
-    for (number, row) in rows.into_vec() {
-        if is_between(tables, old, new, &row) {
-            kept.push((number, row))?;
-        }
-    }
-    Ok(kept)
+    let mut kept = rows.into_vec();
+    kept.retain(|(_, row)| is_between(tables, old, new, row));
+    Many::from_vec(kept)
 }
 
 /// The key that the rows of an origin from this number on come after.
@@ -139,5 +133,5 @@ pub fn between_from<K: Keeper>(
     let prefix = spelling(alloc, &origin)?;
     let start = start_at(alloc, origin, first)?;
     let rows = scan_rows(alloc, keeper, LOG, prefix.as_slice(), start.as_slice())?;
-    Ok(keep_between(alloc, rows, tables, old, new)?)
+    Ok(keep_between(rows, tables, old, new))
 }

@@ -21,18 +21,17 @@ settled_store spaces settled = λ i space. same_entries_map _ _ (settled refl sp
 
 -- what reads see is pending
 seen : (spaces : List (Space × Space)) (phase : Phase) (plan : FaultPlan) (doubts puts : ℕ) (m : Store) →
-    IsSettled phase spaces → sight (mem_kept spaces plan phase doubts puts) ≡ Some m → (space : ℕ) →
-    pending_store spaces space ≡ m space
-seen spaces Idle plan doubts puts m settled e space = ap (λ s. s space) (settled_store spaces settled ∙ same_some _ _ e)
-seen spaces Open plan doubts puts m settled e space = ap (λ s. s space) (same_some _ _ e)
-seen spaces Torn plan doubts puts m settled e space = cc
+    IsSettled phase spaces → sight (mem_kept spaces plan phase doubts puts) ≡ Some m → pending_store spaces ≡ m
+seen spaces Idle plan doubts puts m settled e = settled_store spaces settled ∙ same_some _ _ e
+seen spaces Open plan doubts puts m settled e = same_some _ _ e
+seen spaces Torn plan doubts puts m settled e = cc
 
 -- and so is what a call finds in the spaces after it was counted
 pub seen_in : (k : MemKeeper) (counted : List (Space × Space)) (space : ℕ) (at : Space × Space) →
     at ≡ get_or counted space (empty, empty) → counted ≡ k.spaces.items → (m : Store) → sight (kept_of k) ≡ Some m →
     at.1 ≡ m space
 seen_in k counted space at is same m e = ap (λ p. p.1) is ∙ ap (λ spaces. pending_store spaces space) same
-    ∙ seen k.spaces.items k.phase k.plan k.doubts k.puts m k.settled e space
+    ∙ ap (λ s. s space) (seen k.spaces.items k.phase k.plan k.doubts k.puts m k.settled e)
 
 ended-at : (commits : Bool) (spaces : List (Space × Space)) (space : ℕ) → get_or (map (ended commits) spaces) space
     (empty, empty) ≡ ended commits (get_or spaces space (empty, empty))

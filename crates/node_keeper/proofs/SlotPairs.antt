@@ -251,10 +251,3 @@ with_at-back key old new m e = same_space _ _ (λ q. get-with_at key old (with_a
       | true ↦ λ h. e ∙ ap (get m) (sym (same_keys q key (equal_of _ h)))
       | false ↦ λ h. refl
     ] refl)
-
-pub slot_of_pair : (m : SlotMap) (key : List ℕ) → IsInOrder m → is_some (get (pairs m) key) ≡ true → HasSlot m key
-slot_of_pair m key s h = is_some_flatten (slot_at m key) (sym (ap is_some (get-pairs m key s)) ∙ h)
-  where
-    is_some_flatten : (o : Option Slot) → is_some (option_flatten o) ≡ true → is_some o ≡ true
-    is_some_flatten None e = e
-    is_some_flatten (Some slot) e = refl

@@ -1,13 +1,13 @@
 -- The end of a transaction in the spaces that it touched is its end in all.
 use Rattle.std.proofs.Common.{◌≡◌, ℕ, zero, suc, ◌≤◌, Bool, true, false, ◌==◌, ◌||◌, List, [], ◌∷◌, ◌++◌, length, map}
 use Rattle.std.proofs.Common.{get_or, set, refl, sym, ap, ◌∙◌, arith}
-use Rattle.std.specs.Prelude.{nat_lt}
+use Rattle.std.specs.Prelude.{nat_lt, slice_get, Some}
 use Rattle.std.specs.FinMap.{empty, entries, same_entries_map}
 use Rattle.std.proofs.lemmas.Bool.{false≢true, eqb-true, eq-eqb, ltb-true, ltb-false}
 use Rattle.std.proofs.lemmas.List.{get_or-set_same, get_or-set_other}
 use Rattle.std.proofs.Math.Seq.{map-set_same}
 use Rattle.slon_base.specs.Keeper.{Space}
-use Rattle.node_keeper.specs.MemKept.{ended, ended_in, is_touched, IsTracked}
+use Rattle.node_keeper.specs.MemKept.{ended, ended_in, is_touched, IsTracked, Touches}
 
 abbrev at : List (Space × Space) → ℕ → Space × Space
 at spaces space = get_or spaces space (empty, empty)
@@ -80,13 +80,13 @@ all_ended commits (t ∷ ts) spaces tracked =
     all_ended commits ts (set spaces t (ended commits (at spaces t))) (still_tracked commits t ts spaces tracked)
     ∙ map-set_same (ended commits) spaces t (ended commits (at spaces t)) (empty, empty) (twice commits (at spaces t))
 
-touched_more : (ts : List ℕ) (space other : ℕ) → is_touched (ts ++ space ∷ []) other ≡ false →
+neither : (a b : Bool) → (a || b) ≡ false → (a ≡ false) × (b ≡ false)
+neither true b is = absurd (false≢true (sym is))
+neither false b is = (refl, is)
+
+pub touched_more : (ts : List ℕ) (space other : ℕ) → is_touched (ts ++ space ∷ []) other ≡ false →
     (is_touched ts other ≡ false) × ((space == other) ≡ false)
-touched_more [] space other is = (refl, front (space == other) is)
-  where
-    front : (b : Bool) → (b || false) ≡ false → b ≡ false
-    front true is = is
-    front false is = refl
+touched_more [] space other is = (refl, (neither (space == other) false is).0)
 touched_more (t ∷ ts) space other is = by (t == other) refl is (touched_more ts space other)
   where
     by : (b : Bool) → (t == other) ≡ b → (b || is_touched (ts ++ space ∷ []) other) ≡ false →
@@ -95,10 +95,21 @@ touched_more (t ∷ ts) space other is = by (t == other) refl is (touched_more t
     by true e is rest = absurd (false≢true (sym is))
     by false e is rest = rest is
 
+-- another space than the touched ones is not the one that is among them at a place
+pub touched_at : (ts : List ℕ) (i space other : ℕ) → slice_get ts i ≡ Some space → is_touched ts other ≡ false →
+    (space == other) ≡ false
+touched_at [] zero space other is untouched = absurd cc
+touched_at [] (suc i) space other is untouched = absurd cc
+touched_at (t ∷ ts) zero space other is untouched =
+    let same : t ≡ space = cc in
+    ap (λ s. s == other) (sym same) ∙ (neither (t == other) (is_touched ts other) untouched).0
+touched_at (t ∷ ts) (suc i) space other is untouched =
+    touched_at ts i space other is (neither (t == other) (is_touched ts other) untouched).1
+
 -- a space that a change is in is touched from then on
-pub tracked_more : (ts : List ℕ) (space : ℕ) (old : List (Space × Space)) (p : Space × Space) → IsTracked ts old →
-    IsTracked (ts ++ space ∷ []) (set old space p)
-tracked_more ts space old p tracked other_space untouched =
-    let parts = touched_more ts space other_space untouched in
+pub tracked_more : (ts new : List ℕ) (space : ℕ) (old : List (Space × Space)) (p : Space × Space) →
+    Touches space ts new → IsTracked ts old → IsTracked new (set old space p)
+tracked_more ts new space old p touches tracked other_space untouched =
+    let parts = touches other_space untouched in
     let elsewhere = get_or-set_other old space other_space p (empty, empty) (other space other_space parts.1) in
     ap (λ q. entries q.1) elsewhere ∙ tracked other_space parts.0 ∙ sym (ap (λ q. entries q.0) elsewhere)

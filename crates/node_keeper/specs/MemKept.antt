@@ -45,6 +45,11 @@ abbrev pub is_touched : List ℕ → ℕ → Bool
 is_touched [] space = false
 is_touched (t ∷ ts) space = (t == space) || is_touched ts space
 
+-- the second list has all of the first one, and this space
+abbrev pub Touches : ℕ → List ℕ → List ℕ → Type 0
+Touches space old new =
+    (other : ℕ) → is_touched new other ≡ false → (is_touched old other ≡ false) × ((space == other) ≡ false)
+
 -- what is pending is what is held in each space that no change of the transaction is in
 abbrev pub IsTracked : List ℕ → List (Space × Space) → Type 0
 IsTracked touched spaces =

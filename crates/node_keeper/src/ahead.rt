@@ -85,7 +85,7 @@ impl Ahead {
     }
 }
 
-/// How many pairs to read behind so many.
+/// How many pairs to read next, where `len` were to be read last.
 fn next_len(len: usize, goes_on: bool) -> usize {
     if goes_on {
         len.min(MOST_LEN / 2).max(FIRST_LEN / 2) * 2

@@ -7,7 +7,7 @@ ghost use Rattle.std.specs.Option.{option_map};
 ghost use Rattle.slon_base.specs.Keeper.{Begins, Gets, GetsNext, Counts, Changes, Commits, RollsBack, put_at, del_at};
 ghost use Rattle.slon_base.specs.Keeper.{after, first, one_put, none_put};
 ghost use Rattle.node_keeper.specs.Plan.{Counted, CountsCall, IsFrom, capped, left};
-ghost use Rattle.node_keeper.specs.MemKept.{IsSettled, IsTracked, torn, is_open, ended, ended_in};
+ghost use Rattle.node_keeper.specs.MemKept.{IsSettled, IsTracked, Touches, torn, is_open, ended, ended_in};
 
 use crate::fault_plan::FaultPlan;
 use crate::journaled::Journaled;
@@ -46,7 +46,7 @@ pub struct MemKeeper {
     doubts: u64,
     // How many pairs were put.
     puts: u64,
-    // The space of each change of the transaction.
+    // The spaces that the transaction changed.
     touched: Vec<u8>,
     ghost full: { vec_len spaces ≡ 256 },
     ghost tracked: { IsTracked touched.items spaces.items },
@@ -198,7 +198,7 @@ impl Keeper for MemKeeper {
         if self.strikes() {
             return Err(KeepFault::Failed);
         }
-        self.touched.push(space)?;
+        touch(&mut self.touched, space)?;
         let put = self.spaces[space as usize].put(self.alloc, key, value);
         if put.is_ok() {
             self.puts = self.puts.saturating_add(1);
@@ -216,7 +216,7 @@ impl Keeper for MemKeeper {
         if self.strikes() {
             return Err(KeepFault::Failed);
         }
-        self.touched.push(space)?;
+        touch(&mut self.touched, space)?;
         self.spaces[space as usize].del(self.alloc, key)?;
         Ok(())
     }
@@ -266,6 +266,20 @@ impl Keeper for MemKeeper {
     fn faults(&self) -> u64 {
         self.plan.faults
     }
+}
+
+// Notes that the transaction changes this space. Of changes in turn only the first is noted.
+fn touch(touched: &mut Vec<u8>, space: u8) -> Result<(), AllocError>
+    ensures ok { OnOk result (Touches space touched.old.items touched.new.items) }
+    ensures err { OnErr result (touched.new.items ≡ touched.old.items) }
+{
+    if let Some(last) = touched.last()
+        && *last == space
+    {
+        return Ok(());
+    }
+    touched.push(space)?;
+    Ok(())
 }
 
 // Ends the transaction in each of these spaces.

@@ -52,7 +52,7 @@ impl Slots {
         self.live
     }
 
-    /// Copies the first pairs with greater keys, at most so many: some, where there are any.
+    /// Copies the first pairs with greater keys, no more than `most`: some, where there are any.
     pub(crate) fn pairs_after(
         &self,
         alloc: Global,

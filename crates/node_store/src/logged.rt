@@ -114,8 +114,8 @@ fn rows_on(
         Gives (ArePassed (is_on_one tables.now) logs) result }
 {
     let mut found = LoggedRows {
-        rows: Many::new(alloc),
-        actions: Many::new(alloc),
+        rows: Many::with_capacity(alloc, rows.len())?,
+        actions: Many::with_capacity(alloc, rows.len())?,
     };
     for (number, row) in rows.into_vec() {
         add_on(alloc, tables, &mut found, number, row)?;

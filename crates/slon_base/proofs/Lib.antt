@@ -1,4 +1,5 @@
 pub mod Charging
+pub mod Compared
 pub mod Entries
 pub mod Numbers
 pub mod Order

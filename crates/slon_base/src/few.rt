@@ -1,5 +1,5 @@
 // A list of which one value is kept with no allocation.
-ghost use Rattle.std.specs.Prelude.{◌≡◌, ◌++◌, ◌∷◌, [], OnOk, OnErr};
+ghost use Rattle.std.specs.Prelude.{◌≡◌, ◌++◌, ◌∷◌, [], IfOk, OnOk, OnErr};
 ghost use Rattle.slon_base.specs.Few.{values_in, value_alone};
 ghost use Rattle.std.specs.Mem.{FitsInMemory};
 
@@ -32,6 +32,16 @@ impl<X: Drop> Drop for Few<X> {
 }
 
 impl<X: Drop> Few<X> {
+    /// An empty list with room for this many values.
+    pub(crate) fn with_capacity(alloc: Global, capacity: usize) -> Result<Few<X>, AllocError>
+        ensures { IfOk result (λ list. values_in list ≡ []) }
+    {
+        if capacity < 2 {
+            return Ok(Few::Empty);
+        }
+        Ok(Few::Heap(Vec::with_capacity(alloc, capacity)?))
+    }
+
     /// The values in order.
     pub(crate) fn as_slice(&self) -> &[X]
         requires { FitsInMemory X.row }

@@ -59,6 +59,13 @@ impl<X: Drop> Many<X> {
         inner
     }
 
+    /// These values, with no copy.
+    pub fn from_vec(values: Vec<X>) -> Many<X>
+        ensures { result ≡ values.items }
+    {
+        Many { inner: values }
+    }
+
     /// Adds a value at the end, or leaves the list as it was.
     pub fn push(&mut self, value: X) -> Result<(), AllocError>
         ensures ok { OnOk result (self.new ≡ self.old ++ value ∷ []) }

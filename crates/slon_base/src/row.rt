@@ -94,6 +94,20 @@ impl RowOut {
         self.inner.extend_from_slice(&count.to_be_bytes())
     }
 
+    /// How many bytes it has so far.
+    pub fn len(&self) -> usize
+        ensures { result ≡ length self.now }
+    {
+        self.inner.len()
+    }
+
+    /// Its bytes so far.
+    pub fn as_slice(&self) -> &[u8]
+        ensures { result.now ≡ self.now }
+    {
+        self.inner.as_slice()
+    }
+
     /// The bytes of the row.
     pub fn finish(self) -> Bytes
         ensures { result ≡ self }

@@ -1,5 +1,5 @@
 // A list of texts, seen as the list of their bytes.
-ghost use Rattle.std.specs.Prelude.{◌≡◌, ◌++◌, [], ◌∷◌, length, OnOk, OnErr};
+ghost use Rattle.std.specs.Prelude.{◌≡◌, ◌++◌, [], ◌∷◌, length, IfOk, OnOk, OnErr};
 
 use crate::Text;
 use crate::few::Few;
@@ -31,6 +31,16 @@ impl TextList {
             alloc,
             inner: Few::Empty,
         }
+    }
+
+    /// An empty list with room for this many texts.
+    pub fn with_capacity(alloc: Global, capacity: usize) -> Result<TextList, AllocError>
+        ensures { IfOk result (λ list. list ≡ []) }
+    {
+        Ok(TextList {
+            alloc,
+            inner: Few::with_capacity(alloc, capacity)?,
+        })
     }
 
     /// The texts in order.

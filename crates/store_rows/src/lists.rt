@@ -39,8 +39,8 @@ impl<X: Spelled> Filled<X> for Many<X> {
 impl Filled<Text> for TextList {
     ghost seen = { λ l. l };
 
-    fn begin(alloc: Global, _count: u32) -> Result<TextList, AllocError> {
-        Ok(TextList::new(alloc))
+    fn begin(alloc: Global, count: u32) -> Result<TextList, AllocError> {
+        TextList::with_capacity(alloc, count.min(MOST_ROOM) as usize)
     }
 
     fn add(&mut self, text: Text) -> Result<(), AllocError> {

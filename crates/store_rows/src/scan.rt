@@ -13,6 +13,9 @@ use crate::{Spelled, Stop};
 use slon_base::{Bytes, Keeper, Many};
 use std::alloc::Global;
 
+/// For at most how many rows there is room before the first is read.
+const MOST_ROOM: u64 = 64;
+
 fn read_pair<I: Spelled, X: Spelled>(
     alloc: Global,
     space: u8,
@@ -70,7 +73,7 @@ pub fn scan_rows<K: Keeper, I: Spelled, X: Spelled>(
         Gives (λ found. found ≡ rows) result }
 {
     let limit = count_pairs(keeper, space)?;
-    let mut found = Many::new(alloc);
+    let mut found = Many::with_capacity(alloc, limit.min(MOST_ROOM) as usize)?;
     // The last pair stays where it came, since to move its bytes costs as much as to read them.
     let mut last = None;
     for _ in 0..limit {

@@ -74,9 +74,13 @@ pub fn put_row<K: Keeper, I: Spelled, X: Spelled>(
         (X.bytes value.now))) (K.kept keeper.old).pending) }
     ensures only { IfErr result IsOutside }
 {
-    let key = spelling(alloc, key)?;
-    let value = spelling(alloc, value)?;
-    put_pair(keeper, space, key.as_slice(), value.as_slice())
+    // Both are spelled one behind the other, as memory for one costs less than for two.
+    let mut row = RowOut::with_capacity(alloc, ROOM)?;
+    key.spell(&mut row)?;
+    let len = row.len();
+    value.spell(&mut row)?;
+    let (key, value) = row.as_slice().split_at(len);
+    put_pair(keeper, space, key, value)
 }
 
 /// Takes a row out of what is pending.

@@ -30,7 +30,7 @@ returns-in_err-rows-clause-says g c m items seen held past =
     let new = seen_as c.args.new.now in
     let none = none_between c.args.tables.now old new c.args.origin c.args.first items past in
     let p = is_between c.args.tables.now old new in
-    let s = selected p c.args.origin c.args.first items m c.requires.id c.requires.small held none in
+    let s = selected p c.args.origin c.args.first items m (c.requires.id, c.requires.small) held none in
     let prefix = c.as_slice.ensures ∙ c.in_ok-prefix.ensures in
     let key = c.as_slice-2.ensures ∙ c.in_ok-start.ensures in
     gives_stop _ c.from_residual-in_err-rows.result
@@ -41,13 +41,13 @@ returns-in_err-rows-clause-says g c m items seen held past =
 pub returns-clause-can : goal.returns-clause-can
 returns-clause-can g c =
     let p = is_between c.args.tables.now (seen_as c.args.old.now) (seen_as c.args.new.now) in
-    subst (AllAre (λ r. CanLogRow r.1)) (sym c.in_ok-keep_between.ensures)
+    subst (AllAre (λ r. CanLogRow r.1)) (sym c.keep_between.ensures)
     (can_passed p c.in_ok-rows.rows c.in_ok-rows.ensures.can)
 
 pub returns-clause-numbers : goal.returns-clause-numbers
 returns-clause-numbers g c =
     let p = is_between c.args.tables.now (seen_as c.args.old.now) (seen_as c.args.new.now) in
-    subst (AllAre (λ r. r.0 < 2 ^ 63)) (sym c.in_ok-keep_between.ensures)
+    subst (AllAre (λ r. r.0 < 2 ^ 63)) (sym c.keep_between.ensures)
     (small_passed p c.in_ok-rows.rows (small_of c.in_ok-rows.rows c.in_ok-rows.ensures.can))
 
 pub returns-clause-gives : goal.returns-clause-gives
@@ -55,7 +55,7 @@ returns-clause-gives g c m all seen are =
     let p = is_between c.args.tables.now (seen_as c.args.old.now) (seen_as c.args.new.now) in
     let prefix = c.as_slice.ensures ∙ c.in_ok-prefix.ensures in
     let key = c.as_slice-2.ensures ∙ c.in_ok-start.ensures in
-    c.in_ok-keep_between.ensures
+    c.keep_between.ensures
     ∙ ap (passed p) (c.in_ok-rows.ensures.gives m all seen are.can
     (of_key c.args.origin c.args.first c.as_slice.result.now c.as_slice-2.result.now prefix key are))
 
@@ -65,10 +65,10 @@ returns-clause-says g c m items seen held past =
     let new = seen_as c.args.new.now in
     let none = none_between c.args.tables.now old new c.args.origin c.args.first items past in
     let p = is_between c.args.tables.now old new in
-    let s = selected p c.args.origin c.args.first items m c.requires.id c.requires.small held none in
+    let s = selected p c.args.origin c.args.first items m (c.requires.id, c.requires.small) held none in
     let prefix = c.as_slice.ensures ∙ c.in_ok-prefix.ensures in
     let key = c.as_slice-2.ensures ∙ c.in_ok-start.ensures in
-    let rows = c.in_ok-keep_between.ensures
+    let rows = c.keep_between.ensures
     ∙ ap (passed p) (c.in_ok-rows.ensures.gives m s.all seen s.are_of.can
     (of_key c.args.origin c.args.first c.as_slice.result.now c.as_slice-2.result.now prefix key s.are_of)) in
     subst (ArePassed p c.args.origin items) (sym rows) s.are_passed

@@ -1,23 +1,61 @@
-use Rattle.std.proofs.Common.{◌++◌, sym, ap, ◌∙◌}
-use Rattle.slon_base.specs.Codec.{number_bytes}
-use Rattle.slon_base.specs.Keeper.{key_cmp}
-use Rattle.slon_base.proofs.Numbers.{behind_front, numbers_decide}
+use Rattle.std.proofs.Common.{refl, arith, ◌∙◌, ◌-◌, ◌+◌}
+use Rattle.slon_base.proofs.Compared.{Meet, alike_behind, alike_sooner, all_alike, differing}
 use Rattle.slon_base.proofs.compare.order.Goals as goal
 
-pub returns-then-number-other : goal.returns-then-number-other
-returns-then-number-other c =
-    let here = c.in-Some.ensures.found in
-    let there = c.in-Some-number_at.ensures.found in
-    c.cmp-then-number-other.ensures
-    ∙ numbers_decide c.in-Some.number c.in-Some-number_at.other here.0 there.0 c.if-number-other.true
-    c.in-Some.rest.now c.in-Some-number_at.others.now ∙ (λ i. key_cmp (sym here.1 i) (sym there.1 i))
-    ∙ sym c.loop.invariant
+pub loop-at-init : goal.loop-at-init
+loop-at-init c = (refl, omega arith)
 
-pub loop-preserved : goal.loop-preserved
-loop-preserved c =
-    let here = c.in-Some.ensures.found in
-    let there = c.in-Some-number_at.ensures.found in
-    let front = number_bytes c.in-Some.number in
-    c.loop.invariant ∙ (λ i. key_cmp (here.1 i) (there.1 i))
-    ∙ ap (λ n. key_cmp (front ++ c.in-Some.rest.now) (number_bytes n ++ c.in-Some-number_at.others.now))
-    (sym c.if-number-other.false) ∙ behind_front front c.in-Some.rest.now c.in-Some-number_at.others.now
+pub returns-then-here-there : goal.returns-then-here-there
+returns-then-here-there c =
+    let meet : Meet c.args.left.now c.args.right.now = record {
+      at = c.loop-at.at;
+      here = c.number_from-here.result;
+      there = c.number_from-there.result;
+      same = c.loop-at.invariant.0;
+      left = c.number_from-here.ensures;
+      right = c.number_from-there.ensures;
+    } in
+    c.cmp-then-here-there.ensures ∙ differing c.args.left.now c.args.right.now meet c.if-here-there.true
+
+pub loop-at-preserved : goal.loop-at-preserved
+loop-at-preserved c =
+    let meet : Meet c.args.left.now c.args.right.now = record {
+      at = c.loop-at.at;
+      here = c.number_from-here.result;
+      there = c.number_from-there.result;
+      same = c.loop-at.invariant.0;
+      left = c.number_from-here.ensures;
+      right = c.number_from-there.ensures;
+    } in
+    (alike_behind c.args.left.now c.args.right.now meet c.if-here-there.false, omega (arith, c.loop-at-test.true))
+
+pub returns-then-here-there-2 : goal.returns-then-here-there-2
+returns-then-here-there-2 c =
+    let last = c.min-common.result - 8 in
+    let meet : Meet c.args.left.now c.args.right.now = record {
+      at = last;
+      here = c.number_from-here-2.result;
+      there = c.number_from-there-2.result;
+      same = alike_sooner last c.loop-at.at c.args.left.now c.args.right.now c.loop-at-test.false
+          c.loop-at.invariant.0;
+      left = c.number_from-here-2.ensures;
+      right = c.number_from-there-2.ensures;
+    } in
+    c.cmp-then-here-there-2.ensures ∙ differing c.args.left.now c.args.right.now meet c.if-here-there-2.true
+
+pub returns : goal.returns
+returns c =
+    let last = c.min-common.result - 8 in
+    let meet : Meet c.args.left.now c.args.right.now = record {
+      at = last;
+      here = c.number_from-here-2.result;
+      there = c.number_from-there-2.result;
+      same = alike_sooner last c.loop-at.at c.args.left.now c.args.right.now c.loop-at-test.false
+          c.loop-at.invariant.0;
+      left = c.number_from-here-2.ensures;
+      right = c.number_from-there-2.ensures;
+    } in
+    c.cmp-2.ensures
+    ∙ all_alike (last + 8) c.args.left.now c.args.right.now
+    (omega (arith, c.min-common.ensures, c.if-common-lt-AT_ONCE.false))
+    (alike_behind c.args.left.now c.args.right.now meet c.if-here-there-2.false)

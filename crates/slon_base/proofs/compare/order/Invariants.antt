@@ -1,7 +1,10 @@
-use Rattle.std.proofs.Common.{◌≡◌}
-use Rattle.slon_base.specs.Keeper.{key_cmp}
+use Rattle.std.proofs.Common.{◌-◌, ◌≤◌}
+use Rattle.slon_base.proofs.Compared.{StartAlike}
 use Rattle.slon_base.proofs.compare.order.Given as goal
 
--- what is left decides
-abbrev pub invariant-loop : goal.invariant-loop
-invariant-loop l = key_cmp l.left l.right ≡ key_cmp l.here l.there
+-- what was compared is the same
+abbrev pub invariant-loop-at : goal.invariant-loop-at
+invariant-loop-at l = StartAlike l.at l.left l.right × (l.at ≤ l.common)
+
+abbrev pub decreases-loop-at : goal.decreases-loop-at
+decreases-loop-at l = l.last - l.at

@@ -18,9 +18,9 @@ loop-init g c =
     record {
       looked = looked_on looked_none c.in_ok-limit.ensures.safe c.in_ok-limit.ensures.same;
       puts = c.in_ok-limit.ensures.puts;
-      can = rw (c.new-found.ensures) tt;
-      scanned = λ m rows seen can is. rw (c.new-found.ensures) (none_ahead rows can is);
-      gone = λ m seen. rw (c.new-found.ensures) none_gone;
+      can = rw (c.in_ok-found.ensures) tt;
+      scanned = λ m rows seen can is. rw (c.in_ok-found.ensures) (none_ahead rows can is);
+      gone = λ m seen. rw (c.in_ok-found.ensures) none_gone;
     }
 
 pub returns-in_err-last-clause-safe : goal.returns-in_err-last-clause-safe
