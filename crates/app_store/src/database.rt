@@ -17,12 +17,24 @@ use std::alloc::Global;
 ///
 /// While it is up it keeps in memory its numbers, its open transactions and their locks, and the node that it is. A
 /// step that stops at the store takes it down, and then it makes no call on its store until it comes up again.
-#[derive(Drop)]
 pub struct Database<K: Keeper> {
     pub alloc: Global,
     pub keeper: Fuse<K>,
     pub state: State,
     ghost idle: { state.up ≡ true → is_some (fuse_kept K.kept keeper).pending ≡ false },
+}
+
+// By hand, so that what it takes apart is proved here alone, and not in each crate that lets go of a database.
+impl<K: Keeper> Drop for Database<K> {
+    fn drop(self) {
+        let Database {
+            alloc: _,
+            keeper,
+            state,
+        } = self;
+        drop(keeper);
+        drop(state);
+    }
 }
 
 impl<K: Keeper> Database<K> {

@@ -34,7 +34,6 @@ use std::alloc::{AllocError, Global};
 
 /// The databases of a session, in the order of their making, the scripts that run, which slons are on, which nodes are
 /// cut off from one another, the events that wait at nodes, and what nodes fetched of them.
-#[derive(Drop)]
 pub struct Cluster<K: Keeper> {
     alloc: Global,
     limit: u32,
@@ -48,6 +47,27 @@ pub struct Cluster<K: Keeper> {
     cuts: Vec<(u32, u32)>,
     // The events that wait at the nodes of databases, and what these fetched, by the names of the databases.
     held: ByteMap<Held>,
+}
+
+// By hand, so that what it takes apart is proved here alone, and not in each crate above.
+impl<K: Keeper> Drop for Cluster<K> {
+    fn drop(self) {
+        let Cluster {
+            alloc: _,
+            limit: _,
+            given: _,
+            databases,
+            scripts,
+            started,
+            cuts,
+            held,
+        } = self;
+        drop(databases);
+        drop(scripts);
+        drop(started);
+        drop(cuts);
+        drop(held);
+    }
 }
 
 /// Whether the store of a new database held a row.

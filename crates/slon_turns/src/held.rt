@@ -12,7 +12,6 @@ use std::alloc::Global;
 
 /// What the node of a database has in memory: the events that wait there, what it fetched of them and keeps, and what
 /// it knows of the transactions of other nodes.
-#[derive(Drop)]
 pub struct Held {
     /// The events that wait.
     pub queue: Queue,
@@ -20,6 +19,20 @@ pub struct Held {
     pub fetches: Fetches,
     /// What it knows of the transactions of other nodes.
     pub bounds: Vec<Bound>,
+}
+
+// By hand, so that what it takes apart is proved here alone, and not in each crate above.
+impl Drop for Held {
+    fn drop(self) {
+        let Held {
+            queue,
+            fetches,
+            bounds,
+        } = self;
+        drop(queue);
+        drop(fetches);
+        drop(bounds);
+    }
 }
 
 impl Held {
