@@ -1,23 +1,22 @@
 -- How a database stands by the rules and by the code, and what comes of a decision.
 use Rattle.std.proofs.Common.{◌≡◌, ℕ, ◌+◌, ◌≤◌, true, false, cond, Option, Some, None, Result, Ok, Err, refl, sym, ap}
 use Rattle.std.proofs.Common.{subst, ◌∙◌, ◌⊎◌, inl, inr, arith}
-use Rattle.std.proofs.lemmas.Bool.{false≢true, true≢false}
+use Rattle.std.proofs.lemmas.Bool.{false≢true}
 use Rattle.slon_base.specs.Counts.{Rose}
 use Rattle.slon_base.specs.Keeper.{Kept, Store}
 use Rattle.slon_model.specs.declared.fault.DbFault.{DbFault}
-use Rattle.slon_model.specs.declared.fault.DbFault.TheVariants.{Down}
 use Rattle.slon_model.specs.declared.reply.Answer.{Answer}
 use Rattle.slon_model.specs.declared.reply.Answered.{Answered}
 use Rattle.slon_model.specs.declared.reply.Answered.TheVariants.{InDoubt}
-use Rattle.slon_model.specs.Tasks.{Task, ToFound, ToRise}
+use Rattle.slon_model.specs.Tasks.{Task}
 use Rattle.slon_model.specs.Place.{Place, Standing, IsRunning, IsFallen, IsDoubtful, is_running, fallen, downed}
 use Rattle.slon_model.specs.Place.{doubted, node_id}
 use Rattle.slon_model.specs.Deeds.{Node}
 use Rattle.node_state.specs.Known.{identity_of}
 use Rattle.std.specs.Option.{option_map, option_or}
 use Rattle.slon_model.specs.Moves.{Move, prepared, done, commits_at, crashed}
-use Rattle.slon_model.specs.Deciding.{Decision, Refuses, Accepts, AsDue, AtFault, Wavers, limited, decide, decide_by}
-use Rattle.slon_model.specs.Deciding.{decide_up, decide_down, calls_up, may_call, result_of, move_of, sure, unsure}
+use Rattle.slon_model.specs.Deciding.{Decision, Accepts, AsDue, AtFault, Wavers, limited, decide, decide_by}
+use Rattle.slon_model.specs.Deciding.{decide_up, calls_up, may_call, result_of, move_of, sure, unsure}
 use Rattle.slon_model.specs.World.{halt_in}
 use Rattle.store_rows.specs.declared.stop.Stop.{Stop}
 use Rattle.store_rows.specs.declared.stop.Stop.TheVariants.{Failed as StopFailed, NoMemory as StopNoMemory}
@@ -25,7 +24,7 @@ use Rattle.app_store.specs.declared.opens.Transaction.{Transaction}
 use Rattle.app_store.specs.Base.{Memory, Base, GoesDown}
 use Rattle.app_store.specs.Fits.{Fits, Ready, Runs, StandsAs, OpensAs, IsNamed}
 use Rattle.store_rows.specs.Steps.{IsOutside, is_stop_failed}
-use Rattle.app_store.specs.Serves.{Comes, is_memory, is_rising}
+use Rattle.app_store.specs.Serves.{Comes, is_memory}
 use Rattle.app_store.specs.Parts.{FellTo, Fell, halt_of}
 use Rattle.app_store.specs.Targets.{Follows, Carried, StopsAt}
 use Rattle.app_store.specs.Spelled.{Holds}
@@ -178,20 +177,6 @@ wavers task p answer move new decided commits w =
     ]
 
 -- ---- a database that is down
-
-down_refuses : (task : Task) (s : Standing) → is_rising task ≡ false → decide_down task s ≡ Refuses Down
-down_refuses ToFound s is = absurd (true≢false is)
-down_refuses ToRise s is = absurd (true≢false is)
-down_refuses others s is = refl
-
-pub down_comes : (task : Task) (p : Place) (b : Base) → is_rising task ≡ false → Fits p b → b.memory.up ≡ false →
-    Comes task p (Err Down) b
-down_comes task p b other fits down = carried task p (Refuses Down) b (by p.standing fits.stands) fits
-  where
-    by : (s : Standing) → StandsAs s p b.memory → limited p (decide_by s task p) ≡ Refuses Down
-    by IsRunning stands = absurd (false≢true (sym down ∙ stands.up))
-    by IsFallen stands = ap (limited p) (down_refuses task IsFallen other)
-    by (IsDoubtful d) stands = ap (limited p) (down_refuses task (IsDoubtful d) other)
 
 -- ---- a stop
 

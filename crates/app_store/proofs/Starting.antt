@@ -68,10 +68,6 @@ start_has : (P : ℕ → Type 0) (xid : ℕ) (begun : List Begun) → P 0 →
 start_has P xid begun none all =
     found_start P xid none (reverse begun) (all_reversed (λ b. b.xid ≤ xid → P b.number) begun all)
 
--- none of none is found
-pub none_small : AreSmall []
-none_small xid = omega arith
-
 -- with one more, whose number can be stored
 pub small_next : (begun : List Begun) (b : Begun) → b.number < 2 ^ 63 → AreSmall begun → AreSmall (begun ++ b ∷ [])
 small_next begun b small are xid =

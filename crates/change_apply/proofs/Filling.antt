@@ -64,18 +64,20 @@ pub seen_on : {m : Store} (old mid : Kept) → mid.pending ≡ old.pending → m
 seen_on old mid pending held seen =
     ap (λ o. unwrap_or o mid.held) pending ∙ ap (λ h. unwrap_or old.pending h) held ∙ seen
 
+-- these tables were read, and with what is read of those to come they are all
+abbrev pub AreRead : (List ℕ → Rows) → List (List ℕ) → List (List ℕ) → Listed → Type 0
+AreRead held names more all =
+    (rest : Listed) → AreListed (held_in held more) rest → AreListed (held_in held names) (all ++ rest)
+
 -- one more table is read, in front of those to come
 pub read_on : (held : List ℕ → Rows) (names : List (List ℕ)) (name : List ℕ) (more : List (List ℕ)) (all : Listed)
-    (rows : List (List ℕ × Row)) → AreRowsOf (held name) rows →
-    ((rest : Listed) → AreListed (held_in held (name ∷ more)) rest → AreListed (held_in held names) (all ++ rest)) →
-    (rest : Listed) → AreListed (held_in held more) rest →
-    AreListed (held_in held names) ((all ++ (name, rows) ∷ []) ++ rest)
+    (rows : List (List ℕ × Row)) → AreRowsOf (held name) rows → AreRead held names (name ∷ more) all →
+    AreRead held names more (all ++ (name, rows) ∷ [])
 read_on held names name more all rows are says rest listed =
     subst (AreListed (held_in held names)) (sym (append_assoc all ((name, rows) ∷ []) rest))
     (says ((name, rows) ∷ rest) (refl, are, listed))
 
-pub read_all : (held : List ℕ → Rows) (names : List (List ℕ)) (all : Listed) →
-    ((rest : Listed) → AreListed (held_in held []) rest → AreListed (held_in held names) (all ++ rest)) →
+pub read_all : (held : List ℕ → Rows) (names : List (List ℕ)) (all : Listed) → AreRead held names [] all →
     AreListed (held_in held names) all
 read_all held names all says = subst (AreListed (held_in held names)) (append_none all) (says [] tt)
 

@@ -149,9 +149,9 @@ record Spent (name : List ℕ) (h : Happening) (c : Clustered) (d : Base) : Type
   spends : Spends failed b.kept.can_fail d.kept.can_fail
 
 asks_pays : (promise : ℕ → Promise) (name : List ℕ) (h : Happening) (old : Clustered) (was d : Base)
-    (history : List Happening) → Spent name h old d →
-    IsWithin promise history old → IsWithin promise (h ∷ history) (with_base name was d old)
-asks_pays promise name h old was d history s w = record {
+    (history : List Happening) → Spent name h old d × IsWithin promise history old →
+    IsWithin promise (h ∷ history) (with_base name was d old)
+asks_pays promise name h old was d history (s, w) = record {
   placed = w.placed ∙ sym (length_put name d old.bases);
   absent = λ other none. gone other (bytes_eq other name) refl none;
   present = λ other e n is told. here other e n (bytes_eq other name) refl is
@@ -251,17 +251,20 @@ moves_pays promise command old reply new (Misses name task about none told same)
     (untold promise (happened command reply choice) old history (ap is_sure_reply told) w)
 moves_pays promise command old reply new (Asks s) armless choice history w =
     subst (IsWithin promise (happened command reply choice ∷ history)) (sym s.same)
-    (asks_pays promise s.name (happened command reply choice) old s.before s.behind history (record {
-      failed = is_failure (trouble s.result);
-      tells = record {
-        tells = λ other. ap (tells_of other) s.told
-            ∙ reply_tells other (words_of (OnOne s.name s.task)) s.result;
-      };
-      b = s.before;
-      found = s.found;
-      still = s.serves.still (sym (ap arms_on s.about) ∙ armless);
-      spends = s.serves.spends;
-    }) w)
+    (asks_pays promise s.name (happened command reply choice) old s.before s.behind history (
+      record {
+        failed = is_failure (trouble s.result);
+        tells = record {
+          tells = λ other. ap (tells_of other) s.told
+              ∙ reply_tells other (words_of (OnOne s.name s.task)) s.result;
+        };
+        b = s.before;
+        found = s.found;
+        still = s.serves.still (sym (ap arms_on s.about) ∙ armless);
+        spends = s.serves.spends;
+      },
+      w,
+    ))
 moves_pays promise command old reply new (Acts act about acted) armless choice history w =
     acts_pays promise (happened command reply choice) old new history acted w
 

@@ -52,7 +52,7 @@ use Rattle.slon_turns.specs.Holding.{Holdings}
 use Rattle.cluster_engine.specs.Agreed.{Agrees, AllKnown, Clustered, Follows}
 use Rattle.cluster_engine.specs.Calls.{grant, Moves, Grants, Misses, Asks, Acts, StepsOn, Steps, fused, is_sure_reply}
 use Rattle.cluster_engine.specs.Calls.{Adopts, Rejects, Keeps, Makes, Obeys, happened, with_base}
-use Rattle.cluster_engine.proofs.Knowing.{known_behind, known_recalled, known_stay}
+use Rattle.cluster_engine.proofs.Knowing.{known_behind, known_recalled, known_stay, past_of}
 use Rattle.cluster_engine.proofs.Lifting.{same_some, fits_more}
 use Rattle.cluster_engine.proofs.Moving.{IsGranted}
 use Rattle.cluster_engine.proofs.Certain.{never_fails}
@@ -70,8 +70,7 @@ granted_due name w c agrees = rw (
 -- what is known still is behind a step
 known_behind_step : {w v : World} {c : Clustered} {h : Happening} → Follows w c → Step w h v → (held : Holdings) →
     AllKnown w held → AllKnown v held
-known_behind_step {w} {v} {h = h} follows step held known =
-    known_stay follows.most follows.history w v h (follows.leads, step) held known
+known_behind_step {v = v} {h = h} follows step held known = known_stay (past_of follows) v h step held known
 
 -- what is known of the place of a database
 ready_place : (name : List ℕ) (b : Base) (w : World) (c : Clustered) → Follows w c →
@@ -285,12 +284,12 @@ doubted_unsure before o less (Accepts answer is) =
 
 -- a script whose reply tells of no fault and no doubt
 sure_act : (w : World) (act : Act) (fate : Fate) (reply : Reply) (v : World) → MayEnd act fate w →
-    reply ≡ reply_by act fate w → v ≡ world_by act fate w → is_sure_reply reply ≡ true →
+    (reply ≡ reply_by act fate w) × (v ≡ world_by act fate w) → is_sure_reply reply ≡ true →
     IsDueOn w reply v (OnAll act)
-sure_act w act AllStand reply v may told is certain = (told, is)
-sure_act w act (Breaks name count) reply v may told is certain =
+sure_act w act AllStand reply v may (told, is) certain = (told, is)
+sure_act w act (Breaks name count) reply v may (told, is) certain =
     absurd (true≢false (sym certain ∙ ap is_sure_reply told))
-sure_act w act (DoubtsAt before stands) reply v may told is certain =
+sure_act w act (DoubtsAt before stands) reply v may (told, is) certain =
     absurd (true≢false (sym certain ∙ ap is_sure_reply told
     ∙ doubted_unsure before (outcome act w) may (act_commits act w)))
 
@@ -322,7 +321,7 @@ sure_step w v h (StepAsks t) certain =
       t.is ∙ ap (λ q. changed t.name q w) place.1 ∙ sym (ap (λ o. asked t.name t.task o w) t.found),
     )
 sure_step w v h (StepActs t) certain =
-    subst (IsDueOn w h.reply v) (sym t.about) (sure_act w t.act t.fate h.reply v t.may t.told t.is certain)
+    subst (IsDueOn w h.reply v) (sym t.about) (sure_act w t.act t.fate h.reply v t.may (t.told, t.is) certain)
 
 -- ---- a new database
 

@@ -44,7 +44,7 @@ use Rattle.slon_turns.specs.Working.{sources_to}
 use Rattle.slon_turns.specs.Working.{stated_by as due_stated, turned, turned_to}
 use Rattle.cluster_engine.specs.Agreed.{Agrees, Clustered, FitsScripts, Follows, IsKnown, Matches}
 use Rattle.cluster_engine.specs.Calls.{ActsOn, IsActed}
-use Rattle.cluster_engine.proofs.Knowing.{hold_bounds, learn_known}
+use Rattle.cluster_engine.proofs.Knowing.{hold_bounds, learn_known, past_of}
 use Rattle.cluster_engine.proofs.Rising.{comes_up}
 use Rattle.cluster_engine.proofs.Walking.{Remembers, ready_of, fits_kept, denied_doubt, felled_moves, broken_moves}
 use Rattle.cluster_engine.proofs.Walking.{wavering_moves}
@@ -394,7 +394,7 @@ holds_all w old follows = record {
 -- what nodes know of the transactions of others is so of all that is logged
 bounds_all : (w : World) (old : Clustered) → Follows w old → HoldBounds w old.memory.held
 bounds_all w old follows =
-    hold_bounds follows.most follows.history w follows.leads follows.regular old.memory.held follows.agrees.known
+    hold_bounds (past_of follows) follows.regular old.memory.held follows.agrees.known
 
 -- ---- polls
 
@@ -564,7 +564,7 @@ turn_acted goal node old reply news queues runs (works, learned) = record {
       });
   learns = λ w follows name.
       let switches = follows.agrees.memory.switches in
-      learn_known follows.most follows.history w follows.leads follows.regular goal.origin
+      learn_known (past_of follows) follows.regular goal.origin
       (bounds_in (get old.memory.held name)) (bounds_in (get queues name))
       (learned w (ready_of w old follows) (ap (λ s. s.started) switches) (ap (λ s. s.cuts) switches)
       (holds_all w old follows) (bounds_all w old follows) name) (follows.agrees.known name);

@@ -186,7 +186,7 @@ acted_certain : (reply : Reply) (old new : Clustered) → AllCertain old → Run
 acted_certain reply old new certain runs =
     all_behind_tries (λ (e : Base). e.kept.can_fail ≡ Some 0) (λ (e : Base). e.kept.can_fail ≡ Some 0)
     (is_calm reply) (told_by reply) old.bases new.bases
-    (λ t o n tried never. stays_none o.kept.can_fail n.kept.can_fail tried.tries.still never) runs certain
+    (λ t o n tried never. stays_none o.kept.can_fail n.kept.can_fail tried.tries.still never) (runs, certain)
 
 pub moves_certain : (command : Command) (old : Clustered) (reply : Reply) (new : Clustered) →
     Moves command old reply new → StaysCertain command old reply new
@@ -273,7 +273,7 @@ quiet_before : (reply : Reply) (old new : Clustered) → AllQuiet new → Runs o
 quiet_before reply old new quiet runs =
     all_before_tries (λ (e : Base). e.kept.faults ≡ 0) (λ (e : Base). e.kept.faults ≡ 0)
     (is_calm reply) (told_by reply) old.bases new.bases
-    (λ t o n tried none. let later = tried.tries.later in omega (arith, later, none)) runs quiet
+    (λ t o n tried none. let later = tried.tries.later in omega (arith, later, none)) (runs, quiet)
 
 pub moves_quiet : (command : Command) (old : Clustered) (reply : Reply) (new : Clustered) →
     Moves command old reply new → StaysQuiet reply old new

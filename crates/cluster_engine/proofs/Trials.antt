@@ -141,23 +141,23 @@ place_tries calm told name (x ∷ xs) (y ∷ ys) tries =
 -- what each step keeps holds of all after it
 pub all_behind_tries : (P Q : Base → Type 0) (calm : Bool) (told : Option Trouble) (olds news : Named Base) →
     ((t : Option HaltOf) (o n : Base) → Tried calm t o n → P o → Q n) →
-    TriesAll calm told olds news → AllByRecursion (λ e. P e.1) olds → AllByRecursion (λ e. Q e.1) news
-all_behind_tries P Q calm told [] [] keeps tries all = tt
-all_behind_tries P Q calm told [] (y ∷ ys) keeps tries all = absurd tries
-all_behind_tries P Q calm told (x ∷ xs) [] keeps tries all = absurd tries
-all_behind_tries P Q calm told (x ∷ xs) (y ∷ ys) keeps tries all = (
+    TriesAll calm told olds news × AllByRecursion (λ e. P e.1) olds → AllByRecursion (λ e. Q e.1) news
+all_behind_tries P Q calm told [] [] keeps (tries, all) = tt
+all_behind_tries P Q calm told [] (y ∷ ys) keeps (tries, all) = absurd tries
+all_behind_tries P Q calm told (x ∷ xs) [] keeps (tries, all) = absurd tries
+all_behind_tries P Q calm told (x ∷ xs) (y ∷ ys) keeps (tries, all) = (
   keeps (trouble_here told x.0) x.1 y.1 tries.1 all.0,
-  all_behind_tries P Q calm (trouble_later told x.0) xs ys keeps tries.2 all.1,
+  all_behind_tries P Q calm (trouble_later told x.0) xs ys keeps (tries.2, all.1),
 )
 
 -- and what each step needs held of all before it
 pub all_before_tries : (P Q : Base → Type 0) (calm : Bool) (told : Option Trouble) (olds news : Named Base) →
     ((t : Option HaltOf) (o n : Base) → Tried calm t o n → Q n → P o) →
-    TriesAll calm told olds news → AllByRecursion (λ e. Q e.1) news → AllByRecursion (λ e. P e.1) olds
-all_before_tries P Q calm told [] [] needs tries all = tt
-all_before_tries P Q calm told [] (y ∷ ys) needs tries all = absurd tries
-all_before_tries P Q calm told (x ∷ xs) [] needs tries all = absurd tries
-all_before_tries P Q calm told (x ∷ xs) (y ∷ ys) needs tries all = (
+    TriesAll calm told olds news × AllByRecursion (λ e. Q e.1) news → AllByRecursion (λ e. P e.1) olds
+all_before_tries P Q calm told [] [] needs (tries, all) = tt
+all_before_tries P Q calm told [] (y ∷ ys) needs (tries, all) = absurd tries
+all_before_tries P Q calm told (x ∷ xs) [] needs (tries, all) = absurd tries
+all_before_tries P Q calm told (x ∷ xs) (y ∷ ys) needs (tries, all) = (
   needs (trouble_here told x.0) x.1 y.1 tries.1 all.0,
-  all_before_tries P Q calm (trouble_later told x.0) xs ys needs tries.2 all.1,
+  all_before_tries P Q calm (trouble_later told x.0) xs ys needs (tries.2, all.1),
 )

@@ -733,7 +733,8 @@ put_acted {E} {name} {started} {left} {scripts} old news p steps = by p.walked r
         elim went.goes_on as (λ b. went.goes_on ≡ b → IsActed (ToStep name) old went.reply (new scripts)) [
           | true ↦ λ on. goes_acted name old went left news scripts s (
             on,
-            goes on ∙ ap (λ (x : Started). insert left name (record { script = x.script; done = x.done + 1 })) (sym same),
+            goes on
+                ∙ ap (λ (x : Started). insert left name (record { script = x.script; done = x.done + 1 })) (sym same),
           )
           | false ↦ λ off. subst (λ kept. IsActed (ToStep name) old went.reply (new kept)) (sym (stops off))
               (stops_acted name old went left news s off)
@@ -743,5 +744,6 @@ put_acted {E} {name} {started} {left} {scripts} old news p steps = by p.walked r
         IsActed (ToStep name) old p.reply (new scripts)
     by (Ok went) at (told, stops, goes) =
         let s = steps went at in
-        subst (λ reply. IsActed (ToStep name) old reply (new scripts)) (sym told) (gone went s.stepped s.same (stops, goes))
+        subst (λ reply. IsActed (ToStep name) old reply (new scripts)) (sym told)
+        (gone went s.stepped s.same (stops, goes))
     by (Err short) at none = absurd none

@@ -56,28 +56,34 @@ alike {s = s} views m same shows = record {
   others = shows.others;
 }
 
+-- the view that is kept of a set, and what becomes of it
+pub record IsBased (s : Streams) (set : ℕ) (now : View) : Type 0 where
+  pub view : View
+  pub found : entry_at set s.views ≡ Some view
+  pub is : now ≡ based view
+
 -- what is kept of the set was put
-based_put : (base : Store) (s : Streams) (set : ℕ) (v now : View) (m : Store) → entry_at set s.views ≡ Some v →
-    now ≡ based v → ShowsStreams base (record s { views = with_entry set now s.views }) m →
+based_put : (base : Store) (s : Streams) (set : ℕ) (now : View) (m : Store) → IsBased s set now →
+    ShowsStreams base (record s { views = with_entry set now s.views }) m →
     ShowsStreams base (record s { views = based_at set s.views }) m
-based_put base s set v now m found is shows = alike (based_at set s.views) m same shows
+based_put base s set now m b shows = alike (based_at set s.views) m same shows
   where
     by : (id : ℕ) (b : Bool) → (id == set) ≡ b → cond b (Some now) (entry_at id s.views)
         ≡ cond b (option_map based (entry_at id s.views)) (entry_at id s.views)
     by id true here =
-        ap (λ w. Some w) is
-        ∙ sym (ap (option_map based) (ap (λ i. entry_at i s.views) (eq_of id set here) ∙ found))
+        ap (λ w. Some w) b.is
+        ∙ sym (ap (option_map based) (ap (λ i. entry_at i s.views) (eq_of id set here) ∙ b.found))
     by id false other = refl
 
     same : (id : ℕ) → entry_at id (with_entry set now s.views) ≡ entry_at id (based_at set s.views)
     same id = entry-with id set now s.views ∙ by id (id == set) refl ∙ sym (entry-based set id s.views)
 
-pub based_becomes : {T : Type 0} (base : Store) (s : Streams) (set : ℕ) (v now : View) (new : Kept)
-    (result : Result T Stop) → entry_at set s.views ≡ Some v → now ≡ based v →
+pub based_becomes : {T : Type 0} (base : Store) (s : Streams) (set : ℕ) (now : View) (new : Kept)
+    (result : Result T Stop) → IsBased s set now →
     Becomes (ShowsStreams base (record s { views = with_entry set now s.views })) new result →
     Becomes (ShowsStreams base (record s { views = based_at set s.views })) new result
-based_becomes base s set v now new (Ok x) found is has = pending_as (λ m. based_put base s set v now m found is) has
-based_becomes base s set v now new (Err stop) found is outside = outside
+based_becomes base s set now new (Ok x) b has = pending_as (λ m. based_put base s set now m b) has
+based_becomes base s set now new (Err stop) b outside = outside
 
 -- nothing is kept of the set
 pub based_none : {base : Store} {s : Streams} (set : ℕ) (m : Store) → entry_at set s.views ≡ None →

@@ -400,13 +400,6 @@ whatever_failed (Err x) p = p
 
 -- ---- what is known of every queue
 
--- the numbers of what waits rise
-pub waiting_rising : (queue : Queue) (origin : ℕ) → Rising (map (λ (e : Event). e.number) (waiting origin queue))
-unfolding waiting
-waiting_rising queue origin =
-    let es = line_at origin queue.lines in
-    (rising_numbers 0 es (and_parts (are_rising 0 es) (are_of origin es) (queue.lined origin)).0).1
-
 -- all that waits is of its origin
 pub waiting_of : (queue : Queue) (origin : ℕ) → are_of origin (waiting origin queue) ≡ true
 unfolding waiting

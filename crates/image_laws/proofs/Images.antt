@@ -564,9 +564,13 @@ reading_led limit name w p found n is old new was covers set era table held acti
         let first = and_parts (s.set_id == set) (s.era == era && bytes_eq table s.table) passes in
         sym (bytes_same table s.table (and_parts (s.era == era) (bytes_eq table s.table) first.1).1)
 
--- each table of an entry of a log is known
+-- each table of an entry of the log of this place's node is known to it
+abbrev pub ListsLogged : Place → Type 0
+ListsLogged p =
+    (n : Node) → p.node ≡ Some n → AllByRecursion (λ l. IsListed l.action.table (knowledge n).config) (logged n)
+
+-- so it is of each place
 pub logs_listed : (limit : ℕ) (history : List Happening) (w : World) → Leads (start limit) history w →
-    (name : List ℕ) (p : Place) → find_named name w.places ≡ Some p → (n : Node) → p.node ≡ Some n →
-    AllByRecursion (λ l. IsListed l.action.table (knowledge n).config) (logged n)
+    (name : List ℕ) (p : Place) → find_named name w.places ≡ Some p → ListsLogged p
 logs_listed limit history w leads name p found n is =
     ((all_found HoldsAll name p w.places (each_world logs_on limit history w leads) found).1 n is).listed

@@ -205,9 +205,9 @@ other_listed own c table o =
     (subst (λ name. bytes_eq table name ≡ true) (sym o.named) (bytes_itself table))
 
 -- of the table of a stretch that lasts, the log is as it was behind actions on tables of sets of other nodes
-beside_logged : (p : Place) (own : ℕ) (c : Config) (new log : List Logged) (s : Stretch) → LogOthers own c new →
-    Lasts p own c s → HasLogged p own log s → HasLogged p own (new ++ log) s
-beside_logged p own c new log s others lasts h = record {
+beside_logged : (p : Place) (own : ℕ) (c : Config) (new log : List Logged) (s : Stretch) →
+    LogOthers own c new × Lasts p own c s → HasLogged p own log s → HasLogged p own (new ++ log) s
+beside_logged p own c new log s (others, lasts) h = record {
   all =
       all_map (λ a. bytes_eq s.table a.table ≡ true → member a.xid p.commits ≡ true →
       nat_le s.first a.number ≡ true → IsLogged log a) (λ a. bytes_eq s.table a.table ≡ true →
@@ -249,8 +249,8 @@ deed_logs p d sound h others k = record {
         AllByRecursion (λ s. s.last ≡ None → HasLogged p d.node.id (logged d.node) s) all → Each all
     before [] holds logs = tt
     before (s ∷ more) holds logs = (
-      λ none. beside_logged p d.node.id (knowledge d.node).config d.deed.logs (logged d.node) s others
-          (holds.0.lasts none) (logs.0 none),
+      λ none. beside_logged p d.node.id (knowledge d.node).config d.deed.logs (logged d.node) s
+          (others, holds.0.lasts none) (logs.0 none),
       before more holds.1 logs.1,
     )
 

@@ -72,17 +72,33 @@ keeps_older number xid = record {
     before : (task : Task) (move : Move) (p : Place) → MayMove task p move → Sound p → Outlasts p (prepared move p)
     before task move p may sound = (lasts p).tasks.prepares task move p may (sound, outlasts_itself p)
 
-older_on : (later : List Happening) (w v : World) → AllPlaces Sound w → Leads w later v →
-    (name : List ℕ) (p q : Place) →
-    find_named name w.places ≡ Some p → find_named name v.places ≡ Some q → (number xid : ℕ) →
-    IsOlder number xid p → IsOlder number xid q
-older_on later w v all goes_on name p q found later_found number xid o =
-    let on = (holds_later (keeps_older number xid) later w v all goes_on name (p, found, o)).1 in
-    subst (IsOlder number xid) (one_found on.0 q (sym on.1 ∙ later_found)) on.2
+-- A database in a world, and what it is in a later one.
+record Passed (w v : World) : Type 0 where
+  later : List Happening
+  goes_on : Leads w later v
+  name : List ℕ
+  old : Place
+  new : Place
+  found : find_named name w.places ≡ Some old
+  found_later : find_named name v.places ≡ Some new
+
+older_on : (w v : World) → AllPlaces Sound w → (t : Passed w v) → (number xid : ℕ) → IsOlder number xid t.old →
+    IsOlder number xid t.new
+older_on w v all t number xid o =
+    let on = (holds_later (keeps_older number xid) t.later w v all t.goes_on t.name (t.old, t.found, o)).1 in
+    subst (IsOlder number xid) (one_found on.0 t.new (sym on.1 ∙ t.found_later)) on.2
 
 pub older_stay : OlderStay
 older_stay limit history later w v leads goes_on name p q found found_later number xid =
-    older_on later w v (sound_world limit history w leads) goes_on name p q found found_later number xid
+    older_on w v (sound_world limit history w leads) (record {
+      later = later;
+      goes_on = goes_on;
+      name = name;
+      old = p;
+      new = q;
+      found = found;
+      found_later = found_later;
+    }) number xid
 
 -- as a snapshot is taken, all actions are of transactions that have begun
 older_now : (p : Place) → Sound p → (number : ℕ) → number ≤ p.numbers.next → IsOlder number (taken p).xmax p
@@ -110,5 +126,12 @@ snapshots_divide limit name w p found k t a among seen =
     let drawn : a.number < t.place.numbers.next =
     all_among (λ b. b.number < t.place.numbers.next) a t.place.actions since.0.numbered there in
     subst (λ s. IsOlder (suc a.number) s.xmax p) (sym t.is)
-    (older_on t.later t.before w (sound_world limit t.history t.before t.leads) t.goes_on name t.place p t.found found
-    (suc a.number) t.place.xids.next (older_now t.place since.0 (suc a.number) drawn))
+    (older_on t.before w (sound_world limit t.history t.before t.leads) (record {
+      later = t.later;
+      goes_on = t.goes_on;
+      name = name;
+      old = t.place;
+      new = p;
+      found = t.found;
+      found_later = found;
+    }) (suc a.number) t.place.xids.next (older_now t.place since.0 (suc a.number) drawn))

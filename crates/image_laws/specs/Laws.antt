@@ -54,7 +54,7 @@ ImageIsCommittedRows =
 -- ---- moments
 
 -- There is an order in which the transactions of a node's database ended, such that each snapshot of its stream, and
--- that of now, sees exactly those that ended before so many had.
+-- that of now, sees exactly the first ones in this order, up to a number.
 abbrev pub SnapshotsAreMoments : Type 0
 SnapshotsAreMoments =
     (limit : ℕ) (history : List Happening) (w : World) → Leads (start limit) history w →

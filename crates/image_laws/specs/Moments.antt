@@ -10,18 +10,18 @@ use Rattle.slon_model.specs.Place.{Place, taken}
 abbrev pub count_of : Snapshot → ℕ
 count_of k = k.xmax - length k.running
 
--- it ended before so many had ended
+-- it is among the first k that ended
 abbrev pub is_ended : Option ℕ → ℕ → Bool
 is_ended None k = false
 is_ended (Some m) k = nat_lt m k
 
--- The snapshot was taken in the database whose transactions ended in this order, of which so many have ended by now: it
--- sees those that had ended by then.
+-- The snapshot was taken in the database whose transactions ended in this order: it sees those that had ended by then,
+-- and `now` is the number of those that have ended by now.
 pub record IsTaken (order : ℕ → Option ℕ) (now : ℕ) (k : Snapshot) : Type 0 where
   pub past : count_of k ≤ now
   pub sees : (x : ℕ) → sees k x ≡ is_ended (order x) (count_of k)
 
--- Each of so many transactions has its moment: how many had ended before it.
+-- Each transaction that has ended has its moment, the number of those that had ended before it; `now` of them have.
 pub record IsOrder (order : ℕ → Option ℕ) (now : ℕ) : Type 0 where
   pub bounded : (x m : ℕ) → order x ≡ Some m → m < now
   pub onto : (m : ℕ) → m < now → (x : ℕ) × (order x ≡ Some m)

@@ -29,7 +29,7 @@ pub data Event : Type 0 where
   -- one that changes nothing of the set, or adds a table to it
   Unrelated : Event
 
--- the first events of a stream, so many of them
+-- the first k events of a stream
 abbrev pub up_to : ℕ → List Event → List Event
 up_to k [] = []
 up_to k (e ∷ z) = if nat_le k (length z) then up_to k z else e ∷ z

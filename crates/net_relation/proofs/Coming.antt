@@ -45,7 +45,7 @@ use Rattle.net_relation.proofs.Providing.{event_seat, event_seat_is}
 
 -- ---- moments of what was heard
 
--- the SYNCs among the first so many events have moments no greater than what bounds those of these events
+-- the SYNCs among the first events of a stream have moments no greater than what bounds those of these events
 said_bounded : (set v : ℕ) (k : Snapshot) (body : Body) (m : ℕ) → (is_sync body ≡ true → count_of k ≤ v) × (m ≤ v) →
     moment_with (said_by set k body) m ≤ v
 said_bounded set v k Sync m most = let first = most.0 refl in omega (arith, first, most.1)

@@ -233,11 +233,11 @@ ready_feed true f z r old u is = by (r == f.receiver) is
     by false is = old u is
 
 -- what is changed was ready
-ready_changed : (b : Bool) (f : NewFeed) (z : List Said) (old : Row) → row unfed f.receiver z ≡ Some old → (r : ℕ) →
-    ((u : Row) → row unfed r z ≡ Some u → u.ready ≡ true) → (u : Row) →
+ready_changed : (b : Bool) (f : NewFeed) (z : List Said) → (old : Row) × (row unfed f.receiver z ≡ Some old) →
+    (r : ℕ) → ((u : Row) → row unfed r z ≡ Some u → u.ready ≡ true) → (u : Row) →
     row unfed r (cond b (Subscribe f.receiver f.provider f.forward) Unrelated ∷ z) ≡ Some u → u.ready ≡ true
-ready_changed false f z old had r was u is = was u is
-ready_changed true f z old had r was u is = by (r == f.receiver) refl is
+ready_changed false f z (old, had) r was u is = was u is
+ready_changed true f z (old, had) r was u is = by (r == f.receiver) refl is
   where
     made : Option Row → Row
     made o = subscribed (length z + 1) (last_moment z) f.provider f.forward o
@@ -309,9 +309,10 @@ told_ready t d ms may = by may
             row unfed r (read set (stream (with_deeds (commit_of s (changing f)).deeds s.node))) ≡ Some u →
             (b : Bool) → (f.set_id == set) ≡ b → u.ready ≡ true
         at set r u is true same =
-            ready_changed true f (read set (event_of s (next_event s) Sync ∷ stream s.node)) old.0
-            (ap (λ i. row unfed f.receiver (read i (stream s.node))) (sym (eqb-true f.set_id set same)) ∙ old.1) r
-            (d.ready set r) u
+            ready_changed true f (read set (event_of s (next_event s) Sync ∷ stream s.node)) (
+              old.0,
+              ap (λ i. row unfed f.receiver (read i (stream s.node))) (sym (eqb-true f.set_id set same)) ∙ old.1,
+            ) r (d.ready set r) u
             (sym (ap (λ b. row unfed r (cond b (Subscribe f.receiver f.provider f.forward) Unrelated
             ∷ read set (event_of s (next_event s) Sync ∷ stream s.node))) same) ∙ is)
         at set r u is false other =

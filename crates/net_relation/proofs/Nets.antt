@@ -241,7 +241,7 @@ has_next k (e ∷ z) less = by (cases_lt k (length z)) (has_next k z)
               ∙ sym (up_to_old k e z (omega (arith, here))));
         }
 
--- the event of a stream behind so many others is the next one for who has applied these
+-- the event of a stream behind the first k is the next one for who has applied these
 pub said_next : (set : ℕ) (later : List Event) (e : Event) (earlier : List Event) (k : ℕ) → length earlier ≡ k →
     (k < length (read set (later ++ e ∷ earlier)))
     × (up_to (k + 1) (read set (later ++ e ∷ earlier)) ≡ said set e ∷ up_to k (read set (later ++ e ∷ earlier)))

@@ -91,7 +91,7 @@ logged_below n id moment logs =
     let now = n.now in
     omega (arith, less, now)
 
--- What another node is compared with: the node of the net, for a set of this origin, where so many transactions have
+-- What another node is compared with: the node of the net, for a set of this origin, where `now` transactions have
 -- ended there in this order.
 pub record Frame : Type 0 where
   pub set_id : ℕ

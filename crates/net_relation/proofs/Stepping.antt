@@ -183,7 +183,7 @@ join_goes t j = record {
       (sound_runs j.seat.place (sound_now t j.seat.name j.seat.place j.is.found)) (nowhere t).runs);
 }
 
--- the databases after the first so many of these commits
+-- the databases after the first of these commits
 abbrev Stood : Past → List Commit → Type 0
 Stood t cs = GoneTo t (look_in (stood cs t.world.places))
 
@@ -266,7 +266,7 @@ take_none : (n : ℕ) → take n no_commits ≡ []
 take_none zero = refl
 take_none (suc n) = refl
 
--- what is in doubt is the commit behind so many others
+-- what is in doubt is the commit behind the first n
 abbrev Wavers : Past → ℕ → List Commit → Type 0
 Wavers t n cs =
     (stands : Bool) (u : World) → u.places ≡ stood (take n cs) t.world.places →

@@ -69,13 +69,13 @@ applied n e b = with_deeds (record { first = 0; rows = []; logs = b.logs; doing 
 abbrev pub with_kept : ℕ × View → Streams → Streams
 with_kept kept s = record s { views = with_entry kept.0 kept.1 s.views }
 
-view_held : {n : Node} {e : Event} (b : Brought) {mid new : Store} (kept : ℕ × View) → HoldsKept n e b mid →
-    ShowsStreams mid (with_kept kept (streams_of (applied n e b))) new → IsId kept.0 → (rows : Named Rows) (count : ℕ)
-    (d : Deed) → d.logs ≡ b.logs →
+view_held : {n : Node} {e : Event} (b : Brought) {mid new : Store} (kept : ℕ × View) →
+    HoldsKept n e b mid × ShowsStreams mid (with_kept kept (streams_of (applied n e b))) new → IsId kept.0 →
+    (rows : Named Rows) (count : ℕ) (d : Deed) → d.logs ≡ b.logs →
     NodeHeld (with_deeds (record d {
       doing = Applies e (record (with_view kept b) { rows = rows; count = count });
     } ∷ []) n) new
-view_held {n} {e} b {mid} {new} kept holds shows id rows count d logs = record {
+view_held {n} {e} b {mid} {new} kept (holds, shows) id rows count d logs = record {
   id = h.id;
   cluster = h.cluster;
   config = config_stays mid new (with_kept kept (streams_of (applied n e b))) (change e (knowledge n).config) shows
@@ -109,7 +109,7 @@ pub has_kept : {n : Node} {e : Event} (b : Brought) {mid new : Store} (kept : �
 has_kept {n} {e} b {new = new} kept holds shows id = record {
   held = λ rows count d is logs.
       subst (λ (doing : Doing). NodeHeld (with_deeds (record d { doing = doing } ∷ []) n) new) (sym is)
-      (view_held b kept holds shows id rows count d logs);
+      (view_held b kept (holds, shows) id rows count d logs);
   own = λ space own. shows.others space (no_stream space (own_else space own));
 }
 

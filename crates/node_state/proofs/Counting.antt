@@ -56,11 +56,15 @@ pub ids_past : (es : List (ℕ × NodeRow)) (i : ℕ) (e : ℕ × NodeRow) → I
     AllAre (λ x. IsId x.0) (drop i es) → IsId e.0 × AllAre (λ x. IsId x.0) (drop (i + 1) es)
 ids_past es i e at ids = subst (λ rest. AllAre (λ (x : ℕ × NodeRow). IsId x.0) rest) (rest_is at) ids
 
+-- the count of this row stands, if the row is live
+abbrev pub HasRead : ℕ → Store → ℕ × NodeRow → Type 0
+HasRead own m e = e.1.live ≡ true → (space : ℕ) → Lacks 11 (HasCount own m e.0) space → ⊥
+
 -- what is handed is not handed at a row that was read well, nor at one that is not live
-pub handed_past : (own : ℕ) (m : Store) (es : List (ℕ × NodeRow)) (i : ℕ) (e : ℕ × NodeRow) → IsPlaced es i e →
-    (e.1.live ≡ true → (space : ℕ) → Lacks 11 (HasCount own m e.0) space → ⊥) → (space : ℕ) →
-    HandedCounts own (drop i es) m space → HandedCounts own (drop (i + 1) es) m space
-handed_past own m es i e at none space (node, live, lacks) =
+pub handed_past : (own : ℕ) (m : Store) (es : List (ℕ × NodeRow)) (i : ℕ) (e : ℕ × NodeRow) →
+    IsPlaced es i e × HasRead own m e → (space : ℕ) → HandedCounts own (drop i es) m space →
+    HandedCounts own (drop (i + 1) es) m space
+handed_past own m es i e (at, none) space (node, live, lacks) =
     by (subst (λ rest. IsLiveIn rest node) (rest_is at) live)
   where
     by : IsLiveIn (e ∷ drop (i + 1) es) node → HandedCounts own (drop (i + 1) es) m space
@@ -77,9 +81,10 @@ pub counted_past : (count : ℕ → Option ℕ) (es : List (ℕ × NodeRow)) (i 
 counted_past count es i e at = ap (counted count) (rest_is at)
 
 pub counted_on : (count : ℕ → Option ℕ) (es : List (ℕ × NodeRow)) (i : ℕ) (e : ℕ × NodeRow)
-    (told new : List (ℕ × ℕ)) → IsPlaced es i e → e.1.live ≡ true → new ≡ told ++ (e.0, unwrap_or (count e.0) 0) ∷ [] →
+    (told new : List (ℕ × ℕ)) → IsPlaced es i e × (e.1.live ≡ true) →
+    new ≡ told ++ (e.0, unwrap_or (count e.0) 0) ∷ [] →
     new ++ counted count (drop (i + 1) es) ≡ told ++ counted count (drop i es)
-counted_on count es i e told new at live is =
+counted_on count es i e told new (at, live) is =
     ap (λ l. l ++ counted count (drop (i + 1) es)) is
     ∙ append_assoc told ((e.0, unwrap_or (count e.0) 0) ∷ []) (counted count (drop (i + 1) es))
     ∙ ap (λ b. told ++ cond b ((e.0, unwrap_or (count e.0) 0) ∷ counted count (drop (i + 1) es))

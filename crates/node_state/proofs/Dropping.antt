@@ -251,8 +251,9 @@ passed_by set all left key m rest of_set goes name = by (is_eq (key_cmp name key
 
 -- the next one is of another set, and taken over
 pub taken_over : (set : ℕ) (all left new : MemberMap) (e : List ℕ × Member) (rest : List (List ℕ × Member)) →
-    (e.1.set == set) ≡ false → new ≡ insert left e.0 e.1 → AreLeft set all (e ∷ rest) left → AreLeft set all rest new
-taken_over set all left new e rest of_other is goes name = by (is_eq (key_cmp name e.0)) refl (goes name)
+    ((e.1.set == set) ≡ false) × (new ≡ insert left e.0 e.1) → AreLeft set all (e ∷ rest) left →
+    AreLeft set all rest new
+taken_over set all left new e rest (of_other, is) goes name = by (is_eq (key_cmp name e.0)) refl (goes name)
   where
     now : get new name ≡ cond (is_eq (key_cmp name e.0)) (Some e.1) (get left name)
     now = ap (λ (ms : MemberMap). get ms name) is ∙ get-insert nat_list_cmp_total left e.0 e.1 name

@@ -94,9 +94,9 @@ marked_past own leads e left all some are set =
 
 -- a set that is marked now
 pub marked_on : (own : ℕ) (leads new : BTreeMap ℕ (Option Bool)) (e : ℕ × SetRow) (left all : Map SetRow) →
-    by_id.get nat_cmp leads e.0 ≡ None → Updates nat_cmp leads new e.0 (Some (leading own (Some e.1))) →
+    (by_id.get nat_cmp leads e.0 ≡ None) × Updates nat_cmp leads new e.0 (Some (leading own (Some e.1))) →
     AreMarked own leads (e ∷ left) all → AreMarked own new left all
-marked_on own leads new e left all none updates are set =
+marked_on own leads new e left all (none, updates) are set =
     ap (λ o. option_or o (marked own left set))
     (updates.0 set ∙ ap (λ b. cond b here (by_id.get nat_cmp leads set))
     (unsigned_tied e.0 set ∙ nat_eq_equiv.symm e.0 set))

@@ -13,6 +13,7 @@ use Rattle.store_rows.specs.declared.stop.Stop.TheVariants.{TooBig as StopTooBig
 use Rattle.app_store.specs.Base.{Base, Memory}
 use Rattle.app_store.specs.Parts.{Part, PartCaused, halt_of}
 use Rattle.app_store.specs.Serves.{NeedsNothing, halts, Caused, Falls, IsBig, NeedsStamp, answered, is_memory, trouble}
+use Rattle.app_store.specs.Serves.{is_failure}
 use Rattle.app_store.proofs.Serving.{Ran, Bursts, Doubted, stop_caused, fault_failure, stop_falls}
 use Rattle.node_store.specs.Acting.{Acts, IsTooBig, acting}
 use Rattle.node_store.specs.Midways.{IsOfEvent}
@@ -22,37 +23,31 @@ pub record RanWell (old new : Base) : Type 0 where
   pub ran : Ran false old.kept new.kept
   pub doubts : new.kept.doubts ≡ old.kept.doubts
 
--- nothing failed
-pub acts_well : (old new : Base) → RanWell old new → Acts None old new
-acts_well old new w = record {
+-- the trouble, if there was any, is none of the store
+acts_calm : {trouble : Option HaltOf} (old new : Base) → RanWell old new → is_failure trouble ≡ false →
+    Caused acting old.kept trouble new.kept × Falls trouble new.memory × IsTooBig trouble new.memory →
+    Acts trouble old new
+acts_calm old new w calm (caused, falls, big) = record {
   tries = record {
     later = w.ran.later;
-    caused = tt;
-    sure = λ calm. w.doubts;
+    caused = caused;
+    sure = λ none. w.doubts;
     still = w.ran.sure.still;
-    spends = λ failed. absurd (false≢true failed);
-    falls = tt;
+    spends = λ failed. absurd (false≢true (sym calm ∙ failed));
+    falls = falls;
     told = w.ran.sure.told;
-    big = tt;
+    big = big;
   };
-  quiet = λ calm. w.ran.sure.quiet refl;
+  quiet = λ none. w.ran.sure.quiet refl;
 }
+
+-- nothing failed
+pub acts_well : (old new : Base) → RanWell old new → Acts None old new
+acts_well old new w = acts_calm old new w refl (tt, tt, tt)
 
 -- memory ran out
 pub acts_memory : (old new : Base) → RanWell old new → Acts (Some NoMemory) old new
-acts_memory old new w = record {
-  tries = record {
-    later = w.ran.later;
-    caused = tt;
-    sure = λ calm. w.doubts;
-    still = w.ran.sure.still;
-    spends = λ failed. absurd (false≢true failed);
-    falls = tt;
-    told = w.ran.sure.told;
-    big = tt;
-  };
-  quiet = λ calm. w.ran.sure.quiet refl;
-}
+acts_memory old new w = acts_calm old new w refl (tt, tt, tt)
 
 -- what is told of a stop of which a number that is too big is that of an event
 stop_big : (m : Memory) (stop : Stop) (count : ℕ) → IsOfEvent stop → m.up ≡ false →

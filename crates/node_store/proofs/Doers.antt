@@ -1,6 +1,6 @@
 -- A node that does one thing, by which it gives the tables of sets no rows of its own: what its store holds then, and
 -- the place that fits.
-use Rattle.std.proofs.Common.{◌≡◌, ℕ, ◌+◌, Bool, true, false, cond, List, [], ◌∷◌, Option, Some, None}
+use Rattle.std.proofs.Common.{◌≡◌, ℕ, ◌+◌, ◌<◌, ◌^◌, Bool, true, false, cond, List, [], ◌∷◌, Option, Some, None}
 use Rattle.std.proofs.Common.{Ok}
 use Rattle.std.proofs.Common.{refl, sym, ap, subst, is_some}
 use Rattle.std.proofs.Common.{◌∙◌, ◌⊎◌, inl, inr, arith}
@@ -12,13 +12,15 @@ use Rattle.std.specs.FinMap.{get}
 use Rattle.slon_base.specs.Keeper.{Store, Kept, put_at}
 use Rattle.slon_base.specs.Codec.{number_bytes}
 use Rattle.store_rows.proofs.Spaces.{same_space}
+use Rattle.slon_model.specs.declared.reply.Answer.{Answer}
+use Rattle.slon_model.specs.declared.reply.Answered.TheVariants.{Sure, InDoubt}
 use Rattle.slon_model.specs.Names.{Named, find_named}
 use Rattle.slon_model.specs.Events.{Event}
 use Rattle.slon_model.specs.Deeds.{Node, Deed, Doing, Brought, Applies, Commits, Hears, Logged, brought_in}
 use Rattle.slon_model.specs.Deeds.{nothing_brought, with_deeds}
 use Rattle.slon_model.specs.Rows.{Rows}
 use Rattle.slon_model.specs.Place.{Place, deed, standing_rows}
-use Rattle.slon_model.specs.Sessions.{Commit, committing, in_doubt}
+use Rattle.slon_model.specs.Sessions.{Commit, committing, has_late, in_doubt}
 use Rattle.node_state.specs.declared.memory.Members.{Members}
 use Rattle.slon_laws.specs.Sound.{Sound}
 use Rattle.slon_laws.specs.Spelled.{AreFormed, IsSpelled}
@@ -30,18 +32,23 @@ use Rattle.node_state.specs.Held.{HoldsNode, is_own}
 use Rattle.node_state.specs.Known.{IsKnown, LearnsOfOther, identity_of, member_at, is_named, learned_as, learned_name}
 use Rattle.node_state.proofs.Staying.{node_stays}
 use Rattle.node_change.specs.Done.{HasDone}
-use Rattle.node_store.specs.Acting.{WritesDone, does}
+use Rattle.node_store.specs.Acting.{ActsAs, Stood, Wavered, WritesDone, does, excess_at}
+use Rattle.node_store.specs.Midways.{Midway}
+use Rattle.app_store.specs.Steps.{Finishes}
+use Rattle.app_store.specs.declared.transact.Made.TheVariants.{Done as MadeDone, InDoubt as MadeInDoubt}
+use Rattle.app_store.proofs.Transacting.{small_stamp}
 use Rattle.app_store.specs.Base.{Memory, Base}
 use Rattle.app_store.specs.declared.opens.Transaction.{Transaction}
-use Rattle.app_store.specs.Fits.{Fits, OpensAs, Runs, IsNamed}
+use Rattle.app_store.specs.Fits.{Fits, OpensAs, Runs}
 use Rattle.app_store.specs.Spelled.{Holds, AreTables, AreRows, IsMeta, meta, stamp_key, meta_at}
 use Rattle.app_store.proofs.Holding.{stored_of, restamped, put_other, never_bare}
 use Rattle.app_store.proofs.Openings.{opened_same}
-use Rattle.app_store.proofs.Standing.{fits_running, named_up, named_as}
+use Rattle.app_store.proofs.Standing.{fits_running}
 use Rattle.app_store.proofs.Upright.{UpAt, running, IsChanged, LeftInDoubt}
 use Rattle.node_store.specs.Bringing.{CanFill, WritesBrought}
-use Rattle.node_store.proofs.Committing.{stamped_store, commit_wavers, same_id}
-use Rattle.node_store.proofs.Filled.{opened_filled, standing_filled, with_filled}
+use Rattle.node_store.proofs.Committing.{stamped_store, node_wavers, same_id}
+use Rattle.node_store.proofs.Filled.{none_fill, opened_filled, standing_filled, with_filled}
+use Rattle.node_store.proofs.Several.{within_limit}
 use Rattle.node_store.proofs.Tables.{holds_tables, tables_held}
 
 -- The node of a place, which does this, with a name on which nothing in the place depends.
@@ -222,21 +229,9 @@ pub done_wavers : {p : Place} {b : Base} (at : UpAt p b) (d : Doer p) (store : S
     HasFilled d at.ready.fits.held.0 store →
     LeftInDoubt at.ready.fits.held.0 (stamped_store p store) b new →
     (stands : Bool) × Fits (in_doubt (done_in d) stands p) new
-done_wavers {p} {b} at d store new has left =
-    let runs = (running at).1 in
-    commit_wavers {store = store} {new = new} at (done_in d) (record {
-      up = left.up;
-      doubt = left.doubt ∙ ap (λ n. Some (n + 1)) runs.stamp;
-      named = λ stands. by_stands stands
-          (named_as p p b.memory new.memory (named_up p b.memory runs) left.identity refl);
-      later = left.later;
-      holds = holds_done at d has;
-      either = left.either;
-    })
-  where
-    by_stands : (stands : Bool) → IsNamed p new.memory → IsNamed (in_doubt (done_in d) stands p) new.memory
-    by_stands true named = named ∙ sym (same_id (deed_in d ∷ []) p.node p.promised)
-    by_stands false named = named
+done_wavers {p} at d store new has left =
+    node_wavers {new = new} at (done_in d) store left (same_id (deed_in d ∷ []) p.node p.promised, refl)
+    (holds_done at d has)
 
 -- ---- what the code wrote
 
@@ -310,3 +305,59 @@ either_held {at = at} w new same either =
       | inl before ↦ inl (before ∙ same ∙ at.ready.fits.held.1)
       | inr made ↦ inr (held_stood w new.held made)
     ]
+
+-- ---- how its transaction ended
+
+-- A node that hears how far others are: nothing is filled.
+abbrev pub hearer : {p : Place} (n : Node) → p.node ≡ Some n → List (ℕ × ℕ × ℕ) → List ℕ → Doer p
+hearer {p} n is confirms name =
+    record { node = n; is = is; doing = Hears confirms; name = name; fills = none_fill p }
+
+-- What the memory became where the commit stands.
+pub record Remembering {p : Place} (d : Doer p) (old new : Memory) : Type 0 where
+  pub members : Members
+  pub known : IsKnown (Some (node_after d)) old.identity members
+  pub memory : new ≡ with_stamp (old.stamp + 1) members old
+
+-- and where it is in doubt
+pub record Doubting (old new : Memory) : Type 0 where
+  pub up : new.up ≡ false
+  pub doubt : new.doubt ≡ Some (old.stamp + 1)
+  pub identity : new.identity ≡ old.identity
+
+-- no number of the commit is too big
+abbrev pub IsSmall : {p : Place} → Base → Doer p → Type 0
+IsSmall b d = (b.memory.stamp + 1 < 2 ^ 63) × (has_late (done_in d).deeds ≡ false)
+
+within : {p : Place} {b : Base} (at : UpAt p b) (d : Doer p) → IsSmall b d → excess_at (done_in d) p ≡ None
+within {p} {b} at d small =
+    within_limit (done_in d) p (small_stamp p b.memory.stamp (running at).1.stamp small.0) small.1
+
+pub done_stood : {answer : Answer} {p : Place} {b new : Base} {mid : Kept} (at : UpAt p b) (d : Doer p) →
+    IsSmall b d → IsWritten at d mid → Midway b.kept mid → Finishes mid new.kept (Ok MadeDone) →
+    Remembering d b.memory new.memory → ActsAs (done_in d) answer p (Ok (Sure answer)) new
+done_stood {p = p} {b} {new} at d small w way ends r = Stood refl (within at d small) (done_stands at d new (record {
+  store = w.store;
+  has = w.has;
+  changed = record {
+    held = held_stood w new.kept.held ends.ends;
+    later = omega (arith, way.later, ends.counted.later);
+  };
+  members = r.members;
+  known = r.known;
+  memory = r.memory;
+}))
+
+pub done_doubted : {answer : Answer} {p : Place} {b new : Base} {mid : Kept} (at : UpAt p b) (d : Doer p) →
+    IsSmall b d → IsWritten at d mid → Midway b.kept mid →
+    Finishes mid new.kept (Ok MadeInDoubt) → Doubting b.memory new.memory →
+    ActsAs (done_in d) answer p (Ok (InDoubt answer)) new
+done_doubted {p = p} {b} {new} at d small w way ends r =
+    let fits = done_wavers at d w.store new w.has (record {
+      up = r.up;
+      doubt = r.doubt;
+      identity = r.identity;
+      later = omega (arith, way.later, ends.counted.later);
+      either = either_held w new.kept way.held ends.ends;
+    }) in
+    Wavered fits.0 refl (within at d small) fits.1

@@ -1,5 +1,5 @@
 -- A node that emits events: what its store holds then, and the place that fits.
-use Rattle.std.proofs.Common.{◌≡◌, ℕ, ◌+◌, ◌<◌, ◌≤◌, Bool, true, false, List, length, Option, Some, Ok, Err}
+use Rattle.std.proofs.Common.{◌≡◌, ℕ, ◌+◌, ◌<◌, ◌≤◌, Bool, false, List, length, Option, Some, Ok, Err}
 use Rattle.std.proofs.Common.{refl, sym, ap, subst, ◌∙◌, ◌⊎◌, inl, inr, arith}
 use Rattle.std.specs.Option.{option_map}
 use Rattle.std.specs.FinMap.{get}
@@ -31,9 +31,9 @@ use Rattle.node_store.proofs.Several.{emissions_behind, meta_behind, identity_be
 use Rattle.node_store.proofs.Several.{last_is, emission_beyond, emissions_fill}
 use Rattle.node_store.proofs.Lookups.{Halts, look_stops}
 use Rattle.app_store.specs.Base.{Memory, Base}
-use Rattle.app_store.specs.Fits.{Fits, Runs, StandsAs, IsNamed}
+use Rattle.app_store.specs.Fits.{Fits, Runs, StandsAs}
 use Rattle.app_store.specs.Serves.{is_memory}
-use Rattle.node_store.proofs.Committing.{stamped_store, commit_wavers, rows_stay, same_id}
+use Rattle.node_store.proofs.Committing.{stamped_store, node_wavers, rows_stay, same_id}
 use Rattle.app_store.specs.Spelled.{Holds, AreTables, AreRows, IsMeta, meta, stamp_key, meta_at}
 use Rattle.app_store.proofs.Holding.{stored_of, restamped, put_other, never_bare, holds_same}
 use Rattle.app_store.proofs.Standing.{fits_running, named_up, named_as, opens_same}
@@ -144,21 +144,9 @@ pub emission_wavers : {p : Place} {b : Base} {number : ℕ} (at : UpAt p b) (a :
     (new : Base) → HasEmittedAll p a.node a.parts number at.ready.fits.held.0 store →
     LeftInDoubt at.ready.fits.held.0 (stamped_store p store) b new →
     (stands : Bool) × Fits (in_doubt (commit_in a) stands p) new
-emission_wavers {p} {b} at a store new has left =
-    let runs = (running at).1 in
-    commit_wavers {store = store} {new = new} at (commit_in a) (record {
-      up = left.up;
-      doubt = left.doubt ∙ ap (λ n. Some (n + 1)) runs.stamp;
-      named = λ stands. by_stands stands
-          (named_as p p b.memory new.memory (named_up p b.memory runs) left.identity refl);
-      later = left.later;
-      holds = holds_emitted a runs.founded has at.ready.fits.held.2;
-      either = left.either;
-    })
-  where
-    by_stands : (stands : Bool) → IsNamed p new.memory → IsNamed (in_doubt (commit_in a) stands p) new.memory
-    by_stands true named = named ∙ sym (same_id (commit_in a).deeds p.node p.promised)
-    by_stands false named = named
+emission_wavers {p} at a store new has left =
+    node_wavers {new = new} at (commit_in a) store left (same_id (commit_in a).deeds p.node p.promised, refl)
+    (holds_emitted a (running at).1.founded has at.ready.fits.held.2)
 
 -- ---- what the code wrote
 
@@ -214,6 +202,13 @@ own_is {p} {b} {own} n at is some =
     let known : option_map (λ i. i.id) b.memory.identity ≡ Some n.id =
     ap (option_map (λ i. i.id)) ((running at).1.known.identity_is ∙ ap identity_of is) in
     cc (some, known)
+
+-- so it is told, where the id that is kept is this one
+pub said_of : {p : Place} {b : Base} {own : ℕ} {seen : Snapshot} {bodies : List Body} (a : Announcement p) →
+    UpAt p b → option_map (λ i. i.id) b.memory.identity ≡ Some own → seen ≡ taken p → bodies_in a.parts ≡ bodies →
+    0 < length bodies → LearnsAll p a.node a.parts → Said a own seen bodies
+said_of a at own seen bodies some learns = record
+    { own_is = own_is a.node at a.is own; seen_is = seen; bodies_are = bodies; some = some; learns = learns }
 
 -- What is pending behind the emission.
 pub record IsWritten {p : Place} {b : Base} (at : UpAt p b) (a : Announcement p) (number : ℕ) (mid : Kept) : Type 0

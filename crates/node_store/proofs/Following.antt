@@ -107,22 +107,32 @@ one_synced {n} {e} {p} {m} {origin} b t given {old} {mid} new sync (before, kept
 
 -- ---- what is logged too
 
+-- An event that a node applies in a store, with what comes with it, and what it may log beside it.
+pub record Logging : Type 0 where
+  pub node : Node
+  pub event : Event
+  pub store : Store
+  pub brought : Brought
+  pub logs : List Logged
+
+-- all of it is kept, and logged if the node forwards the set
+abbrev pub HasForwarded : Logging → Bool → Store → Type 0
+HasForwarded l forwards new = HasKept l.node l.event (with_forwarded forwards l.logs l.brought) l.store new
+
 -- rows that are logged, of a set that the node forwards
-pub forwarded_some : (n : Node) (e : Event) (m : Store) {forwards : Bool} (b : Brought) (logs : List Logged)
-    (result : Result (Unit {0}) Stop) (k : Kept) → forwards ≡ true →
-    Becomes (HasKept n e (with_logs logs b) m) k result →
-    Becomes (HasKept n e (with_forwarded forwards logs b) m) k result
-forwarded_some n e m b logs result k is becomes =
-    subst (λ (f : Bool). Becomes (HasKept n e (with_forwarded f logs b) m) k result) (sym is) becomes
+pub forwarded_some : (l : Logging) (forwards : Bool) (result : Result (Unit {0}) Stop) (k : Kept) → forwards ≡ true →
+    Becomes (HasKept l.node l.event (with_logs l.logs l.brought) l.store) k result →
+    Becomes (HasForwarded l forwards) k result
+forwarded_some l forwards result k is becomes =
+    subst (λ (f : Bool). Becomes (HasForwarded l f) k result) (sym is) becomes
 
 -- and none of one that it does not
-pub forwarded_none : (n : Node) (e : Event) (m : Store) {forwards : Bool} (b : Brought) (logs : List Logged)
-    (k : Kept) → forwards ≡ false → k.pending ≡ Some (Some m) → HoldsKept n e b m →
-    IsPending (HasKept n e (with_forwarded forwards logs b) m) k
-forwarded_none n e m b logs k not is holds = record {
-  store = m;
+pub forwarded_none : (l : Logging) (forwards : Bool) (k : Kept) → forwards ≡ false → k.pending ≡ Some (Some l.store) →
+    HoldsKept l.node l.event l.brought l.store → IsPending (HasForwarded l forwards) k
+forwarded_none l forwards k not is holds = record {
+  store = l.store;
   is = is;
-  has = subst (λ (f : Bool). HasKept n e (with_forwarded f logs b) m m) (sym not)
+  has = subst (λ (f : Bool). HasForwarded l f l.store) (sym not)
       (record { held = holds; own = λ space own. refl });
 }
 
@@ -159,15 +169,15 @@ pub record IsFirst (e : Event) (p : Place) (b : Brought) (now : Brought) (given 
   pub ends : b ≡ with_syncs p rest (with_sync p t now)
 
 first_of : (e : Event) (p : Place) (b now : Brought) (given : SetSync) (more : List SetSync)
-    (ts : List rules.SetSync) → HaveSyncs e.origin ts (given ∷ more) → b ≡ with_syncs p ts now →
+    (ts : List rules.SetSync) → HaveSyncs e.origin ts (given ∷ more) × (b ≡ with_syncs p ts now) →
     IsFirst e p b now given more
-first_of e p b now given more [] have ends = absurd have
-first_of e p b now given more (t ∷ rest) have ends =
+first_of e p b now given more [] (have, ends) = absurd have
+first_of e p b now given more (t ∷ rest) (have, ends) =
     record { t = t; rest = rest; sync = have.0; have = have.1; ends = ends }
 
 pub first_taking : {n : Node} {e : Event} {p : Place} {m : Store} {b : Brought} {given : SetSync}
     {more : List SetSync} {store : Store} (x : IsTaking n e p m b (given ∷ more) store) → IsFirst e p b x.now given more
-first_taking {e = e} {p} {b = b} {given} {more} x = first_of e p b x.now given more x.ts x.have x.ends
+first_taking {e = e} {p} {b = b} {given} {more} x = first_of e p b x.now given more x.ts (x.have, x.ends)
 
 pub one_taking : {n : Node} {e : Event} {p : Place} {m : Store} {b : Brought} {given : SetSync} {more : List SetSync}
     {old new : Kept} → IsPending (IsTaking n e p m b (given ∷ more)) old →

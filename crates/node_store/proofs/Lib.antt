@@ -7,7 +7,9 @@ pub mod Confirmed
 pub mod Delta
 pub mod Emitted
 pub mod Emitting
+pub mod Endings
 pub mod Filled
+pub mod Findings
 pub mod Following
 pub mod Joiners
 pub mod Learning

@@ -157,14 +157,15 @@ split_first f test l more =
       | false ↦ refl
     ]
 
-moved_on : {Y : Type 0} (f : Logged → Y) (test : Logged → Bool) (l : Logged) (rest more : List Logged)
-    (old new : List Y)
-    (end : List Y) → rest ≡ l ∷ more → new ≡ old ++ map f (filter test (l ∷ [])) →
-    old ++ map f (filter test rest) ≡ end → new ++ map f (filter test more) ≡ end
-moved_on f test l rest more old new end splits is all =
-    ap (λ ys. ys ++ map f (filter test more)) is
-    ∙ append_assoc old (map f (filter test (l ∷ []))) (map f (filter test more))
-    ∙ ap (λ ys. old ++ ys) (split_first f test l more ∙ ap (λ ls. map f (filter test ls)) (sym splits)) ∙ all
+moved_on : {Y : Type 0} {row : ℕ × LogRow} {left : List (ℕ × LogRow)} {rest : List Logged} (f : Logged → Y)
+    (test : Logged → Bool) (first : IsFirst row left rest) (old new end : List Y) →
+    new ≡ old ++ map f (filter test (first.l ∷ [])) → old ++ map f (filter test rest) ≡ end →
+    new ++ map f (filter test first.more) ≡ end
+moved_on f test first old new end is all =
+    ap (λ ys. ys ++ map f (filter test first.more)) is
+    ∙ append_assoc old (map f (filter test (first.l ∷ []))) (map f (filter test first.more))
+    ∙ ap (λ ys. old ++ ys)
+    (split_first f test first.l first.more ∙ ap (λ ls. map f (filter test ls)) (sym first.splits)) ∙ all
 
 pub one_sifted : {test : Logged → Bool} {all : List Logged} {found : LoggedRows} {row : ℕ × LogRow}
     {left : List (ℕ × LogRow)} (new : LoggedRows) → IsSifted test all found (row ∷ left) →
@@ -177,10 +178,10 @@ one_sifted {test} {all} {found} {row} {left} new x on =
       rest = first.more;
       left_are = first.left_are;
       written = written.1;
-      rows_are = moved_on row_of test first.l x.rest first.more found.rows new.rows (map row_of (filter test all))
-          first.splits added.rows_are x.rows_are;
-      actions_are = moved_on (λ l. action_as l.action) test first.l x.rest first.more found.actions new.actions
-          (map (λ l. action_as l.action) (filter test all)) first.splits added.actions_are x.actions_are;
+      rows_are = moved_on row_of test first found.rows new.rows (map row_of (filter test all)) added.rows_are
+          x.rows_are;
+      actions_are = moved_on (λ l. action_as l.action) test first found.actions new.actions
+          (map (λ l. action_as l.action) (filter test all)) added.actions_are x.actions_are;
     }
 
 -- what stops at the first of them

@@ -58,10 +58,10 @@ own_ended own first xmin actions older logs owned =
     (λ l. l.origin ≡ own → l.action.number < first → l.action.xid < xmin)
     (λ l among from. all_among (λ a. a.number < first → a.xid < xmin) l.action actions older (among from)) logs owned
 
-pub ended_own : (origin first xmin : ℕ) (p : Place) (identity : Option Identity) → identity ≡ identity_of p.node →
-    option_map (λ i. i.id) identity ≡ Some origin → AreOwn p.actions p.node → AreOlder first xmin p.actions →
-    HaveEnded origin first xmin (logs_in p.node)
-ended_own origin first xmin p identity known is owned older =
+pub ended_own : (origin first xmin : ℕ) (p : Place) (identity : Option Identity) →
+    (identity ≡ identity_of p.node) × (option_map (λ i. i.id) identity ≡ Some origin) → AreOwn p.actions p.node →
+    AreOlder first xmin p.actions → HaveEnded origin first xmin (logs_in p.node)
+ended_own origin first xmin p identity (known, is) owned older =
     by p.node (sym (ap (option_map (λ (i : Identity). i.id)) known) ∙ is) owned
   where
     by : (o : Option Node) → option_map (λ (i : Identity). i.id) (identity_of o) ≡ Some origin → AreOwn p.actions o →

@@ -67,12 +67,18 @@ plainly_brought n e tables m new holds has = record {
   rows = same_tables tables m new (has.own 3 refl) holds;
 }
 
-pub becomes_plainly : (n : Node) (e : Event) (b : Brought) (tables : List ℕ → Rows) (m : Store) (new : Kept)
-    (result : Result (Unit {0}) Stop) → b ≡ nothing_brought → HoldsRows tables m →
-    Becomes (HasApplied n e m) new result → Becomes (HasBrought n e b tables m) new result
-becomes_plainly n e b tables m new result none holds p =
-    subst (λ (c : Brought). Becomes (HasBrought n e c tables m) new result) (sym none)
-    (becomes_as new (λ store has. plainly_brought n e tables m store holds has) result p)
+-- A store and the rows that it holds.
+pub record Holding : Type 0 where
+  pub tables : List ℕ → Rows
+  pub store : Store
+  pub holds : HoldsRows tables store
+
+pub becomes_plainly : (n : Node) (e : Event) (b : Brought) (h : Holding) (new : Kept)
+    (result : Result (Unit {0}) Stop) → b ≡ nothing_brought → Becomes (HasApplied n e h.store) new result →
+    Becomes (HasBrought n e b h.tables h.store) new result
+becomes_plainly n e b h new result none p =
+    subst (λ (c : Brought). Becomes (HasBrought n e c h.tables h.store) new result) (sym none)
+    (becomes_as new (λ store has. plainly_brought n e h.tables h.store store h.holds has) result p)
 
 -- What stands where a set was taken: the node keeps a view, and its tables are not filled yet.
 pub record HasTaken (n : Node) (e : Event) (b : Brought) (m mid : Store) : Type 0 where
@@ -101,10 +107,10 @@ pub not_rows : (space : ℕ) → is_own space ≡ false → (space == 3) ≡ fal
 not_rows space other = (or_parts (space == 1 || space == 2) (space == 3) other).1
 
 -- and then they are
-pub tables_taken : (n : Node) (e : Event) (b : Brought) (tables : List ℕ → Rows) (m mid new : Store) →
+pub tables_taken : {m mid : Store} (n : Node) (e : Event) (b : Brought) (tables : List ℕ → Rows) (new : Store) →
     HasTaken n e b m mid → OthersStay mid new → HoldsRows (with_tables b.rows tables) new →
     HasBrought n e b tables m new
-tables_taken n e b tables m mid new has stay rows = record {
+tables_taken {mid = mid} n e b tables new has stay rows = record {
   held = λ d doing logs. node_stays (Some (with_deeds (d ∷ []) n)) mid new
       (λ space other. stay space (not_rows space other)) (has.held d doing logs);
   own = λ space one other. stay space other ∙ has.own space one;

@@ -100,15 +100,15 @@ abbrev pub LeavesOf : List (List ℕ) → List (List ℕ) → Place → Place �
 LeavesOf names more p q = first_refusal (copy_checks p q names) ≡ first_refusal (copy_checks p q more)
 
 pub next_table : (names more : List (List ℕ)) (name : List ℕ) (p q : Place) (o : Option Refusal) → o ≡ None →
-    LeavesOf names (name ∷ more) p q → TableChecked name p q o → LeavesOf names more p q
-next_table names more name p q o none before is =
+    LeavesOf names (name ∷ more) p q × TableChecked name p q o → LeavesOf names more p q
+next_table names more name p q o none (before, is) =
     before ∙ pass_two (when (is_none (find_named name p.tables)) (refused.NoTable name))
     (when (not (width_of name p == width_of name q)) (refused.BadWidth (width_of name p))) (copy_checks p q more)
     (is ∙ none)
 
-pub bad_table : (names more : List (List ℕ)) (name : List ℕ) (p q : Place) (o : Option Refusal) (r : Refusal) →
-    o ≡ Some r → LeavesOf names (name ∷ more) p q → TableChecked name p q o → TablesChecked names p q (Some r)
-bad_table names more name p q o r some before is =
+pub bad_table : {r : Refusal} (names more : List (List ℕ)) (name : List ℕ) (p q : Place) (o : Option Refusal) →
+    o ≡ Some r → LeavesOf names (name ∷ more) p q × TableChecked name p q o → TablesChecked names p q (Some r)
+bad_table {r} names more name p q o some (before, is) =
     before ∙ stop_two (when (is_none (find_named name p.tables)) (refused.NoTable name))
     (when (not (width_of name p == width_of name q)) (refused.BadWidth (width_of name p))) (copy_checks p q more) r
     (is ∙ some)
@@ -220,10 +220,10 @@ pub provider_strange : (own provider : ℕ) (e : Event) (q : Place) → IsKnownA
 provider_strange own provider e q none k there =
     ap (λ b. first_refusal (checks_by own provider e.number b (progress e.origin (knowledge k)))) (sym (none k there))
 
-pub provider_reached : (own provider : ℕ) (e : Event) (q : Place) (number : ℕ) → IsKnownAt own true q →
-    IsReached e.origin number q → (behind : Bool) → nat_lt number e.number ≡ behind →
+pub provider_reached : (own provider : ℕ) (e : Event) (q : Place) (number : ℕ) →
+    IsKnownAt own true q × IsReached e.origin number q → (behind : Bool) → nat_lt number e.number ≡ behind →
     ProviderSays own provider e (when behind (refused.Behind provider number e.number)) q
-provider_reached own provider e q number knows is behind less k there =
+provider_reached own provider e q number (knows, is) behind less k there =
     ap (λ b. first_refusal (checks_by own provider e.number b (progress e.origin (knowledge k)))) (sym (knows k there))
     ∙ ap (λ n. first_refusal (checks_by own provider e.number true n)) (sym (is k there))
     ∙ ap (λ b. first_refusal (when b (refused.Behind provider number e.number) ∷ [])) less
@@ -248,19 +248,19 @@ refused_copy seen a p q names r are some n k name other here there own provider 
     ∙ ap (λ o. unless_refused o (FoundCopy c.set_id first (rows_at q names))) some
 
 -- What was read of a set that is copied with an event, as it is at this snapshot.
-pub record IsRead (a : Asked) (seen : Snapshot) (names : List (List ℕ)) (given : SetCopy) (p q : Place) : Type 0
-  where
-    pub names_are : AreNames a.own a.copying.set names p
-    pub passed : first_refusal (copy_checks p q names) ≡ None
-    pub set_is : given.set ≡ a.copying.set
-    pub view_is : seen_view given.view ≡ first_view a.copying.era a.event.origin a.event.number seen
-    pub rows : AreListed (rows_at q names) given.tables
-    pub counted : rows_in (rows_at q names) ≡ rows_listed given.tables
+pub record IsRead (a : Asked) (seen : Snapshot) (given : SetCopy) (p q : Place) : Type 0 where
+  pub names : List (List ℕ)
+  pub names_are : AreNames a.own a.copying.set names p
+  pub passed : first_refusal (copy_checks p q names) ≡ None
+  pub set_is : given.set ≡ a.copying.set
+  pub view_is : seen_view given.view ≡ first_view a.copying.era a.event.origin a.event.number seen
+  pub rows : AreListed (rows_at q names) given.tables
+  pub counted : rows_in (rows_at q names) ≡ rows_listed given.tables
 
-pub copied_found : (a : Asked) (seen : Snapshot) (p q : Place) (names : List (List ℕ)) (given : SetCopy)
-    (w : Worker Fetched) → IsRead a seen names given p q → w.state.load ≡ Some (Copy given) →
-    Copies seen a p q (found.Brings w)
-copied_found a seen p q names given w r brings n k name other here there is provider =
+pub copied_found : (a : Asked) (seen : Snapshot) (p q : Place) (given : SetCopy) (w : Worker Fetched) →
+    IsRead a seen given p q → w.state.load ≡ Some (Copy given) → Copies seen a p q (found.Brings w)
+copied_found a seen p q given w r brings n k name other here there is provider =
+    let names = r.names in
     let c = seen_copying a.copying in
     let first = first_view c.era a.event.origin a.event.number seen in
     let due = FoundCopy c.set_id first (rows_at q names) in (

@@ -158,9 +158,10 @@ split_first f test l more =
     ]
 
 moved_on : {Y : Type 0} (f : Logged → Y) (test : Logged → Bool) (l : Logged) (more : List Logged)
-    (old new end : List Y) → new ≡ old ++ map f (filter test (l ∷ [])) →
-    old ++ map f (filter test (l ∷ more)) ≡ end → new ++ map f (filter test more) ≡ end
-moved_on f test l more old new end is all =
+    (old new end : List Y) →
+    (new ≡ old ++ map f (filter test (l ∷ []))) × (old ++ map f (filter test (l ∷ more)) ≡ end) →
+    new ++ map f (filter test more) ≡ end
+moved_on f test l more old new end (is, all) =
     ap (λ ys. ys ++ map f (filter test more)) is
     ∙ append_assoc old (map f (filter test (l ∷ []))) (map f (filter test more))
     ∙ ap (λ ys. old ++ ys) (split_first f test l more) ∙ all
@@ -188,10 +189,10 @@ one_parted {test} {all} {part} {row} {action} {rows} {actions} new x on =
           rest = more;
           rows_left = cc;
           actions_left = cc;
-          rows_are = moved_on row_of test l more part.rows new.rows (map row_of (filter test all)) added.rows_are
-              rows_are;
+          rows_are = moved_on row_of test l more part.rows new.rows (map row_of (filter test all))
+              (added.rows_are, rows_are);
           actions_are = moved_on (λ l. action_as l.action) test l more part.actions new.actions
-              (map (λ l. action_as l.action) (filter test all)) added.actions_are actions_are;
+              (map (λ l. action_as l.action) (filter test all)) (added.actions_are, actions_are);
         }
 
 -- all were looked at

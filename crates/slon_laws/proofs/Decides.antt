@@ -19,7 +19,7 @@ use Rattle.slon_model.specs.Tasks.{ToCrash, ToRise}
 use Rattle.slon_model.specs.Deeds.{Node}
 use Rattle.slon_model.specs.Place.{Place, Standing, IsRunning, IsFallen, IsDoubtful, counter, with_counter, lifted}
 use Rattle.slon_model.specs.Place.{stamped, raised, holder, seen_rows}
-use Rattle.slon_model.specs.Moves.{Move, Stays, Writes, done, is_beyond}
+use Rattle.slon_model.specs.Moves.{Move, Writes, done, is_beyond}
 use Rattle.slon_model.specs.Deciding.{Decision, Refuses, Accepts, Overflows, limited, refused_if, with_found, fits}
 use Rattle.slon_model.specs.Deciding.{unless_held, by_row, decide_row, decide_write, decide_up, decide_down, decide_by}
 use Rattle.slon_model.specs.Deciding.{decide, settled, move_of, closed_at, unless_closed, status_of}
@@ -128,9 +128,6 @@ decides_write w p =
       };
       next = let same = (raised_same Actions p).number in omega (arith, same);
     }))))))
-
-plain : (task : Task) (p : Place) (answer : Answer) → IsNext p answer → Decides task p (Accepts answer Stays)
-plain task p answer next = record { allowed = tt; next = next }
 
 status_next : (q : Place) (n : Option Node) → IsNext q (status_of n)
 status_next q None = tt

@@ -34,11 +34,15 @@ numbered_have P origin (l ∷ logs) all =
       | false ↦ numbered_have P origin logs all.1
     ]
 
--- What all that is logged has, and each action on one of these tables: Q of what is read of the log.
-pub delta_has : (P Q : Logged → Type 0) (tables : Map (List ℕ)) →
-    ((l : Logged) → P l → is_on_one tables l ≡ true → Q l) →
+-- Where P holds of all that is logged, Q holds of what is read of it on these tables.
+abbrev pub ReadsOf : (Logged → Type 0) → (Logged → Type 0) → Map (List ℕ) → Type 0
+ReadsOf P Q tables =
     (origin : ℕ) (old new : Snapshot) (logs : List Logged) → AllByRecursion P logs →
     AllByRecursion Q (delta origin tables old new logs)
+
+-- What all that is logged has, and each action on one of these tables: Q of what is read of the log.
+pub delta_has : (P Q : Logged → Type 0) (tables : Map (List ℕ)) →
+    ((l : Logged) → P l → is_on_one tables l ≡ true → Q l) → ReadsOf P Q tables
 delta_has P Q tables each origin old new logs all =
     all_passed P Q (λ l. is_on_one tables l && is_new old new l)
     (λ l has passes. each l has (and_parts (is_on_one tables l) (is_new old new l) passes).0)
@@ -103,17 +107,6 @@ syncs_have here R Q makes (t ∷ more) b new old =
     syncs_have here R Q makes more (with_sync here t b) new.1 (sync_has here R Q makes t b new.0 old)
 
 -- ---- what is taken of the sets that a node keeps
-
--- an action of which P holds, on a table of the set to which the node takes rows, is one of which Q holds
-abbrev pub TakesOf : ℕ → Knowledge → (Logged → Type 0) → (Logged → Type 0) → ℕ × View → Type 0
-TakesOf own k P Q v = (l : Logged) → P l → is_on_one (tables_taken own v.0 k.config) l ≡ true → Q l
-
-pub taken_have : (own : ℕ) (k : Knowledge) (e : Event) (logs : List Logged) (P Q : Logged → Type 0) →
-    AllByRecursion P logs → (vs : Map View) → AllByRecursion (TakesOf own k P Q) vs →
-    AllTaken Q (map (set_sync own k e logs) vs)
-taken_have own k e logs P Q all vs each =
-    all_mapped (TakesOf own k P Q) (λ (t : SetSync). AllByRecursion Q t.rows) (set_sync own k e logs)
-    (λ v takes. delta_has P Q (tables_taken own v.0 k.config) takes e.origin v.1.seen e.taken logs all) vs each
 
 -- ---- the tables of what is taken
 

@@ -92,10 +92,6 @@ sound_lifted Actions p s = sound_higher (same_higher p.xids) (lifted_higher p.nu
 pub sound_raised : (kind : Numbering) (p : Place) → Sound p → Sound (raised kind p)
 sound_raised kind p s = either_raised Sound kind p s (sound_lifted kind p s)
 
-most : (kind : Numbering) (p : Place) → Sound p → (counter kind p).next ≤ (counter kind p).ceiling
-most Xids p s = s.xids_below
-most Actions p s = s.numbers_below
-
 lifted_room : (kind : Numbering) (p : Place) → (counter kind p).next ≡ (counter kind p).ceiling →
     (counter kind (stamped (with_counter kind (lifted (counter kind p)) p))).next < (counter kind
     (stamped (with_counter kind (lifted (counter kind p)) p))).ceiling

@@ -163,9 +163,10 @@ own_before a actions (Some n) owned =
     (λ l is own. inr (is own)) (logged n) owned
 
 spelled_written : (task : Task) (xid : ℕ) (table : List ℕ) (change : Change) (p : Place) →
-    IsTask task × MayWrite task p xid table change → is_last Actions p ≡ false →
-    Sound (done (Writes xid table change) p) → IsSpelled p → IsSpelled (done (Writes xid table change) p)
-spelled_written task xid table change p (formed, may) within sound s = record {
+    IsTask task × MayWrite task p xid table change →
+    (is_last Actions p ≡ false) × Sound (done (Writes xid table change) p) → IsSpelled p →
+    IsSpelled (done (Writes xid table change) p)
+spelled_written task xid table change p (formed, may) (within, sound) s = record {
   small =
       record {
         stamp = raised_spelled.small.stamp;
@@ -356,8 +357,8 @@ spelled_done task (Begins name) p formed may sound s =
     spelled_same (raised Xids p) (done (Begins name) p) (refl, refl, omega arith, refl, refl, refl, refl, refl)
     (spelled_raised Xids p may.within s)
 spelled_done task (Writes xid table change) p formed may sound s =
-    spelled_written task xid table change p (formed, may.allows) may.within
-    (keeps_sound.tasks.moves task (Writes xid table change) p tt may sound) s
+    spelled_written task xid table change p (formed, may.allows)
+    (may.within, keeps_sound.tasks.moves task (Writes xid table change) p tt may sound) s
 spelled_done task (Commits name xid) p formed may sound s = spelled_committed name xid p may.within s
 spelled_done task (Aborts name) p formed may sound s =
     spelled_same p (done (Aborts name) p) (refl, refl, omega arith, refl, refl, refl, refl, refl) s

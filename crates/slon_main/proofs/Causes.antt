@@ -18,10 +18,6 @@ pub rose_since : (old mid new : ℕ) → old ≤ mid → Rose mid new → Rose o
 rose_since old mid new later (inl less) = inl (omega (arith, later, less))
 rose_since old mid new later (inr last) = inr last
 
-pub rose_on : (old mid new : ℕ) → Rose old mid → mid ≤ new → new ≤ 2 ^ 64 - 1 → Rose old new
-rose_on old mid new (inl less) later small = inl (omega (arith, later, less))
-rose_on old mid new (inr last) later small = inr (omega (arith, last, later, small))
-
 -- no count fell
 pub record Later (old new : Counts) : Type 0 where
   pub files : old.files ≤ new.files
@@ -67,19 +63,10 @@ tells_still old new same tells = subst (λ f. (place : ℕ) →
 pub tells_kept : (old new : Shelved) → old.promise ≡ new.promise → Tells new → Tells old
 tells_kept old new same tells = tells_still new old same tells
 
-within_none : (left : Option ℕ) → Within (Some 0) left → left ≡ Some 0
-within_none None within = absurd within
-within_none (Some n) within = let none : n ≡ 0 = omega (arith, within) in ap Some none
-
 -- a store as it was promised begins empty, and fails at no call
 pub begins_empty : (shelf : Shelved) (place : ℕ) (k : Kept) → Tells shelf → IsAsPromised (shelf.promise place) k →
     k.held ≡ Some nothing
 begins_empty shelf place k tells promised = promised.empty (tells place).0 (tells place).1
-
-pub cannot_fail : (shelf : Shelved) (place : ℕ) (k : Kept) → NeverFails shelf → IsAsPromised (shelf.promise place) k →
-    k.can_fail ≡ Some 0
-cannot_fail shelf place k never promised = within_none k.can_fail
-    (subst (λ p. Within p.can_fail k.can_fail) (never place) promised.left)
 
 -- no store for a database that was granted
 one_name : (name copy other : List ℕ) → copy ≡ name → NoStore other ≡ NoStore copy → name ≡ other

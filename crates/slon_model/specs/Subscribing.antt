@@ -55,7 +55,7 @@ abbrev pub has_provider : (ℕ → Bool) → Option Subscription → Bool
 has_provider test None = false
 has_provider test (Some row) = test row.provider
 
--- from a node one comes to the receiver by the providers of these subscriptions, in fewer than so many steps
+-- from a node one comes to the receiver by the providers of these subscriptions, in fewer steps than the number says
 abbrev pub leads_to : ℕ → ℕ → Map Subscription → ℕ → Bool
 leads_to zero receiver rows node = false
 leads_to (suc n) receiver rows node =

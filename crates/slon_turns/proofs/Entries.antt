@@ -137,9 +137,9 @@ row_logged n [] has = absurd has
 row_logged n (l ∷ logs) (inl is) = (l, inl refl, is)
 row_logged n (l ∷ logs) (inr later) = let found = row_logged n logs later in (found.0, inr found.1, found.2)
 
-row_taken : (w : World) (s : Seat) (e : Event) (n : ℕ) (t : SetSync) (f : SetFetch) → IsFrom w s e t →
-    HasFetch e.origin t f → HasRow n f.sync.rows → IsTakenFrom w s e n
-row_taken w s e n t f x has row =
+row_taken : (w : World) (s : Seat) (e : Event) (n : ℕ) (t : SetSync) (f : SetFetch) →
+    IsFrom w s e t × HasFetch e.origin t f → HasRow n f.sync.rows → IsTakenFrom w s e n
+row_taken w s e n t f (x, has) row =
     let found = row_logged n t.rows (subst (HasRow n) has.sync.logged.rows_are row) in
     record {
       provider = x.provider;
@@ -153,17 +153,22 @@ row_taken w s e n t f x has row =
     }
 
 rows_taken : (w : World) (s : Seat) (e : Event) (n : ℕ) (ts : List SetSync) (fs : List SetFetch) →
-    AllByRecursion (IsFrom w s e) ts → HaveFetches e.origin ts fs → HaveRow n fs → IsTakenFrom w s e n
-rows_taken w s e n [] [] from have row = absurd row
-rows_taken w s e n [] (f ∷ fs) from have row = absurd have
-rows_taken w s e n (t ∷ ts) [] from have row = absurd have
-rows_taken w s e n (t ∷ ts) (f ∷ fs) from have (inl here) = row_taken w s e n t f from.0 have.0 here
-rows_taken w s e n (t ∷ ts) (f ∷ fs) from have (inr later) = rows_taken w s e n ts fs from.1 have.1 later
+    AllByRecursion (IsFrom w s e) ts × HaveFetches e.origin ts fs → HaveRow n fs → IsTakenFrom w s e n
+rows_taken w s e n [] [] (from, have) row = absurd row
+rows_taken w s e n [] (f ∷ fs) (from, have) row = absurd have
+rows_taken w s e n (t ∷ ts) [] (from, have) row = absurd have
+rows_taken w s e n (t ∷ ts) (f ∷ fs) (from, have) (inl here) = row_taken w s e n t f (from.0, have.0) here
+rows_taken w s e n (t ∷ ts) (f ∷ fs) (from, have) (inr later) = rows_taken w s e n ts fs (from.1, have.1) later
 
--- so is the last one of all sets
-pub last_taken : (w : World) (s : Seat) (e : Event) (n : ℕ) (ks : List Kept) (ts : List SetSync)
-    (fs : List SetFetch) → followed_each w.memory s e (nodes_at w) ks ≡ Ok ts × HaveFetches e.origin ts fs →
-    last_logged fs ≡ Some n → IsTakenFrom w s e n
-last_taken w s e n ks ts fs (due, have) last =
-    rows_taken w s e n ts fs (subst (OnOk (AllByRecursion (IsFrom w s e))) due (each_from w s e ks)) have
+-- What was read of these sets is what is taken of them by the rules.
+pub record AreTaken (w : World) (s : Seat) (e : Event) (ks : List Kept) (fs : List SetFetch) : Type 0 where
+  pub syncs : List SetSync
+  pub due : followed_each w.memory s e (nodes_at w) ks ≡ Ok syncs
+  pub have : HaveFetches e.origin syncs fs
+
+-- so is the last row of all sets
+pub last_taken : (w : World) (s : Seat) (e : Event) (n : ℕ) (ks : List Kept) (fs : List SetFetch) →
+    AreTaken w s e ks fs → last_logged fs ≡ Some n → IsTakenFrom w s e n
+last_taken w s e n ks fs t last =
+    rows_taken w s e n t.syncs fs (subst (OnOk (AllByRecursion (IsFrom w s e))) t.due (each_from w s e ks), t.have)
     (last_has fs n last)

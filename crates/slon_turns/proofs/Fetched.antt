@@ -83,14 +83,12 @@ provider_missed kept a index ds held none w d ready is s can =
     (none_at kept a.copying.provider w.places ds ready.fits none)) ready.fits
 
 -- it is down
-pub provider_down : {K : Type 0} {g : Ghosts K} (kept : K → Kept) (a : Trip) (index to : ℕ)
-    (ds : List (NamedDatabase K g)) (held : Held) (e : NamedDatabase K g) →
-    AreDistinct (bases_of kept ds) × (position (is_this a.copying.provider) ds ≡ Some to) →
-    (e ≡ get_or ds to e) × (e.database.state.up ≡ false) →
+pub provider_down : {K : Type 0} {g : Ghosts K} {to : ℕ} {e : NamedDatabase K g} (kept : K → Kept) (a : Trip)
+    (index : ℕ) (ds : List (NamedDatabase K g)) (held : Held) → Turning kept a.copying.provider ds to e →
+    e.database.state.up ≡ false →
     BringsFrom kept a index (ds, held) (replied.Refused (refused.Down e.name)) (ds, held)
-provider_down kept a index to ds held e (distinct, at) (is, down) w d ready own s can =
-    let there : IsFoundAt kept a.copying.provider w.places e =
-    turning_at w.places (record { at = at; held = is; distinct = distinct }) ready.fits in
+provider_down {e = e} kept a index ds held turning down w d ready own s can =
+    let there : IsFoundAt kept a.copying.provider w.places e = turning_at w.places turning ready.fits in
     refuses_sent s (refused.Down e.name) (bases_of kept ds) (refl, refl)
     (fetch_down (sent_post s) s.event (seen_copying a.copying) (at_node a.copying.provider w)
     (e.name, there.place) s.reaches there.first

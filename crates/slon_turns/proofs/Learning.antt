@@ -82,7 +82,7 @@ sets_learn {x = x} {ks} {held = held} r left becomes w d ready heeds is o are =
       event = e;
       next = o.next;
       number = k.0;
-      taken = last_taken w s e k.0 ks found.0 r.fetches (found.1, found.2) k.1;
+      taken = last_taken w s e k.0 ks r.fetches (record { syncs = found.0; due = found.1; have = found.2 }) k.1;
       is = k.2;
     }))
 
@@ -99,7 +99,7 @@ learns_passed {kept = kept} {t} {r} {ks} {ds} {x} {y} {held} left (d, checks) ke
     AreLearned w r.taken.origin held.bounds.items left.bounds.items)
     (sym (one_here ds t.index x e (d.inside, d.held) is))
     (λ o.
-    let fits = post_fits kept ds t.index x (d.distinct, d.inside, d.held) ready (goal_of r) o.sits o.holds in
+    let fits = post_fits kept ds t.index x (d.distinct, d.inside, d.held) (ready, o.holds) (goal_of r) o.sits in
     let found = keeps o.sits.place o.sits.own fits.ready o.sits.is (sym o.took.node) o.event o.took.found in
     let mids = mids_ready (look_done d checks) ready (o.sits.found, o.sits.running) found.1 in
     subst (λ n. (q : Onward t.node (goal_of r) r.taken w n held) → ks ≡ sets_kept q.sits.own (seen_event q.event) →
@@ -126,7 +126,7 @@ learns_followed {kept = kept} {ds} {x} {y} {held} {mid} {t} {w} left (p, from) l
     (sym (one_here ds t.index x d (p.look.inside, p.look.held) is))
     (λ s holds.
     let plan = p.plans (post_of t.goal s) refl refl cuts
-    (post_fits kept ds t.index x (p.look.distinct, p.look.inside, p.look.held) ready t.goal s holds) in
+    (post_fits kept ds t.index x (p.look.distinct, p.look.inside, p.look.held) (ready, holds) t.goal s) in
     let mids = mids_ready p.look ready (s.found, s.running) plan.3 in
     let goal : Goal = record { aim = t.goal.aim; origin = w.origin } in
     let aims : goal ≡ t.goal = ap (λ o. record { aim = t.goal.aim; origin = o }) from in

@@ -71,18 +71,26 @@ same_beside delivery other name (Err refusal) reply m own apart = refl
 
 -- ---- at all
 
+-- What a poll of the database of this name came to, and what is held there behind it.
+pub record LeftAt (m : Memory) : Type 0 where
+  pub delivery : Delivery
+  pub name : List ℕ
+  pub due : Result Poll Refusal
+  pub reply : Reply
+  pub held : Held
+  pub own : OwnPoll name due
+  pub here : Waits name (left_when delivery due reply m) held.queue
+
 -- the queue of one database is another one
-pub waits_left : (delivery : Delivery) (name : List ℕ) (due : Result Poll Refusal) (reply : Reply) (m : Memory)
-    (held : Holdings) (at : Held) → OwnPoll name due × Waits name (left_when delivery due reply m) at.queue →
-    (other : List ℕ) → WaitsIn other m (get held other) →
-    WaitsIn other (left_when delivery due reply m) (get (insert (remove held name) name at) other)
-waits_left delivery name due reply m held at (own, here) =
+pub waits_left : (m : Memory) (held : Holdings) (l : LeftAt m) (other : List ℕ) → WaitsIn other m (get held other) →
+    WaitsIn other (left_when l.delivery l.due l.reply m) (get (insert (remove held l.name) l.name l.held) other)
+waits_left m held l =
     waits_beside m held (record {
-      name = name;
-      memory = left_when delivery due reply m;
-      held = at;
-      here = here;
-      beside = λ other apart. same_beside delivery other name due reply m own apart;
+      name = l.name;
+      memory = left_when l.delivery l.due l.reply m;
+      held = l.held;
+      here = l.here;
+      beside = λ other apart. same_beside l.delivery other l.name l.due l.reply m l.own apart;
     })
 
 -- what was fetched is kept

@@ -1,8 +1,10 @@
 pub mod Acted
+pub mod Ahead
 pub mod Answered
 pub mod Applying
 pub mod Between
 pub mod Brought
+pub mod Cutting
 pub mod Fetched
 pub mod Follows
 pub mod Due

@@ -117,11 +117,11 @@ brought_some s n server some =
 -- ---- deliveries
 
 -- it is lost on the way
-pub lost_listens : (s : Spot) (n : Node) (l : Polled) (b : Poll) (new : Base) (queue : Queue) → IsPolled s n l b →
-    s.delivery ≡ Lost → Fits s.place new × Waits s.name s.memory queue →
-    ListensAt s (Ok b) (replied.Accepted (LostOnTheWay (length l.events) (length l.confirms))) new queue
-lost_listens s n l b new queue polled lost (fits, waits) =
-    subst (λ d. ListensAt (record s { delivery = d }) (Ok b) reply new queue) (sym lost) (record {
+pub lost_listens : (s : Spot) (n : Node) (l : Polled) (b : Poll) (new : Base × Queue) → IsPolled s n l b →
+    s.delivery ≡ Lost → Fits s.place new.0 × Waits s.name s.memory new.1 →
+    ListensAt s (Ok b) (replied.Accepted (LostOnTheWay (length l.events) (length l.confirms))) new.0 new.1
+lost_listens s n l b new polled lost (fits, waits) =
+    subst (λ d. ListensAt (record s { delivery = d }) (Ok b) reply new.0 new.1) (sym lost) (record {
       goes = Never (LostOnTheWay (length b.events) (length b.confirms)) refl
           (ap (λ e. replied.Accepted (LostOnTheWay e (length l.confirms))) events
           ∙ ap (λ c. replied.Accepted (LostOnTheWay (length b.events) c)) confirms) fits;

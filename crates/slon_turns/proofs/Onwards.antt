@@ -180,7 +180,7 @@ arrives_read {kept = kept} {ds} {i} {y} {z} {x = x} {w} {held} {left} {reply} ts
     can =
     let p = onward_post o in
     let f = e.fetched in
-    let fits = post_fits kept ds i y (t.distinct, t.inside, t.held) ready (goal_of x) o.sits o.holds in
+    let fits = post_fits kept ds i y (t.distinct, t.inside, t.held) (ready, o.holds) (goal_of x) o.sits in
     arrives_here t ready o e.answers
     (subst (λ r. WorksHere p r reply (base_of kept z.database, left)) (sym due)
     (e.ends p o.event (FoundSyncs ts) refl
@@ -266,7 +266,7 @@ onward_failed {kept = kept} {t} {r} {ds} {x} {y} {held} {reply} d (answers, ends
       held = d.held;
       name = d.name;
     } in
-    let fits = post_fits kept ds t.index x (d.distinct, d.inside, d.held) ready (goal_of r) o.sits o.holds in
+    let fits = post_fits kept ds t.index x (d.distinct, d.inside, d.held) (ready, o.holds) (goal_of r) o.sits in
     arrives_here at ready o answers
     (breaks_told (due_onward o) (ends o.sits.place o.sits.own fits.ready o.sits.is) o.holds.waits))
 
@@ -287,7 +287,7 @@ onward_passed {kept = kept} {t} {r} {ks} {ds} {x} {y} {held} {left} {reply} news
     (sym (one_here ds t.index x e (d.inside, d.held) is))
     (λ o can.
     let look = look_done d checks in
-    let fits = post_fits kept ds t.index x (d.distinct, d.inside, d.held) ready (goal_of r) o.sits o.holds in
+    let fits = post_fits kept ds t.index x (d.distinct, d.inside, d.held) (ready, o.holds) (goal_of r) o.sits in
     let found = keeps o.sits.place o.sits.own fits.ready o.sits.is (sym o.took.node) o.event o.took.found in
     let mids = mids_ready look ready (o.sits.found, o.sits.running) found.1 in
     let y_held = sym (get_or-set_same ds t.index y y d.inside) in
@@ -354,7 +354,7 @@ carries_followed {kept = kept} {ds} {x} {y} {reply} {held} {mid} {left} {t} {w} 
     (sym (one_here ds t.index x d (p.look.inside, p.look.held) is))
     (λ s holds takes keep.
     let plan = p.plans (post_of t.goal s) refl refl cuts
-    (post_fits kept ds t.index x (p.look.distinct, p.look.inside, p.look.held) ready t.goal s holds) in
+    (post_fits kept ds t.index x (p.look.distinct, p.look.inside, p.look.held) (ready, holds) t.goal s) in
     let mids = mids_ready p.look ready (s.found, s.running) plan.3 in
     let goal : Goal = record { aim = t.goal.aim; origin = w.origin } in
     let aims : goal ≡ t.goal = ap (λ o. record { aim = t.goal.aim; origin = o }) from in

@@ -55,17 +55,34 @@ use Rattle.slon_turns.proofs.Linking.{breaks_told, link_reaches, link_told, plan
 
 -- ---- what is kept
 
+-- What is kept of fetches at a database, in the code and by the rules.
+record Stock : Type 0 where
+  name : List ℕ
+  memory : Memory
+  fetches : Fetches
+  keeps : Keeps name memory fetches
+
+abbrev stock_of : {s : Post} {old : Base × Held} → PostFits s old → Stock
+stock_of {s} {old} fits = record {
+  name = s.name;
+  memory = s.memory;
+  fetches = old.1.fetches;
+  keeps = fits.holds.keeps;
+}
+
 -- by the rules too what the code keeps of the event is kept
-kept_found : (aim : Aim) (origin number : ℕ) (name : List ℕ) (m : Memory) (fetches : Fetches) (kept : Kept) →
-    Some kept ≡ kept_to aim number (kept_at origin fetches) × Keeps name m fetches →
+kept_found : (aim : Aim) (origin number : ℕ) (s : Stock) (kept : Kept) →
+    Some kept ≡ kept_to aim number (kept_at origin s.fetches) →
     (e : Event) → (e.origin ≡ origin) × (e.number ≡ number) →
-    (f : Found) × (recalled aim name (seen_event e) m ≡ Some f) × HasFound e.origin f kept.load
-kept_found Fetch origin number name m fetches kept (is, keeps) e same = absurd cc
-kept_found Apply origin number name m fetches kept (is, keeps) e (from, at) =
-    subst R (sym from) (at_number (kept_at origin fetches) is (keeps origin))
+    (f : Found) × (recalled aim s.name (seen_event e) s.memory ≡ Some f) × HasFound e.origin f kept.load
+kept_found Fetch origin number s kept is e same = absurd cc
+kept_found Apply origin number s kept is e (from, at) =
+    subst R (sym from) (at_number (kept_at origin s.fetches) is (s.keeps origin))
   where
     R : ℕ → Type 0
-    R o = (f : Found) × (fetched_for e.number (entry_at o (fetches_at name m)) ≡ Some f) × HasFound o f kept.load
+    R o =
+        (f : Found) × (fetched_for e.number (entry_at o (fetches_at s.name s.memory)) ≡ Some f)
+        × HasFound o f kept.load
 
     entry : (k : Kept) (o : Option FetchOf) → FitsFetch origin o (Some k) → k ≡ kept → k.number ≡ number →
         (f : Found) × (fetched_for e.number o ≡ Some f) × HasFound origin f kept.load
@@ -77,25 +94,24 @@ kept_found Apply origin number name m fetches kept (is, keeps) e (from, at) =
     )
 
     tested : (k : Kept) (b : Bool) → (k.number == number) ≡ b → Some kept ≡ cond b (Some k) None →
-        FitsFetch origin (entry_at origin (fetches_at name m)) (Some k) → R origin
+        FitsFetch origin (entry_at origin (fetches_at s.name s.memory)) (Some k) → R origin
     tested k true equal is fits =
         let same : k ≡ kept = cc in
-        entry k (entry_at origin (fetches_at name m)) fits same (eq_of k.number number equal)
+        entry k (entry_at origin (fetches_at s.name s.memory)) fits same (eq_of k.number number equal)
     tested k false equal is fits = absurd cc
 
     at_number : (o : Option Kept) → Some kept ≡ for_number number o →
-        FitsFetch origin (entry_at origin (fetches_at name m)) o → R origin
+        FitsFetch origin (entry_at origin (fetches_at s.name s.memory)) o → R origin
     at_number None is fits = absurd cc
     at_number (Some k) is fits = tested k (k.number == number) refl is fits
 
 -- and where it keeps nothing of it nothing is kept
-nothing_kept : (aim : Aim) (origin number : ℕ) (name : List ℕ) (m : Memory) (fetches : Fetches) →
-    None ≡ kept_to aim number (kept_at origin fetches) × Keeps name m fetches →
-    (e : Event) → (e.origin ≡ origin) × (e.number ≡ number) → recalled aim name (seen_event e) m ≡ None
-nothing_kept Fetch origin number name m fetches held e same = refl
-nothing_kept Apply origin number name m fetches (is, keeps) e (from, at) =
-    subst (λ o. fetched_for e.number (entry_at o (fetches_at name m)) ≡ None) (sym from)
-    (at_number (kept_at origin fetches) is (keeps origin))
+nothing_kept : (aim : Aim) (origin number : ℕ) (s : Stock) → None ≡ kept_to aim number (kept_at origin s.fetches) →
+    (e : Event) → (e.origin ≡ origin) × (e.number ≡ number) → recalled aim s.name (seen_event e) s.memory ≡ None
+nothing_kept Fetch origin number s is e same = refl
+nothing_kept Apply origin number s is e (from, at) =
+    subst (λ o. fetched_for e.number (entry_at o (fetches_at s.name s.memory)) ≡ None) (sym from)
+    (at_number (kept_at origin s.fetches) is (s.keeps origin))
   where
     entry : (k : Kept) (o : Option FetchOf) → FitsFetch origin o (Some k) → (k.number == number) ≡ false →
         fetched_for e.number o ≡ None
@@ -108,15 +124,15 @@ nothing_kept Apply origin number name m fetches (is, keeps) e (from, at) =
     lacking (Some fe) fits = absurd fits
 
     tested : (k : Kept) (b : Bool) → (k.number == number) ≡ b → None ≡ cond b (Some k) None →
-        FitsFetch origin (entry_at origin (fetches_at name m)) (Some k) →
-        fetched_for e.number (entry_at origin (fetches_at name m)) ≡ None
+        FitsFetch origin (entry_at origin (fetches_at s.name s.memory)) (Some k) →
+        fetched_for e.number (entry_at origin (fetches_at s.name s.memory)) ≡ None
     tested k true equal is fits = absurd cc
-    tested k false equal is fits = entry k (entry_at origin (fetches_at name m)) fits equal
+    tested k false equal is fits = entry k (entry_at origin (fetches_at s.name s.memory)) fits equal
 
     at_number : (o : Option Kept) → None ≡ for_number number o →
-        FitsFetch origin (entry_at origin (fetches_at name m)) o →
-        fetched_for e.number (entry_at origin (fetches_at name m)) ≡ None
-    at_number None is fits = lacking (entry_at origin (fetches_at name m)) fits
+        FitsFetch origin (entry_at origin (fetches_at s.name s.memory)) o →
+        fetched_for e.number (entry_at origin (fetches_at s.name s.memory)) ≡ None
+    at_number None is fits = lacking (entry_at origin (fetches_at s.name s.memory)) fits
     at_number (Some k) is fits = tested k (k.number == number) refl is fits
 
 -- ---- it keeps something
@@ -139,8 +155,7 @@ recall_plans {s} {old = old} new (Told reply) r ready same recalls = λ find.
 recall_plans {s} {taken} {kept} {old} {held} new (Has w) r ready same recalls =
     let e = r.plan.event in
     let at = found_is taken.origin taken.state.number old.1.queue e r.plan.took.found in
-    let found = kept_found s.goal.aim taken.origin taken.state.number s.name s.memory old.1.fetches kept
-    (r.is, r.fits.holds.keeps) e at in
+    let found = kept_found s.goal.aim taken.origin taken.state.number (stock_of r.fits) kept r.is e at in
     let left = recalls s.place s.node ready r.fits.is in (
       record {
         event = e;
@@ -188,8 +203,7 @@ abbrev anew_planned : {s : Post} {taken : Worker Taken} {old : Base × Held} {he
     {cuts : List (ℕ × ℕ)} → Anew s taken old held name cuts → IsPlannedAnew s taken old.1.queue
 anew_planned {s} {taken} {old} a = record {
   plan = a.plan;
-  none = nothing_kept s.goal.aim taken.origin taken.state.number s.name s.memory old.1.fetches
-      (a.none, a.fits.holds.keeps) a.plan.event
+  none = nothing_kept s.goal.aim taken.origin taken.state.number (stock_of a.fits) a.none a.plan.event
       (found_is taken.origin taken.state.number old.1.queue a.plan.event a.plan.took.found);
 }
 

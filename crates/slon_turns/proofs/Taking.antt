@@ -241,10 +241,10 @@ carries_named {kept = kept} {ds} {i} {x} {y} {node} {w} {reply} {held} goal (t, 
 -- the database of the node, as the rules have it
 pub post_fits : {K : Type 0} {g : Ghosts K} {node : ℕ} {w : World} {held : Held} (kept : K → KeptStore)
     (ds : List (NamedDatabase K g)) (i : ℕ) (x : NamedDatabase K g) →
-    AreDistinct (bases_of kept ds) × (i < length ds) × (x ≡ get_or ds i x) → AreReady w (bases_of kept ds) →
-    (goal : Goal) (s : SitsOn node w x.name) → Holds x.name w.memory held →
+    AreDistinct (bases_of kept ds) × (i < length ds) × (x ≡ get_or ds i x) →
+    AreReady w (bases_of kept ds) × Holds x.name w.memory held → (goal : Goal) (s : SitsOn node w x.name) →
     PostFits (post_of goal s) (base_of kept x.database, held)
-post_fits {w = w} kept ds i x (distinct, inside, at) ready goal s holds = record {
+post_fits {w = w} kept ds i x (distinct, inside, at) (ready, holds) goal s = record {
   ready = ready_here x.name (base_of kept x.database) w (bases_of kept ds) s.place ready
       (found_here kept ds i x distinct (inside, at)) s.found;
   is = s.is;
@@ -268,7 +268,7 @@ carries_told {kept = kept} {ds} {x} {y} {reply} {held} {left} t at answers plans
     (sym (one_here ds t.index x d (at.inside, at.held) is))
     (λ s holds takes keep. carries_here t.goal at ready s answers
     (plans (post_of t.goal s) refl refl cuts
-    (post_fits kept ds t.index x (at.distinct, at.inside, at.held) ready t.goal s holds) (nodes_at w)))
+    (post_fits kept ds t.index x (at.distinct, at.inside, at.held) (ready, holds) t.goal s) (nodes_at w)))
 
 -- ---- behind a plan
 
@@ -295,7 +295,7 @@ carries_had {kept = kept} {ds} {x} {y} {reply} {held} {mid} {left} {t} {f} z (p,
     (sym (one_here ds t.index x d (p.look.inside, p.look.held) is))
     (λ s holds takes keep.
     let post = post_of t.goal s in
-    let fits = post_fits kept ds t.index x (p.look.distinct, p.look.inside, p.look.held) ready t.goal s holds in
+    let fits = post_fits kept ds t.index x (p.look.distinct, p.look.inside, p.look.held) (ready, holds) t.goal s in
     let plan = p.plans post refl refl cuts fits in
     let had = plan.0 in
     let due = had.due (nodes_at v) in
@@ -434,7 +434,7 @@ carries_brought {kept = kept} {ds} {x} {y} {reply} {held} {mid} {left} {t} {w} {
     (sym (one_here ds t.index x d (p.look.inside, p.look.held) is))
     (λ s holds takes keep.
     let plan = p.plans (post_of t.goal s) refl refl cuts
-    (post_fits kept ds t.index x (p.look.distinct, p.look.inside, p.look.held) ready t.goal s holds) in
+    (post_fits kept ds t.index x (p.look.distinct, p.look.inside, p.look.held) (ready, holds) t.goal s) in
     let mids = mids_ready p.look ready (s.found, s.running) plan.4 in
     let o : Going kept t v x.name (set ds t.index y) news w c = record {
       held = mid;

@@ -288,19 +288,25 @@ polls_polled {kept = kept} {l} {at = at} {olds} {new} {reply} own held p f taken
           ∙ told_of_two couple reply pair name halt p.runs told;
       waits = λ name here. subst (λ due. WaitsIn name (left_when l.delivery due reply w.memory)
           (get (insert (remove held p.own_old.name) p.own_old.name (record own { queue = new.1 })) name)) (sym due_is)
-          (waits_left l.delivery p.own_old.name (due_in meeting) reply w.memory held (record own { queue = new.1 }) (
-            record {
+          (waits_left w.memory held (record {
+            delivery = l.delivery;
+            name = p.own_old.name;
+            due = due_in meeting;
+            reply = reply;
+            held = record own { queue = new.1 };
+            own = record {
               own = λ b is. ap (λ s. s.name)
                   (own_poll l.server w.memory (seat p.own_old.name sits.place sits.own)
                   (Some (p.server_old.name, there.place)) b is);
-            },
-            waits_between listens,
-          ) name here);
+            };
+            here = waits_between listens;
+          }) name here);
       keeps = λ name here. keeps_on w.memory (left_when l.delivery (polled l.node l.server w) reply w.memory) held
-          p.own_old.name (record own { queue = new.1 })
-          (fetches_left l.delivery (polled l.node l.server w) reply w.memory)
-          (taken_keeps p.own_old.name w.memory (get held p.own_old.name) own taken
-          (holds.keeps p.own_old.name sits.place sits.found sits.running)) name here;
+          p.own_old.name (record own { queue = new.1 }) (
+            fetches_left l.delivery (polled l.node l.server w) reply w.memory,
+            taken_keeps p.own_old.name w.memory (get held p.own_old.name) own taken
+                (holds.keeps p.own_old.name sits.place sits.found sits.running),
+          ) name here;
     }
 
 -- the same under a key that is its name

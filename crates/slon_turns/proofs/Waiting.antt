@@ -157,9 +157,9 @@ keeps_at name m n (Some held) same keeps = subst (λ f. FitsFetches f held.fetch
 
 -- The same is kept at all databases, also at that of the name under which something else is held.
 pub keeps_on : (m n : Memory) (held : Holdings) (name : List ℕ) (own : Held) →
-    ((other : List ℕ) → fetches_at other n ≡ fetches_at other m) → Keeps name m own.fetches → (other : List ℕ) →
+    ((other : List ℕ) → fetches_at other n ≡ fetches_at other m) × Keeps name m own.fetches → (other : List ℕ) →
     KeepsIn other m (get held other) → KeepsIn other n (get (insert (remove held name) name own) other)
-keeps_on m n held name own same here other keeps =
+keeps_on m n held name own (same, here) other keeps =
     subst (KeepsIn other n) (sym (put_back other name own held)) (by (bytes_eq other name) refl)
   where
     by : (b : Bool) → bytes_eq other name ≡ b → KeepsIn other n (cond b (Some own) (get held other))

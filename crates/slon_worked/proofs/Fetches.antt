@@ -76,7 +76,7 @@ session =
     ∷ Asks (OnAll (ToCut 1 2))
     ∷ work 2 1 ∷ [])))
 
--- with so many rows at the origin
+-- with this number of rows at the origin
 abbrev expected : ℕ → List Reply
 expected rows =
     begun_replies

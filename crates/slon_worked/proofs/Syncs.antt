@@ -60,7 +60,7 @@ later_session =
     ∷ Asks (OnOne (codes "a") (ToCommit (codes "u")))
     ∷ synced (Asks (OnOne (codes "b") ToTell) ∷ [])))))
 
--- with so many rows at the origin, whose table is empty as it is copied
+-- with this number of rows at the origin, whose table is empty as it is copied
 abbrev later_expected : ℕ → List Reply
 later_expected rows =
     begun_replies

@@ -107,7 +107,7 @@ refused_session =
     ∷ listen 2 1 Once
     ∷ work 2 1 ∷ [])
 
--- with so many rows at the origin, whose table is empty
+-- with this number of rows at the origin, whose table is empty
 abbrev refused_expected : ℕ → List Reply
 refused_expected rows =
     begun_replies

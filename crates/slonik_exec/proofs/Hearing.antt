@@ -181,9 +181,10 @@ none_asked test bases = record {
 }
 
 -- all were asked
-pub all_asked : (test : Config → Bool) (olds news : Named Base) (i : ℕ) → AreAsked test olds news i →
-    length news ≤ i → (w : World) → AreReady w olds → any_down w ≡ None → HearsIn test w (Known false) news
-all_asked test olds news i asked less w ready awake =
+pub all_asked : (test : Config → Bool) (olds news : Named Base) (i : ℕ) →
+    AreAsked test olds news i × (length news ≤ i) → (w : World) → AreReady w olds → any_down w ≡ None →
+    HearsIn test w (Known false) news
+all_asked test olds news i (asked, less) w ready awake =
     let left = asked.left w ready awake in
     let same = same_length w.places news left.0 in
     (sym (left.1 ∙ ap (somewhere test) (drop_all i w.places (omega (arith, same, less)))), left.0)

@@ -1,3 +1,4 @@
+pub mod AddingTables
 pub mod Asking
 pub mod Chains
 pub mod Couples

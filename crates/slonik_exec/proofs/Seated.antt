@@ -130,9 +130,9 @@ found_here kept node p ps d (name, fits) this = record {
 -- or it stands behind it
 found_behind : {K : Type 0} {g : Ghosts K} (kept : K → Kept) (node : ℕ) (p : List ℕ × Place) (ps : Named Place)
     (d x : NamedDatabase K g) →
-    (p.0 ≡ d.name) × Fits p.1 (base_of kept d.database) × (bytes_eq x.name d.name ≡ false) → is_this node d ≡ false →
+    (p.0 ≡ d.name) × Fits p.1 (base_of kept d.database) × (bytes_eq x.name d.name ≡ false) × (is_this node d ≡ false) →
     IsFoundAt kept node ps x → IsFoundAt kept node (p ∷ ps) x
-found_behind kept node p ps d x (name, fits, apart) other rest = record {
+found_behind kept node p ps d x (name, fits, apart, other) rest = record {
   place = rest.place;
   first = ap (λ b. cond b (Some p) (find (λ e. is_id node (node_id e.1)) ps))
       (ap (is_id node) (sym (named_fits p.1 (base_of kept d.database) fits)) ∙ other) ∙ rest.first;
@@ -145,14 +145,15 @@ pub found_inside : {X : Type 0} (p : X → Bool) (xs : List X) (i : ℕ) (d : X)
 found_inside p xs i d at = (position-Some p xs i d at).0
 
 found_at : {K : Type 0} {g : Ghosts K} (kept : K → Kept) (node : ℕ) (ps : Named Place)
-    (ds : List (NamedDatabase K g)) (i : ℕ) (d : NamedDatabase K g) → FitsAll ps (bases_of kept ds) →
-    AreDistinct (bases_of kept ds) → position (is_this node) ds ≡ Some i → IsFoundAt kept node ps (get_or ds i d)
-found_at kept node [] [] i d all distinct at = absurd cc
-found_at kept node [] (x ∷ xs) i d all distinct at = absurd all
-found_at kept node (p ∷ ps) [] i d all distinct at = absurd all
-found_at {K} {g} kept node (p ∷ ps) (x ∷ xs) i d all distinct at =
+    (ds : List (NamedDatabase K g)) (i : ℕ) (d : NamedDatabase K g) →
+    FitsAll ps (bases_of kept ds) × AreDistinct (bases_of kept ds) → position (is_this node) ds ≡ Some i →
+    IsFoundAt kept node ps (get_or ds i d)
+found_at kept node [] [] i d (all, distinct) at = absurd cc
+found_at kept node [] (x ∷ xs) i d (all, distinct) at = absurd all
+found_at kept node (p ∷ ps) [] i d (all, distinct) at = absurd all
+found_at {K} {g} kept node (p ∷ ps) (x ∷ xs) i d (all, distinct) at =
     by (is_this node x) refl (position (is_this node) xs) refl (sym (position-cons (is_this node) x xs) ∙ at)
-    (λ j is. found_at kept node ps xs j d all.2 distinct.1 is)
+    (λ j is. found_at kept node ps xs j d (all.2, distinct.1) is)
   where
     by : (b : Bool) → is_this node x ≡ b → (o : Option ℕ) → position (is_this node) xs ≡ o →
         cond b (Some 0) (option_map suc o) ≡ Some i →
@@ -168,7 +169,7 @@ found_at {K} {g} kept node (p ∷ ps) (x ∷ xs) i d all distinct at =
         let alone = alone_at kept xs j d distinct.1 (found_inside (is_this node) xs j d is) in
         let apart = apart_from (get_or xs j d).name x.name (bases_of kept xs) _ distinct.0 alone.base in
         subst (λ k. IsFoundAt kept node (p ∷ ps) (get_or (x ∷ xs) k d)) suc_is
-        (found_behind kept node p ps x (get_or xs j d) (all.0, all.1, apart) other (rest j is))
+        (found_behind kept node p ps x (get_or xs j d) (all.0, all.1, apart, other) (rest j is))
 
 pub none_at : {K : Type 0} {g : Ghosts K} (kept : K → Kept) (node : ℕ) (ps : Named Place)
     (ds : List (NamedDatabase K g)) → FitsAll ps (bases_of kept ds) → position (is_this node) ds ≡ None →
@@ -244,7 +245,7 @@ pub turning_at : {K : Type 0} {g : Ghosts K} {kept : K → Kept} {node : ℕ} {d
     {d : NamedDatabase K g} (ps : Named Place) → Turning kept node ds i d → FitsAll ps (bases_of kept ds) →
     IsFoundAt kept node ps d
 turning_at {kept = kept} {node} {ds} {i} {d} ps t all =
-    subst (IsFoundAt kept node ps) (sym t.held) (found_at kept node ps ds i d all t.distinct t.at)
+    subst (IsFoundAt kept node ps) (sym t.held) (found_at kept node ps ds i d (all, t.distinct) t.at)
 
 -- it is down
 pub down_turn : {K : Type 0} {g : Ghosts K} {kept : K → Kept} {node : ℕ} {ds : List (NamedDatabase K g)} {i : ℕ}

@@ -85,9 +85,9 @@ up_is : (name : List ℕ) (p : Place) (up : Bool) → is_running p.standing ≡ 
 up_is name p up is = ap (λ c. cond c (Ok (name, p)) (Err (refused.Down name))) is
 
 line_found : (lines : Map (List ℕ)) (id : ℕ) (conninfo : List ℕ) (w : World) (run : Running) (p : Place) →
-    run.lines ≡ lines → entry_at id lines ≡ Some conninfo → find_named (database_in conninfo) w.places ≡ Some p →
+    (run.lines ≡ lines) × (entry_at id lines ≡ Some conninfo) → find_named (database_in conninfo) w.places ≡ Some p →
     database_of_line run id w ≡ database_up (database_in conninfo) (Some p)
-line_found lines id conninfo w run p same at found =
+line_found lines id conninfo w run p (same, at) found =
     line_due lines id w run (Some conninfo) same at ∙ ap (database_up (database_in conninfo)) found
 
 -- a database of the code under the name of a NODE line
@@ -101,20 +101,20 @@ pub line_down : (lines : Map (List ℕ)) (id : ℕ) (conninfo : List ℕ) (bases
 line_down lines id conninfo bases b line down w fits run same =
     let name = database_in conninfo in
     let fit = fitting name b w.places bases fits line.found in
-    line_found lines id conninfo w run fit.place same line.at fit.found
+    line_found lines id conninfo w run fit.place (same, line.at) fit.found
     ∙ up_is name fit.place false (sym (same_up fit.place b fit.fits) ∙ down)
 
-on_line : (lines : Map (List ℕ)) (id : ℕ) (conninfo : List ℕ) (bases : Named Base) (b : Base) →
+on_line : {lines : Map (List ℕ)} {id : ℕ} {conninfo : List ℕ} {bases : Named Base} {b : Base} →
     LineBase lines id conninfo bases b → b.memory.up ≡ true →
     (w : World) → FitsAll w.places bases → (run : Running) → run.lines ≡ lines →
     OnLine run id w (database_in conninfo)
-on_line lines id conninfo bases b line up w fits run same =
+on_line {lines} {id} {conninfo} {bases} {b} line up w fits run same =
     let name = database_in conninfo in
     let fit = fitting name b w.places bases fits line.found in
     let running = sym (same_up fit.place b fit.fits) ∙ up in
     record {
       place = fit.place;
-      due = line_found lines id conninfo w run fit.place same line.at fit.found ∙ up_is name fit.place true running;
+      due = line_found lines id conninfo w run fit.place (same, line.at) fit.found ∙ up_is name fit.place true running;
       found = fit.found;
       running = running;
     }
@@ -127,7 +127,7 @@ pub line_up : (lines : Map (List ℕ)) (id i : ℕ) (conninfo : List ℕ) (bases
     LineBase lines id conninfo bases b → b.memory.up ≡ true → FindsLine lines id bases (At i)
 line_up lines id i conninfo bases b line up w fits run same =
     subst (OnLine run id w) (sym (name_is lines id conninfo line.at))
-    (on_line lines id conninfo bases b line up w fits run same)
+    (on_line line up w fits run same)
 
 -- ---- the node of a NODE line
 
@@ -144,10 +144,10 @@ seat_due run id w name line =
     (λ s. checked (when (not (is_node_of run id s)) (refused.OtherNode id) ∷ []) s))) line.due
 
 -- a database that is the node or another one
-is_seat : (own : Bool) (run : Running) (id i : ℕ) (w : World) (name : List ℕ) (line : OnLine run id w name)
+is_seat : {run : Running} {id : ℕ} {w : World} {name : List ℕ} (own : Bool) (i : ℕ) (line : OnLine run id w name)
     (n : Node) → line.place.node ≡ Some n → (n.id == id && bytes_eq n.cluster run.cluster) ≡ own →
     NodeIs name run id w (cond own (At i) (Refused (refused.OtherNode id)))
-is_seat true run id i w name line n is own =
+is_seat {run} {id} {w} {name} true i line n is own =
     let parts = and_parts (eqb n.id id) (bytes_eq n.cluster run.cluster) own in
     record {
       place = line.place;
@@ -160,7 +160,7 @@ is_seat true run id i w name line n is own =
       own = eqb-true n.id id parts.0;
       cluster = bytes_same n.cluster run.cluster parts.1;
     }
-is_seat false run id i w name line n is own =
+is_seat {run} {id} {w} {name} false i line n is own =
     seat_due run id w name line ∙ ap (Seated run id name line.place) is
     ∙ ap (λ b. checked (when (not b) (refused.OtherNode id) ∷ []) (seat name line.place n)) own
 
@@ -169,7 +169,7 @@ seats_by : (found : Option Node) (run : Running) (id i : ℕ) (w : World) (name 
     NodeIs name run id w (seat_in i id run.cluster (identity_of found))
 seats_by None run id i w name line is = seat_due run id w name line ∙ ap (Seated run id name line.place) is
 seats_by (Some n) run id i w name line is =
-    is_seat (eqb n.id id && bytes_eq n.cluster run.cluster) run id i w name line n is refl
+    is_seat (eqb n.id id && bytes_eq n.cluster run.cluster) i line n is refl
 
 -- what the code makes of the database of a NODE line
 pub record Candidate (a : Addresses) (id i : ℕ) (bases : Named Base) (b : Base) : Type 0 where

@@ -118,6 +118,11 @@ pub record IsFree {K : Type 0} {g : Ghosts K} (databases : List (NamedDatabase K
   pub target : Target databases i
   pub none : is_some target.database.database.state.node.identity ≡ false
 
+abbrev pub free_at : {K : Type 0} {g : Ghosts K} (databases : List (NamedDatabase K g)) (i : ℕ)
+    (x : NamedDatabase K g) → x ≡ get_or databases i x →
+    is_some (get_or databases i x).database.state.node.identity ≡ false → IsFree databases i
+free_at databases i x held none = record { target = target_at databases i x held; none = none }
+
 none_of : {X : Type 0} (f : X → ℕ) (o : Option X) → is_some o ≡ false → option_map f o ≡ None
 none_of f None is = refl
 none_of f (Some x) is = absurd cc

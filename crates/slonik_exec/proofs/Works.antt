@@ -231,6 +231,24 @@ pub checked_if : {E : Type 0} (name : List ℕ) (one : Seat → List (Option Ref
 checked_if name one old new (Ok found) checks refuses = record { checks = checks; refuses = refuses }
 checked_if name one old new (Err e) checks refuses = tt
 
+-- What checks promise behind a call that may fail.
+pub record CheckedIf {E : Type 0} (name : List ℕ) (due : Seat → List (Option Refusal)) (old new : Base)
+    (r : Result (Option Reply) E) : Type 0 where
+  pub checks : IfOk r (λ found. Checks name old found new)
+  pub refuses : IfOk r (λ found. AtSeat name due old found new)
+
+-- two that let the statement go on to the third
+pub checked_thrice : {E : Type 0} {name last : List ℕ} {one two : Seat → List (Option Refusal)}
+    {old next mid new : Base} (three : Seat → List (Option Refusal)) (r : Result (Option Reply) E) →
+    Checked name one old None next → Checked name two next None mid → last ≡ name →
+    IfOk r (λ found. Checks last mid found new) × IfOk r (λ found. AtSeat last three mid found new) →
+    CheckedIf name (λ s. one s ++ two s ++ three s) old new r
+checked_thrice three (Ok found) first second same (checks, refuses) =
+    let third = checked_at {one = three} same (record { checks = checks; refuses = refuses }) in
+    let all = chained found (chained None first second) third in
+    record { checks = all.checks; refuses = all.refuses }
+checked_thrice three (Err e) first second same last = record { checks = tt; refuses = tt }
+
 -- ---- what the statement comes to
 
 -- a check ended it

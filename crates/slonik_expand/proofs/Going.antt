@@ -56,7 +56,7 @@ pub record Rest : Type 0 where
 abbrev pub ending_of : Rest → Ending
 ending_of r = expand_from r.include 0 (drop r.at r.tokens) r.making
 
--- how it ends behind the token there, of which so many more belong to the form before
+-- how it ends behind the token there, where this number of the tokens that follow belong to the form before
 abbrev pub ending_behind : Rest → ℕ → Making → Ending
 ending_behind r passed m = expand_from r.include passed (drop (r.at + 1) r.tokens) m
 

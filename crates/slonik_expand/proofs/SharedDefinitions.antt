@@ -1,5 +1,5 @@
 -- What definitions stand for whose parts are tokens and earlier definitions.
-use Rattle.std.proofs.Common.{◌==◌, ◌≡◌, ℕ, zero, suc, if◌then◌else◌, ◌+◌, ◌-◌, ◌<◌, ◌≤◌, ltb, ◌&&◌, Bool, true, false}
+use Rattle.std.proofs.Common.{◌==◌, ◌≡◌, ℕ, zero, suc, if◌then◌else◌, ◌+◌, ◌-◌, ◌<◌, ltb, ◌&&◌, Bool, true, false}
 use Rattle.std.proofs.Common.{List}
 use Rattle.std.proofs.Common.{[], ◌∷◌, ◌++◌, map, length, get_or, slice_get, Option, Some, None, Result, Ok, Err, OnOk}
 use Rattle.std.proofs.Common.{OnErr, cond, ◌⊎◌, inl, inr, refl, sym, ap, subst, ◌∙◌, arith, append_assoc}
@@ -7,7 +7,7 @@ use Rattle.std.proofs.Math.ListN.{get_or-append}
 use Rattle.std.proofs.Math.Seq.{get_or-append_seam}
 use Rattle.std.proofs.lemmas.Bool.{ltb-true}
 use Rattle.std.proofs.lemmas.Bool.Decides.{nat_tests}
-use Rattle.std.proofs.lemmas.List.{append-nil, get_or_past, length-append, map-append, nil_from_length}
+use Rattle.std.proofs.lemmas.List.{append-nil, get_or_past, length-append, map-append}
 use Rattle.std.proofs.lemmas.Option.{slice_get-map, unwrap_or-slice_get}
 use Rattle.std.specs.Option.{option_map, unwrap_or}
 use Rattle.slonik_tokens.specs.declared.token.Token.{Token}
@@ -182,16 +182,6 @@ means_earlier made place u size within tokens h =
     let below : ltb place (length made) ≡ true = grind (arith, nat_tests) in
     means_more made (Earlier place) u size below tokens h
 
--- a definition that stands for nothing is left out
-pub means_same : (made : List Definition) (old : Definition) (place len : ℕ) → len ≤ 0
-    → len ≡ capped (length (meaning made place))
-    → (tokens : List Token) → Means made old tokens → Means made old (tokens ++ meaning made place)
-means_same made old place len none size tokens h =
-    let short : length (meaning made place) ≡ 0 = grind (arith, nat_tests, size) in
-    let same : tokens ++ meaning made place ≡ tokens =
-    ap (λ l. tokens ++ l) (nil_from_length (meaning made place) short) ∙ append-nil tokens in
-    subst (Means made old) (sym same) h
-
 -- how many tokens a definition counts, if there is one
 abbrev pub len_in : Option Definition → ℕ
 len_in None = 0
@@ -280,7 +270,7 @@ turned (Ok x) true place new old ok err = inl ok
 turned (Ok x) false place new old ok err = inr ok
 turned (Err x) same place new old ok err = inr err
 
--- A name stands for the definition at a place, or for what it stood for before, and there are so many definitions.
+-- A name stands for the definition at a place, or for what it stood for before, and there are n definitions.
 pub record Placing (n : ℕ) (old new : Option ℕ) : Type 0 where
   pub place : ℕ
   pub within : place < n

@@ -1,4 +1,4 @@
--- The events of a stream: their numbers, and what one knows who has met so many of them.
+-- The events of a stream: their numbers, and what one knows who has met a number of them.
 use Rattle.std.proofs.Common.{◌≡◌, ◌≢◌, ◌≤◌, inl, inr, ℕ, suc, List, [], ◌∷◌, ◌++◌, length, Option, Some, None, refl}
 use Rattle.std.proofs.Common.{Bool, true, false, cond, sym, ap, subst, ◌∙◌, arith, unwrap_or, eq-eqb}
 use Rattle.std.specs.Prelude.{◌==◌, ◌+◌}

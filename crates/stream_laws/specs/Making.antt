@@ -87,8 +87,8 @@ AreEmitted own (e ∷ es) =
 abbrev pub IsTold : Config → Event → Type 0
 IsTold c e = (mark : Mark) → tells_of e.body mark ≡ true → has_mark mark c ≡ true
 
--- The node of the first of these ids has emitted as many events as the second number says, and what the first so many
--- make known is known.
+-- The node of the first of these ids has emitted as many events as the second number says, and what its first events,
+-- in this number, make known is known.
 pub record HasEmitted (nodes : Nodes) (c : Config) (reached : ℕ × ℕ) : Type 0 where
   pub name : List ℕ
   pub node : Node

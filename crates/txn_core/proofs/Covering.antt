@@ -1,7 +1,7 @@
 -- When one snapshot sees all that another sees.
 use Rattle.std.proofs.Common.{◌≡◌, ℕ, ◌+◌, ◌<◌, ◌≤◌, Bool, true, false, cond, not, ◌==◌, ◌||◌, ◌&&◌, ◌⊎◌, inl, inr, max}
 use Rattle.std.proofs.Common.{nat_lt, IsTrue, ◌↔◌, List, [], ◌∷◌, drop, get_or, length, refl, sym, ap, ◌∙◌, subst}
-use Rattle.std.proofs.Common.{arith, drop-cons, zero, suc, Result, Ok, Err}
+use Rattle.std.proofs.Common.{arith, zero, suc, Result, Ok, Err}
 use Rattle.std.specs.Ordering.{nat_cmp}
 use Rattle.std.specs.Result.{is_ok}
 use Rattle.std.specs.List.Sorted.{IsBinarySearchResult}
@@ -97,21 +97,6 @@ told a b x is = by (sees a x) refl is
 abbrev pub Ahead : Snapshot → Snapshot → List ℕ → Type 0
 Ahead a b rest = (x : ℕ) → member x a.running ≡ true → tells a b x ≡ true → member x rest ≡ true
 
-pub one_ahead : (a b : Snapshot) (xs : List ℕ) (i : ℕ) → i < length xs → tells a b (get_or xs i 0) ≡ false →
-    Ahead a b (drop i xs) → Ahead a b (drop (i + 1) xs)
-one_ahead a b xs i within alike ahead x m s =
-    let here : drop i xs ≡ get_or xs i 0 ∷ drop (i + 1) xs =
-    drop-cons xs i 0 within ∙ ap (λ k. get_or xs i 0 ∷ drop k xs) (one_on i) in
-    by (x == get_or xs i 0) refl (sym (ap (member x) here) ∙ ahead x m s)
-  where
-    one_on : (i : ℕ) → suc i ≡ i + 1
-    one_on i = omega arith
-
-    by : (t : Bool) → (x == get_or xs i 0) ≡ t → (t || member x (drop (i + 1) xs)) ≡ true →
-        member x (drop (i + 1) xs) ≡ true
-    by true e m = absurd (false≢true (sym alike ∙ ap (tells a b) (sym (eqb-true x (get_or xs i 0) e)) ∙ s))
-    by false e m = m
-
 -- no running id tells the two apart
 abbrev pub TellsNone : Snapshot → Snapshot → Type 0
 TellsNone a b = (x : ℕ) → member x a.running ≡ true → tells a b x ≡ true → ⊥
@@ -122,16 +107,6 @@ none_ahead a b xs i end ahead x m s = false≢true (sym (ap (member x) (drop_all
 -- from the first on, up to the last, the other sees none
 abbrev pub Unseen : Snapshot → ℕ → ℕ → Type 0
 Unseen b first last = (x : ℕ) → first ≤ x → x < last → sees b x ≡ false
-
-pub one_unseen : (b : Snapshot) (first last : ℕ) → sees b last ≡ false → Unseen b first last → Unseen b first (last + 1)
-one_unseen b first last e unseen x low high = by (nat_lt x last) refl
-  where
-    by : (t : Bool) → nat_lt x last ≡ t → sees b x ≡ false
-    by true h = unseen x low (ltb-true x last h)
-    by false h =
-        let at = ltb-false x last h in
-        let same : last ≡ x = omega (arith, at, high) in
-        subst (λ y. sees b y ≡ false) same e
 
 pub covered : (a b : Snapshot) (first last : ℕ) → first ≡ max a.xmin a.xmax → last ≡ max b.xmin b.xmax →
     TellsNone a b → Unseen b first last → Covers a b

@@ -82,49 +82,7 @@ table_of_row t k (x ∷ xs) h = by (bytes_eq x.0 t) (bytes_eq x.1 k) (table_of_r
 
 -- ---- a loop that gives back the locks of rows
 
-again : (xid : ℕ) (o : Option ℕ) → without xid (without xid o) ≡ without xid o
-again xid None = refl
-again xid (Some x) = elim (x == xid) as (λ b. (x == xid) ≡ b →
-    without xid (cond {A = Option ℕ} b None (Some x)) ≡ cond {A = Option ℕ} b None (Some x)) [
-      | true ↦ λ e. refl
-      | false ↦ λ e. ap (λ b. cond {A = Option ℕ} b None (Some x)) e
-    ] refl
-
-pub one_released : (xid : ℕ) (t k : List ℕ) (row : List ℕ × List ℕ) (rest : List (List ℕ × List ℕ)) (o o' : Option ℕ) →
-    o' ≡ cond (bytes_eq row.0 t && bytes_eq row.1 k) (without xid o) o
-    → released xid t k rest o' ≡ released xid t k (row ∷ rest) o
-one_released xid t k row rest o o' e = ap (released xid t k rest) e ∙ by (bytes_eq row.0 t && bytes_eq row.1 k)
-    (has_row t k rest)
-  where
-    by : (a b : Bool) → cond b (without xid (cond a (without xid o) o)) (cond a (without xid o) o) ≡ cond (a
-        || b) (without xid o) o
-    by true true = again xid o
-    by true false = refl
-    by false b = refl
-
-pub one_removed : (a c e w w' : Bool) → w' ≡ cond (a && e) false w → cond (c && e) false w' ≡ cond ((a || c)
-    && e) false w
-one_removed a c e w w' h = ap (cond (c && e) false) h ∙ by a c e
-  where
-    by : (a c e : Bool) → cond (c && e) false (cond (a && e) false w) ≡ cond ((a || c) && e) false w
-    by true true true = refl
-    by true true false = refl
-    by true false true = refl
-    by true false false = refl
-    by false c e = refl
-
 -- ---- the ties
-
-pub tied_empty : (h : HolderMap) (w : WriterMap) (o : OwnedMap) → ((t k : List ℕ) → holder_in t k h ≡ None) →
-    ((t : List ℕ) (x : ℕ) → writes_in t x w ≡ false) → Tied h w o
-tied_empty h w o none nobody = record {
-  owns = λ t k x e. absurd (none_some x (sym (none t k) ∙ e));
-  writes = λ t k x e. absurd (none_some x (sym (none t k) ∙ e));
-  wrote = λ t x e. absurd (false≢true (sym (nobody t x) ∙ e));
-}
-  where
-    none_some : (x : ℕ) → None ≡ Some x → ⊥
-    none_some x e = cc
 
 -- The maps of a lock table.
 pub record Maps : Type 0 where

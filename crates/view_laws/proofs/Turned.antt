@@ -89,9 +89,9 @@ own_told own set provider forward c vs =
 
 -- what the event says
 told_turns : (own id set provider receiver : ℕ) (forward : Bool) (c : Config) →
-    (receiver == own && (forward && not (forwards set own c))) ≡ true → (id == set) ≡ true →
+    ((receiver == own && (forward && not (forwards set own c))) ≡ true) × ((id == set) ≡ true) →
     Turns own id (SubscribeSet set provider receiver forward) c
-told_turns own id set provider receiver forward c turns same =
+told_turns own id set provider receiver forward c (turns, same) =
     let here = and_parts (receiver == own) (forward && not (forwards set own c)) turns in
     let on = and_parts forward (not (forwards set own c)) here.1 in
     (sym (eqb-true id set same), eqb-true receiver own here.0, on.0, not-true (forwards set own c) on.1)
@@ -137,7 +137,7 @@ found_told own id (SubscribeSet set provider receiver forward) c vs y found =
           v,
           some,
           IsBased (sym (one_found (based v) y is))
-              (told_turns own id set provider receiver forward c turns same),
+              (told_turns own id set provider receiver forward c (turns, same)),
         )
 
         at : (b : Bool) → (id == set) ≡ b → cond b (option_map based (entry_at id vs)) (entry_at id vs) ≡ Some y → Told
@@ -216,7 +216,7 @@ there_told own id (SubscribeSet set provider receiver forward) c vs v found stay
           based v,
           entry-based set id vs ∙ ap (λ b. cond b (option_map based (entry_at id vs)) (entry_at id vs)) same
               ∙ ap (option_map based) found,
-          IsBased refl (told_turns own id set provider receiver forward c turns same),
+          IsBased refl (told_turns own id set provider receiver forward c (turns, same)),
         )
         at false other = (
           v,
@@ -369,7 +369,8 @@ filter_told origin own (SubscribeSet set provider receiver forward) c vs all =
         filter_based origin set vs
         (all_map (λ e. Touches own e.0 body c → (e.1.origin == origin) ≡ false)
         (λ e. e.0 ≡ set → (e.1.origin == origin) ≡ false)
-        (λ e other same. other (inl (told_turns own e.0 set provider receiver forward c turns (eq-eqb e.0 set same))))
+        (λ e other same. other
+        (inl (told_turns own e.0 set provider receiver forward c (turns, eq-eqb e.0 set same))))
         vs all)
     by false stays = refl
 filter_told origin own (UnsubscribeSet set receiver) c vs all = by (receiver == own) refl

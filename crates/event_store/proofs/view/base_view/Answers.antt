@@ -21,6 +21,7 @@ pub returns-in_ok-now-in-Some-clause-turns : goal.returns-in_ok-now-in-Some-clau
 returns-in_ok-now-in-Some-clause-turns g c base s p =
     let found = sym (c.in_ok-find_view.ensures.says p.store s (sees p) p.has.streams)
     ∙ ap (option_map seen_view) c.in-Some.is in
-    based_becomes base s c.args.set (seen_view c.in-Some.view) (seen_view c.in_ok-now-in-Some.now)
-    (g.K.Keeper.kept c.keep_view.new.keeper) c.keep_view.result found c.in_ok-now-in-Some.ensures
+    based_becomes base s c.args.set (seen_view c.in_ok-now-in-Some.now)
+    (g.K.Keeper.kept c.keep_view.new.keeper) c.keep_view.result
+    (record { view = seen_view c.in-Some.view; found = found; is = c.in_ok-now-in-Some.ensures })
     (c.keep_view.ensures.turns base s (pending_same p c.in_ok-find_view.ensures.same))

@@ -26,9 +26,10 @@ loop-set-preserved c =
     let e = c.loop-set-item.result in
     let rest = drop_more sets n e (omega arith) ∙ ap (λ x. x ∷ drop (n + 1) sets) (sym c.loop-set-item.is) in
     let value = c.then_some.ensures ∙ leading_some c.args.own e.1 in
-    marked_on c.args.own c.loop-set.leads c.insert.new.self e (drop (n + 1) sets) sets
-    (none_of _ (sym c.contains_key.ensures ∙ c.if-contains_key.false))
-    (subst (λ v. Updates nat_cmp c.loop-set.leads c.insert.new.self e.0 (Some v)) value c.in_ok-insert.ensures.updates)
+    marked_on c.args.own c.loop-set.leads c.insert.new.self e (drop (n + 1) sets) sets (
+      none_of _ (sym c.contains_key.ensures ∙ c.if-contains_key.false),
+      subst (λ v. Updates nat_cmp c.loop-set.leads c.insert.new.self e.0 (Some v)) value c.in_ok-insert.ensures.updates,
+    )
     (subst (λ left. AreMarked c.args.own c.loop-set.leads left sets) rest c.loop-set.invariant)
 
 pub returns : goal.returns

@@ -24,7 +24,7 @@ loop-name-preserved-in-Continue-1 c =
     let rest = pairs c.next.new.self in
     record {
       goes = taken_over set all left c.insert.new.self (c.in-Some.name.items, member) rest
-          (not_eq member.set set c.if-member-set.true) c.in_ok-insert.ensures.ok
+          (not_eq member.set set c.if-member-set.true, c.in_ok-insert.ensures.ok)
           (subst (λ es. AreLeft set all (pairs es) left) c.in-Some.ensures.steps c.loop-name.invariant.goes);
     }
 

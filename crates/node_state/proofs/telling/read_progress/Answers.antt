@@ -26,8 +26,8 @@ loop-node-preserved-then-not-row g c =
       ids = (ids_past nodes n e at i.ids).1;
       says = λ m count seen are. counted_over count nodes n e c.loop-node.progress at c.if-not-row.true
           ∙ i.says m count seen are;
-      form = λ m seen space handed. handed_past c.args.own m nodes n e at
-          (λ live other lacks. true≢false (sym live ∙ c.if-not-row.true)) space (i.form m seen space handed);
+      form = λ m seen space handed. handed_past c.args.own m nodes n e
+          (at, λ live other lacks. true≢false (sym live ∙ c.if-not-row.true)) space (i.form m seen space handed);
     }
 
 pub loop-node-preserved : goal.loop-node-preserved
@@ -48,10 +48,10 @@ loop-node-preserved g c =
           let told = c.in_ok-push.ensures.ok
           ∙ ap (λ k. c.loop-node.progress ++ (e.0, k) ∷ [])
           (c.unwrap_or.ensures ∙ ap (λ o. unwrap_or o 0) number) in
-          counted_on count nodes n e c.loop-node.progress c.push.new.self at c.if-not-row.false told
+          counted_on count nodes n e c.loop-node.progress c.push.new.self (at, c.if-not-row.false) told
           ∙ i.says m count seen are;
-      form = λ m seen space handed. handed_past c.args.own m nodes n e at
-          (λ live. read.form m (sight_same i.looked ∙ seen)) space (i.form m seen space handed);
+      form = λ m seen space handed. handed_past c.args.own m nodes n e
+          (at, λ live. read.form m (sight_same i.looked ∙ seen)) space (i.form m seen space handed);
     }
 
 pub returns-clause-form : goal.returns-clause-form

@@ -1,17 +1,14 @@
-use Rattle.std.proofs.Common.{◌∙◌, ◌+◌, Ok, ap, refl, sym, subst, arith}
+use Rattle.std.proofs.Common.{◌+◌, Ok, ap, refl, sym, subst, arith}
 use Rattle.std.proofs.lemmas.Result.{err_from_is_err_and}
 use Rattle.node_keeper.specs.Fused.{fuse_kept}
 use Rattle.slon_model.specs.declared.reply.Answered.TheVariants.{Sure, InDoubt}
-use Rattle.txn_core.specs.Snapshots.{seen_as}
-use Rattle.node_store.specs.Acting.{Stood, Wavered, Broke, HasLearned}
-use Rattle.app_store.specs.Base.{base_of, memory_of}
-use Rattle.node_store.proofs.Emitted.{Announcement, Said, emitter_in, told_in, own_is, is_written, held_stood}
+use Rattle.node_store.specs.Acting.{Stood, Wavered, HasLearned}
+use Rattle.app_store.specs.Base.{memory_of}
+use Rattle.node_store.proofs.Emitted.{Announcement, said_of, emitter_in, told_in, is_written, held_stood}
 use Rattle.node_store.proofs.Emitted.{number_in, either_held, emission_stands, emission_wavers, emission_stops}
+use Rattle.node_store.proofs.Endings.{commit_breaks}
 use Rattle.node_store.proofs.Several.{emission_within}
 use Rattle.node_store.proofs.Acting.{never_memory}
-use Rattle.app_store.proofs.Halting.{stopped}
-use Rattle.app_store.proofs.Pending.{rose_later}
-use Rattle.app_store.proofs.Standing.{is_down, look_fell, up_from}
 use Rattle.app_store.proofs.Transacting.{small_stamp}
 use Rattle.app_store.proofs.Upright.{up_at, running}
 use Rattle.node_store.proofs.announcing.emit.Goals as goal
@@ -20,13 +17,7 @@ pub returns-in_ok-learn_each-in-Done-clause-announces : goal.returns-in_ok-learn
 returns-in_ok-learn_each-in-Done-clause-announces g c p n ready is memory seen name ms bodies learns =
     let at = up_at ready c.requires.up in
     let a : Announcement p = record { node = n; is = is; parts = ms; name = name } in
-    let said : Said a c.args.own (seen_as c.args.taken.now) c.args.bodies.now = record {
-      own_is = own_is n at is c.requires.own;
-      seen_is = seen;
-      bodies_are = bodies;
-      some = c.requires.some;
-      learns = learns;
-    } in
+    let said = said_of a at c.requires.own seen bodies c.requires.some learns in
     let w = is_written {mid = fuse_kept g.K.Keeper.kept c.write_events.new.keeper} at a
     (c.in-Ok.ensures.writes (emitter_in at a) (told_in at a said) ready.fits.held.1) in
     let done = rw c.in-Done.is at c.in-Ok-finish.ensures.ends in
@@ -55,13 +46,7 @@ pub returns-in-InDoubt-clause-announces : goal.returns-in-InDoubt-clause-announc
 returns-in-InDoubt-clause-announces g c p n ready is memory seen name ms bodies learns =
     let at = up_at ready c.requires.up in
     let a : Announcement p = record { node = n; is = is; parts = ms; name = name } in
-    let said : Said a c.args.own (seen_as c.args.taken.now) c.args.bodies.now = record {
-      own_is = own_is n at is c.requires.own;
-      seen_is = seen;
-      bodies_are = bodies;
-      some = c.requires.some;
-      learns = learns;
-    } in
+    let said = said_of a at c.requires.own seen bodies c.requires.some learns in
     let w = is_written {mid = fuse_kept g.K.Keeper.kept c.write_events.new.keeper} at a
     (c.in-Ok.ensures.writes (emitter_in at a) (told_in at a said) ready.fits.held.1) in
     let doubt = rw c.in-InDoubt.is at c.in-Ok-finish.ensures.ends in
@@ -78,26 +63,14 @@ returns-in-InDoubt-clause-announces g c p n ready is memory seen name ms bodies 
 
 pub returns-in-Err-finish-clause-announces : goal.returns-in-Err-finish-clause-announces
 returns-in-Err-finish-clause-announces g c p n ready is memory seen name ms bodies learns =
-    let at = up_at ready c.requires.up in
-    Broke c.fall.result refl (small_stamp p c.args.database.now.state.stamp (running at).1.stamp c.requires.room)
-    (look_fell p (base_of g.K.Keeper.kept c.args.database.now) _ c.in-Err-finish.stop c.fall.result
-    (up_from ready c.requires.up) (c.in-Err-finish.ensures.ends.ends.0 ∙ c.in-Ok.ensures.enters.held)
-    (stopped _ _ _ _ (is_down c.fall.ensures.down)
-    (λ failed. rose_later c.in-Ok.ensures.enters.later (c.in-Err-finish.ensures.ends.counted.failed failed))
-    c.fall.ensures.fault
-    (memory, c.in-Err-finish.ensures.ends.ends.1)))
+    commit_breaks (up_at ready c.requires.up) c.requires.room c.in-Ok.ensures.enters c.in-Err-finish.ensures.ends
+    (record { down = c.fall.ensures.down; fault_is = c.fall.ensures.fault }) memory
 
 pub returns-in-Err-clause-announces : goal.returns-in-Err-clause-announces
 returns-in-Err-clause-announces g c p n ready is memory seen name ms bodies learns =
     let at = up_at ready c.requires.up in
     let a : Announcement p = record { node = n; is = is; parts = ms; name = name } in
-    let said : Said a c.args.own (seen_as c.args.taken.now) c.args.bodies.now = record {
-      own_is = own_is n at is c.requires.own;
-      seen_is = seen;
-      bodies_are = bodies;
-      some = c.requires.some;
-      learns = learns;
-    } in
+    let said = said_of a at c.requires.own seen bodies c.requires.some learns in
     emission_stops (c.args.database.now.state.stamp + 1) at a c.in-Err.stop c.fall-in-Err.result _ (
       small_stamp p c.args.database.now.state.stamp (running at).1.stamp c.requires.room,
       c.in-Err.ensures.writes (emitter_in at a) (told_in at a said) ready.fits.held.1,

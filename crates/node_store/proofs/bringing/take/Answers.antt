@@ -11,8 +11,9 @@ use Rattle.node_store.proofs.bringing.take.Goals as goal
 
 pub returns-in-None-clause-takes : goal.returns-in-None-clause-takes
 returns-in-None-clause-takes g c n m p b own is can none =
-    becomes_plainly n (seen_event c.args.event.now) b (standing_rows p) m (g.K.Keeper.kept c.apply.new.keeper)
-    c.apply.result (subst (IsBrought (seen_event c.args.event.now).origin p b) c.in-None.is none) can.rows
+    becomes_plainly n (seen_event c.args.event.now) b
+    (record { tables = standing_rows p; store = m; holds = can.rows }) (g.K.Keeper.kept c.apply.new.keeper)
+    c.apply.result (subst (IsBrought (seen_event c.args.event.now).origin p b) c.in-None.is none)
     (c.apply.ensures.turns n m own is can.held can.takes can.home)
 
 pub returns-in-Some-Syncs-clause-takes : goal.returns-in-Some-Syncs-clause-takes

@@ -10,7 +10,7 @@ returns-clause-takes g c n m p b own is can set =
     let q = c.in_ok-apply_keeping.ensures.turns n m own is can.held can.takes can.home in
     let taken = has_taken n e b c.args.given m q.store set q.has in
     becomes_both q.store (g.K.Keeper.kept c.replace_tables.new.keeper) c.replace_tables.result
-    (λ store stay rows. tables_taken n e b (standing_rows p) m q.store store taken stay rows) (
+    (λ store stay rows. tables_taken n e b (standing_rows p) store taken stay rows) (
       c.replace_tables.ensures.others q.store q.is,
       c.replace_tables.ensures.replaces (standing_rows p) b.rows set.rows (record {
         store = q.store;

@@ -1,33 +1,19 @@
-use Rattle.std.proofs.Common.{◌∙◌, refl, arith}
+use Rattle.std.proofs.Common.{refl}
 use Rattle.slon_model.specs.Place.{standing_rows}
-use Rattle.app_store.specs.Base.{base_of}
-use Rattle.app_store.proofs.Pending.{sight-idle}
 use Rattle.app_store.proofs.Upright.{up_at}
 use Rattle.node_store.proofs.Doers.{tables_at}
-use Rattle.node_store.proofs.Lookups.{look_stops, look_fits}
+use Rattle.node_store.proofs.Findings.{read_fits, read_stops, seen_at}
 use Rattle.node_store.proofs.copying.read_tables.Goals as goal
 
 pub returns-in-Ok-clause-looks : goal.returns-in-Ok-clause-looks
 returns-in-Ok-clause-looks g c p ready memory =
-    let b = base_of g.K.Keeper.kept c.args.database.now in
     let at = up_at ready c.requires.up in
-    let seen = sight-idle b.kept (c.args.database.now.idle c.requires.up) ∙ ready.fits.held.1 in (
-      c.in-Ok.ensures.says ready.fits.held.0 (standing_rows p) seen (tables_at at),
-      look_fits at (record {
-        held = c.in-Ok.ensures.safe.held;
-        later = c.in-Ok.ensures.safe.later;
-        memory = refl;
-      }),
-    )
+    let seen = seen_at at c.args.database.now.idle in
+    (c.in-Ok.ensures.says _ (standing_rows p) seen (tables_at at), read_fits at c.in-Ok.ensures.safe refl)
 
 pub returns-in-Err-clause-looks : goal.returns-in-Err-clause-looks
 returns-in-Err-clause-looks g c p ready memory =
-    let b = base_of g.K.Keeper.kept c.args.database.now in
     let at = up_at ready c.requires.up in
-    let seen = sight-idle b.kept (c.args.database.now.idle c.requires.up) ∙ ready.fits.held.1 in
-    look_stops at (record {
-      held = c.in-Err.ensures.safe.held;
-      down = c.fall.ensures.down;
-      rose = λ failed. c.in-Err.ensures.safe.rises failed _ (omega arith);
-      fault_is = c.fall.ensures.fault;
-    }) memory (c.in-Err.ensures.says ready.fits.held.0 (standing_rows p) seen (tables_at at))
+    read_stops at c.in-Err.ensures.safe
+    (record { down = c.fall.ensures.down; fault_is = c.fall.ensures.fault }) memory
+    (c.in-Err.ensures.says _ (standing_rows p) (seen_at at c.args.database.now.idle) (tables_at at))

@@ -1,22 +1,16 @@
-use Rattle.std.proofs.Common.{Err, refl, ap, arith}
+use Rattle.std.proofs.Common.{refl, arith}
 use Rattle.slon_model.specs.Membership.{becoming, first_of_cluster}
-use Rattle.node_store.specs.Acting.{Burst, Broke}
-use Rattle.app_store.proofs.Transacting.{small_stamp, last_stamp}
+use Rattle.app_store.proofs.Transacting.{small_stamp}
 use Rattle.app_store.proofs.Upright.{up_at, running, untouched}
 use Rattle.node_store.proofs.Becoming.{becomes_as, none_held}
-use Rattle.node_store.proofs.Emitted.{felled_fits}
-use Rattle.node_store.proofs.Several.{stamp_beyond, within_limit}
-use Rattle.node_store.proofs.Lookups.{look_stops}
+use Rattle.node_store.proofs.Endings.{stamp_bursts, entry_breaks}
+use Rattle.node_store.proofs.Several.{within_limit}
 use Rattle.node_store.proofs.founding.found.Goals as goal
 
 pub returns-then-database-ge-STORED_LIMIT-clause-founds : goal.returns-then-database-ge-STORED_LIMIT-clause-founds
 returns-then-database-ge-STORED_LIMIT-clause-founds g c p ready none memory name run cluster =
-    let at = up_at ready c.requires.up in
-    let most = c.if-database-ge-STORED_LIMIT.true in
-    Burst 1 (ap (λ f. Err f) c.overflow.ensures.fault)
-    (stamp_beyond (becoming name (first_of_cluster c.args.id c.args.comment.now run)) p
-    (last_stamp p c.args.database.now.state.stamp (running at).1.stamp (omega (arith, most))))
-    (felled_fits at _ (record { down = c.overflow.ensures.down; looked = untouched _ }))
+    stamp_bursts (up_at ready c.requires.up) (omega (arith, c.if-database-ge-STORED_LIMIT.true))
+    c.overflow.ensures.fault (record { down = c.overflow.ensures.down; looked = untouched _ })
 
 pub returns-in-Ok-clause-founds : goal.returns-in-Ok-clause-founds
 returns-in-Ok-clause-founds g c p ready none memory name run cluster =
@@ -39,13 +33,7 @@ returns-in-Ok-clause-founds g c p ready none memory name run cluster =
 
 pub returns-in-Err-clause-founds : goal.returns-in-Err-clause-founds
 returns-in-Err-clause-founds g c p ready none memory name run cluster =
-    let at = up_at ready c.requires.up in
-    let room = c.if-database-ge-STORED_LIMIT.false in
-    Broke c.fall.result refl
-    (small_stamp p c.args.database.now.state.stamp (running at).1.stamp (omega (arith, room)))
-    (look_stops at (record {
-      held = c.in-Err.ensures.enters.held;
-      down = c.fall.ensures.down;
-      rose = c.in-Err.ensures.enters.failed;
-      fault_is = c.fall.ensures.fault;
-    }) memory (c.in-Err.ensures.writes run ready.fits.held.0 cluster ready.fits.held.1 (none_held at none)))
+    entry_breaks (up_at ready c.requires.up) (omega (arith, c.if-database-ge-STORED_LIMIT.false))
+    c.in-Err.ensures.enters (record { down = c.fall.ensures.down; fault_is = c.fall.ensures.fault }) memory
+    (c.in-Err.ensures.writes run ready.fits.held.0 cluster ready.fits.held.1
+    (none_held (up_at ready c.requires.up) none))

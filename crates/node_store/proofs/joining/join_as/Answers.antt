@@ -4,7 +4,7 @@ use Rattle.txn_core.specs.Snapshots.{seen_as}
 use Rattle.app_store.proofs.Upright.{up_at}
 use Rattle.node_store.specs.Joining.{WritesBoth, StopsEvent, joiner}
 use Rattle.node_store.proofs.Becoming.{none_held}
-use Rattle.node_store.proofs.Emitted.{Said, emitter_in, told_in, own_is}
+use Rattle.node_store.proofs.Emitted.{Said, emitter_in, said_of, told_in}
 use Rattle.node_store.proofs.Joiners.{newcomer_of, wrote_both, from_stops, to_broke}
 use Rattle.node_store.proofs.Outcomes.{AreUp, event_of, ends_joins}
 use Rattle.node_store.proofs.joining.join_as.Goals as goal
@@ -13,13 +13,8 @@ pub returns-in_ok-joined-in-Ok-clause-joins : goal.returns-in_ok-joined-in-Ok-cl
 returns-in_ok-joined-in-Ok-clause-joins g c comment body s ready seen cluster long =
     let up : AreUp (joiner c.args.joining.new comment) s _ = record
     { ready = ready; from = up_at ready.from c.requires.up.0; to = up_at ready.to c.requires.up.1 } in
-    let said : Said (event_of up) c.args.joining.own (seen_as c.args.taken.now) (c.args.body.now ∷ []) = record {
-      own_is = own_is s.node up.from ready.is c.requires.own;
-      seen_is = seen;
-      bodies_are = ap (λ b. b ∷ []) (sym body);
-      some = omega arith;
-      learns = (ready.learns, tt);
-    } in
+    let said : Said (event_of up) c.args.joining.own (seen_as c.args.taken.now) (c.args.body.now ∷ []) =
+    said_of (event_of up) up.from c.requires.own seen (ap (λ b. b ∷ []) (sym body)) (omega arith) (ready.learns, tt) in
     let from = fuse_kept g.K.Keeper.kept c.write_both.new.from in
     let to = fuse_kept g.K.Keeper.kept c.write_both.new.to in
     let writes = c.in-Ok.ensures.writes (emitter_in up.from (event_of up)) s.run ready.to.fits.held.0 comment
@@ -45,13 +40,8 @@ pub returns-in-From-clause-joins : goal.returns-in-From-clause-joins
 returns-in-From-clause-joins g c comment body s ready seen cluster memory =
     let up : AreUp (joiner c.args.joining.new comment) s _ =
     record { ready = ready; from = up_at ready.from c.requires.up.0; to = up_at ready.to c.requires.up.1 } in
-    let said : Said (event_of up) c.args.joining.own (seen_as c.args.taken.now) (c.args.body.now ∷ []) = record {
-      own_is = own_is s.node up.from ready.is c.requires.own;
-      seen_is = seen;
-      bodies_are = ap (λ b. b ∷ []) (sym body);
-      some = omega arith;
-      learns = (ready.learns, tt);
-    } in
+    let said : Said (event_of up) c.args.joining.own (seen_as c.args.taken.now) (c.args.body.now ∷ []) =
+    said_of (event_of up) up.from c.requires.own seen (ap (λ b. b ∷ []) (sym body)) (omega arith) (ready.learns, tt) in
     let broke = rw c.in-From.is at c.in-Err.ensures.enters in
     from_stops up c.new.result c.in-Err.failed.stop (
       c.new.ensures.side,
@@ -82,13 +72,8 @@ pub returns-in-To-clause-joins : goal.returns-in-To-clause-joins
 returns-in-To-clause-joins g c comment body s ready seen cluster memory =
     let up : AreUp (joiner c.args.joining.new comment) s _ =
     record { ready = ready; from = up_at ready.from c.requires.up.0; to = up_at ready.to c.requires.up.1 } in
-    let said : Said (event_of up) c.args.joining.own (seen_as c.args.taken.now) (c.args.body.now ∷ []) = record {
-      own_is = own_is s.node up.from ready.is c.requires.own;
-      seen_is = seen;
-      bodies_are = ap (λ b. b ∷ []) (sym body);
-      some = omega arith;
-      learns = (ready.learns, tt);
-    } in
+    let said : Said (event_of up) c.args.joining.own (seen_as c.args.taken.now) (c.args.body.now ∷ []) =
+    said_of (event_of up) up.from c.requires.own seen (ap (λ b. b ∷ []) (sym body)) (omega arith) (ready.learns, tt) in
     let broke = rw c.in-To.is at c.in-Err.ensures.enters in
     to_broke up c.new-in-To.result c.new-in-To.ensures.side (record {
       held = c.give_up-in-To.ensures.held ∙ broke.0.held;

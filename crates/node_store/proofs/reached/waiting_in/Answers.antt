@@ -1,4 +1,4 @@
-use Rattle.std.proofs.Common.{◌≡◌, ◌∙◌, sym, ap}
+use Rattle.std.proofs.Common.{◌∙◌, sym, ap}
 use Rattle.store_rows.proofs.Spaces.{looked_none, looked_on, sight_same}
 use Rattle.slon_model.specs.Deeds.{knowledge, told_of}
 use Rattle.event_store.specs.Streams.{streams_of}

@@ -24,7 +24,7 @@ returns-in-Ok-clause-looks g c =
     let e = seen_event c.args.event.now in
     seen_so (λ q both. subst (λ r. ProviderSays c.args.node c.args.provider e r q) (sym c.behind.ensures.says)
     (provider_reached c.args.node c.args.provider e q c.in-Ok.progress
-    (λ k there. sym c.in-Ok-true.field-0-test ∙ both.0 k there) both.1 (nat_lt c.in-Ok.progress e.number) refl))
+    (λ k there. sym c.in-Ok-true.field-0-test ∙ both.0 k there, both.1) (nat_lt c.in-Ok.progress e.number) refl))
     (seen_then (Ok c.in-Ok.progress)
     (looked_up (KnownAt c.args.node) (Ok c.in-Ok-true.field-0) c.in-Ok-true.ensures.acts c.in-Ok-true.ensures.looks
     c.in-Ok-true.ensures.same)

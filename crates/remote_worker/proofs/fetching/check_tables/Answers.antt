@@ -20,8 +20,8 @@ returns-in-Some-clause-looks g c =
     let more = drop (at + 1) names in
     let name : List ℕ = c.name-item.result in
     let step = drop_more names at name c.loop-name-test.true ∙ ap (λ n. n ∷ more) (sym c.name-item.is) in
-    so (λ p q both. bad_table names more name p q c.in_ok-refusal.field-0 c.in-Some.refusal c.in-Some.is
-    (subst (λ ns. LeavesOf names ns p q) step both.0) both.1)
+    so (λ p q both. bad_table names more name p q c.in_ok-refusal.field-0 c.in-Some.is
+    (subst (λ ns. LeavesOf names ns p q) step both.0, both.1))
     (then (Ok c.in_ok-refusal.field-0) c.loop-name.invariant.looks c.in_ok-refusal.ensures.looks)
 
 pub loop-name-preserved : goal.loop-name-preserved
@@ -38,7 +38,7 @@ loop-name-preserved g c =
     let own = ap (λ m. m.up) same.0 ∙ before.up.0 in
     let provider = ap (λ m. m.up) same.1 ∙ before.up.1 in
     let looks = so (λ p q both. next_table names more name p q c.in_ok-refusal.field-0 c.in-None.is
-    (subst (λ ns. LeavesOf names ns p q) step both.0) both.1)
+    (subst (λ ns. LeavesOf names ns p q) step both.0, both.1))
     (then (Ok c.in_ok-refusal.field-0) before.looks c.in_ok-refusal.ensures.looks) in
     record { up = (own, provider); texts = texts; looks = looks }
 

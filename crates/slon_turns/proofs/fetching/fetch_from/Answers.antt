@@ -5,7 +5,7 @@ use Rattle.slon_model.specs.declared.reply.Refusal.TheVariants as refused
 use Rattle.slon_model.specs.declared.reply.Reply.TheVariants as replied
 use Rattle.slonik_exec.specs.Databases.{bases_of}
 use Rattle.slonik_exec.specs.Turning.{is_this}
-use Rattle.slonik_exec.proofs.Seated.{found_inside}
+use Rattle.slonik_exec.proofs.Seated.{found_inside, turning}
 use Rattle.slonik_exec.proofs.Seating.{runs_quiet}
 use Rattle.slon_turns.specs.declared.fetching.Trip.{Trip}
 use Rattle.slon_turns.specs.Fetching.{BringsFrom}
@@ -30,18 +30,13 @@ returns-then-not-is_up g c =
     let kept = g.K.Keeper.kept in
     let items = c.args.databases.now in
     let a : Trip = c.args.trip in
-    let e = get_or items c.in-Some.to c.index-databases-to.result in
-    let at = sym c.index_of_node.ensures
-    ∙ c.in-Some.is
-    in
-    let held = get_or_default items c.in-Some.to c.index-databases-to.result e
-    (found_inside (is_this a.copying.provider) items c.in-Some.to c.index-databases-to.result at) in
+    let turns = turning {kept = kept} {node = a.copying.provider} items c.in-Some.to c.index-databases-to.result
+    (sym c.index_of_node.ensures ∙ c.in-Some.is) c.requires.distinct in
     record {
       runs = runs_quiet (refused.Down c.in_ok-database.database) (bases_of kept items) refl;
       brings = subst (λ n. BringsFrom kept a c.args.index (items, c.args.held.now)
           (replied.Refused (refused.Down n)) (items, c.args.held.now)) (sym c.in_ok-database.ensures)
-          (provider_down kept a c.args.index c.in-Some.to items c.args.held.now e (c.requires.distinct, at)
-          (held, sym c.is_up.ensures ∙ c.if-not-is_up.true));
+          (provider_down kept a c.args.index items c.args.held.now turns (sym c.is_up.ensures ∙ c.if-not-is_up.true));
       bounds = refl;
     }
 

@@ -49,7 +49,7 @@ returns-in-Lost-clause-brings g c s n server is delivery fits handed =
     (sym c.counts-events.ensures)
     (brings_as {new = (new, c.args.queue.now)} s n server
     (sym (polled_empty s n c.in-Ok.polled.state b polled) ∙ sym c.is_empty.ensures ∙ c.if-is_empty.false)
-    (lost_listens s n c.in-Ok.polled.state b new c.args.queue.now polled (delivery ∙ c.in-Lost.is)
+    (lost_listens s n c.in-Ok.polled.state b (new, c.args.queue.now) polled (delivery ∙ c.in-Lost.is)
     (look.1, fits.waits)))
 
 pub returns-in-Once : goal.returns-in-Once

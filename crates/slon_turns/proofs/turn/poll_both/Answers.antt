@@ -1,72 +1,62 @@
-use Rattle.std.proofs.Common.{◌≡◌, ◌∙◌, get_or, subst, arith}
-use Rattle.slonik_exec.proofs.Halves.{Halves, halves_set, held_front, held_back, set_turned, other_less}
+use Rattle.std.proofs.Common.{◌≡◌, List, arith}
+use Rattle.slon_base.specs.Keeper.{Kept}
+use Rattle.slon_base.specs.declared.keeper.Keeper.{Ghosts}
+use Rattle.slon_model.specs.declared.reply.Reply.{Reply}
+use Rattle.event_store.specs.declared.queue.Queue.{Queue}
+use Rattle.slonik_exec.specs.declared.databases.Named.{Named as NamedDatabase}
+use Rattle.slonik_exec.specs.declared.membership.Spots.{Spots}
+use Rattle.slonik_exec.specs.Stored.{couple_of, pair_of}
+use Rattle.slon_turns.specs.declared.polling.Listen.{Listen}
+use Rattle.slon_turns.specs.Pairing.{PolledAt}
+use Rattle.slon_turns.specs.Polling.{ListensTo, RunsBetween}
+use Rattle.slon_turns.proofs.Cutting.{Sides, halves, one_first, other_first, other_halves}
 use Rattle.slon_turns.proofs.Listens.{if_both}
 use Rattle.slon_turns.proofs.turn.poll_both.Goals as goal
 
+-- a poll at two places told this, and left the queue so
+abbrev polled_by : {K : Type 0} {g : Ghosts K} {kept : K → Kept} {olds news : List (NamedDatabase K g)} {at : Spots}
+    {x one y other : NamedDatabase K g} {l : Listen} {old new : Queue} {reply : Reply} →
+    Sides olds at.from at.to x one y other news → (one.name ≡ x.name) × (other.name ≡ y.name) →
+    RunsBetween (couple_of kept x y) reply (pair_of kept one other) →
+    ListensTo l (couple_of kept x y) old reply (pair_of kept one other) new →
+    PolledAt kept (l, at) (olds, old) reply (news, new)
+polled_by {x = x} {one} {y} {other} s names runs listens = record {
+  own_old = x;
+  own_new = one;
+  server_old = y;
+  server_new = other;
+  own_held = s.one_held;
+  own_name = names.0;
+  server_held = s.other_held;
+  server_name = names.1;
+  is = s.is;
+  runs = runs;
+  listens = listens;
+}
+
 pub returns-then-spots : goal.returns-then-spots
 returns-then-spots g c =
-    let olds = c.args.databases.now in
-    let cut = c.split_at_mut-front in
-    let front = cut.result.0.now in
-    let back = cut.result.1.now in
     let at = c.args.spots in
-    let own = c.index-front-spots.result in
-    let server = c.index-back-0.result in
-    let h : Halves olds front back at.from at.to = record {
-      front_is = cut.ensures.front;
-      back_is = cut.ensures.back;
-      less = c.if-spots.true;
-      inside = c.requires.meeting.other;
-    } in
+    let cut = c.split_at_mut-front.ensures in
+    let h = halves c.args.databases.now at.from at.to (cut.front, cut.back) c.if-spots.true
+    c.requires.meeting.other in
+    let s = one_first c.poll_between.new.own c.poll_between.new.server h c.index-front-spots.is c.index-back-0.is in
     record {
-      polled = if_both c.poll_between.result (λ reply runs listens. record {
-        own_old = get_or front at.from own;
-        own_new = c.poll_between.new.own;
-        server_old = get_or back 0 server;
-        server_new = c.poll_between.new.server;
-        own_held = subst (λ z. z ≡ get_or olds at.from z) c.index-front-spots.is
-            (held_front olds front back at.from at.to own h c.index-front-spots.is);
-        server_held = subst (λ z. z ≡ get_or olds at.to z) c.index-back-0.is
-            (held_back olds front back at.from at.to server h c.index-back-0.is);
-        own_name = c.poll_between.ensures.names.0;
-        server_name = c.poll_between.ensures.names.1;
-        is = halves_set olds front back at.from at.to c.poll_between.new.own c.poll_between.new.server h;
-        runs = runs;
-        listens = listens;
-      }) c.poll_between.ensures.runs c.poll_between.ensures.listens;
+      polled = if_both c.poll_between.result
+          (λ reply runs listens. polled_by s c.poll_between.ensures.names runs listens)
+          c.poll_between.ensures.runs c.poll_between.ensures.listens;
     }
 
 pub returns-else-spots : goal.returns-else-spots
 returns-else-spots g c =
-    let olds = c.args.databases.now in
-    let cut = c.split_at_mut-front-else-spots in
-    let front = cut.result.0.now in
-    let back = cut.result.1.now in
     let at = c.args.spots in
-    let own = c.index-back-0-else-spots.result in
-    let server = c.index-front-spots-else-spots.result in
-    let poll = c.poll_between-else-spots in
-    let h : Halves olds front back at.to at.from = record {
-      front_is = cut.ensures.front;
-      back_is = cut.ensures.back;
-      less = other_less at.from at.to (omega (arith, c.if-spots.false)) c.requires.meeting.apart;
-      inside = c.requires.meeting.inside;
-    } in
+    let cut = c.split_at_mut-front-else-spots.ensures in
+    let h = other_halves c.args.databases.now at.from at.to (cut.front, cut.back) (omega (arith, c.if-spots.false))
+    c.requires.meeting.apart c.requires.meeting.inside in
+    let done = c.poll_between-else-spots in
+    let s = other_first done.new.own done.new.server h c.index-back-0-else-spots.is
+    c.index-front-spots-else-spots.is in
     record {
-      polled = if_both poll.result (λ reply runs listens. record {
-        own_old = get_or back 0 own;
-        own_new = poll.new.own;
-        server_old = get_or front at.to server;
-        server_new = poll.new.server;
-        own_held = subst (λ z. z ≡ get_or olds at.from z) c.index-back-0-else-spots.is
-            (held_back olds front back at.to at.from own h c.index-back-0-else-spots.is);
-        server_held = subst (λ z. z ≡ get_or olds at.to z) c.index-front-spots-else-spots.is
-            (held_front olds front back at.to at.from server h c.index-front-spots-else-spots.is);
-        own_name = poll.ensures.names.0;
-        server_name = poll.ensures.names.1;
-        is = halves_set olds front back at.to at.from poll.new.server poll.new.own h
-            ∙ set_turned olds at.to at.from poll.new.server poll.new.own h.less;
-        runs = runs;
-        listens = listens;
-      }) poll.ensures.runs poll.ensures.listens;
+      polled = if_both done.result (λ reply runs listens. polled_by s done.ensures.names runs listens) done.ensures.runs
+          done.ensures.listens;
     }

@@ -95,7 +95,8 @@ returns g c =
     let own : Held = record c.take-own.result { queue = c.poll_both-polled.new.queue } in
     let taken = subst (λ n. IsTaken (get held n) c.take-own.result) sliced c.take-own.ensures.is in
     let polled : (reply : Reply) → c.poll_both-polled.result ≡ Ok reply → PolledAt kept (c.args.listen, spots)
-    (items, c.take-own.result.queue) reply (news, c.poll_both-polled.new.queue) = λ reply is. at_ok (λ reply. PolledAt kept (c.args.listen, spots) (items, c.take-own.result.queue) reply
+    (items, c.take-own.result.queue) reply (news, c.poll_both-polled.new.queue) = λ reply is.
+    at_ok (λ reply. PolledAt kept (c.args.listen, spots) (items, c.take-own.result.queue) reply
     (news, c.poll_both-polled.new.queue)) c.poll_both-polled.result reply is c.poll_both-polled.ensures.polled in
     let same : c.put_back.new.held ≡ insert c.take-own.new.held key own → insert (remove held key) key own
     ≡ c.put_back.new.held = λ put.

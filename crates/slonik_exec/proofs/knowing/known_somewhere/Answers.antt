@@ -122,4 +122,4 @@ returns-clause-hears g c =
     let items = c.loop-named.databases in
     let same = length-map items (named_base g.K.Keeper.kept) in
     all_asked (test_of c.args.question.now) (bases_of g.K.Keeper.kept c.args.databases.now)
-    (bases_of g.K.Keeper.kept items) c.loop-named.named-index c.loop-named.invariant (omega (arith, same))
+    (bases_of g.K.Keeper.kept items) c.loop-named.named-index (c.loop-named.invariant, omega (arith, same))

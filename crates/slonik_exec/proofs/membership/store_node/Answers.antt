@@ -4,12 +4,11 @@ use Rattle.std.specs.Option.{option_copied}
 use Rattle.slon_model.specs.declared.reply.Refusal.TheVariants as refused
 use Rattle.slonik_exec.specs.declared.knowing.Heard.TheVariants.{Known}
 use Rattle.slonik_exec.specs.declared.knowing.Question.TheVariants.{Node as OfNode}
-use Rattle.slonik_exec.specs.declared.reaching.Reached.TheVariants.{At}
 use Rattle.slonik_exec.specs.Databases.{bases_of}
 use Rattle.slonik_exec.specs.Heard.{RunsHeard, Hears}
 use Rattle.slonik_exec.specs.Reached.{Addresses, IsQuietly, IsDownNode, Reaches, FindsLine}
 use Rattle.slonik_exec.proofs.Stores.{Order}
-use Rattle.slonik_exec.proofs.Storing.{Seen, seen_by, target_at, IsFree, Asked, reach_refuses, line_refuses}
+use Rattle.slonik_exec.proofs.Storing.{seen_by, target_at, free_at, Asked, reach_refuses, line_refuses}
 use Rattle.slonik_exec.proofs.Storing.{node_refuses, down_refuses, used_refuses, stop_breaks, runs_refused}
 use Rattle.slonik_exec.proofs.Storing.{joinable_seen, asked_runs, asked_executes}
 use Rattle.slonik_exec.proofs.membership.store_node.Goals as goal
@@ -51,12 +50,11 @@ pub returns-in-Some-clause-executes : goal.returns-in-Some-clause-executes
 returns-in-Some-clause-executes g c =
     let a : Addresses = record { lines = c.args.caller.lines.now; cluster = c.args.caller.cluster.now } in
     let o : Order = record { id = c.args.id; event_node = c.args.event_node; comment = c.args.comment.now } in
-    let databases = c.args.databases.now in
-    let seen : Seen {g = g.K.Keeper} g.K.Keeper.kept a o databases (At c.in-At.from) (At c.in-At-2.to)
-    = seen_by (c.in_ok-from.ensures.here, c.in_ok-from.ensures.reaches) c.in-At.is
+    let seen = seen_by {kept = g.K.Keeper.kept} {a = a} {o = o}
+    (c.in_ok-from.ensures.here, c.in_ok-from.ensures.reaches) c.in-At.is
     (c.in_ok-to.ensures.here, c.in_ok-to.ensures.finds) c.in-At-2.is in
     node_refuses c.in-Some.node seen
-    (target_at databases c.in-At-2.to c.index-databases-to.result c.index-databases-to.is)
+    (target_at c.args.databases.now c.in-At-2.to c.index-databases-to.result c.index-databases-to.is)
     (sym c.node_id.ensures.id ∙ c.in-Some.is)
 
 pub returns-in-Some-down_node-clause-runs : goal.returns-in-Some-down_node-clause-runs
@@ -68,15 +66,12 @@ pub returns-in-Some-down_node-clause-executes : goal.returns-in-Some-down_node-c
 returns-in-Some-down_node-clause-executes g c =
     let a : Addresses = record { lines = c.args.caller.lines.now; cluster = c.args.caller.cluster.now } in
     let o : Order = record { id = c.args.id; event_node = c.args.event_node; comment = c.args.comment.now } in
-    let databases = c.args.databases.now in
-    let bases = bases_of g.K.Keeper.kept databases in
-    let seen : Seen {g = g.K.Keeper} g.K.Keeper.kept a o databases (At c.in-At.from) (At c.in-At-2.to)
-    = seen_by (c.in_ok-from.ensures.here, c.in_ok-from.ensures.reaches) c.in-At.is
+    let bases = bases_of g.K.Keeper.kept c.args.databases.now in
+    let seen = seen_by {kept = g.K.Keeper.kept} {a = a} {o = o}
+    (c.in_ok-from.ensures.here, c.in_ok-from.ensures.reaches) c.in-At.is
     (c.in_ok-to.ensures.here, c.in_ok-to.ensures.finds) c.in-At-2.is in
-    let free : IsFree {g = g.K.Keeper} databases c.in-At-2.to = record {
-      target = target_at databases c.in-At-2.to c.index-databases-to.result c.index-databases-to.is;
-      none = c.node_id.ensures.has ∙ ap is_some c.in_default.is;
-    } in
+    let free = free_at c.args.databases.now c.in-At-2.to c.index-databases-to.result c.index-databases-to.is
+    (c.node_id.ensures.has ∙ ap is_some c.in_default.is) in
     down_refuses c.in_ok-database.database seen free
     (subst (IsDownNode bases)
     (ap option_copied c.in-Some-down_node.is ∙ ap (λ t. Some t) (sym c.in_ok-database.ensures)) c.down_node.ensures)
@@ -85,15 +80,12 @@ pub join_both-requires-clause-joinable : goal.join_both-requires-clause-joinable
 join_both-requires-clause-joinable g c =
     let a : Addresses = record { lines = c.args.caller.lines.now; cluster = c.args.caller.cluster.now } in
     let o : Order = record { id = c.args.id; event_node = c.args.event_node; comment = c.args.comment.now } in
-    let databases = c.args.databases.now in
-    let bases = bases_of g.K.Keeper.kept databases in
-    let seen : Seen {g = g.K.Keeper} g.K.Keeper.kept a o databases (At c.in-At.from) (At c.in-At-2.to)
-    = seen_by (c.in_ok-from.ensures.here, c.in_ok-from.ensures.reaches) c.in-At.is
+    let bases = bases_of g.K.Keeper.kept c.args.databases.now in
+    let seen = seen_by {kept = g.K.Keeper.kept} {a = a} {o = o}
+    (c.in_ok-from.ensures.here, c.in_ok-from.ensures.reaches) c.in-At.is
     (c.in_ok-to.ensures.here, c.in_ok-to.ensures.finds) c.in-At-2.is in
-    let free : IsFree {g = g.K.Keeper} databases c.in-At-2.to = record {
-      target = target_at databases c.in-At-2.to c.index-databases-to.result c.index-databases-to.is;
-      none = c.node_id.ensures.has ∙ ap is_some c.in_default.is;
-    } in
+    let free = free_at c.args.databases.now c.in-At-2.to c.index-databases-to.result c.index-databases-to.is
+    (c.node_id.ensures.has ∙ ap is_some c.in_default.is) in
     let news = bases_of g.K.Keeper.kept c.known_somewhere.new.databases in
     joinable_seen c.known_somewhere.new.databases seen free
     (subst (λ h. RunsHeard bases h news) c.in-Known-false.is c.in_ok-reply.ensures.runs).1
@@ -112,15 +104,12 @@ pub returns-in-Known-true-clause-executes : goal.returns-in-Known-true-clause-ex
 returns-in-Known-true-clause-executes g c =
     let a : Addresses = record { lines = c.args.caller.lines.now; cluster = c.args.caller.cluster.now } in
     let o : Order = record { id = c.args.id; event_node = c.args.event_node; comment = c.args.comment.now } in
-    let databases = c.args.databases.now in
-    let bases = bases_of g.K.Keeper.kept databases in
-    let seen : Seen {g = g.K.Keeper} g.K.Keeper.kept a o databases (At c.in-At.from) (At c.in-At-2.to)
-    = seen_by (c.in_ok-from.ensures.here, c.in_ok-from.ensures.reaches) c.in-At.is
+    let bases = bases_of g.K.Keeper.kept c.args.databases.now in
+    let seen = seen_by {kept = g.K.Keeper.kept} {a = a} {o = o}
+    (c.in_ok-from.ensures.here, c.in_ok-from.ensures.reaches) c.in-At.is
     (c.in_ok-to.ensures.here, c.in_ok-to.ensures.finds) c.in-At-2.is in
-    let free : IsFree {g = g.K.Keeper} databases c.in-At-2.to = record {
-      target = target_at databases c.in-At-2.to c.index-databases-to.result c.index-databases-to.is;
-      none = c.node_id.ensures.has ∙ ap is_some c.in_default.is;
-    } in
+    let free = free_at c.args.databases.now c.in-At-2.to c.index-databases-to.result c.index-databases-to.is
+    (c.node_id.ensures.has ∙ ap is_some c.in_default.is) in
     let news = bases_of g.K.Keeper.kept c.known_somewhere.new.databases in
     used_refuses news seen free
     (subst (IsDownNode bases) (ap option_copied c.in_default-down_node.is) c.down_node.ensures)
@@ -131,20 +120,17 @@ pub returns-in-Known-false : goal.returns-in-Known-false
 returns-in-Known-false g c =
     let a : Addresses = record { lines = c.args.caller.lines.now; cluster = c.args.caller.cluster.now } in
     let o : Order = record { id = c.args.id; event_node = c.args.event_node; comment = c.args.comment.now } in
-    let databases = c.args.databases.now in
-    let bases = bases_of g.K.Keeper.kept databases in
-    let seen : Seen {g = g.K.Keeper} g.K.Keeper.kept a o databases (At c.in-At.from) (At c.in-At-2.to)
-    = seen_by (c.in_ok-from.ensures.here, c.in_ok-from.ensures.reaches) c.in-At.is
+    let bases = bases_of g.K.Keeper.kept c.args.databases.now in
+    let seen = seen_by {kept = g.K.Keeper.kept} {a = a} {o = o}
+    (c.in_ok-from.ensures.here, c.in_ok-from.ensures.reaches) c.in-At.is
     (c.in_ok-to.ensures.here, c.in_ok-to.ensures.finds) c.in-At-2.is in
-    let free : IsFree {g = g.K.Keeper} databases c.in-At-2.to = record {
-      target = target_at databases c.in-At-2.to c.index-databases-to.result c.index-databases-to.is;
-      none = c.node_id.ensures.has ∙ ap is_some c.in_default.is;
-    } in
+    let free = free_at c.args.databases.now c.in-At-2.to c.index-databases-to.result c.index-databases-to.is
+    (c.node_id.ensures.has ∙ ap is_some c.in_default.is) in
     let news = bases_of g.K.Keeper.kept c.known_somewhere.new.databases in
     let same = subst (λ h. RunsHeard bases h news) (c.in-Known-false.is ∙ ap Known c.in-Known-false.field-0-test)
     c.in_ok-reply.ensures.runs in
-    let asked : Asked {g = g.K.Keeper} g.K.Keeper.kept a o databases c.known_somewhere.new.databases c.in-At.from
-    c.in-At-2.to = record {
+    let asked : Asked {g = g.K.Keeper} g.K.Keeper.kept a o c.args.databases.now c.known_somewhere.new.databases
+    c.in-At.from c.in-At-2.to = record {
       seen = seen;
       free = free;
       runs = same.0;

@@ -1,14 +1,11 @@
 use Rattle.std.proofs.Common.{◌∙◌, ◌++◌, List, [], ◌∷◌, Option, Some, None}
-use Rattle.std.specs.Prelude.{IfOk}
 use Rattle.slon_model.specs.declared.reply.Refusal.{Refusal}
 use Rattle.slon_model.specs.declared.reply.Refusal.TheVariants as refused
 use Rattle.slon_model.specs.Sessions.{Seat, when}
 use Rattle.slon_model.specs.Subscribing.{NewFeed, is_below, is_provider, is_waiting}
-use Rattle.node_state.proofs.Formed.{if_ok}
 use Rattle.app_store.specs.Base.{base_of}
-use Rattle.slonik_exec.specs.Answering.{Checks, AtSeat}
-use Rattle.slonik_exec.specs.Statements.{feed_as, row_checks}
-use Rattle.slonik_exec.proofs.Works.{Checked, checked_as, checked_at, checked_if, ended, chained}
+use Rattle.slonik_exec.specs.Statements.{feed_as}
+use Rattle.slonik_exec.proofs.Works.{Checked, checked_as, checked_at, checked_thrice, ended, chained}
 use Rattle.slonik_exec.proofs.subscribing.check_row.Goals as goal
 
 abbrev Waiting : NewFeed → Seat → List (Option Refusal)
@@ -25,10 +22,8 @@ returns-in-Some-clause-refuses g c =
     let f = feed_as c.args.feed in
     let first : Checked c.args.seat.now.name (Waiting f) (base_of g.K.Keeper.kept c.args.seat.now.database)
     (Some c.in-Some.reply) _
-    = checked_as c.in-Some.is (record {
-      checks = c.in_ok-reply.ensures.checks;
-      refuses = c.in_ok-reply.ensures.refuses;
-    }) in
+    = checked_as c.in-Some.is (record
+    { checks = c.in_ok-reply.ensures.checks; refuses = c.in_ok-reply.ensures.refuses }) in
     (ended (λ s. Provides f s ++ Below f s) first).refuses
 
 pub returns-in-Some-2-clause-refuses : goal.returns-in-Some-2-clause-refuses
@@ -36,46 +31,24 @@ returns-in-Some-2-clause-refuses g c =
     let f = feed_as c.args.feed in
     let name = c.args.seat.now.name in
     let first : Checked name (Waiting f) (base_of g.K.Keeper.kept c.args.seat.now.database) None _
-    = checked_as c.in_default.is (record {
-      checks = c.in_ok-reply.ensures.checks;
-      refuses = c.in_ok-reply.ensures.refuses;
-    }) in
+    = checked_as c.in_default.is (record
+    { checks = c.in_ok-reply.ensures.checks; refuses = c.in_ok-reply.ensures.refuses }) in
     let second : Checked name (Provides f) _ (Some c.in-Some-2.reply) _
-    = checked_at c.in_ok-reply.ensures.name (checked_as c.in-Some-2.is (record {
-      checks = c.in_ok-reply-2.ensures.checks;
-      refuses = c.in_ok-reply-2.ensures.refuses;
-    })) in
+    = checked_at c.in_ok-reply.ensures.name (checked_as c.in-Some-2.is (record
+    { checks = c.in_ok-reply-2.ensures.checks; refuses = c.in_ok-reply-2.ensures.refuses })) in
     (ended (Below f) (chained (Some c.in-Some-2.reply) first second)).refuses
 
 pub returns : goal.returns
 returns g c =
     let f = feed_as c.args.feed in
     let name = c.args.seat.now.name in
-    let old = base_of g.K.Keeper.kept c.args.seat.now.database in
-    let mid = base_of g.K.Keeper.kept c.check_provides.new.seat.database in
-    let new = base_of g.K.Keeper.kept c.check_below.new.seat.database in
-    let first : Checked name (Waiting f) old None _
-    = checked_as c.in_default.is (record {
-      checks = c.in_ok-reply.ensures.checks;
-      refuses = c.in_ok-reply.ensures.refuses;
-    }) in
-    let second : Checked name (Provides f) _ None mid
-    = checked_at c.in_ok-reply.ensures.name (checked_as c.in_default-2.is (record {
-      checks = c.in_ok-reply-2.ensures.checks;
-      refuses = c.in_ok-reply-2.ensures.refuses;
-    })) in
+    let first : Checked name (Waiting f) (base_of g.K.Keeper.kept c.args.seat.now.database) None _
+    = checked_as c.in_default.is (record
+    { checks = c.in_ok-reply.ensures.checks; refuses = c.in_ok-reply.ensures.refuses }) in
+    let second : Checked name (Provides f) _ None (base_of g.K.Keeper.kept c.check_provides.new.seat.database)
+    = checked_at c.in_ok-reply.ensures.name (checked_as c.in_default-2.is (record
+    { checks = c.in_ok-reply-2.ensures.checks; refuses = c.in_ok-reply-2.ensures.refuses })) in
     let same = c.in_ok-reply-2.ensures.name ∙ c.in_ok-reply.ensures.name in
-    let last = checked_if c.check_provides.new.seat.name (Below f) mid new c.check_below.result
-    c.check_below.ensures.checks c.check_below.ensures.refuses in
-    let all : IfOk c.check_below.result (λ found. Checked name (λ s. row_checks s f) old found new)
-    = if_ok (λ found. Checked c.check_provides.new.seat.name (Below f) mid found new)
-    (λ found. Checked name (λ s. row_checks s f) old found new) c.check_below.result
-    (λ found done. chained found (chained None first second) (checked_at same done)) last in
-    record {
-      checks = if_ok (λ found. Checked name (λ s. row_checks s f) old found new)
-          (λ found. Checks name old found new) c.check_below.result (λ found done. done.checks) all;
-      refuses = if_ok (λ found. Checked name (λ s. row_checks s f) old found new)
-          (λ found. AtSeat name (λ s. row_checks s f) old found new) c.check_below.result
-          (λ found done. done.refuses) all;
-      name = c.check_below.ensures.name ∙ same;
-    }
+    let all = checked_thrice (Below f) c.check_below.result first second same
+    (c.check_below.ensures.checks, c.check_below.ensures.refuses) in
+    record { checks = all.checks; refuses = all.refuses; name = c.check_below.ensures.name ∙ same }

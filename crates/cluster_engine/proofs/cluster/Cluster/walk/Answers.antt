@@ -26,7 +26,8 @@ returns g c =
     (c.run_next-walked.auto.databases ∙ c.deref_mut.ensures.len) in
     let news = bases_of g.K.Keeper.kept c.run_next-walked.new.databases in
     subst (λ xs. IfOk c.put_back.result (λ reply. IsActed (ToStep c.args.name.now) old reply
-    (record (with_scripts c.put_back.new.scripts old) { bases = bases_of {g = g.K.Keeper} g.K.Keeper.kept xs }))) (sym items)
+    (record (with_scripts c.put_back.new.scripts old) { bases = bases_of {g = g.K.Keeper} g.K.Keeper.kept xs })))
+    (sym items)
     (if_ok _ (λ reply. IsActed (ToStep c.args.name.now) old reply
     (record (with_scripts c.put_back.new.scripts old) { bases = news })) c.put_back.result (λ reply put.
     put_acted old news (record { walked = c.run_next-walked.result; reply = reply; is = put }) (λ went at. record {

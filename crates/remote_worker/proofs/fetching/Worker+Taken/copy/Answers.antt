@@ -92,7 +92,8 @@ returns-clause-copies g c =
     } in
     so (λ p q all.
     let rows = subst (λ ns. RowsAt ns q tables) (c.as_slice-2.ensures.value ∙ sym c.as_slice.ensures.value) all.1 in
-    copied_found a seen p q names given c.with.result (record {
+    copied_found a seen p q given c.with.result (record {
+      names = names;
       names_are = λ n is. c.as_slice.ensures.value ∙ all.0.0.0 n is;
       passed = all.0.0.1 ∙ c.in_default.is;
       set_is = refl;
