@@ -17,11 +17,13 @@ pub loop-number-init : goal.loop-number-init
 loop-number-init c =
     let items = c.into_iter-number-iterator.ensures.into_iter_gives.0 ∙ c.into_vec-number-items.ensures in
     let left = subst (AllByRecursion CanBeLogged) (sym items) c.requires.can in
-    let none : LoggedRows = record { rows = c.in_ok-with_capacity.field-0; actions = c.in_ok-with_capacity-2.field-0 } in
-    let can = none_can c.in_ok-with_capacity.ensures c.in_ok-with_capacity-2.ensures in
+    let rows = c.in_ok-with_capacity in
+    let actions = c.in_ok-with_capacity-2 in
+    let none : LoggedRows = record { rows = rows.field-0; actions = actions.field-0 } in
+    let can = none_can rows.ensures actions.ensures in
     let says : (logs : List Logged) → AreWritten logs → c.args.rows ≡ map row_of logs →
     IsSifted (is_on_one c.args.tables.now) logs none (into_iter_items c.into_iter-number-iterator.result) =
-    λ logs written are. none_sifted (is_on_one c.args.tables.now) logs none c.in_ok-with_capacity.ensures c.in_ok-with_capacity-2.ensures written
+    λ logs written are. none_sifted (is_on_one c.args.tables.now) logs none rows.ensures actions.ensures written
     (items ∙ are) in
     search (rules, left, can, says)
 
@@ -34,7 +36,8 @@ pub returns-in_err-add_on-clause-says : goal.returns-in_err-add_on-clause-says
 returns-in_err-add_on-clause-says c logs written are =
     let left = subst (IsSifted (is_on_one c.args.tables.now) logs c.loop-number.found) c.in-Some.ensures.steps.0
     (c.loop-number.invariant.says logs written are) in
-    gives_stop _ c.from_residual-in_err-add_on.result (err_from_is_err_and c.from_residual-in_err-add_on.result c.from_residual-in_err-add_on.ensures.1)
+    let handed = c.from_residual-in_err-add_on in
+    gives_stop _ handed.result (err_from_is_err_and handed.result handed.ensures.1)
     (sifting_stops left (λ l written is. c.in_err-add_on.ensures.says l written is))
 
 pub loop-number-preserved : goal.loop-number-preserved
