@@ -1,5 +1,5 @@
 -- What is promised over every store of work on a database, by how its last call on the store ended.
-use Rattle.std.proofs.Common.{◌≡◌, ℕ, false, Option, Some, None, Result, Err, refl, sym, ap, subst, ◌∙◌, inl, inr}
+use Rattle.std.proofs.Common.{◌≡◌, false, Option, Some, None, Result, Err, refl, sym, ap, ◌∙◌}
 use Rattle.std.proofs.lemmas.Bool.{false≢true}
 use Rattle.slon_base.specs.declared.fault.Halt.{Halt as HaltOf}
 use Rattle.slon_base.specs.declared.fault.Halt.TheVariants.{Fault, Doubt, TooBig, NoMemory}
@@ -9,12 +9,11 @@ use Rattle.slon_model.specs.declared.reply.Answered.{Answered}
 use Rattle.slon_model.specs.World.{halt_in}
 use Rattle.store_rows.specs.Steps.{is_stop_failed}
 use Rattle.store_rows.specs.declared.stop.Stop.{Stop}
-use Rattle.store_rows.specs.declared.stop.Stop.TheVariants.{TooBig as StopTooBig}
-use Rattle.app_store.specs.Base.{Base, Memory}
+use Rattle.app_store.specs.Base.{Base}
 use Rattle.app_store.specs.Parts.{Part, PartCaused, halt_of}
-use Rattle.app_store.specs.Serves.{NeedsNothing, halts, Caused, Falls, IsBig, NeedsStamp, answered, is_memory, trouble}
+use Rattle.app_store.specs.Serves.{NeedsNothing, halts, Caused, Falls, IsBig, answered, is_memory, trouble}
 use Rattle.app_store.specs.Serves.{is_failure}
-use Rattle.app_store.proofs.Serving.{Ran, Bursts, Doubted, stop_caused, fault_failure, stop_falls}
+use Rattle.app_store.proofs.Serving.{Ran}
 use Rattle.node_store.specs.Acting.{Acts, IsTooBig, acting}
 use Rattle.node_store.specs.Midways.{IsOfEvent}
 
@@ -45,16 +44,6 @@ acts_calm old new w calm (caused, falls, big) = record {
 pub acts_well : (old new : Base) → RanWell old new → Acts None old new
 acts_well old new w = acts_calm old new w refl (tt, tt, tt)
 
--- memory ran out
-pub acts_memory : (old new : Base) → RanWell old new → Acts (Some NoMemory) old new
-acts_memory old new w = acts_calm old new w refl (tt, tt, tt)
-
--- what is told of a stop of which a number that is too big is that of an event
-stop_big : (m : Memory) (stop : Stop) (count : ℕ) → IsOfEvent stop → m.up ≡ false →
-    IsTooBig (halt_in (halt_of stop count)) m
-stop_big m (StopTooBig space) count of down = (inl of, down)
-stop_big m others count of down = tt
-
 -- Work on the store stopped before a commit, and the database is down.
 pub record Stops (old new : Base) (stop : Stop) (fault : DbFault) : Type 0 where
   pub fault_is : fault ≡ halt_of stop new.kept.faults
@@ -62,59 +51,6 @@ pub record Stops (old new : Base) (stop : Stop) (fault : DbFault) : Type 0 where
   pub ran : Ran (is_stop_failed stop) old.kept new.kept
   pub doubts : new.kept.doubts ≡ old.kept.doubts
   pub fell : new.memory.up ≡ false
-
--- the store failed before the commit, a row was not in its form, or a number was too big
-pub acts_stop : (old new : Base) (stop : Stop) (fault : DbFault) → Stops old new stop fault →
-    Acts (halt_in fault) old new
-acts_stop old new stop fault h = record {
-  tries = record {
-    later = h.ran.later;
-    caused = subst (λ f. Caused acting old.kept (halt_in f) new.kept) (sym h.fault_is)
-        (stop_caused acting old.kept new.kept stop h.ran.rose (λ plain. h.doubts));
-    sure = λ calm. h.doubts;
-    still = h.ran.sure.still;
-    spends = λ failed. h.ran.sure.spends (sym (fault_failure stop fault new.kept.faults h.fault_is) ∙ failed);
-    falls = subst (λ f. Falls (halt_in f) new.memory) (sym h.fault_is)
-        (stop_falls new.memory stop new.kept.faults h.fell);
-    told = h.ran.sure.told;
-    big = subst (λ f. IsTooBig (halt_in f) new.memory) (sym h.fault_is)
-        (stop_big new.memory stop new.kept.faults h.within h.fell);
-  };
-  quiet = λ calm. h.ran.sure.quiet (sym (fault_failure stop fault new.kept.faults h.fault_is) ∙ calm);
-}
-
--- the stamp would be too big
-pub acts_big : (old new : Base) (fault : DbFault) → Bursts NeedsStamp old new fault →
-    new.kept.doubts ≡ old.kept.doubts → Acts (halt_in fault) old new
-acts_big old new fault b doubts = subst (λ f. Acts (halt_in f) old new) (sym b.fault_is) (record {
-  tries = record {
-    later = b.ran.later;
-    caused = tt;
-    sure = λ calm. doubts;
-    still = b.ran.sure.still;
-    spends = λ failed. absurd (false≢true failed);
-    falls = b.fell;
-    told = b.ran.sure.told;
-    big = (inr (refl, b.needed), b.fell);
-  };
-  quiet = λ calm. b.ran.sure.quiet refl;
-})
-
--- the commit is in doubt
-pub acts_doubt : (old new : Base) → Doubted old new → Acts (Some Doubt) old new
-acts_doubt old new d = record {
-  tries = record {
-    later = d.ran.later;
-    caused = (d.ran.rose refl, d.doubts);
-    sure = λ calm. absurd (false≢true (sym calm));
-    still = d.ran.sure.still;
-    spends = λ failed. d.ran.sure.spends refl;
-    falls = d.fell;
-    told = d.ran.sure.told;
-    big = tt;
-  };
-  quiet = λ calm. absurd (false≢true (sym calm));
-}
 
 -- that memory ran out says so
 pub never_memory : {T : Type 0} (answer : T → Answered) (result : Result T DbFault) →

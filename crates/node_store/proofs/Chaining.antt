@@ -1,10 +1,9 @@
 -- Work on a database, one call after the other.
 use Rattle.std.proofs.Common.{◌≡◌, ◌∙◌, ◌≤◌, Option, Some, None, refl, subst, arith}
-use Rattle.std.proofs.lemmas.Bool.{false≢true}
 use Rattle.slon_base.specs.Counts.{Rose}
 use Rattle.slon_base.specs.Keeper.{Kept}
 use Rattle.slon_base.specs.declared.fault.Halt.{Halt as HaltOf}
-use Rattle.slon_base.specs.declared.fault.Halt.TheVariants.{Fault, Doubt, NoMemory}
+use Rattle.slon_base.specs.declared.fault.Halt.TheVariants.{Fault, Doubt}
 use Rattle.app_store.specs.Base.{Base}
 use Rattle.app_store.specs.Serves.{Caused}
 use Rattle.app_store.proofs.Pending.{rose_later}
@@ -40,20 +39,4 @@ pub acts_then : (t : Option HaltOf) (old mid new : Base) → Acts None old mid �
 acts_then t old mid new one two = record {
   tries = tries_then old mid new t one.tries two.tries;
   quiet = λ calm n up. two.quiet calm n (one.quiet refl n up);
-}
-
--- memory ran out behind work in which nothing failed
-pub acts_short : (old new : Base) → Acts None old new → Acts (Some NoMemory) old new
-acts_short old new acts = record {
-  tries = record {
-    later = acts.tries.later;
-    caused = tt;
-    sure = λ calm. acts.tries.sure refl;
-    still = acts.tries.still;
-    spends = λ failed. absurd (false≢true failed);
-    falls = tt;
-    told = acts.tries.told;
-    big = tt;
-  };
-  quiet = λ calm. acts.quiet refl;
 }

@@ -1,21 +1,19 @@
 -- Transactions that go on, step by step.
 use Rattle.std.proofs.Common.{◌≡◌, Result, Ok, Err, refl, sym, ap, subst, ◌∙◌, arith, is_some}
-use Rattle.std.proofs.lemmas.Bool.{false≢true}
 use Rattle.std.specs.Prelude.{IfErr}
 use Rattle.slon_base.specs.Keeper.{Kept}
 use Rattle.store_rows.specs.declared.stop.Stop.{Stop}
-use Rattle.store_rows.specs.declared.stop.Stop.TheVariants.{NoMemory, TooBig}
+use Rattle.store_rows.specs.declared.stop.Stop.TheVariants.{TooBig}
 use Rattle.store_rows.specs.Steps.{Safe, IsOutside, IsWithinLimit, is_stop_failed}
 use Rattle.store_rows.proofs.Causes.{outside_within}
-use Rattle.app_store.specs.declared.transact.Made.{Made}
-use Rattle.app_store.specs.Steps.{Knows, Starts, Finishes, Tries}
+use Rattle.app_store.specs.Steps.{Knows, Starts}
 use Rattle.node_change.specs.declared.side.Side.{Side}
 use Rattle.node_change.specs.declared.side.Side.TheVariants.{From, To}
 use Rattle.node_change.specs.declared.side.Failed.{Failed}
 use Rattle.node_change.specs.Both.{IsWell, StopsOne as BothStop, stopped}
 use Rattle.node_store.specs.Midways.{Begun, Midway, BreaksOff, Enters, EntersSecond, EntersBoth, StopsOne, StopsBoth}
 use Rattle.node_store.specs.Midways.{IsOfEvent}
-use Rattle.app_store.proofs.Pending.{knows_none, knows_on, knows_safe, rose_later, doubts_since}
+use Rattle.app_store.proofs.Pending.{knows_on, knows_safe}
 
 pub midway_begun : {old new : Kept} {u : Unit {0}} → Starts old new (Ok u) → Midway old new
 midway_begun b = record {
@@ -39,17 +37,6 @@ midway_on one two = record {
 pub within_event : (stop : Stop) → IsWithinLimit stop → IsOfEvent stop
 within_event (TooBig space) within = absurd within
 within_event others within = tt
-
--- memory ran out before it began
-pub breaks_early : (k : Kept) → BreaksOff NoMemory k k
-breaks_early k = record {
-  sure = knows_none k;
-  later = omega arith;
-  failed = λ failed. absurd (false≢true failed);
-  within = tt;
-  held = refl;
-  doubts = refl;
-}
 
 -- it did not begin
 pub breaks_start : {old new : Kept} {stop : Stop} → Starts old new (Err stop) → BreaksOff stop old new
@@ -75,20 +62,6 @@ breaks_on {old = old} {new = new} told one two within same = record {
   doubts = two.doubts ∙ one.doubts;
 }
 
--- it ends
-pub midway_ends : {old mid new : Kept} (result : Result Made Stop) → Midway old mid → Finishes mid new result →
-    Tries old new result
-midway_ends {old} {mid} {new} result one f = record {
-  sure = knows_on one.sure f.sure;
-  counted = record {
-    later = omega (arith, one.later, f.counted.later);
-    failed = λ failed. rose_later one.later (f.counted.failed failed);
-    within = f.counted.within;
-  };
-  closed = f.closed;
-  doubts = doubts_since old mid new result one.later one.doubts f.doubts;
-}
-
 -- the exit of a step that passes its stop on
 pub enters_as : {T : Type 0} (old new : Kept) {stop : Stop} (result : Result T Stop) →
     (y : Stop) × (result ≡ Err y) × (y ≡ stop) → BreaksOff stop old new → Enters old new result
@@ -99,9 +72,6 @@ enters_as old new result (y, is, same) breaks =
 
 pub begun_midway : {old new : Kept} → Midway old new → Begun old new
 begun_midway way = record { sure = way.sure; later = way.later; held = way.held; doubts = way.doubts }
-
-pub untouched_begun : (k : Kept) → Begun k k
-untouched_begun k = record { sure = knows_none k; later = omega arith; held = refl; doubts = refl }
 
 -- nothing failed, and the transaction goes on
 pub midway_well : {old mid new : Kept} → Midway old mid → IsWell mid new → Midway old new

@@ -25,7 +25,6 @@ use Rattle.node_store.specs.declared.bringing.SetCopy.{SetCopy}
 use Rattle.node_store.specs.declared.looking.Reign.{Reign}
 use Rattle.node_store.specs.Bringing.{rows_listed}
 use Rattle.node_store.specs.Looking.{reign_of}
-use Rattle.remote_worker.specs.declared.carrying.Copying.{Copying}
 use Rattle.remote_worker.specs.declared.fetching.Found.{Found}
 use Rattle.remote_worker.specs.declared.fetching.Found.TheVariants as found
 use Rattle.remote_worker.specs.declared.loading.Load.TheVariants.{Copy}

@@ -17,7 +17,6 @@ use Rattle.slon_model.specs.Views.{Views}
 use Rattle.event_store.specs.declared.view.View.{View as CodeView}
 use Rattle.event_store.specs.Kept.{seen_view}
 use Rattle.node_state.specs.Held.{seen_views}
-use Rattle.node_store.specs.declared.bringing.SetCopy.{SetCopy}
 use Rattle.node_store.specs.Bringing.{HaveSyncs, IsBrought}
 use Rattle.remote_worker.specs.declared.loading.Load.{Load}
 use Rattle.remote_worker.specs.declared.loading.Load.TheVariants.{Copy, Syncs}
@@ -68,12 +67,6 @@ left_have k origin (t ∷ ts) (g ∷ given) have =
         HaveFetches origin (cond b (t ∷ xs) xs) (cond b (g ∷ ys) ys)
     by xs ys true more = (have.0, more)
     by xs ys false more = more
-
-pub none_still : (k : Knowledge) → IsStill k None None
-none_still k origin f is = ap (still k) is
-
-pub copy_still : (k : Knowledge) (given : SetCopy) → IsStill k (Some (Copy given)) (Some (Copy given))
-copy_still k given origin f (rows, is, has) = (rows, ap (still k) is, has)
 
 pub syncs_still : (k : Knowledge) (given left : List SetFetch) → left ≡ filter (stands_in k.views) given →
     IsStill k (Some (Syncs given)) (Some (Syncs left))

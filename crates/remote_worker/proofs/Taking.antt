@@ -29,11 +29,6 @@ leads_same own (Some row) = by row.live refl
     by true is = ap (λ b. b && row.origin == own) is ∙ sym (ap (λ b. leads_row own (cond b (Some row) None)) is)
     by false is = ap (λ b. b && row.origin == own) is ∙ sym (ap (λ b. leads_row own (cond b (Some row) None)) is)
 
-pub own_takes_none : (own set : ℕ) (c : Config) (b : Bool) → b ≡ true → b ≡ is_origin own set c →
-    [] ≡ rules.tables_taken own set c
-own_takes_none own set c b leads is =
-    ap (λ x. cond x [] (map (λ e. (e.0, e.1.name)) (tables_of set c))) (sym leads ∙ is)
-
 pub takes_all : (own set : ℕ) (c : Config) (b : Bool) → b ≡ false → b ≡ is_origin own set c →
     tables_among set c.tables ≡ rules.tables_taken own set c
 takes_all own set c b leads is =

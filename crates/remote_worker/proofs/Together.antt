@@ -137,17 +137,6 @@ pub record IsParted (test : Logged → Bool) (all : List Logged) (part left : Lo
   pub actions_are : part.actions ++ map (λ l. action_as l.action) (filter test rest)
       ≡ map (λ l. action_as l.action) (filter test all)
 
-pub none_parted : {found part : LoggedRows} {origin : ℕ} (test : Logged → Bool) (all : List Logged) →
-    part.rows ≡ [] → part.actions ≡ [] → HasLogged origin all found.rows found.actions →
-    IsParted test all part found
-none_parted test all rows actions has = record {
-  rest = all;
-  rows_left = has.rows_are;
-  actions_left = has.actions_are;
-  rows_are = ap (λ rs. rs ++ map row_of (filter test all)) rows;
-  actions_are = ap (λ done. done ++ map (λ l. action_as l.action) (filter test all)) actions;
-}
-
 split_first : {Y : Type 0} (f : Logged → Y) (test : Logged → Bool) (l : Logged) (more : List Logged) →
     map f (filter test (l ∷ [])) ++ map f (filter test more) ≡ map f (filter test (l ∷ more))
 split_first f test l more =
