@@ -224,10 +224,6 @@ pub unread : (c : Command) → ((script : List ℕ) (reading : Reading) → c �
 unread (Slonik script reading) other = absurd (other script reading refl)
 unread others other = refl
 
-pub no_reading : (c : Command) (script : List ℕ) (reading : Reading) → c ≡ Slonik script reading →
-    is_reading (subject_of c) ≡ false → ⊥
-no_reading c script reading is other = true≢false (sym (ap (λ x. is_reading (subject_of x)) is) ∙ other)
-
 -- a command that makes no database, and is about no script, no slon and no cut
 pub record IsOther (c : Command) : Type 0 where
   pub database : (name : List ℕ) → c ≡ Database name → ⊥

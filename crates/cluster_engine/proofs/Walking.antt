@@ -12,9 +12,8 @@ use Rattle.slonik_script.specs.declared.script.Command.TheVariants as order
 use Rattle.slonik_script.specs.declared.script.Script.{Script}
 use Rattle.slonik_script.specs.declared.script.Statement.{Statement}
 use Rattle.slonik_script.specs.declared.script.Statement.TheVariants.{Single}
-use Rattle.slonik_script.specs.declared.refusal.ScriptRefusal.{ScriptRefusal}
 use Rattle.slon_model.specs.declared.reading.Reading.{Reading}
-use Rattle.slon_model.specs.declared.reading.Reading.TheVariants.{Read, Wrong}
+use Rattle.slon_model.specs.declared.reading.Reading.TheVariants.{Read}
 use Rattle.slon_model.specs.declared.reply.Answer.{Answer}
 use Rattle.slon_model.specs.declared.reply.Answer.TheVariants.{Done, Statements}
 use Rattle.slon_model.specs.declared.reply.Refusal.{Refusal}
@@ -241,19 +240,6 @@ pub keeps_used : (name : List ℕ) (reading : Reading) (scripts : Scripts) → c
 keeps_used name reading scripts has w fits =
     subst (λ o. KeepsTo w.memory o (Refused (refused.ScriptUsed name)) scripts)
     (sym (read_if true name reading w scripts fits has))
-    (record {
-      told = refl;
-      commits = refl;
-      falls = refl;
-      memory = record { agree = fits; switches = refl; queues = refl; fetches = refl };
-    })
-
--- a name that is free
-pub keeps_wrong : (name : List ℕ) (refusal : ScriptRefusal) (scripts : Scripts) → contains_key scripts name ≡ false →
-    Keeps (ToRead name (Wrong refusal)) scripts (Refused (refused.Script refusal)) scripts
-keeps_wrong name refusal scripts lacks w fits =
-    subst (λ o. KeepsTo w.memory o (Refused (refused.Script refusal)) scripts)
-    (sym (read_if false name (Wrong refusal) w scripts fits lacks))
     (record {
       told = refl;
       commits = refl;

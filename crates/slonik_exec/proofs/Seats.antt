@@ -1,6 +1,6 @@
 -- What a database by its name is for a script that looks for a node.
 use Rattle.std.proofs.Common.{◌≡◌, ◌∙◌, ℕ, ◌<◌, length, ◌==◌, ◌&&◌, Bool, true, false, cond, not, List, [], ◌∷◌, get_or}
-use Rattle.std.proofs.Common.{Option, Some, None, Result, Ok, Err, is_some, refl, sym, ap, subst, eqb, Bor}
+use Rattle.std.proofs.Common.{Option, Some, None, Result, Ok, Err, refl, sym, ap, subst, eqb, Bor}
 use Rattle.std.proofs.lemmas.Bool.{false≢true, and_parts}
 use Rattle.std.proofs.lemmas.List.{get_or_default}
 use Rattle.std.proofs.lemmas.List.Quantifiers.{position-Some}
@@ -28,7 +28,7 @@ use Rattle.app_store.specs.Fits.{Fits, Runs, StandsAs}
 use Rattle.slonik_exec.specs.declared.databases.Named.{Named as NamedDatabase}
 use Rattle.slonik_exec.specs.declared.reaching.Reached.TheVariants.{At, Refused}
 use Rattle.slonik_exec.specs.Databases.{FitsAll, bases_of, named_base}
-use Rattle.slonik_exec.specs.Reached.{name_on, seat_in, IsUpAt, IsNodeHere, IsQuietly, OnLine, FindsLine, NodeIs}
+use Rattle.slonik_exec.specs.Reached.{name_on, seat_in, IsUpAt, IsQuietly, OnLine, FindsLine, NodeIs}
 use Rattle.slonik_exec.specs.Reached.{Addresses, Reaches}
 use Rattle.slonik_exec.proofs.Lists.{fitting, missing_fits, find_missing, find_at, is_first}
 
@@ -200,28 +200,6 @@ pub record HeldAt {K : Type 0} {g : Ghosts K} (name : List ℕ) (databases : Lis
     (d : NamedDatabase K g) : Type 0 where
   pub here : IsUpAt name databases i
   pub held : d ≡ get_or databases i d
-
-node_by : {K : Type 0} {g : Ghosts K} (own : Bool) (name : List ℕ) (databases : List (NamedDatabase K g)) (i id : ℕ)
-    (d : NamedDatabase K g) → HeldAt name databases i d → is_some d.database.state.node.identity ≡ true →
-    IsNodeHere name databases (cond own (At i) (Refused (refused.OtherNode id)))
-node_by true name databases i id d at is = record {
-  here = at.here;
-  node = λ e held. subst (λ x. is_some x.database.state.node.identity ≡ true)
-      (at.held ∙ get_or_default databases i d e at.here.inside ∙ sym held) is;
-}
-node_by false name databases i id d at is = tt
-
--- the database that was reached is a node
-pub node_here : {K : Type 0} {g : Ghosts K} (name cluster : List ℕ) (databases : List (NamedDatabase K g)) (i id : ℕ)
-    (d : NamedDatabase K g) → HeldAt name databases i d →
-    IsNodeHere name databases (seat_in i id cluster d.database.state.node.identity)
-node_here name cluster databases i id d at = by d.database.state.node.identity refl
-  where
-    by : (o : Option Identity) → d.database.state.node.identity ≡ o →
-        IsNodeHere name databases (seat_in i id cluster o)
-    by None is = tt
-    by (Some own) is =
-        node_by (eqb own.id id && bytes_eq own.cluster cluster) name databases i id d at (ap is_some is)
 
 -- a database that is another node, or none, is refused with no word of its store
 quiet_seat_by : (own : Bool) (i id : ℕ) → IsQuietly (cond own (At i) (Refused (refused.OtherNode id)))

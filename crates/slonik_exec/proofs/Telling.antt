@@ -1,5 +1,5 @@
 -- What the reply of a database that did not do its work tells of its store.
-use Rattle.std.proofs.Common.{◌≡◌, ◌∙◌, List, true, false, Result, Ok, Err, refl, sym, ap, subst, ℕ, map, set}
+use Rattle.std.proofs.Common.{◌≡◌, ◌∙◌, List, true, false, Result, Ok, Err, refl, sym, ap, subst, ℕ}
 use Rattle.std.proofs.Common.{None, not}
 use Rattle.std.proofs.lemmas.Bool.{false≢true, false_from_ne_true}
 use Rattle.std.specs.Prelude.{is_err}
@@ -16,7 +16,7 @@ use Rattle.app_store.specs.Base.{Base}
 use Rattle.app_store.specs.Serves.{is_failure, is_memory, trouble}
 use Rattle.slonik_exec.specs.Databases.{told_by, is_calm, TriesAll, Runs}
 use Rattle.slonik_exec.specs.Telling.{told_at}
-use Rattle.slonik_exec.proofs.Trying.{CallAt, tries_position, tries_calmer}
+use Rattle.slonik_exec.proofs.Trying.{tries_calmer}
 
 -- the words of a statement at a database of this name
 abbrev pub words_at : List ℕ → Words
@@ -65,21 +65,6 @@ pub runs_told : (words : Words) (fault : DbFault) (reply : Reply) (old new : Nam
     TriesAll (not (is_failure (halt_in fault))) (told_at words.database (halt_in fault)) old new →
     Runs old reply new
 runs_told words fault reply old new is tries = runs_replied words (Err fault) reply old new is tries
-
--- a call on the database at the first index of a name, with the reply to it
-pub runs_stopped : {X : Type 0} {f : X → List ℕ × Base} {items : List X} {i : ℕ} {x y : X} (words : Words)
-    (fault : DbFault) (reply : Reply) → reply ≡ refusal_of words fault →
-    CallAt f words.database items i x y (halt_in fault) → Runs (map f items) reply (map f (set items i y))
-runs_stopped {X} {f} {items} {i} {x} {y} words fault reply is call =
-    runs_told words fault reply (map f items) (map f (set items i y)) is
-    (tries_position words.database (halt_in fault) call)
-
-pub runs_answered : {X : Type 0} {f : X → List ℕ × Base} {items : List X} {i : ℕ} {x y : X} (words : Words)
-    (result : Result Answered DbFault) (reply : Reply) → reply ≡ reply_of words result →
-    CallAt f words.database items i x y (trouble result) → Runs (map f items) reply (map f (set items i y))
-runs_answered {X} {f} {items} {i} {x} {y} words result reply is call =
-    runs_replied words result reply (map f items) (map f (set items i y)) is
-    (tries_position words.database (trouble result) call)
 
 -- a reply was made, so want of memory was not the fault
 pub not_short : {E : Type 0} (result : Result Reply E) (reply : Reply) (fault : DbFault) → result ≡ Ok reply →

@@ -1,6 +1,6 @@
 -- What is promised over every store of a step on all databases, by what is promised of its calls.
 use Rattle.std.proofs.Common.{◌≡◌, ◌∙◌, ℕ, Bool, true, false, cond, List, [], ◌∷◌, Option, Some, None, refl, sym}
-use Rattle.std.proofs.Common.{ap, subst, map, set, not, arith}
+use Rattle.std.proofs.Common.{ap, subst, not, arith}
 use Rattle.std.proofs.lemmas.Bool.{false≢true}
 use Rattle.std.specs.Str.{bytes_eq}
 use Rattle.slon_base.specs.declared.fault.Halt.{Halt as HaltOf}
@@ -12,7 +12,7 @@ use Rattle.node_store.specs.Acting.{Tries, Acts}
 use Rattle.node_store.proofs.Chaining.{tries_then}
 use Rattle.slon_model.specs.declared.reply.Reply.{Reply}
 use Rattle.slonik_exec.specs.Databases.{Trouble, Tried, TriesAll, Runs, told_by, trouble_here, trouble_later, is_calm}
-use Rattle.slonik_exec.proofs.Lists.{IsAt, find_position, put_position}
+use Rattle.slonik_exec.proofs.Lists.{IsAt}
 use Rattle.slonik_exec.specs.Telling.{failure_of, troubled, told_at}
 
 -- ---- one database
@@ -144,14 +144,6 @@ pub record CallAt {X : Type 0} (f : X → List ℕ × Base) (name : List ℕ) (i
   pub at : IsAt f name items i x
   pub same : (f y).0 ≡ (f x).0
   pub acts : Acts t (f x).1 (f y).1
-
-pub tries_position : {X : Type 0} {f : X → List ℕ × Base} {items : List X} {i : ℕ} {x y : X} (name : List ℕ)
-    (t : Option HaltOf) → CallAt f name items i x y t →
-    TriesAll (not (is_failure t)) (told_at name t) (map f items) (map f (set items i y))
-tries_position {X} {f} {items} {i} {x} {y} name t call =
-    subst (TriesAll (not (is_failure t)) (told_at name t) (map f items))
-    (sym (put_position f name items i x y (call.at, call.same)))
-    (tries_at name t (f x).1 (f y).1 (map f items) (find_position f name items i x call.at) call.acts)
 
 -- steps that do not fail, and then one with this reply
 pub runs_then : (reply : Reply) (olds mids news : Named Base) → TriesAll true None olds mids → Runs mids reply news →
