@@ -24,7 +24,8 @@ pub struct Database<K: Keeper> {
     ghost idle: { state.up ≡ true → is_some (fuse_kept K.kept keeper).pending ≡ false },
 }
 
-// By hand, so that what it takes apart is proved here alone, and not in each crate that lets go of a database.
+// By hand: a derived destructor would be proved anew, with those of all its parts, in each crate that drops a value of
+// this type.
 impl<K: Keeper> Drop for Database<K> {
     fn drop(self) {
         let Database {

@@ -49,7 +49,8 @@ pub struct Cluster<K: Keeper> {
     held: ByteMap<Held>,
 }
 
-// By hand, so that what it takes apart is proved here alone, and not in each crate above.
+// By hand: a derived destructor would be proved anew, with those of all its parts, in each crate that drops a value of
+// this type.
 impl<K: Keeper> Drop for Cluster<K> {
     fn drop(self) {
         let Cluster {

@@ -268,7 +268,7 @@ impl Keeper for MemKeeper {
     }
 }
 
-// Notes that the transaction changes this space. Of changes in turn only the first is noted.
+// Notes that the transaction changes this space, unless it was the last one noted.
 fn touch(touched: &mut Vec<u8>, space: u8) -> Result<(), AllocError>
     ensures ok { OnOk result (Touches space touched.old.items touched.new.items) }
     ensures err { OnErr result (touched.new.items ≡ touched.old.items) }

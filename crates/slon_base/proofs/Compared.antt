@@ -19,7 +19,7 @@ abbrev pub StartAlike : ℕ → List ℕ → List ℕ → Type 0
 StartAlike n xs ys = take n xs ≡ take n ys
 
 -- a number stands behind the first bytes
-abbrev Spells : ℕ → List ℕ → ℕ → Type 0
+abbrev pub Spells : ℕ → List ℕ → ℕ → Type 0
 Spells at xs n = (n < 2 ^ 64) × (drop at xs ≡ number_bytes n ++ drop (at + 8) xs)
 
 -- the number that eight bytes behind the first ones spell
@@ -45,6 +45,17 @@ pub record Meet (xs ys : List ℕ) : Type 0 where
   pub same : StartAlike at xs ys
   pub left : Spells at xs here
   pub right : Spells at ys there
+
+abbrev pub meet : {xs ys : List ℕ} (at here there : ℕ) → StartAlike at xs ys → Spells at xs here → Spells at ys there →
+    Meet xs ys
+meet at here there same left right = record {
+  at = at;
+  here = here;
+  there = there;
+  same = same;
+  left = left;
+  right = right;
+}
 
 -- numbers that differ decide
 pub differing : (xs ys : List ℕ) (p : Meet xs ys) → (p.here ≡ p.there → ⊥) → nat_cmp p.here p.there ≡ key_cmp xs ys

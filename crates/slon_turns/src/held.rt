@@ -21,7 +21,8 @@ pub struct Held {
     pub bounds: Vec<Bound>,
 }
 
-// By hand, so that what it takes apart is proved here alone, and not in each crate above.
+// By hand: a derived destructor would be proved anew, with those of all its parts, in each crate that drops a value of
+// this type.
 impl Drop for Held {
     fn drop(self) {
         let Held {
