@@ -88,7 +88,7 @@ alike_sooner (suc few) (suc many) (x ∷ xs) (y ∷ ys) le same =
     λ i. head i ∷ alike_sooner few many xs ys (omega (arith, le)) tail i
 
 -- one more on both sides
-shifted : (m n : ℕ) → nat_cmp (suc m) (suc n) ≡ nat_cmp m n
+pub shifted : (m n : ℕ) → nat_cmp (suc m) (suc n) ≡ nat_cmp m n
 shifted m n = by (cases_lt m n) (cases_lt n m)
   where
     both : (o : Ordering) → MatchOrdering o (suc m < suc n) (suc m ≡ suc n) (suc n < suc m) →

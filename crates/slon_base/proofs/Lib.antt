@@ -3,4 +3,5 @@ pub mod Compared
 pub mod Entries
 pub mod Numbers
 pub mod Order
+pub mod Padded
 pub mod Spelled

@@ -18,9 +18,11 @@ impl Model for Bytes {
 
     ghost Value = { List ℕ };
 
-    ghost use Rattle.slon_base.specs.Compact.{bytes_at};
+    ghost use Rattle.slon_base.specs.Compact.{bytes_at, IsPadded};
 
     ghost view = { λ b. bytes_at b.inner };
+
+    ghost invariant = { λ b. IsPadded b.inner };
 }
 
 impl Bytes {
@@ -107,7 +109,8 @@ impl Ord for Bytes {
 
     ghost matches_eq = { texts_ties };
 
+    #[inline(always)]
     fn cmp(&self, other: &Bytes) -> Ordering {
-        order(self.as_slice(), other.as_slice())
+        order(&self.inner, &other.inner)
     }
 }

@@ -1,16 +1,16 @@
 // Bytes of which few are kept with no allocation.
-ghost use Rattle.std.specs.Prelude.{◌≡◌, IfOk, take};
-ghost use Rattle.slon_base.specs.Compact.{bytes_at};
+ghost use Rattle.std.specs.Prelude.{◌≡◌, IfOk, length, take};
+ghost use Rattle.slon_base.specs.Compact.{bytes_at, IsPadded};
 
 use std::alloc::{AllocError, Global};
 
 /// How many bytes are kept in the value itself.
-const INLINE_LEN: usize = 30;
+pub(crate) const INLINE_LEN: usize = 30;
 
 /// Where bytes stand.
 #[derive(Debug)]
 pub(crate) enum Compact {
-    /// In the value: the first `len` of these.
+    /// In the value: the first `len` of these. Of a key the others are zero.
     Inline { len: u8, bytes: [u8; INLINE_LEN] },
     /// In an allocation.
     Heap(Vec<u8>),
@@ -28,11 +28,13 @@ impl Drop for Compact {
 
 impl Compact {
     /// The same bytes, copied.
+    #[inline(always)]
     pub(crate) fn from_slice(alloc: Global, slice: &[u8]) -> Result<Compact, AllocError>
-        ensures { IfOk result (λ kept. bytes_at kept ≡ slice.now) }
+        ensures bytes { IfOk result (λ kept. bytes_at kept ≡ slice.now) }
+        ensures padded { IfOk result IsPadded }
     {
         if slice.len() > INLINE_LEN {
-            return Ok(Compact::Heap(Vec::from_slice(alloc, slice)?));
+            return from_long(alloc, slice);
         }
         let mut bytes = [0; INLINE_LEN];
         bytes[..slice.len()].copy_from_slice(slice);
@@ -42,9 +44,29 @@ impl Compact {
         })
     }
 
+    /// The same bytes, copied, where they are the first of others. Where there are enough of those the value takes as
+    /// many as it keeps, since that costs less than to take few.
+    #[inline(always)]
+    pub(crate) fn from_front(
+        alloc: Global,
+        slice: &[u8],
+        whole: &[u8],
+    ) -> Result<Compact, AllocError>
+        requires { take (length slice.now) whole.now ≡ slice.now }
+        ensures { IfOk result (λ kept. bytes_at kept ≡ slice.now) }
+    {
+        if slice.len() <= INLINE_LEN {
+            if let Some(first) = whole.first_chunk::<INLINE_LEN>() {
+                return Ok(first_of(first, slice.len() as u8));
+            }
+        }
+        Compact::from_slice(alloc, slice)
+    }
+
     /// The same bytes once more. Those in the value itself are copied with it, however many they are.
     pub(crate) fn copy(&self, alloc: Global) -> Result<Compact, AllocError>
-        ensures { IfOk result (λ kept. bytes_at kept ≡ bytes_at self.now) }
+        ensures bytes { IfOk result (λ kept. bytes_at kept ≡ bytes_at self.now) }
+        ensures padded { IsPadded self.now → IfOk result IsPadded }
     {
         match self {
             Compact::Inline { len, bytes } => Ok(Compact::Inline {
@@ -64,6 +86,22 @@ impl Compact {
             Compact::Heap(bytes) => bytes.as_slice(),
         }
     }
+}
+
+/// The same bytes, copied into an allocation.
+#[inline(never)]
+fn from_long(alloc: Global, slice: &[u8]) -> Result<Compact, AllocError>
+    ensures bytes { IfOk result (λ kept. bytes_at kept ≡ slice.now) }
+    ensures padded { IfOk result IsPadded }
+{
+    Ok(Compact::Heap(Vec::from_slice(alloc, slice)?))
+}
+
+/// The first `len` of these bytes, in a value.
+fn first_of(bytes: &[u8; INLINE_LEN], len: u8) -> Compact
+    ensures { bytes_at result ≡ take len bytes.now }
+{
+    Compact::Inline { len, bytes: *bytes }
 }
 
 /// The first `len` of the bytes.

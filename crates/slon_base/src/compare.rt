@@ -1,16 +1,68 @@
 // The order of keys.
 ghost use Rattle.std.specs.Prelude.{◌≡◌, ◌≤◌, ◌+◌, ◌^◌, ◌<◌, ◌++◌, length, drop};
+ghost use Rattle.std.specs.Ordering.{nat_cmp};
 ghost use Rattle.slon_base.specs.Codec.{number_bytes};
+ghost use Rattle.slon_base.specs.Compact.{bytes_at, IsPadded};
 ghost use Rattle.slon_base.specs.Keeper.{key_cmp};
 
+use crate::compact::{Compact, INLINE_LEN};
 use std::cmp::Ordering;
 
 /// How many bytes are compared at once.
 const AT_ONCE: usize = 8;
 
-/// The order of two keys by their bytes. Eight of these at a time are compared as one number, since keys of a store are
+/// The order of two keys by their bytes. Those in the values themselves are compared with the zeros behind them, as a
+/// whole of one length, and only where these are the same by how many they are. All else is kept out of line, so that
+/// a search for a key has these few comparisons in its loop.
+#[inline(always)]
+pub(crate) fn order(left: &Compact, right: &Compact) -> Ordering
+    requires { IsPadded left.now × IsPadded right.now }
+    ensures { result ≡ key_cmp (bytes_at left.now) (bytes_at right.now) }
+{
+    match left {
+        Compact::Inline { bytes, .. } => match right {
+            Compact::Inline { bytes: others, .. } => {
+                let padded = order_of_padded(bytes, others);
+                if padded != Ordering::Equal {
+                    return padded;
+                }
+                order_of_lengths(left, right)
+            }
+            Compact::Heap(_) => order_anywhere(left, right),
+        },
+        Compact::Heap(_) => order_anywhere(left, right),
+    }
+}
+
+/// The order of two keys, wherever their bytes stand.
+#[inline(never)]
+fn order_anywhere(left: &Compact, right: &Compact) -> Ordering
+    ensures { result ≡ key_cmp (bytes_at left.now) (bytes_at right.now) }
+{
+    order_of_bytes(left.as_slice(), right.as_slice())
+}
+
+/// The order of the lengths of two keys.
+#[inline(never)]
+fn order_of_lengths(left: &Compact, right: &Compact) -> Ordering
+    ensures { result ≡ nat_cmp (length (bytes_at left.now)) (length (bytes_at right.now)) }
+{
+    left.as_slice().len().cmp(&right.as_slice().len())
+}
+
+/// The order of as many bytes on both sides.
+#[inline(always)]
+fn order_of_padded(left: &[u8; INLINE_LEN], right: &[u8; INLINE_LEN]) -> Ordering
+    ensures order { result ≡ key_cmp left.now right.now }
+    ensures len { length left.now ≡ length right.now }
+{
+    order_of_bytes(left, right)
+}
+
+/// The order of two lists of bytes. Eight of these at a time are compared as one number, since keys of a store are
 /// short and most of them begin alike. The last eight that both have may overlap those before them.
-pub(crate) fn order(left: &[u8], right: &[u8]) -> Ordering
+#[inline(always)]
+fn order_of_bytes(left: &[u8], right: &[u8]) -> Ordering
     ensures { result ≡ key_cmp left.now right.now }
 {
     let common = left.len().min(right.len());

@@ -66,6 +66,7 @@ impl<X: Drop> Few<X> {
     }
 
     /// Adds a value at the end, or leaves the list as it was.
+    #[inline(always)]
     pub(crate) fn push(&mut self, alloc: Global, value: X) -> Result<(), AllocError>
         ensures ok { OnOk result (values_in self.new ≡ values_in self.old ++ value ∷ []) }
         ensures err { OnErr result (values_in self.new ≡ values_in self.old) }

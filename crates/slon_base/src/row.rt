@@ -1,5 +1,5 @@
 // Rows are spelled part by part. What was written is read back, whatever follows, and nothing else is read.
-ghost use Rattle.std.specs.Prelude.{◌≡◌, ◌<◌, ◌≤◌, ◌^◌, ◌++◌, [], ◌∷◌, ℕ, List, length, IfOk, IfErr, OnOk, OnErr};
+ghost use Rattle.std.specs.Prelude.{◌≡◌, ◌<◌, ◌≤◌, ◌^◌, ◌++◌, [], ◌∷◌, ℕ, List, length, take, IfOk, IfErr, OnOk, OnErr};
 ghost use Rattle.std.specs.Prelude.{IfSome, IfNone, IsOk, ◌↔◌, Ok, Err};
 ghost use Rattle.std.specs.Str.{IsUtf8};
 ghost use Rattle.slon_base.specs.Codec.{number_bytes, count_bytes, text_bytes, IsNoByte, IsNoNumber, IsNoCount};
@@ -157,9 +157,11 @@ fn count_at(bytes: &[u8]) -> Option<(u32, &[u8])>
     Some((count, rest))
 }
 
-// The bytes of a text at the front, which may be no UTF-8, and what follows.
-fn text_at(bytes: &[u8]) -> Option<(&[u8], &[u8])>
+// The bytes of a text at the front, which may be no UTF-8, what follows, and both together.
+#[inline(always)]
+fn text_at(bytes: &[u8]) -> Option<(&[u8], &[u8], &[u8])>
     ensures found { IfSome result (λ r. (length r.0.now < 2 ^ 32) × (bytes.now ≡ text_bytes r.0.now ++ r.1.now)) }
+    ensures both { IfSome result (λ r. take (length r.0.now) r.2.now ≡ r.0.now) }
     ensures short { IfNone result (IsShortText bytes.now) }
 {
     let (count, after) = count_at(bytes)?;
@@ -167,7 +169,8 @@ fn text_at(bytes: &[u8]) -> Option<(&[u8], &[u8])>
     if after.len() < len {
         return None;
     }
-    Some(after.split_at(len))
+    let (front, rest) = after.split_at(len);
+    Some((front, rest, after))
 }
 
 impl<'a> RowIn<'a> {
@@ -215,6 +218,7 @@ impl<'a> RowIn<'a> {
     }
 
     /// Reads a text. A fault leaves all as it was.
+    #[inline(always)]
     pub fn text(&mut self, alloc: Global) -> Result<Text, RowFault>
         ensures found { IfOk result (λ t. (length t < 2 ^ 32) × IsUtf8 t × (self.old ≡ text_bytes t ++ self.new)) }
         ensures again { (t rest : List ℕ) → length t < 2 ^ 32 → IsUtf8 t → self.old ≡ text_bytes t ++ rest →
@@ -222,10 +226,10 @@ impl<'a> RowIn<'a> {
         ensures fault { IfErr result (IsNoText self.old) }
         ensures err { OnErr result (self.new ≡ self.old) }
     {
-        let Some((front, rest)) = text_at(self.rest) else {
+        let Some((front, rest, both)) = text_at(self.rest) else {
             return Err(RowFault::Short);
         };
-        match Text::from_bytes(alloc, front) {
+        match Text::from_front(alloc, front, both) {
             Err(_) => Err(RowFault::NoMemory),
             Ok(None) => Err(RowFault::NotCanonical),
             Ok(Some(text)) => {

@@ -1,5 +1,5 @@
 // Texts are UTF-8 and seen as their bytes.
-ghost use Rattle.std.specs.Prelude.{◌≡◌, IfOk, IsTrue, MatchOption, string_bytes};
+ghost use Rattle.std.specs.Prelude.{◌≡◌, ◌↔◌, IfOk, IsTrue, MatchOption, length, string_bytes, take};
 ghost use Rattle.std.specs.Str.{IsUtf8};
 
 use crate::compact::Compact;
@@ -50,14 +50,25 @@ impl Text {
         ensures { IfOk result (λ found. MatchOption found (¬ (IsUtf8 bytes.now)) (λ t. (t ≡ bytes.now)
             × IsUtf8 bytes.now)) }
     {
-        if is_ascii(bytes) {
-            let text = unsafe { str::from_utf8_unchecked(bytes) };
-            return Ok(Some(Text::from_str(alloc, text)?));
+        Text::from_front(alloc, bytes, bytes)
+    }
+
+    /// The same, where these bytes are the first of others.
+    #[inline(always)]
+    pub(crate) fn from_front(
+        alloc: Global,
+        bytes: &[u8],
+        whole: &[u8],
+    ) -> Result<Option<Text>, AllocError>
+        requires { take (length bytes.now) whole.now ≡ bytes.now }
+        ensures { IfOk result (λ found. MatchOption found (¬ (IsUtf8 bytes.now)) (λ t. (t ≡ bytes.now)
+            × IsUtf8 bytes.now)) }
+    {
+        if !is_text(bytes) {
+            return Ok(None);
         }
-        match str::from_utf8(bytes) {
-            Ok(text) => Ok(Some(Text::from_str(alloc, text)?)),
-            Err(_) => Ok(None),
-        }
+        let inner = Compact::from_front(alloc, bytes, whole)?;
+        Ok(Some(Text { inner }))
     }
 
     /// The same text, copied.
@@ -84,6 +95,16 @@ impl Text {
     {
         self.inner.as_slice()
     }
+}
+
+/// Whether the bytes are UTF-8.
+fn is_text(bytes: &[u8]) -> bool
+    ensures { IsTrue result ↔ IsUtf8 bytes.now }
+{
+    if is_ascii(bytes) {
+        return true;
+    }
+    str::from_utf8(bytes).is_ok()
 }
 
 /// Whether each of the bytes is ASCII. Most texts are short, and so this costs less than to read UTF-8.

@@ -58,6 +58,7 @@ impl TextList {
     }
 
     /// Adds a text at the end, or leaves the list as it was.
+    #[inline(always)]
     pub fn push(&mut self, text: Text) -> Result<(), AllocError>
         ensures ok { OnOk result (self.new ≡ self.old ++ text ∷ []) }
         ensures err { OnErr result (self.new ≡ self.old) }

@@ -14,7 +14,7 @@ use slon_base::{Bytes, Keeper, Many};
 use std::alloc::Global;
 
 /// For at most how many rows there is room before the first is read.
-const MOST_ROOM: u64 = 64;
+const MOST_ROOM: u64 = 128;
 
 fn read_pair<I: Spelled, X: Spelled>(
     alloc: Global,

@@ -105,6 +105,7 @@ impl Spelled for Text {
         out.text(self.as_slice())
     }
 
+    #[inline(always)]
     fn read(alloc: Global, row: &mut RowIn<'_>) -> Result<Text, RowFault> {
         row.text(alloc)
     }

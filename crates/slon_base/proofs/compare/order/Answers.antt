@@ -1,37 +1,14 @@
-use Rattle.std.proofs.Common.{refl, arith, ◌∙◌, ◌-◌, ◌+◌}
-use Rattle.slon_base.proofs.Compared.{meet, alike_behind, alike_sooner, all_alike, differing}
+use Rattle.std.proofs.Common.{◌∙◌, sym}
+use Rattle.slon_base.proofs.Padded.{by_bytes, by_count, inlined}
 use Rattle.slon_base.proofs.compare.order.Goals as goal
 
-pub loop-at-init : goal.loop-at-init
-loop-at-init c = (refl, omega arith)
+pub returns-then-ne : goal.returns-then-ne
+returns-then-ne c =
+    by_bytes (inlined c.in-Inline.is c.in-Inline-right.is c.requires c.order_of_padded-padded.ensures.len)
+    c.order_of_padded-padded.result c.order_of_padded-padded.ensures.order (sym c.ne.ensures ∙ c.if-ne.true)
 
-pub returns-then-here-there : goal.returns-then-here-there
-returns-then-here-there c =
-    let both = meet c.loop-at.at c.number_from-here.result c.number_from-there.result c.loop-at.invariant.0
-    c.number_from-here.ensures c.number_from-there.ensures in
-    c.cmp-then-here-there.ensures ∙ differing c.args.left.now c.args.right.now both c.if-here-there.true
-
-pub loop-at-preserved : goal.loop-at-preserved
-loop-at-preserved c =
-    let both = meet c.loop-at.at c.number_from-here.result c.number_from-there.result c.loop-at.invariant.0
-    c.number_from-here.ensures c.number_from-there.ensures in
-    (alike_behind c.args.left.now c.args.right.now both c.if-here-there.false, omega (arith, c.loop-at-test.true))
-
-pub returns-then-here-there-2 : goal.returns-then-here-there-2
-returns-then-here-there-2 c =
-    let last = c.min-common.result - 8 in
-    let both = meet last c.number_from-here-2.result c.number_from-there-2.result
-    (alike_sooner last c.loop-at.at c.args.left.now c.args.right.now c.loop-at-test.false c.loop-at.invariant.0)
-    c.number_from-here-2.ensures c.number_from-there-2.ensures in
-    c.cmp-then-here-there-2.ensures ∙ differing c.args.left.now c.args.right.now both c.if-here-there-2.true
-
-pub returns : goal.returns
-returns c =
-    let last = c.min-common.result - 8 in
-    let both = meet last c.number_from-here-2.result c.number_from-there-2.result
-    (alike_sooner last c.loop-at.at c.args.left.now c.args.right.now c.loop-at-test.false c.loop-at.invariant.0)
-    c.number_from-here-2.ensures c.number_from-there-2.ensures in
-    c.cmp-2.ensures
-    ∙ all_alike (last + 8) c.args.left.now c.args.right.now
-    (omega (arith, c.min-common.ensures, c.if-common-lt-AT_ONCE.false))
-    (alike_behind c.args.left.now c.args.right.now both c.if-here-there-2.false)
+pub returns-else-ne : goal.returns-else-ne
+returns-else-ne c =
+    c.order_of_lengths.ensures
+    ∙ by_count (inlined c.in-Inline.is c.in-Inline-right.is c.requires c.order_of_padded-padded.ensures.len)
+    c.order_of_padded-padded.result c.order_of_padded-padded.ensures.order (sym c.ne.ensures ∙ c.if-ne.false)

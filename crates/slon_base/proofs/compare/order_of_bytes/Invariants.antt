@@ -1,6 +1,6 @@
 use Rattle.std.proofs.Common.{◌-◌, ◌≤◌}
 use Rattle.slon_base.proofs.Compared.{StartAlike}
-use Rattle.slon_base.proofs.compare.order.Given as goal
+use Rattle.slon_base.proofs.compare.order_of_bytes.Given as goal
 
 -- what was compared is the same
 abbrev pub invariant-loop-at : goal.invariant-loop-at
