@@ -1,7 +1,7 @@
 // The standard output of the program.
 use crate::fault_count::FaultCount;
 use slon_base::{OutFault, Sink};
-use std::io::Write;
+use std::io::{BufWriter, Write};
 
 /// An output of the system. It tells nothing of what was written.
 #[derive(Drop)]
@@ -21,6 +21,31 @@ impl<W: Write + Drop> RealSink<W> {
         RealSink {
             writer,
             faults: FaultCount::new(),
+        }
+    }
+}
+
+impl<W: Write + Drop> RealSink<BufWriter<W>> {
+    ghost use Rattle.std.specs.Prelude.{◌≡◌, [], OnOk};
+    ghost use Rattle.std.specs.Io.Buffered.{writer_buffer, writer_contents};
+    ghost use Rattle.std.specs.Io.KnownBytes.{Keeps};
+    ghost use Rattle.slon_base.specs.Outside.{Tells};
+    ghost use Rattle.slon_system.specs.Faults.{faults_of};
+
+    /// Hands on what the buffer holds back.
+    ///
+    /// # Errors
+    ///
+    /// `Failed` where the system's call failed, and `NoMemory`. What was not handed on is held back as before.
+    pub fn flush(&mut self) -> Result<(), OutFault>
+        ensures cause { Tells (faults_of self.old.faults) (faults_of self.new.faults) result }
+        ensures all { OnOk result (writer_buffer self.new.writer ≡ []) }
+        ensures keeps { Keeps (writer_contents W.contents self.old.writer)
+            (writer_contents W.contents self.new.writer) }
+    {
+        match self.writer.flush() {
+            Ok(()) => Ok(()),
+            Err(error) => Err(self.faults.of(&error)),
         }
     }
 }

@@ -2,7 +2,7 @@
 use crate::outside::{Piece, answers, enters, reads};
 use slon_base::{Files, KeepFault, Keeper, OutFault, Shelf, Sink};
 use slon_system::{RealFiles, RealShelf, RealSink};
-use std::io::{Error, ErrorKind, Write};
+use std::io::{BufWriter, Error, ErrorKind, Write};
 use std::test::Fail;
 use std::{env, fs, io, process};
 
@@ -101,6 +101,26 @@ fn writes_pieces(rt: HostRuntime) -> Result<(), Fail> {
         calls: 0,
     });
     assert!(rt; answers(&mut sink, PIECES));
+    assert!(rt; sink.faults() == 1);
+    drop(sink);
+    assert!(rt; room.as_slice() == b"ok xid\nok".as_slice());
+    Ok(())
+}
+
+#[test]
+fn holds_back_pieces(rt: HostRuntime) -> Result<(), Fail> {
+    let mut room = [0u8; 9];
+    let narrow = Narrow {
+        room: &mut room,
+        taken: 0,
+        calls: 0,
+    };
+    let mut sink = RealSink::new(BufWriter::with_capacity(rt.alloc(), 16, narrow)?);
+    assert!(rt; answers(&mut sink, &[(b"ok xid\n", Ok(()))]));
+    assert!(rt; sink.flush() == Ok(()));
+    assert!(rt; answers(&mut sink, &[(b"ok\n", Ok(()))]));
+    assert!(rt; sink.faults() == 0);
+    assert!(rt; sink.flush() == Err(OutFault::Failed));
     assert!(rt; sink.faults() == 1);
     drop(sink);
     assert!(rt; room.as_slice() == b"ok xid\nok".as_slice());

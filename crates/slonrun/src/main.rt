@@ -1,19 +1,25 @@
 //! Runs a session over the real files and prints its replies.
 #![tactic(auto)]
 
+mod ending;
 mod words;
 
 use slon_main::{Status, slon_main};
 use slon_system::{RealFiles, RealShelf, RealSink};
+use std::io::BufWriter;
 use std::process::ExitCode;
 
 fn main(rt: HostRuntime) -> ExitCode {
     let Ok(words) = words::given(&rt) else {
         return ExitCode::from(Status::NoMemory.number());
     };
+    let held_back = words::held_back(&rt, words.as_slice());
+    let Ok(writer) = BufWriter::with_capacity(rt.alloc(), held_back, rt.stdout()) else {
+        return ExitCode::from(Status::NoMemory.number());
+    };
     let mut files = RealFiles::new(rt.alloc(), &rt);
     let mut shelf = RealShelf::new(rt.alloc());
-    let mut out = RealSink::new(rt.stdout());
+    let mut out = RealSink::new(writer);
     let ended = slon_main(
         rt.alloc(),
         words.as_slice(),
@@ -21,5 +27,6 @@ fn main(rt: HostRuntime) -> ExitCode {
         &mut shelf,
         &mut out,
     );
-    ExitCode::from(ended.status.number())
+    let status = ending::last_status(ended.status, out.flush());
+    ExitCode::from(status.number())
 }

@@ -1,9 +1,12 @@
 // The words of the command line.
 use slon_base::{Text, TextList};
 use std::alloc::{AllocError, Global};
-use std::env;
 use std::io::ErrorKind;
-use std::rt::Env;
+use std::rt::{Env, Files};
+use std::{env, fs};
+
+/// How many bytes of replies are held back before they are written.
+const HELD_BACK: usize = 8192;
 
 /// The words behind the program's name. A command line that is not text counts as one with no words.
 pub(crate) fn given<R: Env + AllocGlobal>(rt: &R) -> Result<TextList, AllocError> {
@@ -17,5 +20,17 @@ pub(crate) fn given<R: Env + AllocGlobal>(rt: &R) -> Result<TextList, AllocError
         }
         Err(fault) if fault.kind() == ErrorKind::OutOfMemory => Err(AllocError),
         Err(_) => Ok(words),
+    }
+}
+
+/// How many bytes of replies may be held back: some where the session is an ordinary file, all of which is there to be
+/// read. A session from a pipe or a terminal may be said by somebody who waits for each reply.
+pub(crate) fn held_back<R: Files>(files: &R, words: &[Text]) -> usize {
+    match words {
+        [name] => match fs::metadata(files, name.as_str()) {
+            Ok(found) if found.is_file() => HELD_BACK,
+            _ => 0,
+        },
+        _ => 0,
     }
 }
