@@ -72,24 +72,34 @@ def counted(words, folder):
     return int(re.search(rb"Collected : (\d+)", done.stderr).group(1)) / 1e9, done.stdout
 
 
-def timed(words, folder, times):
-    """The processor seconds of the fastest run, and what the last one printed."""
-    took = []
+def timed(commands, folder, times):
+    """The processor seconds of the fastest run of each of these programs, which run in turn, and what each printed."""
+    took, printed = [float("inf")] * len(commands), [b""] * len(commands)
     for _ in range(times):
-        before = spent()
-        done = subprocess.run(words, cwd=folder, capture_output=True, check=True)
-        took.append(spent() - before)
-    return min(took), done.stdout
+        for at, words in enumerate(commands):
+            before = spent()
+            printed[at] = subprocess.run(words, cwd=folder, capture_output=True, check=True).stdout
+            took[at] = min(took[at], spent() - before)
+    return list(zip(took, printed))
 
 
-def run_words(args, words, folder):
-    """What a run of a program with these words takes, and the lines that it prints."""
-    took, printed = counted(words, folder) if args.count else timed(words, folder, args.times)
-    return took, printed.decode().splitlines()
+def run_words(args, commands, folder):
+    """What a run of each of these programs with its words takes, and the lines that it prints."""
+    if args.count:
+        runs = [counted(words, folder) for words in commands]
+    else:
+        runs = timed(commands, folder, args.times)
+    return [(took, printed.decode().splitlines()) for took, printed in runs]
+
+
+def run_in_turn(args, program, texts):
+    """What a run of each of these sessions takes, and its replies."""
+    with tempfile.TemporaryDirectory() as folder:
+        for at, text in enumerate(texts):
+            (pathlib.Path(folder) / f"s{at}").write_text(text)
+        return run_words(args, [[program, f"s{at}"] for at in range(len(texts))], folder)
 
 
 def run(args, program, text):
     """What a run of the session takes, and its replies."""
-    with tempfile.TemporaryDirectory() as folder:
-        (pathlib.Path(folder) / "s").write_text(text)
-        return run_words(args, [program, "s"], folder)
+    return run_in_turn(args, program, [text])[0]
