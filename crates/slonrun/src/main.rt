@@ -6,15 +6,20 @@ mod words;
 
 use slon_main::{Status, slon_main};
 use slon_system::{RealFiles, RealShelf, RealSink};
-use std::io::BufWriter;
+use std::io::{BufWriter, IsTerminal};
 use std::process::ExitCode;
 
 fn main(rt: HostRuntime) -> ExitCode {
     let Ok(words) = words::given(&rt) else {
         return ExitCode::from(Status::NoMemory.number());
     };
-    let held_back = words::held_back(&rt, words.as_slice());
-    let Ok(writer) = BufWriter::with_capacity(rt.alloc(), held_back, rt.stdout()) else {
+    let printed = rt.stdout();
+    let held_back = if printed.is_terminal() {
+        0
+    } else {
+        words::held_back(&rt, words.as_slice())
+    };
+    let Ok(writer) = BufWriter::with_capacity(rt.alloc(), held_back, printed) else {
         return ExitCode::from(Status::NoMemory.number());
     };
     let mut files = RealFiles::new(rt.alloc(), &rt);
