@@ -4,7 +4,7 @@ ghost use Rattle.std.specs.Prelude.{◌≡◌, Result, OnOk, Ok, Err};
 use slon_base::OutFault;
 use slon_main::Status;
 
-/// How a session ended, where its last replies were written only when it had: that they were not is what is said then.
+/// The status of the program: that of the run, or where the last replies could not be written, why not.
 pub(crate) fn last_status(status: Status, flushed: Result<(), OutFault>) -> Status
     ensures written { OnOk flushed (result ≡ status) }
     ensures failed { flushed ≡ Err OutFault.Failed → result ≡ Status.WriteFault }

@@ -23,8 +23,8 @@ pub(crate) fn given<R: Env + AllocGlobal>(rt: &R) -> Result<TextList, AllocError
     }
 }
 
-/// How many bytes of replies may be held back: some where the session is an ordinary file, all of which is there to be
-/// read. A session from a pipe or a terminal may be said by somebody who waits for each reply.
+/// How many bytes of replies may be held back: `HELD_BACK` where the session is an ordinary file, and none where it is
+/// another one, as a pipe or a terminal, since somebody may write it who waits for each reply.
 pub(crate) fn held_back<R: Files>(files: &R, words: &[Text]) -> usize {
     match words {
         [name] => match fs::metadata(files, name.as_str()) {
