@@ -15,13 +15,14 @@ ghost use Rattle.change_apply.specs.Applied.{changed_in, acted, acted_all, AreLo
 
 use crate::layout::{LOG, ROWS};
 use change_capture::{Action, Change, LogRow, action_of, updated_values};
-use slon_base::{Keeper, Many, Text, TextList};
+use slon_base::{Keeper, Many, RowOut, Text, TextList};
 use std::alloc::Global;
-use store_rows::{Stop, del_row, get_row, put_row, row_stop};
+use store_rows::{Stop, del_row, get_row, put_row_in, row_room, row_stop};
 
-/// Does what a change does to the rows of a table.
+/// Does what a change does to the rows of a table. Its row is spelled in this room.
 pub(crate) fn apply_change<K: Keeper>(
     alloc: Global,
+    room: &mut RowOut,
     keeper: &mut K,
     table: Text,
     change: Change,
@@ -39,19 +40,42 @@ pub(crate) fn apply_change<K: Keeper>(
         Becomes (HoldsRows (changed_in table (change_of change) tables)) (K.kept keeper.new) result }
 {
     match change {
-        Change::Put { key, values } => put_row(alloc, keeper, ROWS, &(table, key), &values),
+        Change::Put { key, values } => put_row_in(room, keeper, ROWS, &(table, key), &values),
         Change::Set { key, columns } => {
             let key = (table, key);
             match get_row::<K, (Text, Text), TextList>(alloc, keeper, ROWS, &key)? {
                 None => Ok(()),
                 Some(row) => {
                     let row = updated_values(alloc, row.as_slice(), columns.as_slice())?;
-                    put_row(alloc, keeper, ROWS, &key, &row)
+                    put_row_in(room, keeper, ROWS, &key, &row)
                 }
             }
         }
         Change::Remove { key } => del_row(alloc, keeper, ROWS, &(table, key)),
     }
+}
+
+/// Does what a write does to the rows of its table. Its row is spelled in this room.
+fn apply_in<K: Keeper>(
+    alloc: Global,
+    room: &mut RowOut,
+    keeper: &mut K,
+    action: Action,
+) -> Result<(), Stop>
+    requires opened { is_some (K.kept keeper.old).pending ≡ true }
+    requires table { IsText action.table }
+    requires words { CanApply (change_of action.change) }
+    ensures safe { Safe (K.kept keeper.old) (K.kept keeper.new) result }
+    ensures puts { PutsUpTo 1 (K.kept keeper.old).puts (K.kept keeper.new).puts }
+    ensures within { IfErr result IsWithinLimit }
+    ensures space { IfErr result (IsOfSpace 3) }
+    ensures changed { (m : Store) → (K.kept keeper.old).pending ≡ Some (Some m) →
+        IfOk result (λ u. IsPending (IsChanged action.table (change_of action.change) m) (K.kept keeper.new)) }
+    ensures applies { (tables : List ℕ → Rows) → IsPending (HoldsRows tables) (K.kept keeper.old) →
+        Becomes (HoldsRows (acted action tables)) (K.kept keeper.new) result }
+{
+    let Action { table, change, .. } = action;
+    apply_change(alloc, room, keeper, table, change)
 }
 
 /// Does, in the transaction that is pending, what a write does to the rows of its table. A row that is put takes the
@@ -75,8 +99,7 @@ pub fn apply_action<K: Keeper>(alloc: Global, keeper: &mut K, action: Action) ->
     ensures applies { (tables : List ℕ → Rows) → IsPending (HoldsRows tables) (K.kept keeper.old) →
         Becomes (HoldsRows (acted action tables)) (K.kept keeper.new) result }
 {
-    let Action { table, change, .. } = action;
-    apply_change(alloc, keeper, table, change)
+    apply_in(alloc, &mut row_room(alloc)?, keeper, action)
 }
 
 /// Does, in the transaction that is pending, what these writes do to the rows of their tables, one after the other.
@@ -101,8 +124,9 @@ pub fn apply_actions<K: Keeper>(
     ensures applies { (tables : List ℕ → Rows) → IsPending (HoldsRows tables) (K.kept keeper.old) →
         Becomes (HoldsRows (acted_all actions tables)) (K.kept keeper.new) result }
 {
+    let mut room = row_room(alloc)?;
     for action in actions.into_vec() {
-        apply_action(alloc, keeper, action)?;
+        apply_in(alloc, &mut room, keeper, action)?;
     }
     Ok(())
 }

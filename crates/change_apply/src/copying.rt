@@ -14,7 +14,7 @@ use crate::layout::ROWS;
 use change_capture::Change;
 use slon_base::{Keeper, Many, Text, TextList};
 use std::alloc::Global;
-use store_rows::{Stop, scan_rows, spelling};
+use store_rows::{Stop, row_room, scan_rows, spelling};
 
 /// All rows of a table, each with its key.
 ///
@@ -80,9 +80,10 @@ fn turn_rows<K: Keeper>(
     ensures turns { (tables : List ℕ → Rows) → IsPending (HoldsRows tables) (K.kept keeper.old) →
         Becomes (HoldsRows (played table.now (turns turn rows) tables)) (K.kept keeper.new) result }
 {
+    let mut room = row_room(alloc)?;
     for (key, values) in rows.into_vec() {
         let change = change_of_row(turn, key, values);
-        apply_change(alloc, keeper, table.copy(alloc)?, change)?;
+        apply_change(alloc, &mut room, keeper, table.copy(alloc)?, change)?;
     }
     Ok(())
 }

@@ -6,3 +6,4 @@ pub mod Pairs
 pub mod Parts
 pub mod Results
 pub mod Spelling
+pub mod Texts

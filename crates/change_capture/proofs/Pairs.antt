@@ -67,17 +67,17 @@ next_column (x ∷ done) (column ∷ columns) number value rest fits e =
     next_column done columns number value rest fits.1 cc
 
 -- the number of the value that stands behind others
-pub next_value : (n : ℕ) (done values : List (List ℕ)) (number value : List ℕ) (rest : List (List ℕ)) →
-    paired (numbered n done) ++ number ∷ value ∷ rest ≡ paired (numbered n values) → number ≡ decimal (length done + n)
-next_value n [] [] number value rest e = cc
-next_value n (x ∷ done) [] number value rest e = cc
-next_value n [] (y ∷ values) number value rest e =
+pub next_value : (n : ℕ) (done values : List (List ℕ)) (number : List ℕ) (rest : List (List ℕ)) →
+    paired (numbered n done) ++ number ∷ rest ≡ paired (numbered n values) → number ≡ decimal (length done + n)
+next_value n [] [] number rest e = cc
+next_value n (x ∷ done) [] number rest e = cc
+next_value n [] (y ∷ values) number rest e =
     let count : n ≡ length {A = List ℕ} [] + n = omega arith in
     let first : number ≡ decimal n = cc in
     first ∙ ap decimal count
-next_value n (x ∷ done) (y ∷ values) number value rest e =
+next_value n (x ∷ done) (y ∷ values) number rest e =
     let count : length done + (n + 1) ≡ length (x ∷ done) + n = omega arith in
-    next_value (n + 1) done values number value rest (cc) ∙ ap decimal count
+    next_value (n + 1) done values number rest (cc) ∙ ap decimal count
 
 -- one more value
 pub numbered_on : (n : ℕ) (done : List (List ℕ)) (value : List ℕ) →

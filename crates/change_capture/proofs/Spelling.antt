@@ -7,7 +7,7 @@ use Rattle.std.proofs.lemmas.Fmt.{length-decimal-le, IsAscii-decimal}
 use Rattle.std.proofs.lemmas.Str.{IsUtf8-from_ascii}
 use Rattle.std.specs.Fmt.{decimal}
 use Rattle.std.specs.List.{list_all}
-use Rattle.slon_base.specs.Codec.{AllAre, AllTexts, IsText}
+use Rattle.slon_base.specs.Codec.{AllAre, AllTexts, AreTexts, IsText}
 use Rattle.slon_lemmas.proofs.Texts.{ascii_all}
 use Rattle.slon_model.proofs.Spoken.{value_text, value_texts}
 use Rattle.slon_model.proofs.WordBytes.{part_bytes, part_short, two_parts}
@@ -77,22 +77,25 @@ changed_few : (change : Change) → length (columns_of change) < 2 ^ 31 → chan
 changed_few (Set key columns) few = omega (arith, few, length-append columns ((1, key) ∷ []))
 changed_few others few = lit< tt
 
+-- the texts of its columns can be spelled
+pub columns_spelled : (action : Action) → CanSpell action → AreTexts (paired (columns_of action.change))
+columns_spelled action h = record {
+  few = omega (arith, h.few, length-paired (columns_of action.change));
+  each = paired_texts (columns_of action.change) (columns_can action.change h.can.columns h.words h.few);
+}
+
 pub can_log_row : (xid table : ℕ) (action : Action) → xid < 2 ^ 63 → IsId table → CanSpell action →
     CanLogRow (log_row xid table action)
 can_log_row xid table action small_xid id h =
     let t = two_parts action.table h.can.table in
     let parts = sym (parts_are action.table t) in
-    let columns = columns_of action.change in
     record {
       xid = small_xid;
       table = id;
       namespace = subst IsText (ap first_part parts) (part_text t.front t.is_front);
       name = subst IsText (ap second_part parts) (part_text t.back t.is_back);
       columns = changed_few action.change h.few;
-      arguments = record {
-        few = omega (arith, h.few, length-paired columns);
-        each = paired_texts columns (columns_can action.change h.can.columns h.words h.few);
-      };
+      arguments = columns_spelled action h;
     }
 
 -- a row that is this one

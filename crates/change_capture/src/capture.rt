@@ -1,19 +1,20 @@
 // The row of an action.
 ghost use Rattle.std.specs.Prelude.{◌≡◌, [], ◌∷◌, ◌++◌, ◌<◌, ◌^◌, IfOk, OnOk};
 ghost use Rattle.std.specs.Fmt.{decimal};
+ghost use Rattle.slon_base.specs.Codec.{AreTexts};
 ghost use Rattle.slon_model.specs.Spoken.{IsTableName};
 ghost use Rattle.change_capture.specs.Capture.{numbered, paired, columns_of, command_of, changed_in, log_row};
 ghost use Rattle.change_capture.specs.Capture.{first_part, second_part, parts_of};
 ghost use Rattle.change_capture.specs.Spellings.{CanLogRow, CanSpell};
 ghost use Rattle.store_rows.specs.Rows.{IsId};
 
-use crate::{Action, Change, LogCommand, LogRow};
+use crate::{Action, Arguments, Change, LogCommand, LogRow};
 use slon_base::{Text, TextList};
 use slon_model::ColumnList;
 use std::alloc::{AllocError, Global};
 
 /// The number of the column of the key.
-const KEY_COLUMN: u64 = 1;
+pub(crate) const KEY_COLUMN: u64 = 1;
 
 /// Adds the number of a column and its value.
 fn push_column(
@@ -122,7 +123,8 @@ pub fn log_row_of(
     table: u32,
     action: &Action,
 ) -> Result<LogRow, AllocError>
-    requires { IsTableName action.now.table }
+    requires table { IsTableName action.now.table }
+    requires texts { AreTexts (paired (columns_of action.now.change)) }
     ensures row { IfOk result (λ row. row ≡ log_row xid table action.now) }
     // The row of an action that a line says can be spelled.
     ensures can { xid < 2 ^ 63 → IsId table → CanSpell action.now → IfOk result CanLogRow }
@@ -136,6 +138,6 @@ pub fn log_row_of(
         name,
         command: command_of(&action.change),
         columns: changed_in(&action.change),
-        arguments,
+        arguments: Arguments::new(alloc, arguments.as_slice())?,
     })
 }

@@ -7,6 +7,7 @@
 
 mod action;
 mod applying;
+mod arguments;
 mod capture;
 mod log_row;
 mod reading;
@@ -14,6 +15,7 @@ mod values;
 
 pub use action::{Action, Change};
 pub use applying::apply;
+pub use arguments::Arguments;
 pub use capture::log_row_of;
 pub use log_row::{LogCommand, LogRow};
 pub use reading::action_of;

@@ -1,5 +1,6 @@
 // The rows of the log.
-use slon_base::{RowFault, RowIn, RowOut, Text, TextList};
+use crate::Arguments;
+use slon_base::{RowFault, RowIn, RowOut, Text};
 use std::alloc::{AllocError, Global};
 use store_rows::Spelled;
 
@@ -30,7 +31,7 @@ pub struct LogRow {
     /// How many columns get new values, where a row is changed.
     pub columns: u64,
     /// The number of a column and its value, for one column after another.
-    pub arguments: TextList,
+    pub arguments: Arguments,
 }
 
 /// One byte: `I`, `U` or `D`.
@@ -88,7 +89,7 @@ impl Spelled for LogRow {
         let name = Text::read(alloc, row)?;
         let command = LogCommand::read(alloc, row)?;
         let columns = u64::read(alloc, row)?;
-        let arguments = TextList::read(alloc, row)?;
+        let arguments = Arguments::read(alloc, row)?;
         Ok(LogRow {
             xid,
             table,

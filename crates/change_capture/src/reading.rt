@@ -4,6 +4,8 @@ ghost use Rattle.std.specs.Fmt.{decimal};
 ghost use Rattle.change_capture.specs.Reading.{IsPrinted, AreNamed, AreValues, IsLogOf, HasParts, IsLoggedBy};
 ghost use Rattle.change_capture.specs.Reading.{IsReadFault, Gives, Reads};
 
+use crate::arguments::TextsIn;
+use crate::capture::KEY_COLUMN;
 use crate::{Action, Change, LogCommand, LogRow};
 use arrayvec::ArrayString;
 use slon_base::{RowFault, Text, TextList};
@@ -17,39 +19,43 @@ pub(crate) const FIRST_VALUE_COLUMN: u64 = 2;
 const NAME_LEN: usize = 63;
 
 /// Whether the text is this digit.
-fn is_digit(text: &Text, digit: u8) -> bool
+fn is_digit(text: &str, digit: u8) -> bool
     requires { digit < 10 }
     ensures { IsTrue result ↔ (text.now ≡ decimal digit) }
 {
-    text.as_slice() == [b'0' + digit].as_slice()
+    match text.as_bytes() {
+        [byte] => *byte == b'0' + digit,
+        _ => false,
+    }
 }
 
 /// Whether the text is what is printed for this number. Most numbers are digits, and nothing is printed for these.
-fn is_number(alloc: Global, text: &Text, number: u64) -> Result<bool, AllocError>
+fn is_number(alloc: Global, text: &str, number: u64) -> Result<bool, AllocError>
     ensures { IfOk result (λ is. IsTrue is ↔ (text.now ≡ decimal number)) }
 {
     if number < 10 {
         return Ok(is_digit(text, number as u8));
     }
     let printed = format!(in alloc; "{number}")?;
-    Ok(printed.as_str() == text.as_str())
+    Ok(printed.as_str() == text)
 }
 
 /// Whether the text is the number of the column of the key.
-fn is_key_number(text: &Text) -> bool
+fn is_key_number(text: &str) -> bool
     ensures { IsTrue result ↔ (text.now ≡ decimal 1) }
 {
-    text.as_str() == "1"
+    is_digit(text, KEY_COLUMN as u8)
 }
 
 /// The number that the text is printed for.
 fn number_of(alloc: Global, text: &Text) -> Result<u32, RowFault>
     ensures { Reads (IsPrinted text.now) result }
 {
-    match text.as_str().parse::<u32>() {
+    let shown = text.as_str();
+    match shown.parse::<u32>() {
         Err(_) => Err(RowFault::NotCanonical),
         Ok(number) => {
-            if is_number(alloc, text, u64::from(number))? {
+            if is_number(alloc, shown, u64::from(number))? {
                 Ok(number)
             } else {
                 Err(RowFault::NotCanonical)
@@ -91,40 +97,42 @@ fn columns_of(alloc: Global, arguments: &[Text]) -> Result<ColumnList, RowFault>
 }
 
 /// The values of the columns from 2 on, which are named in their order.
-fn values_of(alloc: Global, arguments: &[Text]) -> Result<TextList, RowFault>
-    ensures { Reads (AreValues arguments.now) result }
+fn values_of(alloc: Global, arguments: TextsIn<'_>) -> Result<TextList, RowFault>
+    ensures { Reads (AreValues arguments.entry) result }
 {
     let mut values = TextList::new(alloc);
     let mut rest = arguments;
-    while let [number, value, behind @ ..] = rest {
+    while let Some(number) = rest.next_str() {
         let column = values.len() as u64 + FIRST_VALUE_COLUMN;
         if !is_number(alloc, number, column)? {
             return Err(RowFault::NotCanonical);
         }
-        values.push(value.copy(alloc)?)?;
-        rest = behind;
+        match rest.next_text(alloc)? {
+            None => return Err(RowFault::NotCanonical),
+            Some(value) => values.push(value)?,
+        }
     }
-    if rest.is_empty() {
-        Ok(values)
-    } else {
-        Err(RowFault::NotCanonical)
-    }
+    Ok(values)
 }
 
 /// The new row that the columns are those of.
-fn put_of(alloc: Global, columns: u64, arguments: &[Text]) -> Result<Change, RowFault>
-    ensures { Reads (IsLoggedBy LogCommand.Insert columns arguments.now) result }
+fn put_of(alloc: Global, columns: u64, arguments: TextsIn<'_>) -> Result<Change, RowFault>
+    ensures { Reads (IsLoggedBy LogCommand.Insert columns arguments.entry) result }
 {
-    let [number, key, rest @ ..] = arguments else {
+    let mut rest = arguments;
+    let Some(number) = rest.next_str() else {
         return Err(RowFault::NotCanonical);
     };
     if columns != 0 || !is_key_number(number) {
         return Err(RowFault::NotCanonical);
     }
-    Ok(Change::Put {
-        key: key.copy(alloc)?,
-        values: values_of(alloc, rest)?,
-    })
+    match rest.next_text(alloc)? {
+        None => Err(RowFault::NotCanonical),
+        Some(key) => Ok(Change::Put {
+            key,
+            values: values_of(alloc, rest)?,
+        }),
+    }
 }
 
 /// The changed columns, and the key behind them.
@@ -134,7 +142,7 @@ fn set_of(alloc: Global, columns: u64, arguments: &[Text]) -> Result<Change, Row
     let [front @ .., number, key] = arguments else {
         return Err(RowFault::NotCanonical);
     };
-    if !is_key_number(number) {
+    if !is_key_number(number.as_str()) {
         return Err(RowFault::NotCanonical);
     }
     let changed = columns_of(alloc, front)?;
@@ -154,7 +162,7 @@ fn remove_of(alloc: Global, columns: u64, arguments: &[Text]) -> Result<Change, 
     let [number, key] = arguments else {
         return Err(RowFault::NotCanonical);
     };
-    if columns != 0 || !is_key_number(number) {
+    if columns != 0 || !is_key_number(number.as_str()) {
         return Err(RowFault::NotCanonical);
     }
     Ok(Change::Remove {
@@ -166,11 +174,16 @@ fn remove_of(alloc: Global, columns: u64, arguments: &[Text]) -> Result<Change, 
 fn change_of(alloc: Global, row: &LogRow) -> Result<Change, RowFault>
     ensures { Reads (IsLoggedBy row.now.command row.now.columns row.now.arguments) result }
 {
-    let arguments = row.arguments.as_slice();
     match row.command {
-        LogCommand::Insert => put_of(alloc, row.columns, arguments),
-        LogCommand::Update => set_of(alloc, row.columns, arguments),
-        LogCommand::Delete => remove_of(alloc, row.columns, arguments),
+        LogCommand::Insert => put_of(alloc, row.columns, row.arguments.reader()),
+        LogCommand::Update => {
+            let texts = row.arguments.texts(alloc)?;
+            set_of(alloc, row.columns, texts.as_slice())
+        }
+        LogCommand::Delete => {
+            let texts = row.arguments.texts(alloc)?;
+            remove_of(alloc, row.columns, texts.as_slice())
+        }
     }
 }
 

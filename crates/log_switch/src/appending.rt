@@ -12,7 +12,7 @@ use crate::layout::LOG;
 use change_capture::LogRow;
 use slon_base::Keeper;
 use std::alloc::Global;
-use store_rows::{Stop, put_row};
+use store_rows::{Stop, put_row_in, row_room};
 
 /// Puts rows of this origin, each with the number of its action, into the log in the transaction that is pending.
 ///
@@ -34,8 +34,9 @@ pub fn append<K: Keeper>(
     ensures put { OnOk result ((K.kept keeper.new).pending ≡
         option_map (option_map (put_logs origin rows.now)) (K.kept keeper.old).pending) }
 {
+    let mut room = row_room(alloc)?;
     for (number, row) in rows {
-        put_row(alloc, keeper, LOG, &(origin, *number), row)?;
+        put_row_in(&mut room, keeper, LOG, &(origin, *number), row)?;
     }
     Ok(())
 }

@@ -6,7 +6,7 @@ ghost use Rattle.node_keeper.specs.Slots.{pairs};
 ghost use Rattle.node_keeper.specs.Ahead.{IsAhead};
 
 use crate::slots::Slots;
-use slon_base::Bytes;
+use slon_base::{Bytes, are_same};
 use std::alloc::{AllocError, Global};
 use std::collections::VecDeque;
 
@@ -57,7 +57,7 @@ impl Ahead {
         ensures key { OnOk result (self.new.key ≡ key.now) }
         ensures none { OnOk result (self.new.pairs.items ≡ [] → after key.now (entries (pairs slots.now.map)) ≡ []) }
     {
-        let goes_on = self.key.as_slice() == key;
+        let goes_on = are_same(self.key.as_slice(), key);
         if goes_on && !self.pairs.is_empty() {
             return Ok(());
         }

@@ -31,7 +31,7 @@ use app_store::{Database, DbFault, fall};
 use change_capture::{Action, LogRow, action_of};
 use log_switch::between_from;
 use node_keeper::Keeper;
-use slon_base::{Many, STORED_LIMIT, Text};
+use slon_base::{Many, STORED_LIMIT, Text, are_same};
 use std::alloc::{AllocError, Global};
 use store_rows::{Stop, row_stop};
 use txn_core::Snapshot;
@@ -60,7 +60,7 @@ fn ids_of(alloc: Global, tables: &[(u32, Text)]) -> Result<Many<u32>, AllocError
 fn is_on_one(tables: &[(u32, Text)], table: u32, name: &Text) -> bool
     ensures { result ≡ list_any (λ t. t.0 == table && bytes_eq name.now t.1) tables.now }
 {
-    tables.iter().any(|(id, other)| *id == table && name.as_slice() == other.as_slice())
+    tables.iter().any(|(id, other)| *id == table && are_same(name.as_slice(), other.as_slice()))
 }
 
 /// Adds a row and its action.

@@ -42,7 +42,8 @@ fn tell_row(alloc: Global, row: &LogRow) -> Result<String, Fail> {
     let mut line = String::new(alloc);
     write!(line, "{} {} {}", row.xid, row.table, row.columns)?;
     write!(line, " {} {}", row.namespace.as_str(), row.name.as_str())?;
-    for argument in row.arguments.as_slice() {
+    let arguments = row.arguments.texts(alloc)?;
+    for argument in arguments.as_slice() {
         write!(line, " {}", argument.as_str())?;
     }
     Ok(line)

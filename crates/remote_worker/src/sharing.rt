@@ -36,7 +36,7 @@ fn copy_row(alloc: Global, row: &LogRow) -> Result<LogRow, AllocError>
         name: row.name.copy(alloc)?,
         command: row.command,
         columns: row.columns,
-        arguments: copy_values(alloc, row.arguments.as_slice())?,
+        arguments: row.arguments.copy(alloc)?,
     })
 }
 

@@ -105,7 +105,7 @@ fn first_of(bytes: &[u8; INLINE_LEN], len: u8) -> Compact
 }
 
 /// The first `len` of the bytes.
-fn front(bytes: &[u8], len: usize) -> &[u8]
+pub(crate) fn front(bytes: &[u8], len: usize) -> &[u8]
     ensures { result.now ≡ take len bytes.now }
 {
     &bytes[..len.min(bytes.len())]

@@ -1,15 +1,31 @@
 // The order of keys.
-ghost use Rattle.std.specs.Prelude.{◌≡◌, ◌≤◌, ◌+◌, ◌^◌, ◌<◌, ◌++◌, length, drop};
+ghost use Rattle.std.specs.Prelude.{◌≡◌, ◌≤◌, ◌+◌, ◌^◌, ◌<◌, ◌++◌, length, drop, bytes_eq, nat_eq, IsTrue};
+ghost use Rattle.std.specs.List.{starts_with};
 ghost use Rattle.std.specs.Ordering.{nat_cmp};
 ghost use Rattle.slon_base.specs.Codec.{number_bytes};
 ghost use Rattle.slon_base.specs.Compact.{bytes_at, IsPadded};
 ghost use Rattle.slon_base.specs.Keeper.{key_cmp};
 
-use crate::compact::{Compact, INLINE_LEN};
+use crate::compact::{Compact, INLINE_LEN, front};
 use std::cmp::Ordering;
 
 /// How many bytes are compared at once.
 const AT_ONCE: usize = 8;
+
+/// Whether two lists of bytes are the same. Of few bytes this takes less than the comparison of slices.
+pub fn are_same(left: &[u8], right: &[u8]) -> bool
+    ensures { result ≡ bytes_eq left.now right.now }
+{
+    order_of_bytes(left, right).is_eq()
+}
+
+/// Whether the bytes begin with these.
+pub fn begin_with(bytes: &[u8], prefix: &[u8]) -> bool
+    ensures value { result ≡ starts_with nat_eq bytes.now prefix.now }
+    ensures len { IsTrue result → length prefix.now ≤ length bytes.now }
+{
+    are_same(prefix, front(bytes, prefix.len()))
+}
 
 /// The order of two keys by their bytes. Those in the values themselves are compared with the zeros behind them, as a
 /// whole of one length, and only where these are the same by how many they are. All else is kept out of line, so that

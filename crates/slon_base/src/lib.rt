@@ -19,6 +19,7 @@ mod text_list;
 pub use byte_map::ByteMap;
 pub use bytes::Bytes;
 pub use charge::Charge;
+pub use compare::{are_same, begin_with};
 pub use fault::{Halt, KeepFault, OutFault, RowFault};
 pub use files::Files;
 pub use keeper::{Keeper, Shelf};

@@ -1,14 +1,16 @@
 // Rows are spelled part by part. What was written is read back, whatever follows, and nothing else is read.
 ghost use Rattle.std.specs.Prelude.{◌≡◌, ◌<◌, ◌≤◌, ◌^◌, ◌++◌, [], ◌∷◌, ℕ, List, length, take, IfOk, IfErr, OnOk, OnErr};
-ghost use Rattle.std.specs.Prelude.{IfSome, IfNone, IsOk, ◌↔◌, Ok, Err};
+ghost use Rattle.std.specs.Prelude.{IfSome, IfNone, IsOk, IsOkAnd, ◌↔◌, Ok, Err};
 ghost use Rattle.std.specs.Str.{IsUtf8};
 ghost use Rattle.slon_base.specs.Codec.{number_bytes, count_bytes, text_bytes, IsNoByte, IsNoNumber, IsNoCount};
 ghost use Rattle.slon_base.specs.Codec.{IsNoText, IsShortText, MatchRead};
 ghost use Rattle.slon_base.specs.declared.fault.RowFault.TheVariants.{Trailing};
 
+use crate::text::is_text;
 use crate::{Bytes, RowFault, Text};
 use std::alloc::{AllocError, Global};
 use std::marker::Model;
+use std::str;
 
 /// The greatest number that a row holds.
 pub const STORED_LIMIT: u64 = 9_223_372_036_854_775_807;
@@ -47,6 +49,13 @@ impl RowOut {
         Ok(RowOut {
             inner: Vec::with_capacity(alloc, capacity)?,
         })
+    }
+
+    /// Takes all bytes away again, and keeps the room for them.
+    pub fn clear(&mut self)
+        ensures { self.new ≡ [] }
+    {
+        self.inner.clear();
     }
 
     /// Adds one byte, or leaves the row as it was.
@@ -92,6 +101,14 @@ impl RowOut {
         ensures err { OnErr result (self.new ≡ self.old) }
     {
         self.inner.extend_from_slice(&count.to_be_bytes())
+    }
+
+    /// Adds bytes that are spelled already, or leaves the row as it was.
+    pub fn bytes(&mut self, bytes: &[u8]) -> Result<(), AllocError>
+        ensures ok { OnOk result (self.new ≡ self.old ++ bytes.now) }
+        ensures err { OnErr result (self.new ≡ self.old) }
+    {
+        self.inner.extend_from_slice(bytes)
     }
 
     /// How many bytes it has so far.
@@ -239,6 +256,26 @@ impl<'a> RowIn<'a> {
         }
     }
 
+    /// Reads a text where it is, with no copy. A fault leaves all as it was.
+    #[inline(always)]
+    pub fn str(&mut self) -> Result<&'a str, RowFault>
+        ensures found { IfOk result (λ t. (length t.now < 2 ^ 32) × IsUtf8 t.now
+            × (self.old ≡ text_bytes t.now ++ self.new)) }
+        ensures again { (t rest : List ℕ) → length t < 2 ^ 32 → IsUtf8 t → self.old ≡ text_bytes t ++ rest →
+            IsOkAnd result (λ found. found.now ≡ t) × (self.new ≡ rest) }
+        ensures fault { IfErr result (IsNoText self.old) }
+        ensures err { OnErr result (self.new ≡ self.old) }
+    {
+        let Some((front, rest, _)) = text_at(self.rest) else {
+            return Err(RowFault::Short);
+        };
+        if !is_text(front) {
+            return Err(RowFault::NotCanonical);
+        }
+        self.rest = rest;
+        Ok(unsafe { str::from_utf8_unchecked(front) })
+    }
+
     /// Reads a count. A fault leaves all as it was.
     pub fn count(&mut self) -> Result<u32, RowFault>
         ensures found { IfOk result (λ n. self.old ≡ count_bytes n ++ self.new) }
@@ -254,6 +291,13 @@ impl<'a> RowIn<'a> {
                 Ok(count)
             }
         }
+    }
+
+    /// The bytes that are left.
+    pub fn rest(&self) -> &'a [u8]
+        ensures { result.now ≡ self.now }
+    {
+        self.rest
     }
 
     /// Ends the row: nothing may be left.

@@ -98,7 +98,7 @@ impl Text {
 }
 
 /// Whether the bytes are UTF-8.
-fn is_text(bytes: &[u8]) -> bool
+pub(crate) fn is_text(bytes: &[u8]) -> bool
     ensures { IsTrue result ↔ IsUtf8 bytes.now }
 {
     if is_ascii(bytes) {

@@ -12,4 +12,6 @@ pub use calls::{count_pairs, del_pair, get_pair, next_pair, put_pair};
 pub use scan::scan_rows;
 pub use spelled::Spelled;
 pub use stop::Stop;
-pub use stored_rows::{del_row, get_row, has_row, put_row, read_alone, row_stop, spelling};
+pub use stored_rows::{
+    del_row, get_row, has_row, put_row, put_row_in, read_alone, row_room, row_stop, spelling,
+};

@@ -10,7 +10,7 @@ ghost use Rattle.store_rows.specs.Scan.{key_of, ranged, spelled_rows};
 use crate::calls::{count_pairs, next_pair};
 use crate::stored_rows::read_alone;
 use crate::{Spelled, Stop};
-use slon_base::{Bytes, Keeper, Many};
+use slon_base::{Bytes, Keeper, Many, begin_with};
 use std::alloc::Global;
 
 /// For at most how many rows there is room before the first is read.
@@ -81,7 +81,7 @@ pub fn scan_rows<K: Keeper, I: Spelled, X: Spelled>(
         match &last {
             None => return Ok(found),
             Some((key, value)) => {
-                if !key.as_slice().starts_with(prefix) {
+                if !begin_with(key.as_slice(), prefix) {
                     return Ok(found);
                 }
                 let (_, rest) = key.as_slice().split_at(prefix.len());

@@ -1,5 +1,5 @@
 // Rows of any kind, put, taken away and read.
-ghost use Rattle.std.specs.Prelude.{◌≡◌, Bool, true, false, is_some, Option, Some, OnOk, IfOk, IfErr};
+ghost use Rattle.std.specs.Prelude.{◌≡◌, [], Bool, true, false, is_some, Option, Some, OnOk, IfOk, IfErr};
 ghost use Rattle.std.specs.Option.{option_map};
 ghost use Rattle.std.specs.FinMap.{get};
 ghost use Rattle.slon_base.specs.Keeper.{Store, sight, put_at, del_at};
@@ -57,6 +57,13 @@ pub fn read_alone<X: Spelled>(alloc: Global, space: u8, bytes: &[u8]) -> Result<
     }
 }
 
+/// Room in which rows are spelled.
+pub fn row_room(alloc: Global) -> Result<RowOut, AllocError>
+    ensures { IfOk result (λ row. row ≡ []) }
+{
+    RowOut::with_capacity(alloc, ROOM)
+}
+
 /// Puts a row into what is pending.
 pub fn put_row<K: Keeper, I: Spelled, X: Spelled>(
     alloc: Global,
@@ -74,12 +81,32 @@ pub fn put_row<K: Keeper, I: Spelled, X: Spelled>(
         (X.bytes value.now))) (K.kept keeper.old).pending) }
     ensures only { IfErr result IsOutside }
 {
+    put_row_in(&mut row_room(alloc)?, keeper, space, key, value)
+}
+
+/// The same, spelled in this room, so that many rows need memory for that once.
+pub fn put_row_in<K: Keeper, I: Spelled, X: Spelled>(
+    room: &mut RowOut,
+    keeper: &mut K,
+    space: u8,
+    key: &I,
+    value: &X,
+) -> Result<(), Stop>
+    requires opened { is_some (K.kept keeper.old).pending ≡ true }
+    requires key { I.Can key.now }
+    requires value { X.Can value.now }
+    ensures safe { Safe (K.kept keeper.old) (K.kept keeper.new) result }
+    ensures puts { PutsUpTo 1 (K.kept keeper.old).puts (K.kept keeper.new).puts }
+    ensures put { OnOk result ((K.kept keeper.new).pending ≡ option_map (option_map (put_at space (I.bytes key.now)
+        (X.bytes value.now))) (K.kept keeper.old).pending) }
+    ensures only { IfErr result IsOutside }
+{
     // Both are spelled one behind the other, as memory for one costs less than for two.
-    let mut row = RowOut::with_capacity(alloc, ROOM)?;
-    key.spell(&mut row)?;
-    let len = row.len();
-    value.spell(&mut row)?;
-    let (key, value) = row.as_slice().split_at(len);
+    room.clear();
+    key.spell(room)?;
+    let len = room.len();
+    value.spell(room)?;
+    let (key, value) = room.as_slice().split_at(len);
     put_pair(keeper, space, key, value)
 }
 

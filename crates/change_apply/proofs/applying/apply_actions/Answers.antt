@@ -28,27 +28,27 @@ loop-action-init g c =
     room_first 0 left (length all) (none_more refl) (omega (arith, ap (λ xs. length xs) items)) in
     search (rules, can, plays, on, puts)
 
-pub returns-in_err-apply_action-clause-applies : goal.returns-in_err-apply_action-clause-applies
-returns-in_err-apply_action-clause-applies g c tables p =
+pub returns-in_err-apply_in-clause-applies : goal.returns-in_err-apply_in-clause-applies
+returns-in_err-apply_in-clause-applies g c tables p =
     let rest = c.loop-action.invariant.plays tables p in
-    let result = c.from_residual.result in
-    hands_stop _ _ result (err_from_is_err_and result c.from_residual.ensures.1)
-    (c.in_err-apply_action.ensures.applies rest.has.now
+    let result = c.from_residual-in_err-apply_in.result in
+    hands_stop _ _ result (err_from_is_err_and result c.from_residual-in_err-apply_in.ensures.1)
+    (c.in_err-apply_in.ensures.applies rest.has.now
     (record { store = rest.store; is = rest.is; has = rest.has.held }))
 
-pub apply_action-requires-clause-table : goal.apply_action-requires-clause-table
-apply_action-requires-clause-table g c =
+pub apply_in-requires-clause-table : goal.apply_in-requires-clause-table
+apply_in-requires-clause-table g c =
     (subst CanApplyAll c.in-Some.ensures.steps.0 c.loop-action.invariant.can).0.0
 
-pub apply_action-requires-clause-words : goal.apply_action-requires-clause-words
-apply_action-requires-clause-words g c =
+pub apply_in-requires-clause-words : goal.apply_in-requires-clause-words
+apply_in-requires-clause-words g c =
     (subst CanApplyAll c.in-Some.ensures.steps.0 c.loop-action.invariant.can).0.1
 
 pub loop-action-preserved : goal.loop-action-preserved
 loop-action-preserved g c =
     let old = g.K.Keeper.kept c.args.keeper.now in
     let mid = g.K.Keeper.kept c.loop-action.keeper in
-    let new = g.K.Keeper.kept c.apply_action.new.keeper in
+    let new = g.K.Keeper.kept c.apply_in.new.keeper in
     let all = c.args.actions in
     let before = c.loop-action.invariant in
     let step = c.in-Some.ensures.steps.0 in
@@ -57,22 +57,22 @@ loop-action-preserved g c =
     IsPending (IsToDo (into_iter_items c.next.new.self) all tables) new =
     λ tables p. one_done
     (subst (λ rs. IsPending (IsToDo rs all tables) mid) step (before.plays tables p))
-    c.in_ok-apply_action.ensures.applies in
+    c.in_ok-apply_in.ensures.applies in
     let on : (m : Store) → old.pending ≡ Some (Some m) → IsPending (OthersStay m) new =
-    λ m is. others_on (before.on m is) c.in_ok-apply_action.ensures.changed in
+    λ m is. others_on (before.on m is) c.in_ok-apply_in.ensures.changed in
     let left = length (into_iter_items c.loop-action.action-iterator) in
     let more = length (into_iter_items c.next.new.self) in
     let puts : LeavesRoom more (length all) old.puts new.puts =
-    room_on 1 left more (length all) before.puts c.in_ok-apply_action.ensures.puts
+    room_on 1 left more (length all) before.puts c.in_ok-apply_in.ensures.puts
     (omega (arith, ap (λ xs. length xs) step)) in
     search (rules, can, plays, on, puts)
 
-pub returns-in_err-apply_action-clause-puts : goal.returns-in_err-apply_action-clause-puts
-returns-in_err-apply_action-clause-puts g c =
+pub returns-in_err-apply_in-clause-puts : goal.returns-in_err-apply_in-clause-puts
+returns-in_err-apply_in-clause-puts g c =
     let all = length c.args.actions in
     let left = length (into_iter_items c.loop-action.action-iterator) in
     let more = length (into_iter_items c.next.new.self) in
-    room_end more all (room_on 1 left more all c.loop-action.invariant.puts c.in_err-apply_action.ensures.puts
+    room_end more all (room_on 1 left more all c.loop-action.invariant.puts c.in_err-apply_in.ensures.puts
     (omega (arith, ap (λ xs. length xs) c.in-Some.ensures.steps.0)))
 
 pub returns-clause-puts : goal.returns-clause-puts

@@ -16,14 +16,14 @@ pub returns-in-Put-clause-changed : goal.returns-in-Put-clause-changed
 returns-in-Put-clause-changed g c m is =
     pending_ok (IsChanged c.args.table (change_of c.args.change) m)
     (put_at 3 (row_key (c.args.table, c.in-Put.key)) (list_bytes c.in-Put.values))
-    (g.K.Keeper.kept c.put_row.new.keeper) c.put_row.result
-    c.put_row.ensures.put is (put_changed (ap change_of c.in-Put.is))
+    (g.K.Keeper.kept c.put_row_in.new.keeper) c.put_row_in.result
+    c.put_row_in.ensures.put is (put_changed (ap change_of c.in-Put.is))
 
 pub returns-in-Put-clause-applies : goal.returns-in-Put-clause-applies
 returns-in-Put-clause-applies g c tables p =
     becomes (HoldsRows (changed_in c.args.table (change_of c.args.change) tables))
-    (put_at 3 (row_key (c.args.table, c.in-Put.key)) (list_bytes c.in-Put.values)) _ c.put_row.result
-    c.put_row.ensures.put c.put_row.ensures.only p
+    (put_at 3 (row_key (c.args.table, c.in-Put.key)) (list_bytes c.in-Put.values)) _ c.put_row_in.result
+    c.put_row_in.ensures.put c.put_row_in.ensures.only p
     (λ m held. put_holds m (ap change_of c.in-Put.is)
     (record { text = c.requires.table; can = c.requires.words; held = held }))
 
@@ -55,8 +55,8 @@ returns-in-None-clause-applies g c tables p =
     (pending_as (λ m held. none_holds m (ap change_of c.in-Set.is) there
     (record { text = c.requires.table; can = c.requires.words; held = held })) p) c.in_ok-get_row-in-Set.ensures.same
 
-pub put_row-requires-in-Some-clause-value : goal.put_row-requires-in-Some-clause-value
-put_row-requires-in-Some-clause-value g c =
+pub put_row_in-requires-in-Some-clause-value : goal.put_row_in-requires-in-Some-clause-value
+put_row_in-requires-in-Some-clause-value g c =
     set_texts (ap change_of c.in-Set.is) c.requires.words c.in-Some.is c.in_ok-get_row-in-Set.ensures.can
     (c.in_ok-row-in-Some.ensures ∙ ap (λ v. updated v c.as_slice.result.now) c.as_slice-in-Some.ensures
     ∙ ap (updated c.in-Set.columns) c.as_slice.ensures.value)
@@ -69,8 +69,8 @@ returns-in-Set-clause-changed g c m is =
     ∙ ap (updated c.in-Set.columns) c.as_slice.ensures.value in
     pending_ok (IsChanged c.args.table (change_of c.args.change) m)
     (put_at 3 (row_key (c.args.table, c.in-Set.key)) (list_bytes c.in_ok-row-in-Some.row))
-    (g.K.Keeper.kept c.put_row-in-Some.new.keeper) c.put_row-in-Some.result
-    c.put_row-in-Some.ensures.put (c.in_ok-get_row-in-Set.ensures.same ∙ is)
+    (g.K.Keeper.kept c.put_row_in-in-Some.new.keeper) c.put_row_in-in-Some.result
+    c.put_row_in-in-Some.ensures.put (c.in_ok-get_row-in-Set.ensures.same ∙ is)
     (set_changed m c.in-Some.row (ap change_of c.in-Set.is) there made)
 
 pub returns-in-Set-clause-applies : goal.returns-in-Set-clause-applies
@@ -84,7 +84,7 @@ returns-in-Set-clause-applies g c tables p =
     becomes (HoldsRows (changed_in c.args.table (change_of c.args.change) tables))
     (put_at 3 (row_key (c.args.table, c.in-Set.key)) (list_bytes c.in_ok-row-in-Some.row))
     {old = g.K.Keeper.kept c.get_row.new.keeper} _
-    c.put_row-in-Some.result c.put_row-in-Some.ensures.put c.put_row-in-Some.ensures.only
+    c.put_row_in-in-Some.result c.put_row_in-in-Some.ensures.put c.put_row_in-in-Some.ensures.only
     (pending_same p c.in_ok-get_row-in-Set.ensures.same)
     (λ m held. set_holds m (ap change_of c.in-Set.is) there made
     (record { text = c.requires.table; can = c.requires.words; held = held }))
@@ -114,7 +114,7 @@ returns-in_err-row-in-Some-clause-puts g c = puts_within 0 1 c.in_ok-get_row-in-
 
 pub returns-in-Set-clause-puts : goal.returns-in-Set-clause-puts
 returns-in-Set-clause-puts g c =
-    puts_on 0 1 1 c.in_ok-get_row-in-Set.ensures.puts c.put_row-in-Some.ensures.puts (omega arith)
+    puts_on 0 1 1 c.in_ok-get_row-in-Set.ensures.puts c.put_row_in-in-Some.ensures.puts (omega arith)
 
 pub returns-clause-puts : goal.returns-clause-puts
 returns-clause-puts g c = puts_within 0 1 c.del_row.ensures.puts (omega arith)

@@ -27,7 +27,8 @@ returns-then-not-is_key_number c change logged =
     let back =
     back_two texts c.number-item.result c.key-item.result c.in-len2-up.len_at_least c.number-item.is c.key-item.is in
     let s = set_at c.args.columns texts (take (length texts - 2) texts) _ _ change back logged in
-    not_printed _ c.number-item.result 1 1 c.if-not-is_key_number.true c.is_key_number.ensures refl s.number_is
+    not_printed _ c.as_str.result.now 1 1 c.if-not-is_key_number.true c.is_key_number.ensures refl
+    (c.as_str.ensures.value ∙ s.number_is)
 
 pub returns-in_err-changed : goal.returns-in_err-changed
 returns-in_err-changed c =
@@ -58,7 +59,7 @@ returns c =
     let back =
     back_two texts c.number-item.result c.key-item.result c.in-len2-up.len_at_least c.number-item.is c.key-item.is in
     let read = c.in_ok-changed.ensures in
-    let number = c.is_key_number.ensures.0 c.if-not-is_key_number.false in
+    let number = sym c.as_str.ensures.value ∙ c.is_key_number.ensures.0 c.if-not-is_key_number.false in
     record {
       can = read.fits;
       command = refl;

@@ -35,7 +35,7 @@ loop-number-preserved g c =
     let row : ℕ × LogRow = c.loop-number-item.result in
     let step = drop_more rows at row c.loop-number-test.true ∙ ap (λ r. r ∷ more) (sym c.loop-number-item.is) in
     let before = c.loop-number.invariant in
-    let put = c.in_ok-put_row.ensures in
+    let put = c.in_ok-put_row_in.ensures in
     record {
       still = λ n most. put.safe.still n (before.still n most);
       puts = room_on 1 (all - at) (all - (at + 1)) all before.puts put.puts (omega (arith, c.loop-number-test.true));
@@ -51,12 +51,12 @@ loop-number-preserved g c =
           ∙ ap (λ rs. option_map (option_map (put_logs origin rs)) mid.pending) (sym step) ∙ before.rest;
     }
 
-pub returns-in_err-put_row-clause-puts : goal.returns-in_err-put_row-clause-puts
-returns-in_err-put_row-clause-puts g c =
+pub returns-in_err-put_row_in-clause-puts : goal.returns-in_err-put_row_in-clause-puts
+returns-in_err-put_row_in-clause-puts g c =
     let all = length c.args.rows.now in
     let at = c.loop-number.number-index in
     room_end (all - (at + 1)) all (room_on 1 (all - at) (all - (at + 1)) all c.loop-number.invariant.puts
-    c.in_err-put_row.ensures.puts (omega (arith, c.loop-number-test.true)))
+    c.in_err-put_row_in.ensures.puts (omega (arith, c.loop-number-test.true)))
 
 pub returns-clause-puts : goal.returns-clause-puts
 returns-clause-puts g c =

@@ -43,20 +43,20 @@ returns-in-None-clause-found g c m seen =
     all_in (i.gone m seen) (none_comes c.args.prefix.now (entries (m c.args.space)) _ _ c.key_of.ensures c.in-None.is
     (c.in_ok-last.ensures.gives m (sight_same i.looked ∙ seen)))
 
-pub returns-then-not-starts_with-clause-gives : goal.returns-then-not-starts_with-clause-gives
-returns-then-not-starts_with-clause-gives g c m rows seen can is =
+pub returns-then-not-begin_with-clause-gives : goal.returns-then-not-begin_with-clause-gives
+returns-then-not-begin_with-clause-gives g c m rows seen can is =
     let i = c.loop.invariant in
     let lacks = ap (λ k. starts_with nat_eq k c.args.prefix.now) (sym c.as_slice.ensures)
-    ∙ sym c.starts_with.ensures.value ∙ c.if-not-starts_with.true in
+    ∙ sym c.begin_with.ensures.value ∙ c.if-not-begin_with.true in
     at_end (i.scanned m rows seen can is) (lacking c.args.prefix.now
     (comes _ _ (c.in-Some.key, c.in-Some.value) c.key_of.ensures c.in-Some.is
     (c.in_ok-last.ensures.gives m (sight_same i.looked ∙ seen))) lacks)
 
-pub returns-then-not-starts_with-clause-found : goal.returns-then-not-starts_with-clause-found
-returns-then-not-starts_with-clause-found g c m seen =
+pub returns-then-not-begin_with-clause-found : goal.returns-then-not-begin_with-clause-found
+returns-then-not-begin_with-clause-found g c m seen =
     let i = c.loop.invariant in
     let lacks = ap (λ k. starts_with nat_eq k c.args.prefix.now) (sym c.as_slice.ensures)
-    ∙ sym c.starts_with.ensures.value ∙ c.if-not-starts_with.true in
+    ∙ sym c.begin_with.ensures.value ∙ c.if-not-begin_with.true in
     all_in (i.gone m seen) (lacking c.args.prefix.now
     (comes _ _ (c.in-Some.key, c.in-Some.value) c.key_of.ensures c.in-Some.is
     (c.in_ok-last.ensures.gives m (sight_same i.looked ∙ seen))) lacks)
@@ -65,7 +65,7 @@ pub returns-in-Err-clause-gives : goal.returns-in-Err-clause-gives
 returns-in-Err-clause-gives g c m rows seen can is =
     let i = c.loop.invariant in
     let has = ap (λ k. starts_with nat_eq k c.args.prefix.now) (sym c.as_slice.ensures)
-    ∙ sym c.starts_with.ensures.value ∙ c.if-not-starts_with.false in
+    ∙ sym c.begin_with.ensures.value ∙ c.if-not-begin_with.false in
     let next = comes _ _ (c.in-Some.key, c.in-Some.value) c.key_of.ensures c.in-Some.is
     (c.in_ok-last.ensures.gives m (sight_same i.looked ∙ seen)) in
     let row = next_row (m c.args.space) (i.scanned m rows seen can is) next has in
@@ -79,7 +79,7 @@ pub loop-preserved : goal.loop-preserved
 loop-preserved g c =
     let i = c.loop.invariant in
     let has = ap (λ k. starts_with nat_eq k c.args.prefix.now) (sym c.as_slice.ensures)
-    ∙ sym c.starts_with.ensures.value ∙ c.if-not-starts_with.false in
+    ∙ sym c.begin_with.ensures.value ∙ c.if-not-begin_with.false in
     let at_is = sym (ap (λ o. key_of o c.args.from.now) c.in-Some.is) in
     record {
       looked = looked_on i.looked c.in_ok-last.ensures.safe c.in_ok-last.ensures.same;
@@ -131,8 +131,8 @@ returns-in_err-last-clause-puts g c = puts_on 0 0 0 c.loop.invariant.puts c.in_e
 pub returns-in-None-clause-puts : goal.returns-in-None-clause-puts
 returns-in-None-clause-puts g c = puts_on 0 0 0 c.loop.invariant.puts c.in_ok-last.ensures.puts (omega arith)
 
-pub returns-then-not-starts_with-clause-puts : goal.returns-then-not-starts_with-clause-puts
-returns-then-not-starts_with-clause-puts g c =
+pub returns-then-not-begin_with-clause-puts : goal.returns-then-not-begin_with-clause-puts
+returns-then-not-begin_with-clause-puts g c =
     puts_on 0 0 0 c.loop.invariant.puts c.in_ok-last.ensures.puts (omega arith)
 
 pub returns-in_err-push-in-Ok-clause-puts : goal.returns-in_err-push-in-Ok-clause-puts

@@ -1,0 +1,19 @@
+use Rattle.std.proofs.Common.{◌∷◌, ◌-◌, ◌∙◌, sym, arith}
+use Rattle.slon_base.specs.Codec.{text_bytes, all_bytes}
+use Rattle.change_capture.proofs.Texts.{next_text, left_of, some_left}
+use Rattle.change_capture.proofs.arguments.TextsIn.next_str.Goals as goal
+
+pub invariant_of-self : goal.invariant_of-self
+invariant_of-self c =
+    let left = c.self.inside.left in
+    let next = next_text left c.self.inside.row (some_left left c.if-self-eq0.false) c.self.invariant in
+    let read = c.in-Ok.ensures.again next.text (all_bytes text_bytes next.more) next.can.short next.can.utf8 next.row_is in
+    (left_of (left - 1) c.str.new.self next.more next.cans (omega (arith, next.count)) read.1).are_left
+
+pub returns : goal.returns
+returns c =
+    let left = c.self.inside.left in
+    let next = next_text left c.self.inside.row (some_left left c.if-self-eq0.false) c.self.invariant in
+    let read = c.in-Ok.ensures.again next.text (all_bytes text_bytes next.more) next.can.short next.can.utf8 next.row_is in
+    let more = left_of (left - 1) c.str.new.self next.more next.cans (omega (arith, next.count)) read.1 in
+    sym c.self.view_is ∙ next.are ∙ (λ i. sym read.0 i ∷ sym more.are i)
