@@ -76,8 +76,7 @@ action_same n row x y h k =
     let rows : log_row row.xid row.table x ≡ log_row row.xid row.table y = sym h.row ∙ k.row in
     let number = h.number ∙ sym k.number in
     let table =
-    table_same x.table y.table h.can.table k.can.table (ap (λ (r : LogRow). r.namespace) rows)
-    (ap (λ (r : LogRow). r.name) rows) in
+    table_same x.table y.table h.can.table k.can.table (ap (λ (r : LogRow). r.names) rows) in
     let change =
     change_same x.change y.change (ap (λ (r : LogRow). r.command) rows) h.can.columns k.can.columns
     (ap (λ (r : LogRow). r.arguments) rows) in

@@ -7,8 +7,8 @@ use Rattle.slon_lemmas.proofs.Splitting.{lacks, lacks_by, split_first, split_las
 use Rattle.slon_model.proofs.WordBytes.{part_bytes, TwoParts, two_parts}
 use Rattle.slon_model.specs.Forms.{is_part_byte, is_part}
 use Rattle.slon_model.specs.Spoken.{IsTableName}
-use Rattle.change_capture.specs.Capture.{first_part, second_part, parts_of}
-use Rattle.change_capture.specs.Reading.{HasParts}
+use Rattle.change_capture.specs.Capture.{first_part, second_part, parts_of, names_of}
+use Rattle.change_capture.specs.Reading.{HasNames}
 
 -- no byte of a part is the dot
 part_lacks : (part : List ℕ) → is_part part ≡ true → lacks 46 part ≡ true
@@ -45,15 +45,17 @@ whole_name table e =
     ap (λ l. first_part l ++ 46 ∷ second_part l) (parts_are table t) ∙ t.joined
 
 -- tables of the same parts
-pub table_same : (a b : List ℕ) → IsTableName a → IsTableName b →
-    first_part (parts_of a) ≡ first_part (parts_of b) → second_part (parts_of a) ≡ second_part (parts_of b) → a ≡ b
-table_same a b f g front back = sym (whole_name a f) ∙ (λ i. front i ++ 46 ∷ back i) ∙ whole_name b g
+pub table_same : (a b : List ℕ) → IsTableName a → IsTableName b → names_of a ≡ names_of b → a ≡ b
+table_same a b f g same =
+    let front : first_part (parts_of a) ≡ first_part (parts_of b) = cc in
+    let back : second_part (parts_of a) ≡ second_part (parts_of b) = cc in
+    sym (whole_name a f) ∙ (λ i. front i ++ 46 ∷ back i) ∙ whole_name b g
 
 -- the name of two parts
-pub has_parts : (front back : List ℕ) → is_part front ≡ true → is_part back ≡ true →
-    HasParts front back (front ++ 46 ∷ back)
-has_parts front back e f = record {
+pub has_names : (front back : List ℕ) → is_part front ≡ true → is_part back ≡ true →
+    HasNames (front ∷ back ∷ []) (front ++ 46 ∷ back)
+has_names front back e f = record {
   is_name = joined_is_name front back e f;
-  namespace = ap first_part (sym (parts_joined front back e f));
-  name = ap second_part (sym (parts_joined front back e f));
+  parts = λ i. first_part (sym (parts_joined front back e f) i)
+      ∷ second_part (sym (parts_joined front back e f) i) ∷ [];
 }

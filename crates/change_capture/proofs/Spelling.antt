@@ -1,5 +1,5 @@
 -- The row of an action whose words have their forms can be spelled.
-use Rattle.std.proofs.Common.{◌≡◌, ℕ, ◌+◌, ◌<◌, ◌^◌, true, List, [], ◌∷◌, length, sym, ap, subst, arith}
+use Rattle.std.proofs.Common.{◌≡◌, ℕ, ◌+◌, ◌<◌, ◌^◌, true, List, [], ◌∷◌, length, refl, sym, ap, subst, arith}
 use Rattle.std.proofs.Common.{length-append, lit<}
 use Rattle.std.proofs.lemmas.Bool.{and_parts}
 use Rattle.std.proofs.lemmas.Bool.Decides.{nat_tests}
@@ -12,7 +12,7 @@ use Rattle.slon_lemmas.proofs.Texts.{ascii_all}
 use Rattle.slon_model.proofs.Spoken.{value_text, value_texts}
 use Rattle.slon_model.proofs.WordBytes.{part_bytes, part_short, two_parts}
 use Rattle.slon_model.specs.Forms.{is_part_byte, is_part, is_value}
-use Rattle.slon_model.specs.Spoken.{IsChange}
+use Rattle.slon_model.specs.Spoken.{IsChange, IsTableName}
 use Rattle.store_rows.proofs.Reading.{all_snoc}
 use Rattle.store_rows.specs.Rows.{IsId}
 use Rattle.change_capture.specs.Actions.{change_of}
@@ -20,7 +20,7 @@ use Rattle.change_capture.specs.declared.action.Action.{Action}
 use Rattle.change_capture.specs.declared.action.Change.{Change}
 use Rattle.change_capture.specs.declared.action.Change.TheVariants.{Put, Set, Remove}
 use Rattle.change_capture.specs.declared.log_row.LogRow.{LogRow}
-use Rattle.change_capture.specs.Capture.{numbered, paired, columns_of, changed_in, first_part, second_part, log_row}
+use Rattle.change_capture.specs.Capture.{numbered, paired, columns_of, changed_in, first_part, second_part, names_of, log_row}
 use Rattle.change_capture.specs.Reading.{AreColumns, HasColumns}
 use Rattle.change_capture.specs.Spellings.{CanLogRow, CanSpell}
 use Rattle.change_capture.proofs.Numbers.{small}
@@ -84,19 +84,28 @@ columns_spelled action h = record {
   each = paired_texts (columns_of action.change) (columns_can action.change h.can.columns h.words h.few);
 }
 
+-- the parts of a table's name can be spelled
+names_each : (table : List ℕ) → IsTableName table → AllTexts (names_of table)
+names_each table is =
+    let t = two_parts table is in
+    let parts = sym (parts_are table t) in (
+      subst IsText (ap first_part parts) (part_text t.front t.is_front),
+      (subst IsText (ap second_part parts) (part_text t.back t.is_back), tt),
+    )
+
+pub names_spelled : (table : List ℕ) → IsTableName table → AreTexts (names_of table)
+names_spelled table is = record { few = lit< tt; each = names_each table is }
+
 pub can_log_row : (xid table : ℕ) (action : Action) → xid < 2 ^ 63 → IsId table → CanSpell action →
     CanLogRow (log_row xid table action)
-can_log_row xid table action small_xid id h =
-    let t = two_parts action.table h.can.table in
-    let parts = sym (parts_are action.table t) in
-    record {
-      xid = small_xid;
-      table = id;
-      namespace = subst IsText (ap first_part parts) (part_text t.front t.is_front);
-      name = subst IsText (ap second_part parts) (part_text t.back t.is_back);
-      columns = changed_few action.change h.few;
-      arguments = columns_spelled action h;
-    }
+can_log_row xid table action small_xid id h = record {
+  xid = small_xid;
+  table = id;
+  two = refl;
+  names = names_each action.table h.can.table;
+  columns = changed_few action.change h.few;
+  arguments = columns_spelled action h;
+}
 
 -- a row that is this one
 pub can_same : (row other : LogRow) → row ≡ other → CanLogRow other → CanLogRow row

@@ -51,7 +51,7 @@ list_split : (texts : List (List ℕ)) (rest : List ℕ) →
 unfolding many_bytes
 list_split texts rest = append_assoc (count_bytes (length texts)) (all_bytes text_bytes texts) rest
 
-length_from : (n : ℕ) (bytes : List ℕ) → length (texts_from n bytes) ≡ n
+pub length_from : (n : ℕ) (bytes : List ℕ) → length (texts_from n bytes) ≡ n
 length_from zero bytes = refl
 length_from (suc n) bytes =
     omega (arith, length_from n (drop (count_in bytes) (drop 4 bytes)))
@@ -108,35 +108,27 @@ left_of n bytes texts all count is =
 -- what was passed at the front of a row
 pub record Front (whole left bytes : List ℕ) (count : ℕ) : Type 0 where
   pub are_left : AreLeft count bytes
-  pub can : AreTexts (texts_from count bytes)
+  pub len : length (texts_from count bytes) ≡ count
+  pub can : AllTexts (texts_from count bytes)
   pub are : texts_from count bytes ≡ texts_from count whole
-  pub is : count_bytes count ++ whole ≡ list_bytes (texts_from count bytes) ++ left
+  pub is : whole ≡ all_bytes text_bytes (texts_from count bytes) ++ left
 
-pub front_of : (whole left bytes : List ℕ) (count : ℕ) → count < 2 ^ 32 → PassesTexts count whole left →
+pub front_of : (whole left bytes : List ℕ) (count : ℕ) → PassesTexts count whole left →
     bytes ≡ take (length whole - length left) whole → Front whole left bytes count
-front_of whole left bytes count small p front =
+front_of whole left bytes count p front =
     let ts = texts_from count whole in
-    let len = length_from count whole in
     let all = all_bytes text_bytes ts in
     let lens : length all ≡ length whole - length left = omega (arith, ap length p.is, length-append all left) in
     let bytes_are : bytes ≡ all =
     front ∙ ap (take (length whole - length left)) p.is ∙ take_at all left (length whole - length left) lens in
-    let rest = left_of count bytes ts p.can (sym len) bytes_are in
+    let rest = left_of count bytes ts p.can (sym (length_from count whole)) bytes_are in
     record {
       are_left = rest.are_left;
-      can = subst AreTexts (sym rest.are) (record { few = omega (arith, len, small); each = p.can });
+      len = length_from count bytes;
+      can = subst AllTexts (sym rest.are) p.can;
       are = rest.are;
-      is = (λ i. count_bytes (sym len i) ++ p.is i) ∙ sym (list_split ts left)
-          ∙ ap (λ l. list_bytes l ++ left) (sym rest.are);
+      is = p.is ∙ ap (λ l. all_bytes text_bytes l ++ left) (sym rest.are);
     }
-
--- the bytes of a list of texts behind others
-pub spelled_all : (row : List ℕ) (n : ℕ) (bytes : List ℕ) → AreLeft n bytes →
-    (row ++ count_bytes n) ++ bytes ≡ row ++ list_bytes (texts_from n bytes)
-unfolding many_bytes
-spelled_all row n bytes a =
-    append_assoc row (count_bytes n) bytes
-    ∙ (λ i. row ++ (count_bytes (sym (length_from n bytes) i) ++ a.is i))
 
 -- behind the last text all are spelled
 pub spelled_to : (row : List ℕ) (texts : List (List ℕ)) (i : ℕ) → length texts ≤ i →

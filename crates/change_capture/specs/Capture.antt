@@ -48,13 +48,16 @@ second_part (part ∷ parts) = first_part parts
 abbrev pub parts_of : List ℕ → List (List ℕ)
 parts_of table = slice_split (λ c. c == 46) table
 
+-- both parts
+abbrev pub names_of : List ℕ → List (List ℕ)
+names_of table = first_part (parts_of table) ∷ second_part (parts_of table) ∷ []
+
 -- the row of an action of a transaction on the table of this id
 abbrev pub log_row : ℕ → ℕ → Action → LogRow
 log_row xid table action = record {
   xid = xid;
   table = table;
-  namespace = first_part (parts_of action.table);
-  name = second_part (parts_of action.table);
+  names = names_of action.table;
   command = command_of action.change;
   columns = changed_in action.change;
   arguments = paired (columns_of action.change);

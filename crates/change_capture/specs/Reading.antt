@@ -5,7 +5,7 @@ use Rattle.slon_base.specs.Codec.{AllAre}
 use Rattle.slon_base.specs.declared.fault.RowFault.{RowFault}
 use Rattle.slon_base.specs.declared.fault.RowFault.TheVariants.{NotCanonical, NoMemory}
 use Rattle.slon_model.specs.Spoken.{IsTableName}
-use Rattle.change_capture.specs.Capture.{first_part, second_part, parts_of, paired, columns_of, command_of, changed_in}
+use Rattle.change_capture.specs.Capture.{names_of, paired, columns_of, command_of, changed_in}
 use Rattle.change_capture.specs.Capture.{log_row, numbered}
 use Rattle.change_capture.specs.declared.action.Change.{Change}
 use Rattle.change_capture.specs.declared.action.Change.TheVariants.{Set}
@@ -48,10 +48,9 @@ pub record IsLogOf (n : ℕ) (logged : LogRow) (action : Action) : Type 0 where
   pub row : logged ≡ log_row logged.xid logged.table action
 
 -- the name of a table with these parts
-pub record HasParts (front back table : List ℕ) : Type 0 where
+pub record HasNames (names : List (List ℕ)) (table : List ℕ) : Type 0 where
   pub is_name : IsTableName table
-  pub namespace : front ≡ first_part (parts_of table)
-  pub name : back ≡ second_part (parts_of table)
+  pub parts : names ≡ names_of table
 
 -- a change with this command, this many changed columns, and these arguments
 pub record IsLoggedBy (kind : LogCommand) (count : ℕ) (texts : List (List ℕ)) (change : Change) : Type 0 where

@@ -1,6 +1,6 @@
 -- How the rows of the log are spelled.
-use Rattle.std.specs.Prelude.{ℕ, ◌<◌, ◌^◌, List, ◌∷◌, ◌++◌, length}
-use Rattle.slon_base.specs.Codec.{number_bytes, text_bytes, list_bytes, IsText, AreTexts}
+use Rattle.std.specs.Prelude.{◌≡◌, ℕ, ◌<◌, ◌^◌, List, ◌∷◌, ◌++◌, length}
+use Rattle.slon_base.specs.Codec.{number_bytes, text_bytes, list_bytes, all_bytes, AllTexts, AreTexts}
 use Rattle.store_rows.specs.Rows.{IsId}
 use Rattle.slon_model.specs.Spoken.{IsChange}
 use Rattle.change_capture.specs.Actions.{change_of}
@@ -20,15 +20,15 @@ command_byte Delete = 68
 -- the fields in their order
 abbrev pub log_row_bytes : LogRow → List ℕ
 log_row_bytes row =
-    number_bytes row.xid ++ (number_bytes row.table ++ (text_bytes row.namespace ++ (text_bytes row.name
-    ++ command_byte row.command ∷ (number_bytes row.columns ++ list_bytes row.arguments))))
+    number_bytes row.xid ++ (number_bytes row.table ++ (all_bytes text_bytes row.names
+    ++ command_byte row.command ∷ (number_bytes row.columns ++ list_bytes row.arguments)))
 
 -- a row of the log that can be spelled
 pub record CanLogRow (row : LogRow) : Type 0 where
   pub xid : row.xid < 2 ^ 63
   pub table : IsId row.table
-  pub namespace : IsText row.namespace
-  pub name : IsText row.name
+  pub two : 2 ≡ length row.names
+  pub names : AllTexts row.names
   pub columns : row.columns < 2 ^ 63
   pub arguments : AreTexts row.arguments
 

@@ -4,11 +4,11 @@ ghost use Rattle.std.specs.Fmt.{decimal};
 ghost use Rattle.slon_base.specs.Codec.{AreTexts};
 ghost use Rattle.slon_model.specs.Spoken.{IsTableName};
 ghost use Rattle.change_capture.specs.Capture.{numbered, paired, columns_of, command_of, changed_in, log_row};
-ghost use Rattle.change_capture.specs.Capture.{first_part, second_part, parts_of};
+ghost use Rattle.change_capture.specs.Capture.{names_of};
 ghost use Rattle.change_capture.specs.Spellings.{CanLogRow, CanSpell};
 ghost use Rattle.store_rows.specs.Rows.{IsId};
 
-use crate::{Action, Arguments, Change, LogCommand, LogRow};
+use crate::{Action, Change, LogCommand, LogRow, SpelledTexts};
 use slon_base::{Text, TextList};
 use slon_model::ColumnList;
 use std::alloc::{AllocError, Global};
@@ -97,15 +97,17 @@ fn changed_in(change: &Change) -> u64
 }
 
 /// The two parts of a table's name.
-fn parts_of(alloc: Global, table: &Text) -> Result<(Text, Text), AllocError>
+fn names_of(alloc: Global, table: &Text) -> Result<TextList, AllocError>
     requires { IsTableName table.now }
-    ensures { IfOk result (λ parts. parts ≡ (first_part (parts_of table.now), second_part (parts_of table.now))) }
+    ensures { IfOk result (λ names. names ≡ names_of table.now) }
 {
     match table.as_str().split_once('.') {
-        Some((namespace, name)) => Ok((
-            Text::from_str(alloc, namespace)?,
-            Text::from_str(alloc, name)?,
-        )),
+        Some((namespace, name)) => {
+            let mut names = TextList::new(alloc);
+            names.push(Text::from_str(alloc, namespace)?)?;
+            names.push(Text::from_str(alloc, name)?)?;
+            Ok(names)
+        }
         None => unreachable!(),
     }
 }
@@ -129,15 +131,14 @@ pub fn log_row_of(
     // The row of an action that a line says can be spelled.
     ensures can { xid < 2 ^ 63 → IsId table → CanSpell action.now → IfOk result CanLogRow }
 {
-    let (namespace, name) = parts_of(alloc, &action.table)?;
+    let names = names_of(alloc, &action.table)?;
     let arguments = arguments_of(alloc, &action.change)?;
     Ok(LogRow {
         xid,
         table,
-        namespace,
-        name,
+        names: SpelledTexts::new(alloc, names.as_slice())?,
         command: command_of(&action.change),
         columns: changed_in(&action.change),
-        arguments: Arguments::new(alloc, arguments.as_slice())?,
+        arguments: SpelledTexts::new(alloc, arguments.as_slice())?,
     })
 }

@@ -7,16 +7,18 @@
 
 mod action;
 mod applying;
-mod arguments;
 mod capture;
 mod log_row;
 mod reading;
+mod spelled_texts;
+mod table_names;
 mod values;
 
 pub use action::{Action, Change};
 pub use applying::apply;
-pub use arguments::Arguments;
 pub use capture::log_row_of;
 pub use log_row::{LogCommand, LogRow};
-pub use reading::action_of;
+pub use reading::{action_in, action_of};
+pub use spelled_texts::SpelledTexts;
+pub use table_names::TableNames;
 pub use values::{copy_values, updated_values};

@@ -1,8 +1,11 @@
 // The rows of the log.
-use crate::Arguments;
-use slon_base::{RowFault, RowIn, RowOut, Text};
+use crate::SpelledTexts;
+use slon_base::{RowFault, RowIn, RowOut};
 use std::alloc::{AllocError, Global};
 use store_rows::Spelled;
+
+/// How many parts a table's name has.
+const NAMES: u32 = 2;
 
 /// What the write of a row of the log does to its table.
 #[derive(Clone, Copy, Debug, Drop, PartialEq, Eq)]
@@ -22,16 +25,14 @@ pub struct LogRow {
     pub xid: u64,
     /// The id of the table.
     pub table: u32,
-    /// The part of the table's name in front of the dot.
-    pub namespace: Text,
-    /// The part of the table's name behind the dot.
-    pub name: Text,
+    /// The two parts of the table's name, the one in front of the dot and the one behind it.
+    pub names: SpelledTexts,
     /// What the write does.
     pub command: LogCommand,
     /// How many columns get new values, where a row is changed.
     pub columns: u64,
     /// The number of a column and its value, for one column after another.
-    pub arguments: Arguments,
+    pub arguments: SpelledTexts,
 }
 
 /// One byte: `I`, `U` or `D`.
@@ -74,8 +75,7 @@ impl Spelled for LogRow {
     fn spell(&self, out: &mut RowOut) -> Result<(), AllocError> {
         self.xid.spell(out)?;
         self.table.spell(out)?;
-        self.namespace.spell(out)?;
-        self.name.spell(out)?;
+        self.names.spell_all(out)?;
         self.command.spell(out)?;
         self.columns.spell(out)?;
         self.arguments.spell(out)
@@ -85,16 +85,14 @@ impl Spelled for LogRow {
     fn read(alloc: Global, row: &mut RowIn<'_>) -> Result<LogRow, RowFault> {
         let xid = u64::read(alloc, row)?;
         let table = u32::read(alloc, row)?;
-        let namespace = Text::read(alloc, row)?;
-        let name = Text::read(alloc, row)?;
+        let names = SpelledTexts::read_all(alloc, row, NAMES)?;
         let command = LogCommand::read(alloc, row)?;
         let columns = u64::read(alloc, row)?;
-        let arguments = Arguments::read(alloc, row)?;
+        let arguments = SpelledTexts::read(alloc, row)?;
         Ok(LogRow {
             xid,
             table,
-            namespace,
-            name,
+            names,
             command,
             columns,
             arguments,

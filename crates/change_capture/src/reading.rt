@@ -1,22 +1,18 @@
 // The action of a row.
 ghost use Rattle.std.specs.Prelude.{◌≡◌, ◌<◌, ◌↔◌, IsTrue, IfOk, IfErr};
 ghost use Rattle.std.specs.Fmt.{decimal};
-ghost use Rattle.change_capture.specs.Reading.{IsPrinted, AreNamed, AreValues, IsLogOf, HasParts, IsLoggedBy};
+ghost use Rattle.change_capture.specs.Reading.{IsPrinted, AreNamed, AreValues, IsLogOf, HasNames, IsLoggedBy};
 ghost use Rattle.change_capture.specs.Reading.{IsReadFault, Gives, Reads};
 
-use crate::arguments::TextsIn;
 use crate::capture::KEY_COLUMN;
-use crate::{Action, Change, LogCommand, LogRow};
-use arrayvec::ArrayString;
+use crate::spelled_texts::TextsIn;
+use crate::{Action, Change, LogCommand, LogRow, TableNames};
 use slon_base::{RowFault, Text, TextList};
-use slon_model::{ColumnList, is_part};
+use slon_model::ColumnList;
 use std::alloc::{AllocError, Global};
 
 /// The number of the column of the first value behind the key.
 pub(crate) const FIRST_VALUE_COLUMN: u64 = 2;
-
-/// The greatest length of a table's name: two parts of at most 31 bytes, and a dot.
-const NAME_LEN: usize = 63;
 
 /// Whether the text is this digit.
 fn is_digit(text: &str, digit: u8) -> bool
@@ -62,21 +58,6 @@ fn number_of(alloc: Global, text: &Text) -> Result<u32, RowFault>
             }
         }
     }
-}
-
-/// The table's name of these two parts.
-fn table_of(alloc: Global, namespace: &Text, name: &Text) -> Result<Text, RowFault>
-    ensures { Reads (HasParts namespace.now name.now) result }
-{
-    if !is_part(namespace.as_slice()) || !is_part(name.as_slice()) {
-        return Err(RowFault::NotCanonical);
-    }
-    // No name is longer, so that a short one needs no allocation.
-    let mut text = ArrayString::<NAME_LEN>::new();
-    text.push_str(namespace.as_str());
-    text.push_str(".");
-    text.push_str(name.as_str());
-    Ok(Text::from_str(alloc, text.as_str())?)
 }
 
 /// The columns that are named one after another.
@@ -188,10 +169,15 @@ fn change_of(alloc: Global, row: &LogRow) -> Result<Change, RowFault>
 }
 
 /// The action with this number that the row is that of.
-fn read_action(alloc: Global, number: u64, row: &LogRow) -> Result<Action, RowFault>
+fn read_action(
+    alloc: Global,
+    names: &mut TableNames,
+    number: u64,
+    row: &LogRow,
+) -> Result<Action, RowFault>
     ensures { Reads (IsLogOf number row.now) result }
 {
-    let table = table_of(alloc, &row.namespace, &row.name)?;
+    let table = names.table_of(alloc, &row.names)?;
     let change = change_of(alloc, row)?;
     Ok(Action {
         number,
@@ -214,5 +200,24 @@ pub fn action_of(alloc: Global, number: u64, row: &LogRow) -> Result<Action, Row
     ensures again { (action : Action) → IsLogOf number row.now action → Gives action result }
     ensures refused { IfErr result IsReadFault }
 {
-    read_action(alloc, number, row)
+    read_action(alloc, &mut TableNames::new(), number, row)
+}
+
+/// The same, of one of many rows. Most of them are of the table of the row before, whose name is kept here, so that it
+/// is not made anew.
+///
+/// # Errors
+///
+/// As of `action_of`.
+pub fn action_in(
+    alloc: Global,
+    names: &mut TableNames,
+    number: u64,
+    row: &LogRow,
+) -> Result<Action, RowFault>
+    ensures found { IfOk result (IsLogOf number row.now) }
+    ensures again { (action : Action) → IsLogOf number row.now action → Gives action result }
+    ensures refused { IfErr result IsReadFault }
+{
+    read_action(alloc, names, number, row)
 }

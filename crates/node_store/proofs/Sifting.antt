@@ -28,7 +28,7 @@ use Rattle.node_state.specs.Held.{action_as, change_as}
 use Rattle.node_change.specs.Done.{row_of}
 use Rattle.node_store.specs.declared.logged.LoggedRows.{LoggedRows}
 use Rattle.node_store.specs.Bringing.{CanLogAll}
-use Rattle.node_store.specs.Logged.{ArePassed, IsAdded}
+use Rattle.node_store.specs.Logged.{AreAllPassed, ArePassed, IsAdded}
 
 -- ---- one row
 
@@ -217,3 +217,51 @@ none_can rows actions = record {
   rows_can = subst (AllByRecursion CanBeLogged) (sym rows) tt;
   actions_can = subst (AllByRecursion (λ a. IsText a.table × CanApply (change_of a.change))) (sym actions) tt;
 }
+
+-- ---- rows that are all on the tables
+
+-- All of these rows but the ones that are left are on one of these tables, and have these actions.
+pub record AreDone (tables : Map (List ℕ)) (rows left : List (ℕ × LogRow)) (actions : List Action) : Type 0 where
+  pub done : List (ℕ × LogRow)
+  pub splits : done ++ left ≡ rows
+  pub can : CanLogAll done actions
+  pub left_can : AllByRecursion CanBeLogged left
+  pub says : (logs : List Logged) → AreWritten logs → rows ≡ map row_of logs →
+      IsSifted (is_on_one tables) logs (record { rows = done; actions = actions }) left
+
+pub none_done : (tables : Map (List ℕ)) {rows : List (ℕ × LogRow)} {actions : List Action} →
+    AllByRecursion CanBeLogged rows → actions ≡ [] → AreDone tables rows rows actions
+none_done tables {rows} {actions} can none = record {
+  done = [];
+  splits = refl;
+  can = none_can refl none;
+  left_can = can;
+  says = λ logs written are.
+      none_sifted (is_on_one tables) logs (record { rows = []; actions = actions }) refl none written are;
+}
+
+pub one_done : {tables : Map (List ℕ)} {rows left : List (ℕ × LogRow)} {row : ℕ × LogRow} {action : Action}
+    {actions new : List Action} → AreDone tables rows (row ∷ left) actions → IsLogOf row.0 row.1 action →
+    list_any (λ t. t.0 == row.1.table && bytes_eq action.table t.1) tables ≡ true → new ≡ actions ++ action ∷ [] →
+    ((l : Logged) → IsWritten l.action → row ≡ row_of l → action ≡ action_as l.action) → AreDone tables rows left new
+one_done {tables} {row = row} {action} {new = new} x is passes added on =
+    let rows = x.done ++ row ∷ [] in
+    record {
+      done = rows;
+      splits = append_assoc x.done (row ∷ []) _ ∙ x.splits;
+      can = can_added action x.left_can.0 is refl added x.can;
+      left_can = x.left_can.1;
+      says = λ logs written are. one_sifted (record { rows = rows; actions = new }) (x.says logs written are)
+          (λ l written is.
+          one_added tables l (record { row_is = is; action_is = on l written is }) passes refl added);
+    }
+
+pub all_done : {tables : Map (List ℕ)} {rows : List (ℕ × LogRow)} {actions : List Action} →
+    AreDone tables rows [] actions → CanLogAll rows actions × ((logs : List Logged) → AreWritten logs →
+    rows ≡ map row_of logs → AreAllPassed (is_on_one tables) logs rows actions)
+all_done {tables} {rows} {actions} x =
+    let whole = sym (append-nil x.done) ∙ x.splits in (
+      subst (λ rs. CanLogAll rs actions) whole x.can,
+      λ logs written are.
+          subst (λ rs. AreAllPassed (is_on_one tables) logs rs actions) whole (all_sifted (x.says logs written are)),
+    )

@@ -8,6 +8,8 @@ use Rattle.node_state.specs.Held.{action_as}
 use Rattle.node_change.specs.Done.{row_of}
 use Rattle.app_store.specs.Base.{Base}
 use Rattle.app_store.specs.Parts.{FromPlace, LooksUp}
+use Rattle.change_capture.specs.declared.action.Action.{Action}
+use Rattle.change_capture.specs.declared.log_row.LogRow.{LogRow}
 use Rattle.node_store.specs.declared.logged.LoggedRows.{LoggedRows}
 
 -- What was logged of the origin below this number is of transactions below this id.
@@ -24,6 +26,10 @@ pub record IsAdded (test : Logged → Bool) (l : Logged) (old new : LoggedRows) 
 pub record ArePassed (test : Logged → Bool) (logs : List Logged) (found : LoggedRows) : Type 0 where
   pub rows_are : found.rows ≡ map row_of (filter test logs)
   pub actions_are : found.actions ≡ map (λ l. action_as l.action) (filter test logs)
+
+-- These rows are all of what was logged, each passes the test, and these are their actions.
+abbrev pub AreAllPassed : (Logged → Bool) → List Logged → List (ℕ × LogRow) → List Action → Type 0
+AreAllPassed test logs rows actions = ArePassed test logs (record { rows = rows; actions = actions })
 
 -- A look from every place that fits and of which this is so, unless there was no memory.
 abbrev pub LooksWhere : {T : Type 0} → (Place → Type 0) → (Place → T → Type 0) → Base → Result T DbFault → Base → Type 0

@@ -1,6 +1,6 @@
 // What another node reads of the log of a node.
 ghost use Rattle.std.specs.Prelude.{◌≡◌, ◌<◌, ◌^◌, ◌==◌, ◌&&◌, ◌++◌, ◌∷◌, ℕ};
-ghost use Rattle.std.specs.Prelude.{[], List, Some, false, true, IfErr, IfOk, OnOk};
+ghost use Rattle.std.specs.Prelude.{[], List, Some, false, true, IfErr, IfOk, IfSome, OnOk};
 ghost use Rattle.std.specs.Prelude.{map};
 ghost use Rattle.std.specs.List.{AllByRecursion, list_any};
 ghost use Rattle.std.specs.Str.{bytes_eq};
@@ -14,9 +14,10 @@ ghost use Rattle.slon_model.specs.Maps.{ids};
 ghost use Rattle.slon_model.specs.Place.{Place};
 ghost use Rattle.slon_laws.specs.Spelled.{AreWritten, IsWritten, logs_in};
 ghost use Rattle.txn_core.specs.Snapshots.{seen_as};
+ghost use Rattle.change_capture.specs.Reading.{IsLogOf};
 ghost use Rattle.log_switch.specs.Between.{CanBeLogged};
 ghost use Rattle.log_switch.specs.Holds.{HoldsLog};
-ghost use Rattle.node_state.specs.Held.{items_of};
+ghost use Rattle.node_state.specs.Held.{action_as, items_of};
 ghost use Rattle.node_change.specs.Done.{row_of};
 ghost use Rattle.app_store.specs.Base.{base_of};
 ghost use Rattle.app_store.specs.Fits.{Ready};
@@ -24,11 +25,11 @@ ghost use Rattle.app_store.specs.Parts.{Remembers};
 ghost use Rattle.app_store.specs.Serves.{halts};
 ghost use Rattle.node_store.specs.Acting.{Acts};
 ghost use Rattle.node_store.specs.Bringing.{CanLogAll, HasLogged};
-ghost use Rattle.node_store.specs.Logged.{ArePassed, HaveEnded, IsAdded, LooksWhere};
+ghost use Rattle.node_store.specs.Logged.{AreAllPassed, ArePassed, HaveEnded, IsAdded, LooksWhere};
 
 use crate::layout::LOG;
 use app_store::{Database, DbFault, fall};
-use change_capture::{Action, LogRow, action_of};
+use change_capture::{Action, LogRow, TableNames, action_in};
 use log_switch::between_from;
 use node_keeper::Keeper;
 use slon_base::{Many, STORED_LIMIT, Text, are_same};
@@ -72,11 +73,31 @@ fn add(found: &mut LoggedRows, number: u64, row: LogRow, action: Action) -> Resu
     found.actions.push(action)
 }
 
+/// The action that a row of a log is that of.
+fn action_at(
+    alloc: Global,
+    names: &mut TableNames,
+    number: u64,
+    row: &LogRow,
+) -> Result<Action, Stop>
+    ensures never { is_failed result ≡ false }
+    ensures within { IfErr result IsWithinLimit }
+    ensures found { IfOk result (IsLogOf number row.now) }
+    ensures says { (l : SeenLogged) → IsWritten l.action → (number, row.now) ≡ row_of l →
+        Gives (λ action. action ≡ action_as l.action) result }
+{
+    match action_in(alloc, names, number, row) {
+        Ok(action) => Ok(action),
+        Err(fault) => Err(row_stop(LOG, fault)),
+    }
+}
+
 /// Adds a row with its action, if it is on one of these tables.
 fn add_on(
     alloc: Global,
     tables: &[(u32, Text)],
     found: &mut LoggedRows,
+    names: &mut TableNames,
     number: u64,
     row: LogRow,
 ) -> Result<(), Stop>
@@ -88,20 +109,16 @@ fn add_on(
     ensures says { (l : SeenLogged) → IsWritten l.action → (number, row) ≡ row_of l →
         Gives (λ u. IsAdded (is_on_one tables.now) l found.old found.new) result }
 {
-    match action_of(alloc, number, &row) {
-        Ok(action) => {
-            if is_on_one(tables, row.table, &action.table) {
-                Ok(add(found, number, row, action)?)
-            } else {
-                Ok(())
-            }
-        }
-        Err(fault) => Err(row_stop(LOG, fault)),
+    let action = action_at(alloc, names, number, &row)?;
+    if is_on_one(tables, row.table, &action.table) {
+        Ok(add(found, number, row, action)?)
+    } else {
+        Ok(())
     }
 }
 
 /// Those of these rows of a log that are on one of these tables, with their actions.
-fn rows_on(
+fn pick_on(
     alloc: Global,
     tables: &[(u32, Text)],
     rows: Many<(u64, LogRow)>,
@@ -117,10 +134,56 @@ fn rows_on(
         rows: Many::with_capacity(alloc, rows.len())?,
         actions: Many::with_capacity(alloc, rows.len())?,
     };
+    let mut names = TableNames::new();
     for (number, row) in rows.into_vec() {
-        add_on(alloc, tables, &mut found, number, row)?;
+        add_on(alloc, tables, &mut found, &mut names, number, row)?;
     }
     Ok(found)
+}
+
+/// The actions of these rows of a log, if all of them are on one of these tables.
+fn actions_on(
+    alloc: Global,
+    tables: &[(u32, Text)],
+    rows: &[(u64, LogRow)],
+) -> Result<Option<Many<Action>>, Stop>
+    requires can { AllByRecursion CanBeLogged rows.now }
+    ensures never { is_failed result ≡ false }
+    ensures within { IfErr result IsWithinLimit }
+    ensures can { IfOk result (λ found. IfSome found (CanLogAll rows.now)) }
+    ensures says { (logs : List SeenLogged) → AreWritten logs → rows.now ≡ map row_of logs →
+        Gives (λ found. IfSome found (AreAllPassed (is_on_one tables.now) logs rows.now)) result }
+{
+    let mut actions = Many::with_capacity(alloc, rows.len())?;
+    let mut names = TableNames::new();
+    for (number, row) in rows {
+        let action = action_at(alloc, &mut names, *number, row)?;
+        if !is_on_one(tables, row.table, &action.table) {
+            return Ok(None);
+        }
+        actions.push(action)?;
+    }
+    Ok(Some(actions))
+}
+
+/// Those of these rows of a log that are on one of these tables, with their actions. Most often all of them are, and
+/// stay where they are, since a row is large. Others were logged when a table of another name had the id.
+fn rows_on(
+    alloc: Global,
+    tables: &[(u32, Text)],
+    rows: Many<(u64, LogRow)>,
+) -> Result<LoggedRows, Stop>
+    requires can { AllByRecursion CanBeLogged rows }
+    ensures never { is_failed result ≡ false }
+    ensures within { IfErr result IsWithinLimit }
+    ensures can { IfOk result (λ found. CanLogAll found.rows found.actions) }
+    ensures says { (logs : List SeenLogged) → AreWritten logs → rows ≡ map row_of logs →
+        Gives (ArePassed (is_on_one tables.now) logs) result }
+{
+    match actions_on(alloc, tables, rows.as_slice())? {
+        Some(actions) => Ok(LoggedRows { rows, actions }),
+        None => pick_on(alloc, tables, rows),
+    }
 }
 
 /// The number of the action from which on what the node logged of the origin is to be read for a snapshot with this

@@ -41,10 +41,11 @@ fn expect_action(alloc: Global, action: &Action, told: &str) -> Result<(), Fail>
 fn tell_row(alloc: Global, row: &LogRow) -> Result<String, Fail> {
     let mut line = String::new(alloc);
     write!(line, "{} {} {}", row.xid, row.table, row.columns)?;
-    write!(line, " {} {}", row.namespace.as_str(), row.name.as_str())?;
-    let arguments = row.arguments.texts(alloc)?;
-    for argument in arguments.as_slice() {
-        write!(line, " {}", argument.as_str())?;
+    for texts in [&row.names, &row.arguments] {
+        let texts = texts.texts(alloc)?;
+        for text in texts.as_slice() {
+            write!(line, " {}", text.as_str())?;
+        }
     }
     Ok(line)
 }

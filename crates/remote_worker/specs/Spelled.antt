@@ -86,8 +86,8 @@ CanLogRow-prop : (row : LogRow) → IsProp (CanLogRow row)
 CanLogRow-prop row a b = λ i. record {
   xid = le_prop a.xid b.xid i;
   table = IsId-prop row.table a.table b.table i;
-  namespace = IsText-prop row.namespace a.namespace b.namespace i;
-  name = IsText-prop row.name a.name b.name i;
+  two = Coded-set coded_ℕ _ _ a.two b.two i;
+  names = AllByRecursion-prop IsText (λ t. IsText-prop t) row.names a.names b.names i;
   columns = le_prop a.columns b.columns i;
   arguments = AreTexts-prop row.arguments a.arguments b.arguments i;
 }

@@ -32,8 +32,7 @@ fn copy_row(alloc: Global, row: &LogRow) -> Result<LogRow, AllocError>
     Ok(LogRow {
         xid: row.xid,
         table: row.table,
-        namespace: row.namespace.copy(alloc)?,
-        name: row.name.copy(alloc)?,
+        names: row.names.copy(alloc)?,
         command: row.command,
         columns: row.columns,
         arguments: row.arguments.copy(alloc)?,

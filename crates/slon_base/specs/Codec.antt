@@ -52,6 +52,13 @@ AllTexts = AllAre IsText
 abbrev pub AreTexts : List (List ℕ) → Type 0
 AreTexts = AreMany IsText
 
+-- a text is in front
+pub record HasText (bytes : List ℕ) : Type 0 where
+  pub text : List ℕ
+  pub rest : List ℕ
+  pub can : IsText text
+  pub is : bytes ≡ text_bytes text ++ rest
+
 -- why a byte is not read
 abbrev pub IsNoByte : List ℕ → RowFault → Type 0
 IsNoByte bytes Short = bytes ≡ []
@@ -86,6 +93,11 @@ IsNoText bytes Trailing = ⊥
 IsNoText bytes NotCanonical = (text rest : List ℕ) × (length text < 2 ^ 32) × (bytes ≡ text_bytes text ++ rest)
     × ¬ (IsUtf8 text)
 IsNoText bytes NoMemory = Unit {0}
+
+-- why a text is not read where it is: the same, as this takes no memory
+abbrev pub IsNoStr : List ℕ → RowFault → Type 0
+IsNoStr bytes NoMemory = ⊥
+IsNoStr bytes fault = IsNoText bytes fault
 
 -- the text was read and the rest is left, or there was no memory for it
 abbrev pub MatchRead : Result (List ℕ) RowFault → List ℕ → List ℕ → List ℕ → Type 0

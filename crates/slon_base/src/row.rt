@@ -3,7 +3,7 @@ ghost use Rattle.std.specs.Prelude.{◌≡◌, ◌<◌, ◌≤◌, ◌^◌, ◌+
 ghost use Rattle.std.specs.Prelude.{IfSome, IfNone, IsOk, IsOkAnd, ◌↔◌, Ok, Err};
 ghost use Rattle.std.specs.Str.{IsUtf8};
 ghost use Rattle.slon_base.specs.Codec.{number_bytes, count_bytes, text_bytes, IsNoByte, IsNoNumber, IsNoCount};
-ghost use Rattle.slon_base.specs.Codec.{IsNoText, IsShortText, MatchRead};
+ghost use Rattle.slon_base.specs.Codec.{HasText, IsNoText, IsNoStr, IsShortText, MatchRead};
 ghost use Rattle.slon_base.specs.declared.fault.RowFault.TheVariants.{Trailing};
 
 use crate::text::is_text;
@@ -263,7 +263,7 @@ impl<'a> RowIn<'a> {
             × (self.old ≡ text_bytes t.now ++ self.new)) }
         ensures again { (t rest : List ℕ) → length t < 2 ^ 32 → IsUtf8 t → self.old ≡ text_bytes t ++ rest →
             IsOkAnd result (λ found. found.now ≡ t) × (self.new ≡ rest) }
-        ensures fault { IfErr result (IsNoText self.old) }
+        ensures fault { IfErr result (IsNoStr self.old) }
         ensures err { OnErr result (self.new ≡ self.old) }
     {
         let Some((front, rest, _)) = text_at(self.rest) else {
@@ -274,6 +274,20 @@ impl<'a> RowIn<'a> {
         }
         self.rest = rest;
         Ok(unsafe { str::from_utf8_unchecked(front) })
+    }
+
+    /// Reads the text that is in front, where it is. That there is one is known, and not looked at again.
+    #[inline(always)]
+    pub fn known_str(&mut self) -> &'a str
+        requires { HasText self.old }
+        ensures { (t rest : List ℕ) → length t < 2 ^ 32 → self.old ≡ text_bytes t ++ rest →
+            (result.now ≡ t) × (self.new ≡ rest) }
+    {
+        let Some((front, rest, _)) = text_at(self.rest) else {
+            unreachable!();
+        };
+        self.rest = rest;
+        unsafe { str::from_utf8_unchecked(front) }
     }
 
     /// Reads a count. A fault leaves all as it was.

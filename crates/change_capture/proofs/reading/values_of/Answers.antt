@@ -15,7 +15,7 @@ returns-then-not-branch c values e =
 pub returns-in-None : goal.returns-in-None
 returns-in-None c values e =
     let done = c.loop-number.values in
-    let none = rw c.in-None.is at c.in_ok-next_text.ensures.next in
+    let none = rw c.in-None.is at c.in_ok-next_text.ensures in
     let is = c.loop-number.invariant ∙ ap (λ l. paired (numbered 2 done) ++ l) c.in-Some.ensures
     ∙ ap (λ l. paired (numbered 2 done) ++ c.in-Some.number.now ∷ l) none in
     none_odd (numbered 2 done) (numbered 2 values) (c.in-Some.number.now ∷ []) refl (lit< tt) (sym is ∙ e)
@@ -24,7 +24,7 @@ pub loop-number-preserved : goal.loop-number-preserved
 loop-number-preserved c =
     let done = c.loop-number.values in
     let value = c.in-Some-2.value in
-    let some = rw c.in-Some-2.is at c.in_ok-next_text.ensures.next in
+    let some = rw c.in-Some-2.is at c.in_ok-next_text.ensures in
     let is = c.loop-number.invariant ∙ ap (λ l. paired (numbered 2 done) ++ l) c.in-Some.ensures
     ∙ ap (λ l. paired (numbered 2 done) ++ c.in-Some.number.now ∷ l) some in
     let printed = c.in_ok-is_number.ensures.0 c.if-not-branch.false in
