@@ -7,6 +7,7 @@ mod words;
 use slon_main::{Status, slon_main};
 use slon_system::{RealFiles, RealShelf, RealSink};
 use std::io::{BufWriter, IsTerminal};
+use std::mem;
 use std::process::ExitCode;
 
 fn main(rt: HostRuntime) -> ExitCode {
@@ -33,5 +34,7 @@ fn main(rt: HostRuntime) -> ExitCode {
         &mut out,
     );
     let status = ending::last_status(ended.status, out.flush());
+    // The stores are memory, which goes back to the system with the process. To let go of every row takes time.
+    mem::forget(ended.cluster);
     ExitCode::from(status.number())
 }
